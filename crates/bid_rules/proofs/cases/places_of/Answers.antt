@@ -1,0 +1,9 @@
+use Rattle.std.proofs.Common.{arith}
+use Rattle.std.proofs.lemmas.Grind.{common_steps}
+use Rattle.bid_rules.proofs.Bidders.{places_more}
+use Rattle.bid_rules.proofs.cases.places_of.Goals as goal
+
+pub loop-bid-preserved : goal.loop-bid-preserved
+loop-bid-preserved c =
+    let more = places_more c.args.bids.now c.loop-bid.bid-index c.bid-item.result c.loop-bid-test.true in
+    grind (arith, common_steps, more)

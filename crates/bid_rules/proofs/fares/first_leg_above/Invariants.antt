@@ -1,0 +1,11 @@
+use Rattle.std.proofs.Common.{◌≡◌, ◌*◌, ◌≤◌, length, take, All, flat_map}
+use Rattle.bid_rules.proofs.fares.first_leg_above.Given as goal
+
+abbrev pub invariant-loop-row : goal.invariant-loop-row
+invariant-loop-row l =
+    let before = flat_map (λ row. row.items) (take l.row-index l.row-items) in
+    record {
+      passed : l.passed ≡ length before;
+      small : l.passed ≤ 10 * l.row-index;
+      fits : All (λ cents. cents ≤ 1000000) before;
+    }

@@ -1,0 +1,8 @@
+use Rattle.bid_rules.proofs.LegPlaces.{leg_at, length-legs}
+use Rattle.bid_rules.proofs.fares.leg_place_law.Goals as goal
+
+pub returns-clause-place : goal.returns-clause-place
+returns-clause-place c = leg_at
+
+pub returns-clause-count : goal.returns-clause-count
+returns-clause-count c = length-legs

@@ -1,0 +1,8 @@
+use Rattle.bid_rules.proofs.ShownRents.{shown_is_best, shown_least}
+use Rattle.bid_rules.proofs.rent_laws.shown_rent_law.Goals as goal
+
+pub returns-clause-best : goal.returns-clause-best
+returns-clause-best c = shown_is_best
+
+pub returns-clause-least : goal.returns-clause-least
+returns-clause-least c case rooms walks prices least some best shown formula is = shown_least case rooms walks prices least some best.assignment shown formula is

@@ -1,0 +1,171 @@
+-- Checked facts and bids, the first fault of others, and the cases that they make.
+use Rattle.std.specs.Prelude.{◌≡◌, ◌≢◌, ℕ, ◌+◌, ◌-◌, ◌<◌, ◌≤◌, List, [], ◌∷◌, length, All, flat_map, slice_index, slice_index_or, ⊤, Bool, if◌then◌else◌, is_some, is_none, sum, IsNone, IsSome, Option, Some, None, Result, Ok, Err}
+use Rattle.std.specs.List.{filter_map, enumerate_from, list_all}
+use Rattle.std.specs.List.Sorted.{IsStrictlyIncreasing}
+use Rattle.bid_rules.specs.declared.fares.Fares.{Fares}
+use Rattle.bid_rules.specs.declared.bids.Facts.{Facts}
+use Rattle.bid_rules.specs.declared.bids.Facts.TheVariants as facts
+use Rattle.bid_rules.specs.declared.bids.Bid.{Bid}
+use Rattle.bid_rules.specs.declared.bids.Bid.TheVariants as bid
+use Rattle.bid_rules.specs.declared.bids.BidFault.{BidFault}
+use Rattle.bid_rules.specs.declared.bids.BidFault.TheVariants as fault
+use Rattle.bid_rules.specs.declared.cases.Case.{Case}
+use Rattle.bid_rules.specs.declared.cases.Case.TheVariants as case
+use Rattle.bid_rules.specs.declared.cases.FareCase.{FareCase}
+use Rattle.bid_rules.specs.declared.cases.Missing.{Missing}
+use Rattle.bid_rules.specs.declared.rents.Rent.{Rent}
+use Rattle.bid_rules.specs.declared.rents.RentCase.{RentCase}
+use Rattle.bid_rules.specs.Rent.{IsCheckedRent, IsValidRentCase}
+use Rattle.arrayvec.specs.declared.array_vec.ArrayVec.{ArrayVec}
+
+-- there is a leg from the origin and from each place to each place
+pub record HasTable (facts : Fares) : Type 0 where
+  pub rows : length facts.legs.items ≡ facts.places + 1
+  pub columns : All (λ row. length row.items ≡ facts.places) facts.legs.items
+
+-- the counts are within the limits, and the table has all legs
+pub record HasShape (facts : Fares) : Type 0 where
+  pub members_low : 2 ≤ facts.members
+  pub members_high : facts.members ≤ 8
+  pub places_low : 1 ≤ facts.places
+  pub places_high : facts.places ≤ 10
+  pub table : HasTable facts
+
+-- the legs row by row
+abbrev pub legs_in_order : Fares → List ℕ
+legs_in_order facts = flat_map (λ row. row.items) facts.legs.items
+
+-- the leg from the origin, which is 0, or from a place, to a place from 1
+abbrev pub leg : Fares → ℕ → ℕ → ℕ
+leg facts from to = slice_index (slice_index_or facts.legs.items from (record { items = [] })).items (to - 1)
+
+-- the number at the place is the first above a million
+pub record IsFirstAboveMillion (numbers : List ℕ) (place : ℕ) : Type 0 where
+  pub stands : place < length numbers
+  pub above : 1000000 < slice_index numbers place
+  pub first : (k : ℕ) → k < place → slice_index numbers k ≤ 1000000
+
+-- the leg of the place to itself is the first that is not 0
+pub record IsFirstOwnLeg (facts : Fares) (place : ℕ) : Type 0 where
+  pub low : 1 ≤ place
+  pub high : place ≤ facts.places
+  pub counts : 0 < leg facts place place
+  pub first : (p : ℕ) → 1 ≤ p → p < place → leg facts p p ≡ 0
+
+-- the flag fall and the legs are at most a million cents
+abbrev pub IsWithinMillion : Fares → Type 0
+IsWithinMillion facts = All (λ cents. cents ≤ 1000000) (facts.flag ∷ legs_in_order facts)
+
+-- facts on fares without a fault
+pub record IsCheckedFares (facts : Fares) : Type 0 where
+  pub shape : HasShape facts
+  pub million : IsWithinMillion facts
+  pub own_legs : (p : ℕ) → 1 ≤ p → p ≤ facts.places → leg facts p p ≡ 0
+
+-- the first fault of facts on fares, in the order of the cases; the flag fall stands at place 0, and the legs after it, row by row
+abbrev pub IsFaultOfFares : Fares → BidFault → Type 0
+IsFaultOfFares facts fault.Count = HasShape facts → ⊥
+IsFaultOfFares facts (fault.Range place) = HasShape facts × IsFirstAboveMillion (facts.flag ∷ legs_in_order facts) place
+IsFaultOfFares facts (fault.Place place) = HasShape facts × IsWithinMillion facts × IsFirstOwnLeg facts place
+IsFaultOfFares facts (fault.Sum got) = ⊥
+
+-- facts without a fault
+abbrev pub IsCheckedFacts : Facts → Type 0
+IsCheckedFacts (facts.Rent rent) = IsCheckedRent rent
+IsCheckedFacts (facts.Fares fares) = IsCheckedFares fares
+
+-- how many members the facts name
+abbrev pub member_count : Facts → ℕ
+member_count (facts.Rent rent) = rent.members
+member_count (facts.Fares fares) = fares.members
+
+-- there is a value for each room, and the values sum to the rent
+abbrev pub AreValues : Rent → List ℕ → Type 0
+AreValues rent values = (length values ≡ rent.members) × (sum values ≡ rent.rent)
+
+-- the first fault of values, in the order of the cases
+abbrev pub IsFaultOfValues : Rent → List ℕ → BidFault → Type 0
+IsFaultOfValues rent values fault.Count = length values ≢ rent.members
+IsFaultOfValues rent values (fault.Sum got) = (length values ≡ rent.members) × (got ≡ sum values) × (sum values ≢ rent.rent)
+IsFaultOfValues rent values (fault.Range place) = ⊥
+IsFaultOfValues rent values (fault.Place place) = ⊥
+
+-- a bid gives such values
+abbrev pub AreValuesOf : Rent → Bid → Type 0
+AreValuesOf rent (bid.Values values) = AreValues rent values.items
+AreValuesOf rent (bid.Place place) = ⊥
+
+-- a bid names a place of the fares
+abbrev pub IsPlaceOf : Fares → Bid → Type 0
+IsPlaceOf fares (bid.Values values) = ⊥
+IsPlaceOf fares (bid.Place place) = (1 ≤ place) × (place ≤ fares.places)
+
+-- a bid without a fault
+abbrev pub IsCheckedBid : Facts → Bid → Type 0
+IsCheckedBid (facts.Rent rent) given = AreValuesOf rent given
+IsCheckedBid (facts.Fares fares) given = IsPlaceOf fares given
+
+-- the first fault of a bid, in the order of the cases
+abbrev pub IsFaultOfBid : Facts → Bid → BidFault → Type 0
+IsFaultOfBid (facts.Rent rent) (bid.Place place) fault.Count = ⊤
+IsFaultOfBid (facts.Rent rent) (bid.Values values) other = IsFaultOfValues rent values.items other
+IsFaultOfBid (facts.Rent rent) given other = ⊥
+IsFaultOfBid (facts.Fares fares) (bid.Values values) fault.Count = ⊤
+IsFaultOfBid (facts.Fares fares) (bid.Place place) (fault.Place got) = (got ≡ place) × ((1 ≤ place) × (place ≤ fares.places) → ⊥)
+IsFaultOfBid (facts.Fares fares) given other = ⊥
+
+-- the members, numbered from 1, whose bid passes the test
+abbrev pub members_where : (Option Bid → Bool) → List (Option Bid) → List ℕ
+members_where test bids = filter_map (λ entry. if test entry.1 then Some entry.0 else None) (enumerate_from 1 bids)
+
+-- the place that a bid names
+abbrev pub place_named : Option Bid → Option ℕ
+place_named None = None
+place_named (Some (bid.Values values)) = None
+place_named (Some (bid.Place place)) = Some place
+
+-- the case of the members who bid, in rising order, each with their place
+abbrev pub fare_case : Fares → List (Option Bid) → FareCase
+fare_case facts bids = record {
+  facts = facts;
+  who = record { items = members_where is_some bids };
+  at = record { items = filter_map place_named bids };
+}
+
+-- the values that a bid gives
+abbrev pub values_given : Option Bid → Option (ArrayVec ℕ 24 (Unit {0}))
+values_given None = None
+values_given (Some (bid.Values values)) = Some values
+values_given (Some (bid.Place place)) = None
+
+-- the case of all members, each with their values
+abbrev pub rent_case : Rent → List (Option Bid) → RentCase
+rent_case facts bids = record { facts = facts; values = record { items = filter_map values_given bids } }
+
+-- the members who lack a bid, in rising order
+abbrev pub members_missing : List (Option Bid) → Missing
+members_missing bids = record { members = record { items = members_where is_none bids } }
+
+-- bids are missing: on a rent where any member lacks one, on fares where nobody has bid
+abbrev pub AreMissing : Facts → List (Option Bid) → Type 0
+AreMissing (facts.Rent rent) bids = All (λ bid. IsSome bid) bids → ⊥
+AreMissing (facts.Fares fares) bids = All (λ bid. IsNone bid) bids
+
+-- the case that facts and bids make, or the members who lack a bid where bids are missing
+abbrev pub case_of : Facts → List (Option Bid) → Result Case Missing
+case_of (facts.Rent rent) bids = if list_all is_some bids then Ok (case.Rent (rent_case rent bids)) else Err (members_missing bids)
+case_of (facts.Fares fares) bids = if list_all is_none bids then Err (members_missing bids) else Ok (case.Fares (fare_case fares bids))
+
+-- checked facts, and riders in rising order of member, each with a place
+pub record IsValidFareCase (case : FareCase) : Type 0 where
+  pub facts : IsCheckedFares case.facts
+  pub rising : IsStrictlyIncreasing case.who.items
+  pub members : All (λ member. (1 ≤ member) × (member ≤ case.facts.members)) case.who.items
+  pub some : 1 ≤ length case.who.items
+  pub each : length case.at.items ≡ length case.who.items
+  pub places : All (λ place. (1 ≤ place) × (place ≤ case.facts.places)) case.at.items
+
+-- a case of checked facts and checked bids
+abbrev pub IsValidCase : Case → Type 0
+IsValidCase (case.Rent rent) = IsValidRentCase rent
+IsValidCase (case.Fares fares) = IsValidFareCase fares

@@ -1,0 +1,10 @@
+pub mod Facts
+pub mod Fares
+pub mod Fractions
+pub mod Keys
+pub mod Maximin
+pub mod Orders
+pub mod Rent
+pub mod Sums
+pub mod Walks
+pub mod Worked

@@ -1,0 +1,7 @@
+-- Sums of signed numbers over lists.
+use Rattle.std.specs.Prelude.{ℤ, pos, ◌+ℤ◌, List, [], ◌∷◌}
+
+-- the sum of a function over a list
+abbrev pub total : {X : Type 0} → (X → ℤ) → List X → ℤ
+total f [] = pos 0
+total f (x ∷ xs) = f x +ℤ total f xs

@@ -1,0 +1,61 @@
+ghost use Rattle.std.specs.Prelude.{◌↔◌, IsOk, MatchResult};
+ghost use Rattle.bid_rules.specs.Facts.{IsCheckedBid, IsCheckedFacts, IsFaultOfBid};
+
+use crate::rents::check_values;
+use crate::{Fares, Rent};
+use arrayvec::ArrayVec;
+
+/// The facts of a case, by kind: what is to be divided among how many members.
+#[derive(Debug, Drop, PartialEq, Eq)]
+pub enum Facts {
+    /// The rent of a shared home.
+    Rent(Rent),
+    /// The cost of a shared ride.
+    Fares(Fares),
+}
+
+/// What a member bids.
+#[derive(Debug, Drop, PartialEq, Eq)]
+pub enum Bid {
+    /// What each item is worth to the member, in cents or points, by item.
+    Values(ArrayVec<u32, 24>),
+    /// The place, from 1, at which the member gets off.
+    Place(u8),
+}
+
+/// The first thing wrong with facts or with a bid.
+#[derive(Clone, Copy, Debug, PartialEq, Eq)]
+pub enum BidFault {
+    /// A count is outside its limits, a list is too short or too long, or the bid is of another kind than the facts.
+    Count,
+    /// The values of a bid don't have the sum that they are to have, but this one.
+    Sum { got: u64 },
+    /// A number is outside its limits: the one at this place, in the order of the facts.
+    Range { place: u32 },
+    /// A place, from 1, is at fault: a bid names it and the facts don't have it, or its leg to itself isn't 0.
+    Place { place: u32 },
+}
+
+/// Whether the facts, which are checked, allow the bid, or the bid's first fault.
+///
+/// On a rent it is `Count` where the bid isn't `Values`, one for each room, else `Sum` with their sum where it isn't the rent.
+/// On fares it is `Count` where the bid isn't a `Place`, else `Place` with that place where it isn't 1 to `places`.
+pub fn check_bid(facts: &Facts, bid: &Bid) -> Result<(), BidFault>
+    requires { IsCheckedFacts facts.now }
+    ensures fault { MatchResult result (λ _. IsCheckedBid facts.now bid.now) (IsFaultOfBid facts.now bid.now) }
+    ensures accepted { IsOk result ↔ IsCheckedBid facts.now bid.now }
+{
+    match (facts, bid) {
+        (Facts::Rent(_), Bid::Place(_)) => Err(BidFault::Count),
+        (Facts::Rent(rent), Bid::Values(values)) => check_values(rent, values.as_slice()),
+        (Facts::Fares(_), Bid::Values(_)) => Err(BidFault::Count),
+        (Facts::Fares(fares), Bid::Place(place)) => {
+            if *place < 1 || *place > fares.places {
+                return Err(BidFault::Place {
+                    place: u32::from(*place),
+                });
+            }
+            Ok(())
+        }
+    }
+}

@@ -1,0 +1,227 @@
+ghost use Rattle.std.specs.Prelude.{◌≡◌, ◌≤◌, ◌↔◌, length, All, IfOk, IfSome, IsErr, IsNone, IsSome, IsTrue, is_some, is_none, false, true};
+ghost use Rattle.std.specs.List.{filter_map, list_all};
+ghost use Rattle.bid_rules.specs.Facts.{AreMissing, AreValuesOf, IsCheckedBid, IsCheckedFacts, IsCheckedFares, IsPlaceOf, IsValidCase, IsValidFareCase, case_of, fare_case, member_count, members_where, place_named, rent_case, values_given};
+ghost use Rattle.bid_rules.specs.Rent.{IsCheckedRent, IsValidRentCase};
+
+use crate::{Bid, Facts, Fares, Rent, RentCase};
+use arrayvec::ArrayVec;
+
+/// A shared ride of those members who bid. They are its riders, numbered from 1 in the order of `who`.
+#[derive(Debug, Drop, PartialEq, Eq)]
+pub struct FareCase {
+    /// What a ride costs, in cents.
+    pub facts: Fares,
+    /// The member, from 1, who is each rider, in rising order.
+    pub who: ArrayVec<u8, 8>,
+    /// The place, from 1, at which each rider gets off.
+    pub at: ArrayVec<u8, 8>,
+}
+
+/// A case to be solved, by kind.
+#[derive(Debug, Drop, PartialEq, Eq)]
+pub enum Case {
+    /// A shared home, in which all members have bid.
+    Rent(RentCase),
+    /// A shared ride of those who have bid.
+    Fares(FareCase),
+}
+
+/// The bids don't make a case.
+#[derive(Debug, Drop, PartialEq, Eq)]
+pub struct Missing {
+    /// The members, from 1, who lack a bid, in rising order.
+    pub members: ArrayVec<u8, 12>,
+}
+
+/// The case that checked facts and checked bids make. The bids are by member, `None` where one has not bid.
+///
+/// On a rent all members must bid: where any lacks a bid there is no case. On fares those who bid ride. Only where nobody has bid
+/// is there no case, and all members lack a bid.
+pub fn make_case(facts: &Facts, bids: &[Option<Bid>]) -> Result<Case, Missing>
+    requires facts { IsCheckedFacts facts.now }
+    requires count { length bids.now ≡ member_count facts.now }
+    requires bids { All (λ bid. IfSome bid (IsCheckedBid facts.now)) bids.now }
+    ensures case { result ≡ case_of facts.now bids.now }
+    ensures valid { IfOk result IsValidCase }
+    ensures missing { IsErr result ↔ AreMissing facts.now bids.now }
+{
+    match facts {
+        Facts::Rent(rent) => {
+            if !has_all_bids(bids) {
+                return Err(Missing {
+                    members: members_without(bids),
+                });
+            }
+            Ok(Case::Rent(shared_home(rent, bids)))
+        }
+        Facts::Fares(fares) => {
+            if has_no_bid(bids) {
+                return Err(Missing {
+                    members: members_without(bids),
+                });
+            }
+            Ok(Case::Fares(shared_ride(fares, bids)))
+        }
+    }
+}
+
+fn has_all_bids(bids: &[Option<Bid>]) -> bool
+    ensures value { result ≡ list_all is_some bids.now }
+    ensures all { IsTrue result ↔ All (λ bid. IsSome bid) bids.now }
+{
+    bids.iter().all(|bid| bid.is_some())
+}
+
+/// The home of all members.
+fn shared_home(rent: &Rent, bids: &[Option<Bid>]) -> RentCase
+    requires rent { IsCheckedRent rent.now }
+    requires count { length bids.now ≡ rent.now.members }
+    requires bids { All (λ bid. IfSome bid (AreValuesOf rent.now)) bids.now }
+    requires all { list_all is_some bids.now ≡ true }
+    ensures case { result ≡ rent_case rent.now bids.now }
+    ensures valid { IsValidRentCase result }
+{
+    RentCase {
+        facts: Rent {
+            members: rent.members,
+            rent: rent.rent,
+        },
+        values: values_of(bids),
+    }
+}
+
+/// The values that the bids give, in the order of the members.
+fn values_of(bids: &[Option<Bid>]) -> ArrayVec<ArrayVec<u32, 24>, 12>
+    requires { length bids.now ≤ 12 }
+    ensures { result.items ≡ filter_map values_given bids.now }
+{
+    let mut values = ArrayVec::new();
+    for bid in bids {
+        if let Some(given) = copied_values(bid) {
+            values.push(given);
+        }
+    }
+    values
+}
+
+fn copied_values(bid: &Option<Bid>) -> Option<ArrayVec<u32, 24>>
+    ensures { result ≡ values_given bid.now }
+{
+    match bid {
+        Some(Bid::Values(values)) => Some(same_values(values)),
+        _ => None,
+    }
+}
+
+/// The same values once more.
+fn same_values(values: &ArrayVec<u32, 24>) -> ArrayVec<u32, 24>
+    ensures { result ≡ values.now }
+{
+    let mut copy = ArrayVec::new();
+    for value in values.as_slice() {
+        copy.push(*value);
+    }
+    copy
+}
+
+fn has_no_bid(bids: &[Option<Bid>]) -> bool
+    ensures value { result ≡ list_all is_none bids.now }
+    ensures none { IsTrue result ↔ All (λ bid. IsNone bid) bids.now }
+{
+    bids.iter().all(|bid| bid.is_none())
+}
+
+/// The ride of those who bid.
+fn shared_ride(fares: &Fares, bids: &[Option<Bid>]) -> FareCase
+    requires fares { IsCheckedFares fares.now }
+    requires count { length bids.now ≡ fares.now.members }
+    requires bids { All (λ bid. IfSome bid (IsPlaceOf fares.now)) bids.now }
+    requires some { list_all is_none bids.now ≡ false }
+    ensures case { result ≡ fare_case fares.now bids.now }
+    ensures valid { IsValidFareCase result }
+{
+    FareCase {
+        facts: copied(fares),
+        who: members_with(bids),
+        at: places_of(bids),
+    }
+}
+
+/// The same facts once more.
+fn copied(fares: &Fares) -> Fares
+    requires { IsCheckedFares fares.now }
+    ensures { result ≡ fares.now }
+{
+    let mut legs = ArrayVec::new();
+    for row in fares.legs.as_slice() {
+        legs.push(copied_row(row.as_slice()));
+    }
+    Fares {
+        members: fares.members,
+        places: fares.places,
+        flag: fares.flag,
+        legs,
+    }
+}
+
+fn copied_row(row: &[u32]) -> ArrayVec<u32, 10>
+    requires { length row.now ≤ 10 }
+    ensures { result.items ≡ row.now }
+{
+    let mut copy = ArrayVec::new();
+    for cents in row {
+        copy.push(*cents);
+    }
+    copy
+}
+
+/// The members who have a bid.
+fn members_with(bids: &[Option<Bid>]) -> ArrayVec<u8, 8>
+    requires { length bids.now ≤ 8 }
+    ensures { result.items ≡ members_where is_some bids.now }
+{
+    let mut who = ArrayVec::new();
+    for (k, bid) in bids.iter().enumerate() {
+        if bid.is_some() {
+            who.push(k as u8 + 1);
+        }
+    }
+    who
+}
+
+/// The members who lack a bid.
+fn members_without(bids: &[Option<Bid>]) -> ArrayVec<u8, 12>
+    requires { length bids.now ≤ 12 }
+    ensures { result.items ≡ members_where is_none bids.now }
+{
+    let mut missing = ArrayVec::new();
+    for (k, bid) in bids.iter().enumerate() {
+        if bid.is_none() {
+            missing.push(k as u8 + 1);
+        }
+    }
+    missing
+}
+
+/// The places that the bids name, by rider.
+fn places_of(bids: &[Option<Bid>]) -> ArrayVec<u8, 8>
+    requires { length bids.now ≤ 8 }
+    ensures { result.items ≡ filter_map place_named bids.now }
+{
+    let mut places = ArrayVec::new();
+    for bid in bids {
+        if let Some(place) = place_of(bid) {
+            places.push(place);
+        }
+    }
+    places
+}
+
+fn place_of(bid: &Option<Bid>) -> Option<u8>
+    ensures { result ≡ place_named bid.now }
+{
+    match bid {
+        Some(Bid::Place(place)) => Some(*place),
+        _ => None,
+    }
+}

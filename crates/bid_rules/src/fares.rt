@@ -1,0 +1,121 @@
+ghost use Rattle.std.specs.Prelude.{◌≡◌, ℕ, ◌+◌, ◌*◌, ◌<◌, ◌≤◌, ◌↔◌, ◌∷◌, length, slice_index, All, IsTrue, IsOk, IsErrOf, MatchResult, MatchOption, IfSome};
+ghost use Rattle.bid_rules.specs.declared.bids.BidFault.TheVariants.{Count, Range};
+ghost use Rattle.bid_rules.specs.Facts.{HasShape, HasTable, IsCheckedFares, IsFaultOfFares, IsFirstAboveMillion, IsFirstOwnLeg, IsWithinMillion, leg, legs_in_order};
+
+use crate::BidFault;
+use arrayvec::ArrayVec;
+
+/// The facts of a shared ride. Money is in cents.
+#[derive(Debug, Drop, PartialEq, Eq)]
+pub struct Fares {
+    /// How many members may ride, 2 to 8.
+    pub members: u8,
+    /// At how many places a rider may get off, 1 to 10.
+    pub places: u8,
+    /// The flag fall, which each ride costs before any leg, 0 to 1,000,000.
+    pub flag: u32,
+    /// What each leg costs, 0 to 1,000,000: a row of the legs from the origin and one of those from each place, with a leg to
+    /// each place in order. That from a place to itself is 0.
+    pub legs: ArrayVec<ArrayVec<u32, 10>, 11>,
+}
+
+impl Fares {
+    /// The leg in cents from the origin, which is 0, or from a place, to a place.
+    pub fn leg(&self, from: u8, to: u8) -> u32
+        requires facts { IsCheckedFares self.now }
+        requires from { from ≤ self.now.places }
+        requires to_low { 1 ≤ to }
+        requires to_high { to ≤ self.now.places }
+        ensures value { result ≡ leg self.now from to }
+        ensures small { result ≤ 1000000 }
+    {
+        self.legs[from as usize][to as usize - 1]
+    }
+}
+
+fn has_shape(facts: &Fares) -> bool
+    ensures { IsTrue result ↔ HasShape facts.now }
+{
+    (2..=8).contains(&facts.members) && (1..=10).contains(&facts.places) && has_table(facts)
+}
+
+/// A row of legs from the origin and from each place, each with a leg to each place.
+fn has_table(facts: &Fares) -> bool
+    ensures { IsTrue result ↔ HasTable facts.now }
+{
+    let places = usize::from(facts.places);
+    facts.legs.len() == places + 1 && facts.legs.iter().all(|row| row.len() == places)
+}
+
+/// The index of the first number above a million.
+fn first_above(row: &[u32]) -> Option<usize>
+    ensures cases { MatchOption result (All (λ cents. cents ≤ 1000000) row.now) (IsFirstAboveMillion row.now) }
+    ensures within { IfSome result (λ place. place < length row.now) }
+{
+    row.iter().position(|cents| *cents > 1_000_000)
+}
+
+/// The number of legs before the first one above a million.
+fn first_leg_above(facts: &Fares) -> Option<u32>
+    ensures cases { MatchOption result (All (λ cents. cents ≤ 1000000) (legs_in_order facts.now)) (IsFirstAboveMillion (legs_in_order facts.now)) }
+    ensures small { IfSome result (λ place. place < 110) }
+{
+    let mut passed = 0;
+    for row in facts.legs.as_slice() {
+        if let Some(column) = first_above(row.as_slice()) {
+            return Some(passed + column as u32);
+        }
+        passed += row.len() as u32;
+    }
+    None
+}
+
+/// The first place whose leg to itself isn't 0.
+fn first_own_leg(facts: &Fares) -> Option<u8>
+    requires { HasShape facts.now }
+    ensures { MatchOption result ((p : ℕ) → 1 ≤ p → p ≤ facts.now.places → leg facts.now p p ≡ 0) (IsFirstOwnLeg facts.now) }
+{
+    for place in 1..=facts.places {
+        if facts.legs[place as usize][place as usize - 1] != 0 {
+            return Some(place);
+        }
+    }
+    None
+}
+
+/// Whether the facts are within the limits, or their first fault. The faults come in this order:
+///
+/// - `Count` where the members aren't 2 to 8, the places aren't 1 to 10, or the legs aren't `places + 1` rows of `places` legs;
+/// - `Range` with place 0 where the flag fall is above 1,000,000;
+/// - `Range` with the place of the first leg above 1,000,000, row by row: that in `row` and `column`, each from 0, has the place
+///   `1 + row * places + column` (`leg_place_law`);
+/// - `Place` with the first place whose leg to itself isn't 0.
+pub fn check_fares(facts: &Fares) -> Result<(), BidFault>
+    ensures fault { MatchResult result (λ _. IsCheckedFares facts.now) (IsFaultOfFares facts.now) }
+    ensures accepted { IsOk result ↔ IsCheckedFares facts.now }
+    ensures count { IsErrOf result Count ↔ (HasShape facts.now → ⊥) }
+    ensures flag { IsErrOf result (Range 0) ↔ HasShape facts.now × (1000000 < facts.now.flag) }
+{
+    if !has_shape(facts) {
+        return Err(BidFault::Count);
+    }
+    if facts.flag > 1_000_000 {
+        return Err(BidFault::Range { place: 0 });
+    }
+    if let Some(place) = first_leg_above(facts) {
+        return Err(BidFault::Range { place: 1 + place });
+    }
+    if let Some(place) = first_own_leg(facts) {
+        return Err(BidFault::Place {
+            place: u32::from(place),
+        });
+    }
+    Ok(())
+}
+
+/// The place of a leg in a fault: the flag fall stands at place 0, and the legs after it, row by row.
+pub fn leg_place_law()
+    ensures place { (facts : Fares) (row column : ℕ) → HasTable facts → row ≤ facts.places → column < facts.places
+        → slice_index (facts.flag ∷ legs_in_order facts) (1 + row * facts.places + column) ≡ leg facts row (column + 1) }
+    ensures count { (facts : Fares) → HasTable facts → length (legs_in_order facts) ≡ (facts.places + 1) * facts.places }
+{}

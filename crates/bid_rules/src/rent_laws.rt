@@ -1,0 +1,77 @@
+// What holds of the definitions of rent, for all cases: each law is the contract of a function that does nothing.
+ghost use Rattle.std.specs.Prelude.{◌≡◌, ◌≢◌, ℕ, ℤ, pos, ◌+◌, ◌*◌, ◌<◌, ◌≤◌, ◌+ℤ◌, ◌-ℤ◌, ◌*ℤ◌, ◌≤ℤ◌, ◌↔◌, List, slice_index};
+ghost use Rattle.std.specs.List.{AllZip};
+ghost use Rattle.bid_rules.specs.declared.rents.RentCase.{RentCase};
+ghost use Rattle.bid_rules.specs.Fractions.{Fraction, HasSameValue, IsQuotient, sum_of_fractions};
+ghost use Rattle.bid_rules.specs.Keys.{AreDualNumbers, HasGreatestKeySum, HasGreatestWelfare, IsFirstOfItsWelfare};
+ghost use Rattle.bid_rules.specs.Maximin.{AreMaximinPrices, least_in_parts, value_step};
+ghost use Rattle.bid_rules.specs.Rent.{IsAssignment, IsEnvyFree, IsLeastUtility, IsPricedAssignment, RentBest, least_utility, room_count, utility, value};
+ghost use Rattle.bid_rules.specs.Walks.{AreGreatestWeights, AreShownRanks, AreShownWeights, AreVertices, HasNoPositiveCycle, IsAttained, walk_weight, weight_at};
+
+/// The rooms of envy-free prices have the greatest welfare. With every other assignment that has it, the prices stay
+/// envy-free and each member's utility stays (Gal, Mash, Procaccia and Zick 2016).
+pub fn envy_free_law()
+    ensures welfare { (case : RentCase) (k : ℕ) (rooms : List ℕ) (prices : List ℤ) → IsPricedAssignment case k rooms prices → IsEnvyFree case k rooms prices → HasGreatestWelfare case rooms }
+    ensures priced { (case : RentCase) (k : ℕ) (rooms others : List ℕ) (prices : List ℤ) → IsPricedAssignment case k rooms prices → HasGreatestWelfare case others → IsPricedAssignment case k others prices }
+    ensures others { (case : RentCase) (k : ℕ) (rooms others : List ℕ) (prices : List ℤ) → IsPricedAssignment case k rooms prices → IsEnvyFree case k rooms prices
+        → HasGreatestWelfare case others → IsEnvyFree case k others prices }
+    ensures utilities { (case : RentCase) (k : ℕ) (rooms others : List ℕ) (prices : List ℤ) → IsPricedAssignment case k rooms prices → IsEnvyFree case k rooms prices
+        → HasGreatestWelfare case others → (member : ℕ) → member < room_count case → utility case k others prices member ≡ utility case k rooms prices member }
+{}
+
+/// At envy-free prices each utility is at least another one and the step from there, over any assignment of greatest welfare. So
+/// it is at least the least one and the weight of a walk that ends at the member, and the sum over the members bounds the least
+/// utility.
+pub fn least_utility_law()
+    ensures step { (case : RentCase) (k : ℕ) (rooms best : List ℕ) (prices : List ℤ) → IsPricedAssignment case k rooms prices → IsEnvyFree case k rooms prices → HasGreatestWelfare case best
+        → (from to : ℕ) → from < room_count case → to < room_count case
+        → (utility case k rooms prices from +ℤ pos k *ℤ value_step case best from to) ≤ℤ utility case k rooms prices to }
+    ensures walk { (case : RentCase) (k : ℕ) (rooms best : List ℕ) (prices : List ℤ) → IsPricedAssignment case k rooms prices → IsEnvyFree case k rooms prices → HasGreatestWelfare case best
+        → (member : ℕ) (before : List ℕ) → member < room_count case → AreVertices (room_count case) before
+        → (least_utility case k rooms prices +ℤ pos k *ℤ walk_weight (value_step case best) member before) ≤ℤ utility case k rooms prices member }
+    ensures bound { (case : RentCase) (k : ℕ) (rooms best : List ℕ) (prices walks : List ℤ) → IsPricedAssignment case k rooms prices → IsEnvyFree case k rooms prices → HasGreatestWelfare case best
+        → ((member : ℕ) → member < room_count case → IsAttained (room_count case) (value_step case best) member (weight_at walks member))
+        → (pos (room_count case) *ℤ least_utility case k rooms prices) ≤ℤ (pos k *ℤ least_in_parts case best walks) }
+{}
+
+/// Dual numbers show the greatest sum of keys. The assignment that has it is the only one, has the greatest welfare, and is the
+/// first list among those of that welfare.
+pub fn key_law()
+    ensures dual { (case : RentCase) (rooms : List ℕ) (left right : List ℤ) → IsAssignment case rooms → AreDualNumbers case rooms left right → HasGreatestKeySum case rooms }
+    ensures only { (case : RentCase) (rooms others : List ℕ) → HasGreatestKeySum case rooms → HasGreatestKeySum case others → others ≡ rooms }
+    ensures welfare { (case : RentCase) (rooms : List ℕ) → HasGreatestKeySum case rooms → HasGreatestWelfare case rooms }
+    ensures first { (case : RentCase) (rooms : List ℕ) → HasGreatestKeySum case rooms → IsFirstOfItsWelfare case rooms }
+{}
+
+/// Weights are the greatest ones of walks exactly where they are 0 or more, some walk attains each, and no step exceeds them.
+/// Ranks that lead back to a weight of 0 show that each is attained.
+pub fn walk_law()
+    ensures shown { (n : ℕ) (step : ℕ → ℕ → ℤ) (weights : List ℤ) → AreShownWeights n step weights ↔ AreGreatestWeights n step weights }
+    ensures ranks { (n : ℕ) (step : ℕ → ℕ → ℤ) (weights : List ℤ) (ranks : List ℕ) → AreShownRanks n step weights ranks → (to : ℕ) → to < n → IsAttained n step to (weight_at weights to) }
+{}
+
+/// What shows the best answer: the greatest sum of keys, walks over the values that are attained and that no step exceeds, and
+/// the prices of the formula. Its least utility is that of the formula.
+pub fn shown_rent_law()
+    ensures best { (case : RentCase) (rooms : List ℕ) (walks : List ℤ) (prices : List Fraction) → 1 ≤ room_count case → HasGreatestKeySum case rooms
+        → AreShownWeights (room_count case) (value_step case rooms) walks → AreMaximinPrices case rooms walks prices → RentBest case rooms prices }
+    ensures least { (case : RentCase) (rooms : List ℕ) (walks : List ℤ) (prices : List Fraction) (least : Fraction) → 1 ≤ room_count case → HasGreatestKeySum case rooms
+        → AreShownWeights (room_count case) (value_step case rooms) walks → AreMaximinPrices case rooms walks prices
+        → IsQuotient least (least_in_parts case rooms walks) (room_count case) → IsLeastUtility case rooms prices least }
+{}
+
+/// Two best priced assignments of a case have one list of rooms and the same prices, which sum to the rent.
+pub fn best_rent_law()
+    ensures one_assignment { (case : RentCase) (rooms others : List ℕ) (prices other : List Fraction) → RentBest case rooms prices → RentBest case others other → others ≡ rooms }
+    ensures one_value { (case : RentCase) (rooms others : List ℕ) (prices other : List Fraction) → RentBest case rooms prices → RentBest case others other → AllZip HasSameValue prices other }
+    ensures total { (case : RentCase) (rooms : List ℕ) (prices : List Fraction) → RentBest case rooms prices → IsQuotient (sum_of_fractions prices) (pos case.facts.rent) 1 }
+{}
+
+/// Numbers by member and by room that bound every value, and that some assignment reaches, show that over the values no cycle
+/// of any assignment of greatest welfare has a positive weight.
+pub fn value_cycle_law()
+    ensures { (case : RentCase) (rooms others : List ℕ) (left right : ℕ → ℤ) → HasGreatestWelfare case rooms → IsAssignment case others
+        → ((member room : ℕ) → member < room_count case → 1 ≤ room → room ≤ room_count case → value case member room ≤ℤ (left member +ℤ right room))
+        → ((member : ℕ) → member < room_count case → left member +ℤ right (slice_index others member) ≡ value case member (slice_index others member))
+        → HasNoPositiveCycle (room_count case) (value_step case rooms) }
+{}

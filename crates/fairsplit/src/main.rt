@@ -1,0 +1,26 @@
+//! The program: the commands over the standard streams.
+#![tactic(auto)]
+
+mod streams;
+mod words;
+
+use split_base::{NoMemory, write_all};
+use split_top::run;
+use std::process::ExitCode;
+use std::{env, io};
+use streams::{Reading, Writing};
+use words::words_of;
+
+fn main(rt: HostRuntime) -> ExitCode {
+    let mut output = Writing::new(io::writer(&rt));
+    let words = match words_of(rt.alloc(), env::args(&rt)) {
+        Ok(words) => words,
+        Err(NoMemory) => {
+            let _ = write_all(&mut output, b"no memory\n");
+            return ExitCode::from(9);
+        }
+    };
+    let mut input = Reading::new(rt.reader());
+    let status = run(rt.alloc(), &words, &mut input, &mut output);
+    ExitCode::from(status.code)
+}

@@ -1,0 +1,70 @@
+// A reader as a source and a writer as a sink: each failed call of theirs is counted as a fault.
+ghost use Rattle.std.specs.Prelude.{◌≡◌};
+
+use split_base::{Failed, Sink, Source};
+use std::io::{Read, Write};
+
+/// A reader as a source. It tells what is left where the reader does.
+#[derive(Drop)]
+pub struct Reading<R> {
+    inner: R,
+    faults: u64,
+}
+
+impl<R: Read> Reading<R> {
+    /// A source that has had no fault yet.
+    pub fn new(inner: R) -> Self
+        ensures { result.faults ≡ 0 }
+    {
+        Reading { inner, faults: 0 }
+    }
+}
+
+impl<R: Read> Source for Reading<R> {
+    ghost left = { λ source. R.remaining source.inner };
+
+    ghost faults = { λ source. source.faults };
+
+    fn read(&mut self, into: &mut [u8]) -> Result<usize, Failed> {
+        match self.inner.read(into) {
+            Ok(count) => Ok(count),
+            Err(_) => {
+                self.faults = self.faults.saturating_add(1);
+                Err(Failed)
+            }
+        }
+    }
+}
+
+/// A writer as a sink. It tells what was written where the writer does.
+#[derive(Drop)]
+pub struct Writing<W> {
+    inner: W,
+    faults: u64,
+}
+
+impl<W: Write> Writing<W> {
+    /// A sink that has had no fault yet.
+    pub fn new(inner: W) -> Self
+        ensures { result.faults ≡ 0 }
+    {
+        Writing { inner, faults: 0 }
+    }
+}
+
+impl<W: Write> Sink for Writing<W> {
+    ghost written = { λ sink. W.contents sink.inner };
+
+    ghost faults = { λ sink. sink.faults };
+
+    // A writer that takes nothing of a piece has failed too.
+    fn write(&mut self, piece: &[u8]) -> Result<usize, Failed> {
+        match self.inner.write(piece) {
+            Ok(count) if count > 0 || piece.is_empty() => Ok(count),
+            _ => {
+                self.faults = self.faults.saturating_add(1);
+                Err(Failed)
+            }
+        }
+    }
+}

@@ -1,0 +1,5 @@
+pub mod NoCycle
+pub mod RoomLaws
+pub mod TreeLaws
+pub mod TreeUse
+pub mod WalkLaws

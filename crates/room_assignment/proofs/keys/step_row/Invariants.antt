@@ -1,0 +1,7 @@
+use Rattle.std.proofs.Common.{◌-ℤ◌, ◌^◌, slice_index}
+use Rattle.room_assignment.specs.Matrix.{entry}
+use Rattle.room_assignment.specs.Matrix.{IsRowOf}
+use Rattle.room_assignment.proofs.keys.step_row.Given as goal
+
+abbrev pub invariant-loop-to : goal.invariant-loop-to
+invariant-loop-to l = IsRowOf l.to (10 ^ 21) (λ to. entry l.weights to (slice_index l.rooms l.from) -ℤ entry l.weights l.from (slice_index l.rooms l.from)) l.row.items

@@ -1,0 +1,3 @@
+pub mod Matrix
+pub mod Rounds
+pub mod Tree

@@ -1,0 +1,126 @@
+-- How the assignment of greatest sum is found: members settled one by one, each by a tree of members who could be the one left over.
+use Rattle.std.specs.Prelude.{◌≡◌, ◌≢◌, ℕ, ℤ, Bool, true, false, pos, ◌<◌, ◌≤◌, ◌^◌, ◌+ℤ◌, ◌-ℤ◌, ◌≤ℤ◌, List, [], length, slice_index, slice_index_or, unsigned_abs, sum_by, if◌then◌else◌}
+use Rattle.std.specs.List.{range_with_len}
+use Rattle.std.specs.List.Sorted.{IsPermutation}
+use Rattle.room_assignment.specs.Matrix.{Matrix, IsSquare, entry}
+use Rattle.room_assignment.specs.declared.tree.Plan.{Plan}
+use Rattle.room_assignment.specs.declared.tree.Tree.{Tree}
+use Rattle.room_assignment.specs.declared.tree.Choice.{Choice}
+
+-- dual numbers bound each key
+abbrev pub Bounds : ℕ → (ℕ → ℕ → ℤ) → (ℕ → ℤ) → (ℕ → ℤ) → Type 0
+Bounds n key left right = (i j : ℕ) → i < n → j < n → key i j ≤ℤ (left i +ℤ right j)
+
+-- the members below m have rooms whose keys the dual numbers reach; the rooms of the others have the dual number 0
+pub record IsSettled (n m : ℕ) (key : ℕ → ℕ → ℤ) (left right : ℕ → ℤ) (rooms : List ℕ) : Type 0 where
+  pub permutation : IsPermutation (range_with_len 0 n) rooms
+  pub bound : Bounds n key left right
+  pub top : (i : ℕ) → i < n → left i ≤ℤ pos (10 ^ 20)
+  pub tight : (i : ℕ) → i < m → left i +ℤ right (slice_index rooms i) ≡ key i (slice_index rooms i)
+  pub zero : (i : ℕ) → m ≤ i → i < n → right (slice_index rooms i) ≡ pos 0
+
+-- rooms in which the member k is left over with the room that was m's, and each other member up to m has a room that is reached
+pub record IsPlanWithout (n m k : ℕ) (key : ℕ → ℕ → ℤ) (left right : ℕ → ℤ) (rooms : List ℕ) (in_tree labelled : ℕ → Bool) (plan : List ℕ) : Type 0 where
+  pub permutation : IsPermutation (range_with_len 0 n) plan
+  pub over : slice_index plan k ≡ slice_index rooms m
+  pub tight : (i : ℕ) → i ≤ m → i ≢ k → left i +ℤ right (slice_index plan i) ≡ key i (slice_index plan i)
+  pub same : (i : ℕ) → i < n → i ≢ k → in_tree i ≡ labelled (slice_index plan i)
+  pub others : (i : ℕ) → i < n → in_tree i ≡ false → slice_index plan i ≡ slice_index rooms i
+
+-- each member of the tree could be the one left over
+pub record IsGrown (n m : ℕ) (key : ℕ → ℕ → ℤ) (left right : ℕ → ℤ) (rooms : List ℕ) (in_tree labelled : ℕ → Bool) (plan : ℕ → List ℕ) : Type 0 where
+  pub permutation : IsPermutation (range_with_len 0 n) rooms
+  pub bound : Bounds n key left right
+  pub top : (i : ℕ) → i < n → left i ≤ℤ pos (10 ^ 20)
+  pub zero : (i : ℕ) → m ≤ i → i < n → right (slice_index rooms i) ≡ pos 0
+  pub free : (i : ℕ) → m ≤ i → i < n → labelled (slice_index rooms i) ≡ false
+  pub root : in_tree m ≡ true
+  pub high : (i : ℕ) → m < i → i < n → in_tree i ≡ false
+  pub plans : (k : ℕ) → k < n → in_tree k ≡ true → IsPlanWithout n m k key left right rooms in_tree labelled (plan k)
+
+-- how dual numbers move
+pub record AreMoved (n : ℕ) (d : ℤ) (in_tree labelled : ℕ → Bool) (left right left' right' : ℕ → ℤ) : Type 0 where
+  pub left_in : (i : ℕ) → i < n → in_tree i ≡ true → left' i ≡ left i -ℤ d
+  pub left_out : (i : ℕ) → i < n → in_tree i ≡ false → left' i ≡ left i
+  pub right_in : (j : ℕ) → j < n → labelled j ≡ true → right' j ≡ right j +ℤ d
+  pub right_out : (j : ℕ) → j < n → labelled j ≡ false → right' j ≡ right j
+
+-- d is what a member of the tree and a room that is not labelled lack
+pub record IsSlack (n : ℕ) (key : ℕ → ℕ → ℤ) (left right : ℕ → ℤ) (in_tree labelled : ℕ → Bool) (k j : ℕ) (d : ℤ) : Type 0 where
+  pub member : k < n
+  pub room : j < n
+  pub inside : in_tree k ≡ true
+  pub outside : labelled j ≡ false
+  pub is : d ≡ left k +ℤ right j -ℤ key k j
+
+-- d is the least that a pair of the tree and a room that is not labelled lack
+pub record IsLeastSlack (n : ℕ) (key : ℕ → ℕ → ℤ) (left right : ℕ → ℤ) (in_tree labelled : ℕ → Bool) (k j : ℕ) (d : ℤ) : Type 0 where
+  pub pair : IsSlack n key left right in_tree labelled k j d
+  pub least : (i r : ℕ) → i < n → r < n → in_tree i ≡ true → labelled r ≡ false → d ≤ℤ (left i +ℤ right r -ℤ key i r)
+
+-- the tree as it grows by the member h
+pub record AreMore (h j : ℕ) (in_tree labelled in_tree' labelled' : ℕ → Bool) : Type 0 where
+  pub inside : in_tree' h ≡ true
+  pub outside : labelled' j ≡ true
+  pub members : (i : ℕ) → i ≢ h → in_tree' i ≡ in_tree i
+  pub rooms : (r : ℕ) → r ≢ j → labelled' r ≡ labelled r
+
+-- keys of at most 10^20 in size
+pub record AreKeys (keys : Matrix) : Type 0 where
+  pub square : IsSquare keys
+  pub some : 1 ≤ length keys.items
+  pub few : length keys.items ≤ 12
+  pub keys_small : (i j : ℕ) → i < length keys.items → j < length keys.items → unsigned_abs (entry keys i j) ≤ 10 ^ 20
+
+-- a list as a function
+abbrev pub numbers : List ℤ → ℕ → ℤ
+numbers xs i = slice_index_or xs i (pos 0)
+
+abbrev pub marks : List Bool → ℕ → Bool
+marks xs i = slice_index_or xs i false
+
+-- the members below m are settled in the plan
+pub record IsSettledPlan (m : ℕ) (keys : Matrix) (plan : Plan) : Type 0 where
+  pub lefts : length plan.left.items ≡ length keys.items
+  pub rights : length plan.right.items ≡ length keys.items
+  pub settled : IsSettled (length keys.items) m (entry keys) (numbers plan.left.items) (numbers plan.right.items) plan.rooms.items
+
+abbrev pub plan_of : Tree → ℕ → List ℕ
+plan_of tree k = (slice_index_or tree.plans.items k (record { items = [] })).items
+
+-- the lists of the tree have one entry for each member or room
+pub record HasCounts (n : ℕ) (tree : Tree) : Type 0 where
+  pub lefts : length tree.left.items ≡ n
+  pub rights : length tree.right.items ≡ n
+  pub members : length tree.in_tree.items ≡ n
+  pub rooms : length tree.labelled.items ≡ n
+  pub plans : length tree.plans.items ≡ n
+
+-- the tree of the member m
+pub record IsGrownTree (m : ℕ) (keys : Matrix) (tree : Tree) : Type 0 where
+  pub low : m < length keys.items
+  pub counts : HasCounts (length keys.items) tree
+  pub grown : IsGrown (length keys.items) m (entry keys) (numbers tree.left.items) (numbers tree.right.items) tree.rooms.items (marks tree.in_tree.items) (marks tree.labelled.items) (plan_of tree)
+
+abbrev pub IsChoice : Matrix → Tree → Choice → Type 0
+IsChoice keys tree choice = IsSlack (length keys.items) (entry keys) (numbers tree.left.items) (numbers tree.right.items) (marks tree.in_tree.items) (marks tree.labelled.items) choice.member choice.room choice.slack
+
+abbrev pub IsLeastChoice : Matrix → Tree → Choice → Type 0
+IsLeastChoice keys tree choice = IsLeastSlack (length keys.items) (entry keys) (numbers tree.left.items) (numbers tree.right.items) (marks tree.in_tree.items) (marks tree.labelled.items) choice.member choice.room choice.slack
+
+-- what a member and a room lack
+abbrev pub slack_of : Matrix → Tree → ℕ → ℕ → ℤ
+slack_of keys tree i r = numbers tree.left.items i +ℤ numbers tree.right.items r -ℤ entry keys i r
+
+-- how many members are not in the tree
+abbrev pub missing : List Bool → ℕ
+missing xs = sum_by (λ b. if b then 0 else 1) xs
+
+-- the number bounds the keys of a member
+pub record IsMost (keys : Matrix) (member : ℕ) (most : ℤ) : Type 0 where
+  pub bound : (j : ℕ) → j < length keys.items → entry keys member j ≤ℤ most
+  pub top : most ≤ℤ pos (10 ^ 20)
+
+-- what the dual number of a room is: the key of the member who has it, less that member's number
+abbrev pub IsRight : ℕ → (ℕ → ℕ → ℤ) → List ℕ → List ℤ → ℕ → ℤ → Type 0
+IsRight n weight rooms left j z = (i : ℕ) × (i < n) × (slice_index rooms i ≡ j) × (z ≡ weight i j -ℤ slice_index_or left i (pos 0))

@@ -1,0 +1,13 @@
+//! The rooms of greatest welfare, first as a list, with dual numbers that show it, and longest walks over weighted steps.
+#![tactic(auto)]
+
+mod keys;
+mod rooms;
+mod tree;
+mod walks;
+
+pub use rooms::{Rooms, best_rooms, value_walks};
+pub use walks::{Matrix, Walks, longest_walks};
+
+#[cfg(test)]
+mod tests;

@@ -1,0 +1,385 @@
+ghost use Rattle.std.specs.Prelude.{◌≡◌, ℕ, [], ℤ, pos, true, false, ◌+◌, ◌*◌, ◌-◌, ◌<◌, ◌≤◌, ◌^◌, ◌+ℤ◌, ◌-ℤ◌, ◌≤ℤ◌, ◌≢◌, ◌⊎◌, length, All, slice_index, slice_index_or, unsigned_abs};
+ghost use Rattle.std.specs.List.{range_with_len, swap};
+ghost use Rattle.std.specs.List.Sorted.{IsPermutation};
+ghost use Rattle.room_assignment.specs.Matrix.{entry};
+ghost use Rattle.room_assignment.specs.Tree.{AreKeys, IsSettledPlan, IsGrownTree, IsChoice, IsLeastChoice, slack_of, numbers, marks, plan_of, missing, IsMost};
+
+use crate::walks::{Matrix, greater, step};
+use arrayvec::ArrayVec;
+
+/// A list of rooms by member, both counted from 0.
+pub(crate) type Order = ArrayVec<u8, 12>;
+
+/// The rooms of the members, and dual numbers.
+#[derive(Drop)]
+pub(crate) struct Plan {
+    pub rooms: Order,
+    pub left: ArrayVec<i128, 12>,
+    pub right: ArrayVec<i128, 12>,
+}
+
+/// The members who could be the one left over, and for each of them a plan in which it is.
+#[derive(Drop)]
+struct Tree {
+    rooms: Order,
+    left: ArrayVec<i128, 12>,
+    right: ArrayVec<i128, 12>,
+    in_tree: ArrayVec<bool, 12>,
+    labelled: ArrayVec<bool, 12>,
+    plans: ArrayVec<Order, 12>,
+}
+
+/// A member of the tree, a room that is not labelled, and what the two lack.
+#[derive(Clone, Copy)]
+struct Choice {
+    member: usize,
+    room: usize,
+    slack: i128,
+}
+
+/// What a member and a room lack.
+fn slack(keys: &Matrix, tree: &Tree, settled: usize, member: usize, room: usize) -> i128
+    requires keys { AreKeys keys.now }
+    requires tree { IsGrownTree settled keys.now tree.now }
+    requires member { member < length keys.now.items }
+    requires room { room < length keys.now.items }
+    ensures value { result ≡ slack_of keys.now tree.now member room }
+{
+    tree.left[member] + tree.right[room] - step(keys, member, room)
+}
+
+/// The list with the numbers lowered where there is a mark.
+fn lowered(values: &[i128], marked: &[bool], by: i128) -> ArrayVec<i128, 12>
+    requires few { length values.now ≤ 12 }
+    requires same { length marked.now ≡ length values.now }
+    requires small { All (λ z. unsigned_abs z ≤ 10 ^ 22) values.now }
+    requires by { unsigned_abs by ≤ 10 ^ 22 }
+    ensures count { length result.items ≡ length values.now }
+    ensures yes { (i : ℕ) → i < length values.now → marks marked.now i ≡ true → numbers result.items i ≡ numbers values.now i -ℤ by }
+    ensures no { (i : ℕ) → i < length values.now → marks marked.now i ≡ false → numbers result.items i ≡ numbers values.now i }
+{
+    let mut lowered = ArrayVec::new();
+    for k in 0..values.len() {
+        lowered.push(one_lowered(values[k], marked[k], by));
+    }
+    lowered
+}
+
+fn one_lowered(value: i128, marked: bool, by: i128) -> i128
+    requires value { unsigned_abs value ≤ 10 ^ 22 }
+    requires by { unsigned_abs by ≤ 10 ^ 22 }
+    ensures yes { marked ≡ true → result ≡ value -ℤ by }
+    ensures no { marked ≡ false → result ≡ value }
+{
+    if marked {
+        return value - by;
+    }
+    value
+}
+
+/// The plan with two rooms exchanged.
+fn swapped(plan: &[u8], first: usize, second: usize) -> Order
+    requires few { length plan.now ≤ 12 }
+    requires first { first < length plan.now }
+    requires second { second < length plan.now }
+    ensures { result.items ≡ swap plan.now first second }
+{
+    let mut swapped = Order::new();
+    for room in plan {
+        swapped.push(*room);
+    }
+    swapped[first] = plan[second];
+    swapped[second] = plan[first];
+    swapped
+}
+
+/// The member who has the room in the plan.
+pub(crate) fn holder(plan: &[u8], room: usize) -> usize
+    requires plan { IsPermutation (range_with_len 0 (length plan.now)) plan.now }
+    requires room { room < length plan.now }
+    ensures within { result < length plan.now }
+    ensures holds { slice_index plan.now result ≡ room }
+{
+    for k in 0..plan.len() {
+        if usize::from(plan[k]) == room {
+            return k;
+        }
+    }
+    0
+}
+
+/// The choice that lacks less.
+fn better(first: Choice, second: Choice) -> Choice
+    ensures one { (result ≡ first) ⊎ (result ≡ second) }
+    ensures first { result.slack ≤ℤ first.slack }
+    ensures second { result.slack ≤ℤ second.slack }
+{
+    if second.slack < first.slack {
+        return second;
+    }
+    first
+}
+
+fn with_room(
+    keys: &Matrix,
+    tree: &Tree,
+    settled: usize,
+    member: usize,
+    room: usize,
+    least: Choice,
+) -> Choice
+    requires keys { AreKeys keys.now }
+    requires tree { IsGrownTree settled keys.now tree.now }
+    requires member { member < length keys.now.items }
+    requires room { room < length keys.now.items }
+    requires inside { marks tree.now.in_tree.items member ≡ true }
+    requires least { IsChoice keys.now tree.now least }
+    ensures choice { IsChoice keys.now tree.now result }
+    ensures kept { result.slack ≤ℤ least.slack }
+    ensures room { marks tree.now.labelled.items room ≡ false → result.slack ≤ℤ slack_of keys.now tree.now member room }
+{
+    if tree.labelled[room] {
+        return least;
+    }
+    let slack = slack(keys, tree, settled, member, room);
+    better(
+        least,
+        Choice {
+            member,
+            room,
+            slack,
+        },
+    )
+}
+
+fn with_rooms(keys: &Matrix, tree: &Tree, settled: usize, member: usize, least: Choice) -> Choice
+    requires keys { AreKeys keys.now }
+    requires tree { IsGrownTree settled keys.now tree.now }
+    requires member { member < length keys.now.items }
+    requires inside { marks tree.now.in_tree.items member ≡ true }
+    requires least { IsChoice keys.now tree.now least }
+    ensures choice { IsChoice keys.now tree.now result }
+    ensures kept { result.slack ≤ℤ least.slack }
+    ensures rooms { (r : ℕ) → r < length keys.now.items → marks tree.now.labelled.items r ≡ false → result.slack ≤ℤ slack_of keys.now tree.now member r }
+{
+    let mut best = least;
+    for room in 0..keys.len() {
+        best = with_room(keys, tree, settled, member, room, best);
+    }
+    best
+}
+
+fn with_member(keys: &Matrix, tree: &Tree, settled: usize, member: usize, least: Choice) -> Choice
+    requires keys { AreKeys keys.now }
+    requires tree { IsGrownTree settled keys.now tree.now }
+    requires member { member < length keys.now.items }
+    requires least { IsChoice keys.now tree.now least }
+    ensures choice { IsChoice keys.now tree.now result }
+    ensures kept { result.slack ≤ℤ least.slack }
+    ensures rooms { marks tree.now.in_tree.items member ≡ true → (r : ℕ) → r < length keys.now.items → marks tree.now.labelled.items r ≡ false → result.slack ≤ℤ slack_of keys.now tree.now member r }
+{
+    if tree.in_tree[member] {
+        return with_rooms(keys, tree, settled, member, least);
+    }
+    least
+}
+
+/// The choice that lacks least.
+fn least_choice(keys: &Matrix, tree: &Tree, settled: usize) -> Choice
+    requires keys { AreKeys keys.now }
+    requires tree { IsGrownTree settled keys.now tree.now }
+    ensures { IsLeastChoice keys.now tree.now result }
+{
+    let room = usize::from(tree.rooms[settled]);
+    let slack = slack(keys, tree, settled, settled, room);
+    let mut least = Choice {
+        member: settled,
+        room,
+        slack,
+    };
+    for member in 0..keys.len() {
+        least = with_member(keys, tree, settled, member, least);
+    }
+    least
+}
+
+/// Moves the dual numbers, so that they reach the key of the choice.
+fn move_by(keys: &Matrix, tree: &mut Tree, settled: usize, choice: Choice)
+    requires keys { AreKeys keys.now }
+    requires tree { IsGrownTree settled keys.now tree.old }
+    requires choice { IsLeastChoice keys.now tree.old choice }
+    ensures tree { IsGrownTree settled keys.now tree.new }
+    ensures tight { numbers tree.new.left.items choice.member +ℤ numbers tree.new.right.items choice.room ≡ entry keys.now choice.member choice.room }
+    ensures members { tree.new.in_tree.items ≡ tree.old.in_tree.items }
+    ensures rooms { tree.new.labelled.items ≡ tree.old.labelled.items }
+    ensures plans { tree.new.plans.items ≡ tree.old.plans.items }
+{
+    let left = lowered(tree.left.as_slice(), tree.in_tree.as_slice(), choice.slack);
+    let right = lowered(
+        tree.right.as_slice(),
+        tree.labelled.as_slice(),
+        -choice.slack,
+    );
+    tree.left = left;
+    tree.right = right;
+}
+
+/// Lets the tree grow by the member who holds the room.
+fn grow(keys: &Matrix, tree: &mut Tree, settled: usize, member: usize, room: usize, holder: usize)
+    requires keys { AreKeys keys.now }
+    requires tree { IsGrownTree settled keys.now tree.old }
+    requires member { member < length keys.now.items }
+    requires inside { marks tree.old.in_tree.items member ≡ true }
+    requires outside { marks tree.old.labelled.items room ≡ false }
+    requires room { room < length keys.now.items }
+    requires holder { slice_index (plan_of tree.old member) holder ≡ room }
+    requires other { holder ≢ member }
+    requires low { holder ≤ settled }
+    requires tight { numbers tree.old.left.items member +ℤ numbers tree.old.right.items room ≡ entry keys.now member room }
+    ensures tree { IsGrownTree settled keys.now tree.new }
+    ensures fewer { missing tree.new.in_tree.items < missing tree.old.in_tree.items }
+{
+    let plan = swapped(tree.plans[member].as_slice(), member, holder);
+    tree.plans[holder] = plan;
+    tree.in_tree[holder] = true;
+    tree.labelled[room] = true;
+}
+
+/// The plan where the member left over takes the room of a holder who needs none.
+fn ended(keys: &Matrix, tree: Tree, settled: usize, member: usize, holder: usize) -> Plan
+    requires keys { AreKeys keys.now }
+    requires tree { IsGrownTree settled keys.now tree }
+    requires member { member < length keys.now.items }
+    requires holder { holder < length keys.now.items }
+    requires inside { marks tree.in_tree.items member ≡ true }
+    requires tight { numbers tree.left.items member +ℤ numbers tree.right.items (slice_index (plan_of tree member) holder) ≡ entry keys.now member (slice_index (plan_of tree member) holder) }
+    requires end { (holder ≡ member) ⊎ (settled < holder) }
+    ensures { IsSettledPlan (settled + 1) keys.now result }
+{
+    let rooms = swapped(tree.plans[member].as_slice(), member, holder);
+    Plan {
+        rooms,
+        left: tree.left,
+        right: tree.right,
+    }
+}
+
+fn one_mark(count: usize, place: usize) -> ArrayVec<bool, 12>
+    requires { count ≤ 12 }
+    ensures count { length result.items ≡ count }
+    ensures yes { place < count → marks result.items place ≡ true }
+    ensures no { (i : ℕ) → i ≢ place → marks result.items i ≡ false }
+    ensures none { count ≤ place → (i : ℕ) → marks result.items i ≡ false }
+{
+    let mut marked = ArrayVec::new();
+    for k in 0..count {
+        marked.push(k == place);
+    }
+    marked
+}
+
+fn copied(rooms: &[u8]) -> Order
+    requires { length rooms.now ≤ 12 }
+    ensures { result.items ≡ rooms.now }
+{
+    let mut copied = Order::new();
+    for room in rooms {
+        copied.push(*room);
+    }
+    copied
+}
+
+fn copies(rooms: &[u8], count: usize) -> ArrayVec<Order, 12>
+    requires few { length rooms.now ≤ 12 }
+    requires count { count ≤ 12 }
+    ensures count { length result.items ≡ count }
+    ensures each { (k : ℕ) → k < count → (slice_index_or result.items k (record { items = [] })).items ≡ rooms.now }
+{
+    let mut copies = ArrayVec::new();
+    for _k in 0..count {
+        copies.push(copied(rooms));
+    }
+    copies
+}
+
+/// The tree of the next member alone.
+fn started(keys: &Matrix, plan: Plan, settled: usize) -> Tree
+    requires keys { AreKeys keys.now }
+    requires plan { IsSettledPlan settled keys.now plan }
+    requires low { settled < length keys.now.items }
+    ensures { IsGrownTree settled keys.now result }
+{
+    let count = keys.len();
+    let plans = copies(plan.rooms.as_slice(), count);
+    Tree {
+        rooms: plan.rooms,
+        left: plan.left,
+        right: plan.right,
+        in_tree: one_mark(count, settled),
+        labelled: one_mark(count, count),
+        plans,
+    }
+}
+
+/// Settles the next member.
+fn settle(keys: &Matrix, plan: Plan, settled: usize) -> Plan
+    requires keys { AreKeys keys.now }
+    requires plan { IsSettledPlan settled keys.now plan }
+    requires low { settled < length keys.now.items }
+    ensures { IsSettledPlan (settled + 1) keys.now result }
+{
+    let mut tree = started(keys, plan, settled);
+    loop {
+        let choice = least_choice(keys, &tree, settled);
+        move_by(keys, &mut tree, settled, choice);
+        let holder = holder(tree.plans[choice.member].as_slice(), choice.room);
+        if holder == choice.member {
+            return ended(keys, tree, settled, choice.member, holder);
+        }
+        if settled < holder {
+            return ended(keys, tree, settled, choice.member, holder);
+        }
+        grow(keys, &mut tree, settled, choice.member, choice.room, holder);
+    }
+}
+
+/// The greatest key of a member.
+fn most(keys: &Matrix, member: usize) -> i128
+    requires keys { AreKeys keys.now }
+    requires member { member < length keys.now.items }
+    ensures { IsMost keys.now member result }
+{
+    let mut most = step(keys, member, 0);
+    for room in 1..keys.len() {
+        most = greater(most, step(keys, member, room));
+    }
+    most
+}
+
+/// Nobody is settled.
+fn first_plan(keys: &Matrix) -> Plan
+    requires { AreKeys keys.now }
+    ensures { IsSettledPlan 0 keys.now result }
+{
+    let mut rooms = Order::new();
+    let mut left = ArrayVec::new();
+    let mut right = ArrayVec::new();
+    for k in 0..keys.len() {
+        rooms.push(k as u8);
+        left.push(most(keys, k));
+        right.push(0);
+    }
+    Plan { rooms, left, right }
+}
+
+/// The rooms of greatest sum of keys, with dual numbers that show it.
+pub(crate) fn assign(keys: &Matrix) -> Plan
+    requires { AreKeys keys.now }
+    ensures { IsSettledPlan (length keys.now.items) keys.now result }
+{
+    let mut plan = first_plan(keys);
+    for settled in 0..keys.len() {
+        plan = settle(keys, plan, settled);
+    }
+    plan
+}

@@ -1,0 +1,11 @@
+-- What an object's count of faults shows of its calls.
+use Rattle.std.specs.Prelude.{◌≡◌, ◌⊎◌, ℕ, ◌-◌, ◌^◌, ◌<◌, ◌≤◌, Result, IsErr}
+
+-- the count went up, or stands at its greatest value, where it can't
+abbrev pub HasRisen : ℕ → ℕ → Type 0
+HasRisen before now = (before < now) ⊎ (now ≡ 2 ^ 64 - 1)
+
+-- the count never falls, and a call fails only where it has risen
+pub record HasCause {T E : Type 0} (before now : ℕ) (result : Result T E) : Type 0 where
+  pub never_falls : before ≤ now
+  pub failed : IsErr result → HasRisen before now

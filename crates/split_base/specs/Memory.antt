@@ -1,0 +1,67 @@
+-- What contracts see of the objects in memory, and what each call makes of it.
+use Rattle.std.specs.Prelude.{ℕ, ◌+◌, ◌-◌, ◌^◌, min, List, [], ◌∷◌, ◌++◌, length, drop}
+
+-- a source: the bytes that are left, the most bytes that each next call gives, the numbers of the calls that fail, and how many calls were made and have failed
+pub record SourceState : Type 0 where
+  pub left : List ℕ
+  pub pieces : List ℕ
+  pub fails : List ℕ
+  pub calls : ℕ
+  pub faults : ℕ
+
+-- a sink: the bytes that were written, the number of bytes that still fit, the numbers of the calls that fail, and how many calls were made and have failed
+pub record SinkState : Type 0 where
+  pub written : List ℕ
+  pub room : ℕ
+  pub fails : List ℕ
+  pub calls : ℕ
+  pub faults : ℕ
+
+-- one more, up to the greatest number that is kept
+abbrev pub counted : ℕ → ℕ
+counted n = min (n + 1) (2 ^ 64 - 1)
+
+-- the most bytes that the next call gives: any number where the list has ended
+abbrev pub next_piece : List ℕ → ℕ
+next_piece [] = 2 ^ 64 - 1
+next_piece (p ∷ ps) = p
+
+-- the source after a call that gave so many bytes: they are gone, and a piece is used up
+abbrev pub after_read : SourceState → ℕ → SourceState
+after_read source count = record {
+  left = drop count source.left;
+  pieces = drop 1 source.pieces;
+  fails = source.fails;
+  calls = counted source.calls;
+  faults = source.faults;
+}
+
+-- the source after a call that failed: only the counts differ
+abbrev pub after_failed_read : SourceState → SourceState
+after_failed_read source = record {
+  left = source.left;
+  pieces = source.pieces;
+  fails = source.fails;
+  calls = counted source.calls;
+  faults = counted source.faults;
+}
+
+-- the sink after a call that wrote the piece: it stands at the end, and its room is used up
+abbrev pub after_write : SinkState → List ℕ → SinkState
+after_write sink piece = record {
+  written = sink.written ++ piece;
+  room = sink.room - length piece;
+  fails = sink.fails;
+  calls = counted sink.calls;
+  faults = sink.faults;
+}
+
+-- the sink after a call that failed: only the counts differ
+abbrev pub after_failed_write : SinkState → SinkState
+after_failed_write sink = record {
+  written = sink.written;
+  room = sink.room;
+  fails = sink.fails;
+  calls = counted sink.calls;
+  faults = counted sink.faults;
+}

@@ -1,0 +1,17 @@
+-- What a call does to the bytes that a source has left or a sink holds, where the object tells them.
+use Rattle.std.specs.Prelude.{◌≡◌, ℕ, ◌<◌, ◌≤◌, List, length, take, Option, Result, MatchResult}
+use Rattle.std.specs.Io.KnownBytes.{Consumes, Appends, Keeps, IsAtEnd}
+
+-- so many bytes were taken, none of a buffer with room exactly at the end; a failed read takes none
+abbrev pub Reads : {E : Type 0} → Option (List ℕ) → Option (List ℕ) → Result ℕ E → List ℕ → Type 0
+Reads old new result into =
+    MatchResult result
+    (λ count. (count ≤ length into) × Consumes old new (take count into) × (count ≡ 0 → 0 < length into → IsAtEnd new))
+    (λ _. Keeps old new)
+
+-- so many bytes were written, at least one of a piece that isn't empty; a failed write writes none
+abbrev pub Writes : {E : Type 0} → Option (List ℕ) → Option (List ℕ) → Result ℕ E → List ℕ → Type 0
+Writes old new result piece =
+    MatchResult result
+    (λ count. (count ≤ length piece) × Appends old new (take count piece) × (0 < length piece → 0 < count))
+    (λ _. Keeps old new)

@@ -1,0 +1,91 @@
+// A source in memory.
+ghost use Rattle.std.specs.Prelude.{◌≡◌, ◌<◌, ◌≤◌, ◌↔◌, ℕ, All, Contains, length, min, take, drop, IfOk, MatchResult, IsErr, Some};
+ghost use Rattle.split_base.specs.Faults.{HasCause};
+ghost use Rattle.split_base.specs.Streams.{Reads};
+ghost use Rattle.split_base.specs.Memory.{counted, next_piece, after_read, after_failed_read};
+
+use super::calls::Calls;
+use super::pieces::Pieces;
+use crate::{Failed, Source};
+use std::marker::Model;
+
+/// A source that gives its bytes in pieces: by each call at most the next listed number of bytes,
+/// and whole buffers once the list is used up.
+///
+/// Its calls of `read` are numbered from 1. A call whose number is listed as failing fails: it
+/// takes no byte and uses up no piece.
+#[derive(Debug, Drop)]
+pub struct MemSource {
+    bytes: Vec<u8>,
+    at: usize,
+    pieces: Pieces,
+    calls: Calls,
+}
+
+impl Model for MemSource {
+    ghost use Rattle.std.specs.Prelude.{◌≤◌, drop, vec_len};
+    ghost use Rattle.split_base.specs.Memory.{SourceState};
+
+    ghost Value = { SourceState };
+
+    ghost view = { λ s. record {
+      left = drop s.at s.bytes.items;
+      pieces = s.pieces;
+      fails = s.calls.fails.items;
+      calls = s.calls.made;
+      faults = s.calls.faults;
+    } };
+
+    ghost invariant = { λ s. s.at ≤ vec_len s.bytes };
+}
+
+impl MemSource {
+    /// A source of `bytes`: `pieces` has for each of its first reads that don't fail the most
+    /// bytes that it gives, and `fails` the numbers of the calls that fail, from 1.
+    pub fn new(bytes: Vec<u8>, pieces: Vec<usize>, fails: Vec<u64>) -> Self
+        requires { All (λ p. 0 < p) pieces.items }
+        ensures { result ≡ record { left = bytes.items; pieces = pieces.items; fails = fails.items; calls = 0; faults = 0 } }
+    {
+        MemSource {
+            bytes,
+            at: 0,
+            pieces: Pieces::new(pieces),
+            calls: Calls::new(fails),
+        }
+    }
+}
+
+// Copies as many of the bytes as there is room for, up to `most`.
+fn copy_front(from: &[u8], into: &mut [u8], most: usize) -> usize
+    ensures count { result ≡ min most (min (length into.old) (length from.now)) }
+    ensures bytes { take result into.new ≡ take result from.now }
+{
+    let count = most.min(into.len().min(from.len()));
+    into[..count].copy_from_slice(&from[..count]);
+    count
+}
+
+impl Source for MemSource {
+    ghost left = { λ s. Some s.left };
+
+    ghost faults = { λ s. s.faults };
+
+    fn read(&mut self, into: &mut [u8]) -> Result<usize, Failed>
+        ensures bytes { Reads (Some self.old.left) (Some self.new.left) result into.new }
+        ensures beside { Unit {0} }
+        ensures cause { HasCause self.old.faults self.new.faults result }
+
+        // It fails exactly where its number is listed, and then has no effect but on the counts.
+        ensures fails { IsErr result ↔ Contains self.old.fails (counted self.old.calls) }
+        ensures count { IfOk result (λ n. n ≡ min (next_piece self.old.pieces) (min (length into.old) (length self.old.left))) }
+        ensures after { MatchResult result (λ n. self.new ≡ after_read self.old n) (λ _. self.new ≡ after_failed_read self.old) }
+    {
+        if self.calls.begin() {
+            return Err(self.calls.fail());
+        }
+        let most = self.pieces.next();
+        let count = copy_front(&self.bytes[self.at..], into, most);
+        self.at += count;
+        Ok(count)
+    }
+}

@@ -1,0 +1,77 @@
+// Reading to the end and writing whole pieces, over any source and any sink.
+ghost use Rattle.std.specs.Prelude.{◌≡◌, ◌<◌, ◌≤◌, ◌+◌, ℕ, List, length, take, drop, IfOk, IfSome, OnErr, IsErrOf, Some};
+ghost use Rattle.std.specs.Io.KnownBytes.{Appends, Consumes, IsAtEnd};
+ghost use Rattle.split_base.specs.Faults.{HasCause, HasRisen};
+
+use crate::{Failed, Sink, Source};
+use std::alloc::Global;
+
+/// Why reading to the end stopped before it.
+#[derive(Clone, Copy, Debug, PartialEq, Eq)]
+pub enum ReadStop {
+    /// A read failed.
+    Fault,
+    /// The source has more bytes than were asked for at most.
+    TooLong,
+    /// There was no memory for the bytes.
+    NoMemory,
+}
+
+/// Reads to the end, and gives all the bytes, at most `most` of them.
+///
+/// - `Fault` comes only where the source's count of faults has risen.
+/// - `TooLong` comes exactly where more than `most` bytes stand. Then `most + 1` of them were read.
+/// - `NoMemory` comes for want of memory alone.
+///
+/// After each of these the bytes read so far, at most `most + 1`, are lost, and the source stands
+/// behind them.
+pub fn read_all<S: Source>(alloc: Global, source: &mut S, most: usize) -> Result<Vec<u8>, ReadStop>
+    ensures short { IfOk result (λ bytes. length bytes.items ≤ most) }
+    ensures bytes { IfOk result (λ bytes. Consumes (S.left source.old) (S.left source.new) bytes.items) }
+    ensures end { IfOk result (λ _. IsAtEnd (S.left source.new)) }
+    ensures taken { (taken : List ℕ) × (length taken ≤ most + 1) × Consumes (S.left source.old) (S.left source.new) taken }
+    ensures one_more { IsErrOf result ReadStop.TooLong →
+        (taken : List ℕ) × (length taken ≡ most + 1) × Consumes (S.left source.old) (S.left source.new) taken }
+    ensures too_long { IsErrOf result ReadStop.TooLong →
+        IfSome (S.left source.old) (λ bytes. (most < length bytes) × (S.left source.new ≡ Some (drop (most + 1) bytes))) }
+    ensures fault { IsErrOf result ReadStop.Fault → HasRisen (S.faults source.old) (S.faults source.new) }
+    ensures count { S.faults source.old ≤ S.faults source.new }
+    ensures beside { S.beside source.new ≡ S.beside source.old }
+{
+    let mut bytes = Vec::new(alloc);
+    let mut piece = [0u8; 4096];
+    while bytes.len() < most {
+        let room = piece.len().min(most - bytes.len());
+        let Ok(count) = source.read(&mut piece[..room]) else {
+            return Err(ReadStop::Fault);
+        };
+        if count == 0 {
+            return Ok(bytes);
+        }
+        if bytes.extend_from_slice(&piece[..count]).is_err() {
+            return Err(ReadStop::NoMemory);
+        }
+    }
+    match source.read(&mut piece[..1]) {
+        Ok(0) => Ok(bytes),
+        Ok(_) => Err(ReadStop::TooLong),
+        Err(Failed) => Err(ReadStop::Fault),
+    }
+}
+
+/// Writes all the bytes. It takes no memory.
+///
+/// `Failed` comes only where the sink's count of faults has risen. A prefix of the bytes was
+/// written then.
+pub fn write_all<S: Sink>(sink: &mut S, bytes: &[u8]) -> Result<(), Failed>
+    ensures ok { IfOk result (λ _. Appends (S.written sink.old) (S.written sink.new) bytes.now) }
+    ensures prefix { OnErr result ((n : ℕ) × (n ≤ length bytes.now) × Appends (S.written sink.old) (S.written sink.new) (take n bytes.now)) }
+    ensures cause { HasCause (S.faults sink.old) (S.faults sink.new) result }
+    ensures beside { S.beside sink.new ≡ S.beside sink.old }
+{
+    let mut done = 0;
+    while done < bytes.len() {
+        done += sink.write(&bytes[done..])?;
+    }
+    Ok(())
+}

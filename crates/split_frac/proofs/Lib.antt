@@ -1,0 +1,6 @@
+pub mod Coprime
+pub mod Lowest
+pub mod Order
+pub mod Scaled
+pub mod Sums
+pub mod Values

@@ -1,0 +1,34 @@
+-- The value, sum, difference, order, ranges and text of fractions in lowest terms.
+use Rattle.std.specs.Prelude.{◌≡◌, ℕ, ℤ, pos, ◌+ℤ◌, ◌-ℤ◌, ◌*ℤ◌, ◌*◌, ◌≤◌, ◌^◌, unsigned_abs, List, ◌∷◌, ◌++◌, ◌==◌, if◌then◌else◌}
+use Rattle.std.specs.Fmt.{decimal, signed_decimal}
+use Rattle.std.specs.declared.cmp.Ordering.{Ordering}
+use Rattle.std.specs.Ordering.{int_cmp}
+use Rattle.split_frac.specs.declared.frac.Frac.{Frac}
+
+-- the fraction as its numerator and denominator, as definitions that know no Frac compare it
+abbrev pub pair_of : Frac → ℤ × ℕ
+pair_of a = (a.num, a.den)
+
+-- the fraction has the value num over den, for a den above 0, by cross products
+abbrev pub HasValue : Frac → ℤ → ℕ → Type 0
+HasValue a num den = a.num *ℤ pos den ≡ num *ℤ pos a.den
+
+-- the sum of two fractions, by cross products
+abbrev pub IsSum : Frac → Frac → Frac → Type 0
+IsSum a b c = HasValue c (a.num *ℤ pos b.den +ℤ b.num *ℤ pos a.den) (a.den * b.den)
+
+-- the first less the second, by cross products
+abbrev pub IsDifference : Frac → Frac → Frac → Type 0
+IsDifference a b c = HasValue c (a.num *ℤ pos b.den -ℤ b.num *ℤ pos a.den) (a.den * b.den)
+
+-- the ranges that calls ask for: a numerator between -10^24 and 10^24, a denominator up to 4,000,000
+abbrev pub IsWithin : Frac → Type 0
+IsWithin a = (unsigned_abs a.num ≤ 10 ^ 24) × (a.den ≤ 4000000)
+
+-- the order of the values of two fractions, by cross products
+abbrev pub frac_cmp : Frac → Frac → Ordering
+frac_cmp a b = int_cmp (a.num *ℤ pos b.den) (b.num *ℤ pos a.den)
+
+-- the numerator, and where the denominator is not 1 a slash, which is 47, and the denominator
+abbrev pub frac_text : Frac → List ℕ
+frac_text a = if a.den == 1 then signed_decimal a.num else signed_decimal a.num ++ 47 ∷ decimal a.den

@@ -1,0 +1,109 @@
+ghost use Rattle.std.specs.Prelude.{◌≡◌, ℕ, ℤ, pos, ◌+ℤ◌, ◌*ℤ◌, ◌*◌, ◌<◌, ◌≤◌, ◌^◌, unsigned_abs};
+ghost use Rattle.std.specs.Int.{IsGcd};
+ghost use Rattle.std.specs.Int.RustNames.{int_div};
+ghost use Rattle.split_frac.specs.Frac.{HasValue, IsSum, IsDifference, IsWithin, frac_cmp};
+
+use crate::frac::Frac;
+use std::cmp::Ordering;
+
+/// The fraction of the value `num / den`, in lowest terms.
+///
+/// Asks for a numerator between -10^24 and 10^24 and a denominator from 1 to 4,000,000, and
+/// answers a fraction in these ranges.
+pub fn make(num: i128, den: u64) -> Frac
+    requires num { unsigned_abs num ≤ 10 ^ 24 }
+    requires den_low { 0 < den }
+    requires den_high { den ≤ 4000000 }
+    ensures value { HasValue result num den }
+    ensures within { IsWithin result }
+{
+    reduced(num, den)
+}
+
+/// The exact sum of two fractions.
+///
+/// Asks that both and their sum, in lowest terms, have numerators between -10^24 and 10^24 and
+/// denominators up to 4,000,000.
+pub fn add(a: Frac, b: Frac) -> Frac
+    requires a { IsWithin a }
+    requires b { IsWithin b }
+    requires result { (c : Frac) → IsSum a b c → IsWithin c }
+    ensures value { IsSum a b result }
+    ensures within { IsWithin result }
+{
+    reduced(scaled(a.num, b.den) + scaled(b.num, a.den), a.den * b.den)
+}
+
+/// The exact difference: the first fraction less the second.
+///
+/// Asks that both and their difference, in lowest terms, have numerators between -10^24 and 10^24
+/// and denominators up to 4,000,000.
+pub fn sub(a: Frac, b: Frac) -> Frac
+    requires a { IsWithin a }
+    requires b { IsWithin b }
+    requires result { (c : Frac) → IsDifference a b c → IsWithin c }
+    ensures value { IsDifference a b result }
+    ensures within { IsWithin result }
+{
+    reduced(scaled(a.num, b.den) - scaled(b.num, a.den), a.den * b.den)
+}
+
+/// The order of the values of two fractions, by their cross products.
+///
+/// Asks for numerators between -10^24 and 10^24 and denominators up to 4,000,000.
+pub fn compare(a: &Frac, b: &Frac) -> Ordering
+    requires a { IsWithin a.now }
+    requires b { IsWithin b.now }
+    ensures { result ≡ frac_cmp a.now b.now }
+{
+    scaled(a.num, b.den).cmp(&scaled(b.num, a.den))
+}
+
+/// A numerator times a denominator: a product too small to overflow a sum of two.
+fn scaled(num: i128, den: u64) -> i128
+    requires num { unsigned_abs num ≤ 10 ^ 24 }
+    requires den { den ≤ 4000000 }
+    ensures value { result ≡ num *ℤ pos den }
+    ensures size { unsigned_abs result ≤ 4 * 10 ^ 30 }
+{
+    num * den as i128
+}
+
+/// The fraction of the value `num / den`, both divided by their greatest common divisor.
+fn reduced(num: i128, den: u64) -> Frac
+    requires num { unsigned_abs num < 2 ^ 126 }
+    requires den { 0 < den }
+    ensures value { HasValue result num den }
+    ensures num { unsigned_abs result.num ≤ unsigned_abs num }
+    ensures den { result.den ≤ den }
+{
+    let divisor = gcd(num.unsigned_abs(), den);
+    Frac {
+        num: quotient(num, divisor),
+        den: den / divisor,
+    }
+}
+
+/// The quotient of a numerator, rounded towards 0.
+fn quotient(num: i128, divisor: u64) -> i128
+    requires { 0 < divisor }
+    ensures { result ≡ int_div num (pos divisor) }
+{
+    num / divisor as i128
+}
+
+/// The greatest common divisor, by Euclid's algorithm.
+fn gcd(a: u128, b: u64) -> u64
+    requires { 0 < b }
+    ensures gcd { IsGcd a b result }
+    ensures positive { 0 < result }
+{
+    let mut x = b;
+    let mut y = (a % b as u128) as u64;
+    while y != 0 {
+        let rest = x % y;
+        x = y;
+        y = rest;
+    }
+    x
+}

@@ -1,0 +1,36 @@
+// What callers may rest on: the statements of these functions, whose bodies do nothing.
+ghost use Rattle.std.specs.Prelude.{◌≡◌, ◌↔◌, ℕ, ℤ, pos, ◌*ℤ◌, ◌<ℤ◌, ◌+◌, ◌*◌, ◌/◌, ◌<◌, ◌≤◌, unsigned_abs};
+ghost use Rattle.std.specs.Int.{◌∣◌};
+ghost use Rattle.std.specs.Ordering.{ordering_reverse};
+ghost use Rattle.std.specs.declared.cmp.Ordering.TheVariants.{Less, Equal};
+ghost use Rattle.split_frac.specs.Frac.{HasValue, IsSum, IsDifference, frac_cmp, pair_of};
+ghost use Rattle.split_frac.specs.declared.frac.Frac.{Frac};
+
+/// Each value has one fraction: two fractions whose cross products agree are equal, and so are two
+/// with the same numerator and denominator. It is the least of all ways to write its value: its
+/// denominator divides theirs, and its numerator is no greater.
+pub fn value_law()
+    ensures value { (a b : Frac) → a.num *ℤ pos b.den ≡ b.num *ℤ pos a.den → a ≡ b }
+    ensures pair { (a b : Frac) → pair_of a ≡ pair_of b → a ≡ b }
+    ensures divides { (a : Frac) (num : ℤ) (den : ℕ) → HasValue a num den → a.den ∣ den }
+    ensures size { (a : Frac) (num : ℤ) (den : ℕ) → 0 < den → HasValue a num den → unsigned_abs a.num ≤ unsigned_abs num }
+{}
+
+/// The order is the order of the values, and a total one: it is turned around with its arguments,
+/// equal only at equal fractions, and transitive.
+pub fn order_law()
+    ensures less { (a b : Frac) → frac_cmp a b ≡ Less ↔ ((a.num *ℤ pos b.den) <ℤ (b.num *ℤ pos a.den)) }
+    ensures equal { (a b : Frac) → frac_cmp a b ≡ Equal ↔ a ≡ b }
+    ensures reversed { (a b : Frac) → frac_cmp b a ≡ ordering_reverse (frac_cmp a b) }
+    ensures transitive { (a b c : Frac) → frac_cmp a b ≡ Less → frac_cmp b c ≡ Less → frac_cmp a c ≡ Less }
+{}
+
+/// A common multiple of the denominators of two fractions is a multiple of the denominator of
+/// their sum and of their difference, whose numerators are at most what the two numerators over
+/// that multiple add up to. Callers of `add` and `sub` show by it that the result keeps its range.
+pub fn sum_law()
+    ensures sum { (a b c : Frac) (multiple : ℕ) → a.den ∣ multiple → b.den ∣ multiple → IsSum a b c → c.den ∣ multiple }
+    ensures difference { (a b c : Frac) (multiple : ℕ) → a.den ∣ multiple → b.den ∣ multiple → IsDifference a b c → c.den ∣ multiple }
+    ensures sum_size { (a b c : Frac) (multiple : ℕ) → 0 < multiple → a.den ∣ multiple → b.den ∣ multiple → IsSum a b c → unsigned_abs c.num ≤ unsigned_abs a.num * (multiple / a.den) + unsigned_abs b.num * (multiple / b.den) }
+    ensures difference_size { (a b c : Frac) (multiple : ℕ) → 0 < multiple → a.den ∣ multiple → b.den ∣ multiple → IsDifference a b c → unsigned_abs c.num ≤ unsigned_abs a.num * (multiple / a.den) + unsigned_abs b.num * (multiple / b.den) }
+{}

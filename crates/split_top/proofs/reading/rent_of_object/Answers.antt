@@ -1,0 +1,11 @@
+use Rattle.std.proofs.Common.{refl}
+use Rattle.std.proofs.lemmas.List.{length-map}
+use Rattle.split_top.specs.Reading.{rent_of_object}
+use Rattle.split_top.proofs.reading.rent_of_object.Goals as goal
+
+pub returns : goal.returns
+unfolding rent_of_object
+returns c =
+    let rooms = rw c.len-count.ensures.value at c.in_ok-rooms.ensures in
+    let bids = rw c.len-count.ensures.value at c.in_ok-bids.ensures in
+    rw (← c.in_ok-members.ensures, length-map, ← rooms, ← c.in_ok-rent.ensures, ← bids, c.len-count.ensures.value) refl

@@ -1,0 +1,150 @@
+-- What a command ends with and writes, by its words and by what its input and output tell.
+use Rattle.std.specs.Prelude.{◌≡◌, ◌⊎◌, ℕ, ◌≤◌, List, [], ◌∷◌, ◌++◌, Option, Result, Ok, Err, map, flat_map, length, take, codes}
+use Rattle.std.specs.Fmt.{decimal}
+use Rattle.std.specs.Io.KnownBytes.{Appends, Consumes, IsAtEnd}
+use Rattle.split_base.specs.Faults.{HasRisen}
+use Rattle.split_frac.specs.declared.frac.Frac.{Frac}
+use Rattle.split_frac.specs.Frac.{frac_text, pair_of}
+use Rattle.bid_rules.specs.declared.cases.Case.{Case}
+use Rattle.bid_rules.specs.declared.cases.Case.TheVariants.{Fares, Rent}
+use Rattle.bid_rules.specs.declared.cases.Missing.{Missing}
+use Rattle.bid_rules.specs.Facts.{case_of}
+use Rattle.bid_rules.specs.Fares.{FareBest}
+use Rattle.bid_rules.specs.Rent.{RentBest}
+use Rattle.split_top.specs.declared.command.Command.{Command}
+use Rattle.split_top.specs.declared.command.Command.TheVariants.{Solve}
+use Rattle.split_top.specs.declared.stop.Stop.{Stop}
+use Rattle.split_top.specs.declared.stop.Stop.TheVariants.{Void, BadWords, TooLong, BadCase, ReadFault, NoMemory}
+use Rattle.split_top.specs.declared.reading.input.BodyFault.{BodyFault}
+use Rattle.split_top.specs.declared.reading.input.BodyFault.TheVariants.{Json, Field}
+use Rattle.split_top.specs.Reading.{CaseData, case_in, field_text}
+
+-- the command table: the words of each row
+abbrev pub IsRow : List (List ℕ) → Command → Type 0
+IsRow words Solve = words ≡ codes "solve" ∷ codes "1" ∷ []
+
+-- the words are no row of the command table
+abbrev pub IsNoRow : List (List ℕ) → Type 0
+IsNoRow words = (command : Command) → IsRow words command → ⊥
+
+-- what a source or a sink tells before and after a command: the bytes that it has left or holds, where it knows them, and its count of faults
+pub record Told : Type 0 where
+  pub bytes_before : Option (List ℕ)
+  pub bytes_after : Option (List ℕ)
+  pub faults_before : ℕ
+  pub faults_after : ℕ
+
+-- the record of what an object tells
+abbrev pub told : Option (List ℕ) → Option (List ℕ) → ℕ → ℕ → Told
+told bytes_before bytes_after faults_before faults_after =
+    record { bytes_before = bytes_before; bytes_after = bytes_after; faults_before = faults_before; faults_after = faults_after }
+
+-- the input gave these bytes, at most 65,536, and then no more were left
+abbrev pub IsWhole : Told → List ℕ → Type 0
+IsWhole input bytes = (length bytes ≤ 65536) × Consumes input.bytes_before input.bytes_after bytes × IsAtEnd input.bytes_after
+
+-- nothing was read, and no read failed
+abbrev pub IsUntouched : Told → Type 0
+IsUntouched input = (input.bytes_after ≡ input.bytes_before) × (input.faults_after ≡ input.faults_before)
+
+-- the input gave some bytes, at most one more than it may have
+abbrev pub IsPartRead : Told → Type 0
+IsPartRead input = (bytes : List ℕ) × (length bytes ≤ 65537) × Consumes input.bytes_before input.bytes_after bytes
+
+-- the input gave more than 65,536 bytes, and no more of it was read than shows this
+abbrev pub IsTooLong : Told → Type 0
+IsTooLong input = (bytes : List ℕ) × (length bytes ≡ 65537) × Consumes input.bytes_before input.bytes_after bytes
+
+-- a line: a word and what follows it, each after one space, ended by LF
+abbrev pub line : List ℕ → List (List ℕ) → List ℕ
+line word texts = word ++ flat_map (λ text. 32 ∷ text) texts ++ 10 ∷ []
+
+-- a shared ride: the route, and the fare of each rider
+abbrev pub ride_lines : List ℕ → List Frac → List ℕ
+ride_lines route fares = line (codes "route") (map decimal route) ++ line (codes "fares") (map frac_text fares)
+
+-- a shared home: the room of each member, and the price of each room
+abbrev pub home_lines : List ℕ → List Frac → List ℕ
+home_lines rooms prices = line (codes "rooms") (map decimal rooms) ++ line (codes "prices") (map frac_text prices)
+
+-- the text tells the best division of the case
+abbrev pub IsTextOf : Case → List ℕ → Type 0
+IsTextOf (Rent case) text = (rooms : List ℕ) × (prices : List Frac) × RentBest case rooms (map pair_of prices) × (text ≡ home_lines rooms prices)
+IsTextOf (Fares case) text = (route : List ℕ) × (fares : List Frac) × FareBest case (map pair_of fares) route × (text ≡ ride_lines route fares)
+
+-- the text tells the best division of the case that these facts and bids make
+abbrev pub IsBestText : CaseData → List ℕ → Type 0
+IsBestText given text = (case : Case) × (case_of given.facts given.bids ≡ Ok case) × IsTextOf case text
+
+-- the input's bytes hold a case, and the text tells its best division
+abbrev pub IsOutput : List ℕ → List ℕ → Type 0
+IsOutput bytes text = (given : CaseData) × (case_in bytes ≡ Ok given) × IsBestText given text
+
+-- the input's bytes hold facts and bids that make no case, for want of the bids of these members
+abbrev pub IsVoid : List ℕ → Missing → Type 0
+IsVoid bytes missing = (given : CaseData) × (case_in bytes ≡ Ok given) × (case_of given.facts given.bids ≡ Err missing)
+
+-- how the facts and bids of a case may end
+abbrev pub IsCaseEnding : CaseData → Result (List ℕ) Stop → Type 0
+IsCaseEnding given (Ok text) = IsBestText given text
+IsCaseEnding given (Err (Void missing)) = case_of given.facts given.bids ≡ Err missing
+IsCaseEnding given (Err NoMemory) = Unit {0}
+IsCaseEnding given (Err other) = ⊥
+
+-- how `solve` may end where its input was read whole: with its text, or refused
+abbrev pub IsSolveEnding : List ℕ → Result (List ℕ) Stop → Type 0
+IsSolveEnding bytes (Ok text) = IsOutput bytes text
+IsSolveEnding bytes (Err (Void missing)) = IsVoid bytes missing
+IsSolveEnding bytes (Err (BadCase fault)) = case_in bytes ≡ Err fault
+IsSolveEnding bytes (Err NoMemory) = Unit {0}
+IsSolveEnding bytes (Err other) = ⊥
+
+-- when each ending may come: the order of work is words, reading, solving
+abbrev pub IsEnding : List (List ℕ) → Told → Result (List ℕ) Stop → Type 0
+IsEnding words input (Ok text) = IsRow words Solve × ((bytes : List ℕ) × IsWhole input bytes × IsOutput bytes text)
+IsEnding words input (Err (Void missing)) = IsRow words Solve × ((bytes : List ℕ) × IsWhole input bytes × IsVoid bytes missing)
+IsEnding words input (Err BadWords) = IsNoRow words × IsUntouched input
+IsEnding words input (Err TooLong) = IsRow words Solve × IsTooLong input
+IsEnding words input (Err (BadCase fault)) = IsRow words Solve × ((bytes : List ℕ) × IsWhole input bytes × (case_in bytes ≡ Err fault))
+IsEnding words input (Err ReadFault) = IsRow words Solve × HasRisen input.faults_before input.faults_after × IsPartRead input
+IsEnding words input (Err NoMemory) = IsRow words Solve × IsPartRead input
+
+-- the status of a stop
+abbrev pub stop_status : Stop → ℕ
+stop_status (Void missing) = 1
+stop_status BadWords = 2
+stop_status TooLong = 3
+stop_status (BadCase fault) = 3
+stop_status ReadFault = 5
+stop_status NoMemory = 9
+
+-- the line that refuses a body
+abbrev pub fault_line : BodyFault → List ℕ
+fault_line Json = codes "refused: json\n"
+fault_line (Field name) = codes "refused: field " ++ field_text name ++ 10 ∷ []
+
+-- the line of a stop
+abbrev pub stop_line : Stop → List ℕ
+stop_line (Void missing) = line (codes "void:") (map decimal missing.members.items)
+stop_line BadWords = codes "refused: words\n"
+stop_line TooLong = codes "refused: too long\n"
+stop_line (BadCase fault) = fault_line fault
+stop_line ReadFault = codes "read fault\n"
+stop_line NoMemory = codes "no memory\n"
+
+-- the status of an ending
+abbrev pub status_of : Result (List ℕ) Stop → ℕ
+status_of (Ok text) = 0
+status_of (Err stop) = stop_status stop
+
+-- the text that an ending owes
+abbrev pub text_of : Result (List ℕ) Stop → List ℕ
+text_of (Ok text) = text
+text_of (Err stop) = stop_line stop
+
+-- the text was written and the status is the one that goes with it; or a write failed after a prefix of the text, which shows in the output's count, and the status is 6
+abbrev pub Ends : Told → List ℕ → ℕ → ℕ → Type 0
+Ends output text due status =
+    ((status ≡ due) × Appends output.bytes_before output.bytes_after text)
+    ⊎ ((status ≡ 6) × HasRisen output.faults_before output.faults_after
+    × ((n : ℕ) × (n ≤ length text) × Appends output.bytes_before output.bytes_after (take n text)))
