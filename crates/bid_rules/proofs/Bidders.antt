@@ -45,7 +45,7 @@ pub places_more : (bids : List (Option Bid)) (i : ℕ) (d : Option Bid) → i < 
 places_more bids i d l = ap (filter_map place_named) (take_more bids i d l) ∙ filter_map-append place_named (take i bids) (get_or bids i d ∷ [])
 
 -- the members, numbered from a number
-abbrev members_from : (Option Bid → Bool) → ℕ → List (Option Bid) → List ℕ
+abbrev pub members_from : (Option Bid → Bool) → ℕ → List (Option Bid) → List ℕ
 members_from test n bids = filter_map (numbered test) (enumerate_from n bids)
 
 -- one more member where the bid passes the test
@@ -54,7 +54,7 @@ first_member P true n ms h rest = All-cons P n ms h rest
 first_member P false n ms h rest = rest
 
 -- they lie within the numbers of all
-members_within : (test : Option Bid → Bool) (n : ℕ) (bids : List (Option Bid)) → All (λ m. (n ≤ m) × (m < n + length bids)) (members_from test n bids)
+pub members_within : (test : Option Bid → Bool) (n : ℕ) (bids : List (Option Bid)) → All (λ m. (n ≤ m) × (m < n + length bids)) (members_from test n bids)
 members_within test n [] = All-nil (λ m. (n ≤ m) × (m < n + 0))
 members_within test n (bid ∷ bids) =
     first_member (λ m. (n ≤ m) × (m < n + suc (length bids))) (test bid) n (members_from test (n + 1) bids) (omega arith, omega arith)
@@ -72,7 +72,7 @@ first_rises true n ms below rises = rises-cons n ms below rises
 first_rises false n ms below rises = rises
 
 -- they rise
-members_rise : (test : Option Bid → Bool) (n : ℕ) (bids : List (Option Bid)) → IsStrictlyIncreasing (members_from test n bids)
+pub members_rise : (test : Option Bid → Bool) (n : ℕ) (bids : List (Option Bid)) → IsStrictlyIncreasing (members_from test n bids)
 members_rise test n [] = λ k l. absurd (omega (arith, l))
 members_rise test n (bid ∷ bids) =
     first_rises (test bid) n (members_from test (n + 1) bids)
@@ -94,7 +94,7 @@ places_checked fares n (Some (bid.Place place) ∷ bids) h =
     (ap suc rest.0, All-cons (λ place. (1 ≤ place) × (place ≤ fares.places)) place (filter_map place_named bids) (All-head (HasCheckedBid fares) (Some (bid.Place place)) bids h) rest.1)
 
 -- where not all lack a bid, there is one
-some_member : (n : ℕ) (bids : List (Option Bid)) → list_all is_none bids ≡ false → 1 ≤ length (members_from is_some n bids)
+pub some_member : (n : ℕ) (bids : List (Option Bid)) → list_all is_none bids ≡ false → 1 ≤ length (members_from is_some n bids)
 some_member n [] h = absurd (let e : ⊥ = cc in e)
 some_member n (None ∷ bids) h = some_member (n + 1) bids h
 some_member n (Some given ∷ bids) h = omega arith

@@ -7,8 +7,9 @@ use Rattle.arrayvec.specs.declared.array_vec.ArrayVec.{ArrayVec}
 use Rattle.bid_rules.specs.declared.rents.Rent.{Rent}
 use Rattle.bid_rules.specs.declared.bids.Bid.{Bid}
 use Rattle.bid_rules.specs.declared.bids.Bid.TheVariants as bid
-use Rattle.bid_rules.specs.Facts.{AreValuesOf, rent_case, values_given}
+use Rattle.bid_rules.specs.Facts.{AreValuesOf, IsSpread, Spreads, rent_case, values_given}
 use Rattle.bid_rules.specs.Rent.{IsCheckedRent, IsValidRentCase}
+use Rattle.bid_rules.proofs.Bidders.{members_from}
 
 -- one more bid adds the values that it gives
 pub values_more : (bids : List (Option Bid)) (i : ℕ) (d : Option Bid) → i < length bids
@@ -21,32 +22,44 @@ values_more bids i d l =
 abbrev pub Values : Type 0
 Values = ArrayVec ℕ 24 (Unit {0})
 
--- no bid, or one without a fault
-abbrev HasCheckedValues : Rent → Option Bid → Type 0
-HasCheckedValues rent given = IfSome given (AreValuesOf rent)
+-- no bid, or one that spreads the whole over so many items
+abbrev HasSpread : ℕ → ℕ → Option Bid → Type 0
+HasSpread items whole given = IfSome given (Spreads items whole)
 
--- there are values for each member, one for each room, and they sum to the rent
-pub record AreHousemates (rent : Rent) (bids : List (Option Bid)) (rows : List Values) : Type 0 where
-  pub count : length rows ≡ length bids
-  pub rooms : All (λ (row : Values). length row.items ≡ rent.members) rows
-  pub sums : All (λ (row : Values). sum row.items ≡ rent.rent) rows
+-- there are so many rows of values, each with a value for each item, and each sums to the whole
+pub record AreSpread (size whole many : ℕ) (rows : List Values) : Type 0 where
+  pub count : length rows ≡ many
+  pub items : All (λ (row : Values). length row.items ≡ size) rows
+  pub sums : All (λ (row : Values). sum row.items ≡ whole) rows
 
--- the values of all members, bid by bid
-housemates : (rent : Rent) (bids : List (Option Bid)) → All (HasCheckedValues rent) bids → list_all is_some bids ≡ true → AreHousemates rent bids (filter_map values_given bids)
-housemates rent [] h all = record { count = refl; rooms = All-nil (λ (row : Values). length row.items ≡ rent.members); sums = All-nil (λ (row : Values). sum row.items ≡ rent.rent) }
-housemates rent (None ∷ bids) h all = cc
-housemates rent (Some (bid.Place place) ∷ bids) h all = absurd (All-head (HasCheckedValues rent) (Some (bid.Place place)) bids h)
-housemates rent (Some (bid.Values values) ∷ bids) h all =
-    let here = All-head (HasCheckedValues rent) (Some (bid.Values values)) bids h in
-    let rest = housemates rent bids (All-tail (HasCheckedValues rent) (Some (bid.Values values)) bids h) all in
-    record {
-      count = ap suc rest.count;
-      rooms = All-cons (λ (row : Values). length row.items ≡ rent.members) values (filter_map values_given bids) here.0 rest.rooms;
-      sums = All-cons (λ (row : Values). sum row.items ≡ rent.rent) values (filter_map values_given bids) here.1 rest.sums;
-    }
+-- a row more
+one_more : (items whole count : ℕ) (row : Values) (rows : List Values) → IsSpread items whole row.items → AreSpread items whole count rows → AreSpread items whole (suc count) (row ∷ rows)
+one_more items whole count row rows here rest = record {
+  count = ap suc rest.count;
+  items = All-cons (λ (row : Values). length row.items ≡ items) row rows here.0 rest.items;
+  sums = All-cons (λ (row : Values). sum row.items ≡ whole) row rows here.1 rest.sums;
+}
+
+-- the values of those who bid: a row for each of them
+pub bidders_spread : (items whole n : ℕ) (bids : List (Option Bid)) → All (HasSpread items whole) bids
+    → AreSpread items whole (length (members_from is_some n bids)) (filter_map values_given bids)
+bidders_spread items whole n [] h =
+    record { count = refl; items = All-nil (λ (row : Values). length row.items ≡ items); sums = All-nil (λ (row : Values). sum row.items ≡ whole) }
+bidders_spread items whole n (None ∷ bids) h = bidders_spread items whole (n + 1) bids (All-tail (HasSpread items whole) None bids h)
+bidders_spread items whole n (Some (bid.Place place) ∷ bids) h = absurd (All-head (HasSpread items whole) (Some (bid.Place place)) bids h)
+bidders_spread items whole n (Some (bid.Values values) ∷ bids) h =
+    one_more items whole (length (members_from is_some (n + 1) bids)) values (filter_map values_given bids) (All-head (HasSpread items whole) (Some (bid.Values values)) bids h)
+    (bidders_spread items whole (n + 1) bids (All-tail (HasSpread items whole) (Some (bid.Values values)) bids h))
+
+-- where all bid, each is one of those
+all_bid : (n : ℕ) (bids : List (Option Bid)) → list_all is_some bids ≡ true → length (members_from is_some n bids) ≡ length bids
+all_bid n [] h = refl
+all_bid n (None ∷ bids) h = cc
+all_bid n (Some given ∷ bids) h = ap suc (all_bid (n + 1) bids h)
 
 -- checked facts and checked bids of all members make a valid case
-pub valid_home : (rent : Rent) (bids : List (Option Bid)) → IsCheckedRent rent → length bids ≡ rent.members → All (HasCheckedValues rent) bids → list_all is_some bids ≡ true → IsValidRentCase (rent_case rent bids)
+pub valid_home : (rent : Rent) (bids : List (Option Bid)) → IsCheckedRent rent → length bids ≡ rent.members → All (λ given. IfSome given (AreValuesOf rent)) bids
+    → list_all is_some bids ≡ true → IsValidRentCase (rent_case rent bids)
 valid_home rent bids checked count given all =
-    let found = housemates rent bids given all in
-    record { facts = checked; bids = found.count ∙ count; rooms = found.rooms; sums = found.sums }
+    let rows = bidders_spread rent.members rent.rent 1 bids given in
+    record { facts = checked; bids = rows.count ∙ all_bid 1 bids all ∙ count; rooms = rows.items; sums = rows.sums }

@@ -1,3 +1,4 @@
+pub mod BestGoods
 pub mod Bidders
 pub mod CompleteOrders
 pub mod Counts
@@ -20,6 +21,8 @@ pub mod MaximinLaws
 pub mod OrderLaws
 pub mod PartLaws
 pub mod Permutations
+pub mod Players
+pub mod PriceRange
 pub mod RenamedOrders
 pub mod RentValues
 pub mod RoomPlaces
@@ -31,7 +34,9 @@ pub mod Small
 pub mod Totals
 pub mod UniquePrices
 pub mod UniqueRents
+pub mod ValidCases
 pub mod ValueCycles
 pub mod WalkWeights
 pub mod WorkedFares
+pub mod WorkedGoods
 pub mod Zipped

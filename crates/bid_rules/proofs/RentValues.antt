@@ -8,7 +8,7 @@ use Rattle.bid_rules.specs.Rent.{value, room_count, IsValidRentCase}
 use Rattle.bid_rules.specs.declared.rents.RentCase.{RentCase}
 
 -- a number of a list is at most the sum
-at_most_sum : (xs : List ℕ) (k : ℕ) → get_or xs k 0 ≤ sum xs
+pub at_most_sum : (xs : List ℕ) (k : ℕ) → get_or xs k 0 ≤ sum xs
 at_most_sum xs k = ⊎_elim (λ l. get_or-le-sum_by (λ x. x) xs k 0 l) (λ m. let e = get_or_past xs k 0 m in omega (arith, e)) (cases_lt k (length xs))
 
 -- a value is 0 or more

@@ -1,8 +1,8 @@
 -- Weights that are attained and that no step exceeds are the greatest ones, and the other way round.
-use Rattle.std.proofs.Common.{◌≡◌, ℕ, ℤ, pos, suc, zero, ◌+◌, ◌<◌, ◌≤◌, ◌+ℤ◌, ◌≤ℤ◌, List, [], ◌∷◌, length, get_or, arith, refl, sym, ap, ◌∙◌, subst, ⊎_elim}
+use Rattle.std.proofs.Common.{◌≡◌, ℕ, ℤ, pos, suc, zero, ◌+◌, ◌<◌, ◌≤◌, ◌+ℤ◌, ◌≤ℤ◌, List, [], ◌∷◌, length, get_or, arith, refl, sym, ap, ◌∙◌, subst, ◌⊎◌, inl, inr, ⊎_elim}
 use Rattle.std.proofs.lemmas.Int.{ints}
 use Rattle.std.proofs.lemmas.List.Elements.{All-nil, All-cons, All-head, All-tail}
-use Rattle.bid_rules.specs.Walks.{walk_weight, weight_at, AreVertices, IsAttained, AreGreatestWeights, AreShownWeights, AreShownRanks}
+use Rattle.bid_rules.specs.Walks.{walk_weight, weight_at, AreVertices, IsAttained, AreGreatestWeights, AreRanks, AreShownWeights, AreShownRanks}
 
 -- no walk is heavier than shown weights
 shown_bound : (n : ℕ) (w : ℕ → ℕ → ℤ) (weights : List ℤ) → AreShownWeights n w weights → (to : ℕ) (before : List ℕ) → to < n → AreVertices n before → walk_weight w to before ≤ℤ weight_at weights to
@@ -68,3 +68,30 @@ walk_back n w weights ranks shown (suc rank) to l e = ⊎_elim
 -- shown ranks show that each weight is attained
 pub ranks_attain : (n : ℕ) (w : ℕ → ℕ → ℤ) (weights : List ℤ) (ranks : List ℕ) → AreShownRanks n w weights ranks → (to : ℕ) → to < n → IsAttained n w to (weight_at weights to)
 ranks_attain n w weights ranks shown to l = let there = walk_back n w weights ranks shown (get_or ranks to 0) to l refl in (there.0, there.1, there.2)
+
+-- by vertex: the rank is 0 and so is the weight, or some step leads there from a vertex whose rank is one less
+abbrev IsShownRank : ℕ → (ℕ → ℕ → ℤ) → List ℤ → List ℕ → ℕ → Type 0
+IsShownRank n w weights ranks to = ((get_or ranks to 0 ≡ 0) × (weight_at weights to ≡ pos 0))
+    ⊎ ((from : ℕ) × (from < n) × (get_or ranks from 0 + 1 ≡ get_or ranks to 0) × (weight_at weights to ≡ weight_at weights from +ℤ w from to))
+
+-- a walk of the greatest weight and of the least number of steps: the walk to the vertex before the last has both too
+rank_back : (n : ℕ) (w : ℕ → ℕ → ℤ) (weights : List ℤ) (ranks : List ℕ) → AreGreatestWeights n w weights → AreRanks n w weights ranks → (to : ℕ) → to < n
+    → (before : List ℕ) → AreVertices n before → walk_weight w to before ≡ weight_at weights to → length before ≡ get_or ranks to 0 → IsShownRank n w weights ranks to
+rank_back n w weights ranks greatest least to l [] v is count = inl (sym count, sym is)
+rank_back n w weights ranks greatest least to l (from ∷ before) v is count =
+    let known : from < n = All-head (λ j. j < n) from before v in
+    let rest : AreVertices n before = All-tail (λ j. j < n) from before v in
+    let most = (greatest.each from known).greatest before rest in
+    let step = (greatest_shown n w weights greatest).steps from to known l in
+    let weight : walk_weight w from before ≡ weight_at weights from = omega (arith, ints, is, most, step) in
+    let low = (least.each from known).least before rest weight in
+    let there = (least.each from known).attained in
+    let longer : walk_weight w to (from ∷ there.0) ≡ weight_at weights to = omega (arith, ints, there.2, weight, is) in
+    let high = (least.each to l).least (from ∷ there.0) (All-cons (λ j. j < n) from there.0 known there.1) longer in
+    inr (from, known, omega (arith, low, high, there.3, count), sym is ∙ ap (λ z. z +ℤ w from to) weight)
+
+-- the ranks of the greatest weights lead back to a weight of 0
+pub ranks_shown : (n : ℕ) (w : ℕ → ℕ → ℤ) (weights : List ℤ) (ranks : List ℕ) → AreGreatestWeights n w weights → AreRanks n w weights ranks → AreShownRanks n w weights ranks
+ranks_shown n w weights ranks greatest least to l =
+    let there = (least.each to l).attained in
+    rank_back n w weights ranks greatest least to l there.0 there.1 there.2 there.3

@@ -13,8 +13,11 @@ use Rattle.bid_rules.specs.declared.cases.Case.{Case}
 use Rattle.bid_rules.specs.declared.cases.Case.TheVariants as case
 use Rattle.bid_rules.specs.declared.cases.FareCase.{FareCase}
 use Rattle.bid_rules.specs.declared.cases.Missing.{Missing}
+use Rattle.bid_rules.specs.declared.goods.Goods.{Goods}
+use Rattle.bid_rules.specs.declared.goods.GoodsCase.{GoodsCase}
 use Rattle.bid_rules.specs.declared.rents.Rent.{Rent}
 use Rattle.bid_rules.specs.declared.rents.RentCase.{RentCase}
+use Rattle.bid_rules.specs.Goods.{IsCheckedGoods, IsValidGoodsCase}
 use Rattle.bid_rules.specs.Rent.{IsCheckedRent, IsValidRentCase}
 use Rattle.arrayvec.specs.declared.array_vec.ArrayVec.{ArrayVec}
 
@@ -72,28 +75,48 @@ IsFaultOfFares facts (fault.Sum got) = ⊥
 -- facts without a fault
 abbrev pub IsCheckedFacts : Facts → Type 0
 IsCheckedFacts (facts.Rent rent) = IsCheckedRent rent
+IsCheckedFacts (facts.Goods goods) = IsCheckedGoods goods
 IsCheckedFacts (facts.Fares fares) = IsCheckedFares fares
 
 -- how many members the facts name
 abbrev pub member_count : Facts → ℕ
 member_count (facts.Rent rent) = rent.members
+member_count (facts.Goods goods) = goods.members
 member_count (facts.Fares fares) = fares.members
+
+-- a whole is spread over so many items: there is a value for each, and the values sum to the whole
+abbrev pub IsSpread : ℕ → ℕ → List ℕ → Type 0
+IsSpread items whole values = (length values ≡ items) × (sum values ≡ whole)
+
+-- the first fault of values over which a whole is to be spread, in the order of the cases
+abbrev pub IsFaultOfSpread : ℕ → ℕ → List ℕ → BidFault → Type 0
+IsFaultOfSpread items whole values fault.Count = length values ≢ items
+IsFaultOfSpread items whole values (fault.Sum got) = (length values ≡ items) × (got ≡ sum values) × (sum values ≢ whole)
+IsFaultOfSpread items whole values (fault.Range place) = ⊥
+IsFaultOfSpread items whole values (fault.Place place) = ⊥
+
+-- a bid spreads the whole over so many items
+abbrev pub Spreads : ℕ → ℕ → Bid → Type 0
+Spreads items whole (bid.Values values) = IsSpread items whole values.items
+Spreads items whole (bid.Place place) = ⊥
+
+-- the first fault of a bid that is to spread a whole, in the order of the cases
+abbrev pub IsFaultOfSpreading : ℕ → ℕ → Bid → BidFault → Type 0
+IsFaultOfSpreading items whole (bid.Values values) other = IsFaultOfSpread items whole values.items other
+IsFaultOfSpreading items whole (bid.Place place) fault.Count = ⊤
+IsFaultOfSpreading items whole (bid.Place place) other = ⊥
 
 -- there is a value for each room, and the values sum to the rent
 abbrev pub AreValues : Rent → List ℕ → Type 0
-AreValues rent values = (length values ≡ rent.members) × (sum values ≡ rent.rent)
-
--- the first fault of values, in the order of the cases
-abbrev pub IsFaultOfValues : Rent → List ℕ → BidFault → Type 0
-IsFaultOfValues rent values fault.Count = length values ≢ rent.members
-IsFaultOfValues rent values (fault.Sum got) = (length values ≡ rent.members) × (got ≡ sum values) × (sum values ≢ rent.rent)
-IsFaultOfValues rent values (fault.Range place) = ⊥
-IsFaultOfValues rent values (fault.Place place) = ⊥
+AreValues rent values = IsSpread rent.members rent.rent values
 
 -- a bid gives such values
 abbrev pub AreValuesOf : Rent → Bid → Type 0
-AreValuesOf rent (bid.Values values) = AreValues rent values.items
-AreValuesOf rent (bid.Place place) = ⊥
+AreValuesOf rent given = Spreads rent.members rent.rent given
+
+-- a bid gives points for each good, 1000 in sum
+abbrev pub ArePointsOf : Goods → Bid → Type 0
+ArePointsOf goods given = Spreads goods.goods 1000 given
 
 -- a bid names a place of the fares
 abbrev pub IsPlaceOf : Fares → Bid → Type 0
@@ -103,13 +126,13 @@ IsPlaceOf fares (bid.Place place) = (1 ≤ place) × (place ≤ fares.places)
 -- a bid without a fault
 abbrev pub IsCheckedBid : Facts → Bid → Type 0
 IsCheckedBid (facts.Rent rent) given = AreValuesOf rent given
+IsCheckedBid (facts.Goods goods) given = ArePointsOf goods given
 IsCheckedBid (facts.Fares fares) given = IsPlaceOf fares given
 
 -- the first fault of a bid, in the order of the cases
 abbrev pub IsFaultOfBid : Facts → Bid → BidFault → Type 0
-IsFaultOfBid (facts.Rent rent) (bid.Place place) fault.Count = ⊤
-IsFaultOfBid (facts.Rent rent) (bid.Values values) other = IsFaultOfValues rent values.items other
-IsFaultOfBid (facts.Rent rent) given other = ⊥
+IsFaultOfBid (facts.Rent rent) given other = IsFaultOfSpreading rent.members rent.rent given other
+IsFaultOfBid (facts.Goods goods) given other = IsFaultOfSpreading goods.goods 1000 given other
 IsFaultOfBid (facts.Fares fares) (bid.Values values) fault.Count = ⊤
 IsFaultOfBid (facts.Fares fares) (bid.Place place) (fault.Place got) = (got ≡ place) × ((1 ≤ place) × (place ≤ fares.places) → ⊥)
 IsFaultOfBid (facts.Fares fares) given other = ⊥
@@ -142,18 +165,28 @@ values_given (Some (bid.Place place)) = None
 abbrev pub rent_case : Rent → List (Option Bid) → RentCase
 rent_case facts bids = record { facts = facts; values = record { items = filter_map values_given bids } }
 
+-- the case of the members who bid, in rising order, each with their points
+abbrev pub goods_case : Goods → List (Option Bid) → GoodsCase
+goods_case facts bids = record {
+  facts = facts;
+  who = record { items = members_where is_some bids };
+  values = record { items = filter_map values_given bids };
+}
+
 -- the members who lack a bid, in rising order
 abbrev pub members_missing : List (Option Bid) → Missing
 members_missing bids = record { members = record { items = members_where is_none bids } }
 
--- bids are missing: on a rent where any member lacks one, on fares where nobody has bid
+-- bids are missing: on a rent where any member lacks one, on goods and fares where nobody has bid
 abbrev pub AreMissing : Facts → List (Option Bid) → Type 0
 AreMissing (facts.Rent rent) bids = All (λ bid. IsSome bid) bids → ⊥
+AreMissing (facts.Goods goods) bids = All (λ bid. IsNone bid) bids
 AreMissing (facts.Fares fares) bids = All (λ bid. IsNone bid) bids
 
 -- the case that facts and bids make, or the members who lack a bid where bids are missing
 abbrev pub case_of : Facts → List (Option Bid) → Result Case Missing
 case_of (facts.Rent rent) bids = if list_all is_some bids then Ok (case.Rent (rent_case rent bids)) else Err (members_missing bids)
+case_of (facts.Goods goods) bids = if list_all is_none bids then Err (members_missing bids) else Ok (case.Goods (goods_case goods bids))
 case_of (facts.Fares fares) bids = if list_all is_none bids then Err (members_missing bids) else Ok (case.Fares (fare_case fares bids))
 
 -- checked facts, and riders in rising order of member, each with a place
@@ -168,4 +201,11 @@ pub record IsValidFareCase (case : FareCase) : Type 0 where
 -- a case of checked facts and checked bids
 abbrev pub IsValidCase : Case → Type 0
 IsValidCase (case.Rent rent) = IsValidRentCase rent
+IsValidCase (case.Goods goods) = IsValidGoodsCase goods
 IsValidCase (case.Fares fares) = IsValidFareCase fares
+
+-- the facts of a case
+abbrev pub facts_of : Case → Facts
+facts_of (case.Rent rent) = facts.Rent rent.facts
+facts_of (case.Goods goods) = facts.Goods goods.facts
+facts_of (case.Fares fares) = facts.Fares fares.facts

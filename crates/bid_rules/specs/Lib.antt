@@ -1,10 +1,15 @@
+pub mod Cents
+pub mod Coalitions
 pub mod Facts
 pub mod Fares
 pub mod Fractions
+pub mod Goods
 pub mod Keys
 pub mod Maximin
 pub mod Orders
+pub mod Pairs
 pub mod Rent
 pub mod Sums
 pub mod Walks
 pub mod Worked
+pub mod WorkedGoods

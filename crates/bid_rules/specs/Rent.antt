@@ -1,5 +1,5 @@
 -- Checked facts and valid cases of rent, priced assignments of rooms, and the best of these (Gal, Mash, Procaccia and Zick 2016).
-use Rattle.std.specs.Prelude.{◌≡◌, ◌≢◌, ℕ, ℤ, pos, ◌-◌, ◌*◌, ◌<◌, ◌≤◌, ◌-ℤ◌, ◌*ℤ◌, ◌≤ℤ◌, List, [], length, map, fold, sum, All, slice_index, slice_index_or}
+use Rattle.std.specs.Prelude.{◌≡◌, ◌≢◌, ℕ, ℤ, pos, ◌-◌, ◌*◌, ◌<◌, ◌≤◌, ◌-ℤ◌, ◌*ℤ◌, ◌≤ℤ◌, List, [], length, map, fold, sum, All, slice_index, slice_index_or, unsigned_abs}
 use Rattle.std.specs.List.{range_with_len, AllZip}
 use Rattle.std.specs.List.Sorted.{IsPermutation}
 use Rattle.std.specs.Int.{int_min}
@@ -86,6 +86,10 @@ IsEnvyFree case k rooms prices = (member room : ℕ) → member < room_count cas
 -- the least utility of a member, in k-ths
 abbrev pub least_utility : RentCase → ℕ → List ℕ → List ℤ → ℤ
 least_utility case k rooms prices = fold int_min (utility case k rooms prices 0) (map (utility case k rooms prices) (range_with_len 0 (room_count case)))
+
+-- an amount in k-ths of a cent is at most the rent, of either sign
+abbrev pub IsWithinRent : RentCase → ℕ → ℤ → Type 0
+IsWithinRent case k amount = unsigned_abs amount ≤ k * case.facts.rent
 
 -- the fractions by room are the prices in k-ths
 abbrev pub HasParts : List Fraction → ℕ → List ℤ → Type 0

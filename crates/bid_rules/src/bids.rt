@@ -1,8 +1,8 @@
 ghost use Rattle.std.specs.Prelude.{◌↔◌, IsOk, MatchResult};
 ghost use Rattle.bid_rules.specs.Facts.{IsCheckedBid, IsCheckedFacts, IsFaultOfBid};
 
-use crate::rents::check_values;
-use crate::{Fares, Rent};
+use crate::spread::check_spread;
+use crate::{Fares, Goods, Rent};
 use arrayvec::ArrayVec;
 
 /// The facts of a case, by kind: what is to be divided among how many members.
@@ -10,6 +10,8 @@ use arrayvec::ArrayVec;
 pub enum Facts {
     /// The rent of a shared home.
     Rent(Rent),
+    /// Goods that are shared among heirs.
+    Goods(Goods),
     /// The cost of a shared ride.
     Fares(Fares),
 }
@@ -39,6 +41,7 @@ pub enum BidFault {
 /// Whether the facts, which are checked, allow the bid, or the bid's first fault.
 ///
 /// On a rent it is `Count` where the bid isn't `Values`, one for each room, else `Sum` with their sum where it isn't the rent.
+/// On goods it is `Count` where the bid isn't `Values`, one for each good, else `Sum` with their sum where it isn't 1000.
 /// On fares it is `Count` where the bid isn't a `Place`, else `Place` with that place where it isn't 1 to `places`.
 pub fn check_bid(facts: &Facts, bid: &Bid) -> Result<(), BidFault>
     requires { IsCheckedFacts facts.now }
@@ -47,7 +50,13 @@ pub fn check_bid(facts: &Facts, bid: &Bid) -> Result<(), BidFault>
 {
     match (facts, bid) {
         (Facts::Rent(_), Bid::Place(_)) => Err(BidFault::Count),
-        (Facts::Rent(rent), Bid::Values(values)) => check_values(rent, values.as_slice()),
+        (Facts::Rent(rent), Bid::Values(values)) => {
+            check_spread(rent.members, rent.rent, values.as_slice())
+        }
+        (Facts::Goods(_), Bid::Place(_)) => Err(BidFault::Count),
+        (Facts::Goods(goods), Bid::Values(values)) => {
+            check_spread(goods.goods, 1000, values.as_slice())
+        }
         (Facts::Fares(_), Bid::Values(_)) => Err(BidFault::Count),
         (Facts::Fares(fares), Bid::Place(place)) => {
             if *place < 1 || *place > fares.places {

@@ -1,9 +1,10 @@
 ghost use Rattle.std.specs.Prelude.{◌≡◌, ◌≤◌, ◌↔◌, length, All, IfOk, IfSome, IsErr, IsNone, IsSome, IsTrue, is_some, is_none, false, true};
 ghost use Rattle.std.specs.List.{filter_map, list_all};
-ghost use Rattle.bid_rules.specs.Facts.{AreMissing, AreValuesOf, IsCheckedBid, IsCheckedFacts, IsCheckedFares, IsPlaceOf, IsValidCase, IsValidFareCase, case_of, fare_case, member_count, members_where, place_named, rent_case, values_given};
+ghost use Rattle.bid_rules.specs.Facts.{AreMissing, ArePointsOf, AreValuesOf, IsCheckedBid, IsCheckedFacts, IsCheckedFares, IsPlaceOf, IsValidCase, IsValidFareCase, case_of, fare_case, goods_case, member_count, members_where, place_named, rent_case, values_given};
+ghost use Rattle.bid_rules.specs.Goods.{IsCheckedGoods, IsValidGoodsCase};
 ghost use Rattle.bid_rules.specs.Rent.{IsCheckedRent, IsValidRentCase};
 
-use crate::{Bid, Facts, Fares, Rent, RentCase};
+use crate::{Bid, Facts, Fares, Goods, GoodsCase, Rent, RentCase};
 use arrayvec::ArrayVec;
 
 /// A shared ride of those members who bid. They are its riders, numbered from 1 in the order of `who`.
@@ -22,6 +23,8 @@ pub struct FareCase {
 pub enum Case {
     /// A shared home, in which all members have bid.
     Rent(RentCase),
+    /// Goods to be shared among those who have bid.
+    Goods(GoodsCase),
     /// A shared ride of those who have bid.
     Fares(FareCase),
 }
@@ -35,8 +38,8 @@ pub struct Missing {
 
 /// The case that checked facts and checked bids make. The bids are by member, `None` where one has not bid.
 ///
-/// On a rent all members must bid: where any lacks a bid there is no case. On fares those who bid ride. Only where nobody has bid
-/// is there no case, and all members lack a bid.
+/// On a rent all members must bid: where any lacks a bid there is no case. On goods those who bid are the players, on fares they
+/// ride. Only where nobody has bid is there no case there, and all members lack a bid.
 pub fn make_case(facts: &Facts, bids: &[Option<Bid>]) -> Result<Case, Missing>
     requires facts { IsCheckedFacts facts.now }
     requires count { length bids.now ≡ member_count facts.now }
@@ -46,22 +49,12 @@ pub fn make_case(facts: &Facts, bids: &[Option<Bid>]) -> Result<Case, Missing>
     ensures missing { IsErr result ↔ AreMissing facts.now bids.now }
 {
     match facts {
-        Facts::Rent(rent) => {
-            if !has_all_bids(bids) {
-                return Err(Missing {
-                    members: members_without(bids),
-                });
-            }
-            Ok(Case::Rent(shared_home(rent, bids)))
-        }
-        Facts::Fares(fares) => {
-            if has_no_bid(bids) {
-                return Err(Missing {
-                    members: members_without(bids),
-                });
-            }
-            Ok(Case::Fares(shared_ride(fares, bids)))
-        }
+        Facts::Rent(rent) if has_all_bids(bids) => Ok(Case::Rent(shared_home(rent, bids))),
+        Facts::Goods(goods) if !has_no_bid(bids) => Ok(Case::Goods(shared_goods(goods, bids))),
+        Facts::Fares(fares) if !has_no_bid(bids) => Ok(Case::Fares(shared_ride(fares, bids))),
+        _ => Err(Missing {
+            members: members_without(bids),
+        }),
     }
 }
 
@@ -131,6 +124,26 @@ fn has_no_bid(bids: &[Option<Bid>]) -> bool
     bids.iter().all(|bid| bid.is_none())
 }
 
+/// The goods, shared among those who bid.
+fn shared_goods(goods: &Goods, bids: &[Option<Bid>]) -> GoodsCase
+    requires goods { IsCheckedGoods goods.now }
+    requires count { length bids.now ≡ goods.now.members }
+    requires bids { All (λ bid. IfSome bid (ArePointsOf goods.now)) bids.now }
+    requires some { list_all is_none bids.now ≡ false }
+    ensures case { result ≡ goods_case goods.now bids.now }
+    ensures valid { IsValidGoodsCase result }
+{
+    GoodsCase {
+        facts: Goods {
+            members: goods.members,
+            goods: goods.goods,
+            limit: goods.limit,
+        },
+        who: members_with(bids),
+        values: values_of(bids),
+    }
+}
+
 /// The ride of those who bid.
 fn shared_ride(fares: &Fares, bids: &[Option<Bid>]) -> FareCase
     requires fares { IsCheckedFares fares.now }
@@ -141,43 +154,16 @@ fn shared_ride(fares: &Fares, bids: &[Option<Bid>]) -> FareCase
     ensures valid { IsValidFareCase result }
 {
     FareCase {
-        facts: copied(fares),
+        facts: fares.copied(),
         who: members_with(bids),
         at: places_of(bids),
     }
 }
 
-/// The same facts once more.
-fn copied(fares: &Fares) -> Fares
-    requires { IsCheckedFares fares.now }
-    ensures { result ≡ fares.now }
-{
-    let mut legs = ArrayVec::new();
-    for row in fares.legs.as_slice() {
-        legs.push(copied_row(row.as_slice()));
-    }
-    Fares {
-        members: fares.members,
-        places: fares.places,
-        flag: fares.flag,
-        legs,
-    }
-}
-
-fn copied_row(row: &[u32]) -> ArrayVec<u32, 10>
-    requires { length row.now ≤ 10 }
-    ensures { result.items ≡ row.now }
-{
-    let mut copy = ArrayVec::new();
-    for cents in row {
-        copy.push(*cents);
-    }
-    copy
-}
-
 /// The members who have a bid.
-fn members_with(bids: &[Option<Bid>]) -> ArrayVec<u8, 8>
-    requires { length bids.now ≤ 8 }
+fn members_with<const N: usize>(bids: &[Option<Bid>]) -> ArrayVec<u8, N>
+    requires few { length bids.now ≤ 12 }
+    requires room { length bids.now ≤ N }
     ensures { result.items ≡ members_where is_some bids.now }
 {
     let mut who = ArrayVec::new();

@@ -31,6 +31,34 @@ impl Fares {
     {
         self.legs[from as usize][to as usize - 1]
     }
+
+    /// The same facts once more.
+    pub fn copied(&self) -> Fares
+        requires { IsCheckedFares self.now }
+        ensures { result ≡ self.now }
+    {
+        let mut legs = ArrayVec::new();
+        for row in self.legs.as_slice() {
+            legs.push(copied_row(row.as_slice()));
+        }
+        Fares {
+            members: self.members,
+            places: self.places,
+            flag: self.flag,
+            legs,
+        }
+    }
+}
+
+fn copied_row(row: &[u32]) -> ArrayVec<u32, 10>
+    requires { length row.now ≤ 10 }
+    ensures { result.items ≡ row.now }
+{
+    let mut copy = ArrayVec::new();
+    for cents in row {
+        copy.push(*cents);
+    }
+    copy
 }
 
 fn has_shape(facts: &Fares) -> bool

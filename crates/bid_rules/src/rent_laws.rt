@@ -1,12 +1,12 @@
 // What holds of the definitions of rent, for all cases: each law is the contract of a function that does nothing.
-ghost use Rattle.std.specs.Prelude.{◌≡◌, ◌≢◌, ℕ, ℤ, pos, ◌+◌, ◌*◌, ◌<◌, ◌≤◌, ◌+ℤ◌, ◌-ℤ◌, ◌*ℤ◌, ◌≤ℤ◌, ◌↔◌, List, slice_index};
+ghost use Rattle.std.specs.Prelude.{◌≡◌, ◌≢◌, ℕ, ℤ, pos, ◌+◌, ◌*◌, ◌<◌, ◌≤◌, ◌+ℤ◌, ◌-ℤ◌, ◌*ℤ◌, ◌≤ℤ◌, ◌↔◌, List, All, slice_index};
 ghost use Rattle.std.specs.List.{AllZip};
 ghost use Rattle.bid_rules.specs.declared.rents.RentCase.{RentCase};
 ghost use Rattle.bid_rules.specs.Fractions.{Fraction, HasSameValue, IsQuotient, sum_of_fractions};
 ghost use Rattle.bid_rules.specs.Keys.{AreDualNumbers, HasGreatestKeySum, HasGreatestWelfare, IsFirstOfItsWelfare};
 ghost use Rattle.bid_rules.specs.Maximin.{AreMaximinPrices, least_in_parts, value_step};
-ghost use Rattle.bid_rules.specs.Rent.{IsAssignment, IsEnvyFree, IsLeastUtility, IsPricedAssignment, RentBest, least_utility, room_count, utility, value};
-ghost use Rattle.bid_rules.specs.Walks.{AreGreatestWeights, AreShownRanks, AreShownWeights, AreVertices, HasNoPositiveCycle, IsAttained, walk_weight, weight_at};
+ghost use Rattle.bid_rules.specs.Rent.{IsAssignment, IsEnvyFree, IsLeastUtility, IsPricedAssignment, IsValidRentCase, IsWithinRent, RentBest, least_utility, price_of, room_count, utility, value};
+ghost use Rattle.bid_rules.specs.Walks.{AreGreatestWeights, AreRanks, AreShownRanks, AreShownWeights, AreVertices, HasNoPositiveCycle, IsAttained, walk_weight, weight_at};
 
 /// The rooms of envy-free prices have the greatest welfare. With every other assignment that has it, the prices stay
 /// envy-free and each member's utility stays (Gal, Mash, Procaccia and Zick 2016).
@@ -34,6 +34,18 @@ pub fn least_utility_law()
         → (pos (room_count case) *ℤ least_utility case k rooms prices) ≤ℤ (pos k *ℤ least_in_parts case best walks) }
 {}
 
+/// At envy-free prices no utility is below 0, and the least one is at most the rent. Each price is at most the rent, of either
+/// sign.
+pub fn price_range_law()
+    ensures utilities { (case : RentCase) (k : ℕ) (rooms : List ℕ) (prices : List ℤ) → IsValidRentCase case → IsPricedAssignment case k rooms prices → IsEnvyFree case k rooms prices
+        → (member : ℕ) → member < room_count case → pos 0 ≤ℤ utility case k rooms prices member }
+    ensures least { (case : RentCase) (k : ℕ) (rooms : List ℕ) (prices : List ℤ) → IsValidRentCase case → IsPricedAssignment case k rooms prices → IsEnvyFree case k rooms prices
+        → IsWithinRent case k (least_utility case k rooms prices) }
+    ensures prices { (case : RentCase) (k : ℕ) (rooms : List ℕ) (prices : List ℤ) → IsValidRentCase case → IsPricedAssignment case k rooms prices → IsEnvyFree case k rooms prices
+        → (room : ℕ) → 1 ≤ room → room ≤ room_count case → IsWithinRent case k (price_of prices room) }
+    ensures best { (case : RentCase) (rooms : List ℕ) (prices : List Fraction) → IsValidRentCase case → RentBest case rooms prices → All (λ price. IsWithinRent case price.1 price.0) prices }
+{}
+
 /// Dual numbers show the greatest sum of keys. The assignment that has it is the only one, has the greatest welfare, and is the
 /// first list among those of that welfare.
 pub fn key_law()
@@ -44,20 +56,24 @@ pub fn key_law()
 {}
 
 /// Weights are the greatest ones of walks exactly where they are 0 or more, some walk attains each, and no step exceeds them.
-/// Ranks that lead back to a weight of 0 show that each is attained.
+/// Ranks that lead back to a weight of 0 show that each is attained. The least numbers of steps of such walks lead back so.
 pub fn walk_law()
     ensures shown { (n : ℕ) (step : ℕ → ℕ → ℤ) (weights : List ℤ) → AreShownWeights n step weights ↔ AreGreatestWeights n step weights }
     ensures ranks { (n : ℕ) (step : ℕ → ℕ → ℤ) (weights : List ℤ) (ranks : List ℕ) → AreShownRanks n step weights ranks → (to : ℕ) → to < n → IsAttained n step to (weight_at weights to) }
+    ensures least_ranks { (n : ℕ) (step : ℕ → ℕ → ℤ) (weights : List ℤ) (ranks : List ℕ) → AreGreatestWeights n step weights → AreRanks n step weights ranks → AreShownRanks n step weights ranks }
 {}
 
 /// What shows the best answer: the greatest sum of keys, walks over the values that are attained and that no step exceeds, and
-/// the prices of the formula. Its least utility is that of the formula.
+/// the prices of the formula. Its least utility is that of the formula, which is at most the rent, of either sign.
 pub fn shown_rent_law()
     ensures best { (case : RentCase) (rooms : List ℕ) (walks : List ℤ) (prices : List Fraction) → 1 ≤ room_count case → HasGreatestKeySum case rooms
         → AreShownWeights (room_count case) (value_step case rooms) walks → AreMaximinPrices case rooms walks prices → RentBest case rooms prices }
     ensures least { (case : RentCase) (rooms : List ℕ) (walks : List ℤ) (prices : List Fraction) (least : Fraction) → 1 ≤ room_count case → HasGreatestKeySum case rooms
         → AreShownWeights (room_count case) (value_step case rooms) walks → AreMaximinPrices case rooms walks prices
         → IsQuotient least (least_in_parts case rooms walks) (room_count case) → IsLeastUtility case rooms prices least }
+    ensures range { (case : RentCase) (rooms : List ℕ) (walks : List ℤ) (prices : List Fraction) (least : Fraction) → IsValidRentCase case → HasGreatestKeySum case rooms
+        → AreShownWeights (room_count case) (value_step case rooms) walks → AreMaximinPrices case rooms walks prices
+        → IsQuotient least (least_in_parts case rooms walks) (room_count case) → IsWithinRent case least.1 least.0 }
 {}
 
 /// Two best priced assignments of a case have one list of rooms and the same prices, which sum to the rent.

@@ -1,9 +1,9 @@
-ghost use Rattle.std.specs.Prelude.{◌≡◌, ◌<◌, ◌≤◌, ◌↔◌, pos, length, sum, IsErrOf, IsOk, IsTrue, MatchResult};
+ghost use Rattle.std.specs.Prelude.{◌≡◌, ◌<◌, ◌≤◌, ◌↔◌, pos, IsErrOf, IsOk, IsTrue, MatchResult};
 ghost use Rattle.bid_rules.specs.declared.bids.BidFault.TheVariants.{Count, Range};
-ghost use Rattle.bid_rules.specs.Facts.{AreValues, IsFaultOfValues};
 ghost use Rattle.bid_rules.specs.Rent.{HasMembers, HasRent, IsCheckedRent, IsFaultOfRent, IsValidRentCase, room_count, value};
 
 use crate::BidFault;
+use crate::spread::check_spread;
 use arrayvec::ArrayVec;
 
 /// The facts of a shared home with a room for each member. Money is in cents.
@@ -31,13 +31,14 @@ impl RentCase {
     pub fn is_valid(&self) -> bool
         ensures { IsTrue result ↔ IsValidRentCase self.now }
     {
-        let facts = &self.facts;
-        check_rent(facts).is_ok()
-            && self.values.len() == usize::from(facts.members)
+        let members = self.facts.members;
+        let rent = self.facts.rent;
+        check_rent(&self.facts).is_ok()
+            && self.values.len() == usize::from(members)
             && self
                 .values
                 .iter()
-                .all(|row| check_values(facts, row.as_slice()).is_ok())
+                .all(|row| check_spread(members, rent, row.as_slice()).is_ok())
     }
 
     /// What a member, by place from 0, would pay for a room, numbered from 1, in cents.
@@ -69,32 +70,4 @@ pub fn check_rent(facts: &Rent) -> Result<(), BidFault>
         return Err(BidFault::Range { place: 0 });
     }
     Ok(())
-}
-
-/// Whether there is a value for each room, and they sum to the rent.
-pub(crate) fn check_values(rent: &Rent, values: &[u32]) -> Result<(), BidFault>
-    requires { length values.now ≤ 24 }
-    ensures fault { MatchResult result (λ _. AreValues rent.now values.now) (IsFaultOfValues rent.now values.now) }
-    ensures accepted { IsOk result ↔ AreValues rent.now values.now }
-{
-    if values.len() != usize::from(rent.members) {
-        return Err(BidFault::Count);
-    }
-    let got = sum_of(values);
-    if got != u64::from(rent.rent) {
-        return Err(BidFault::Sum { got });
-    }
-    Ok(())
-}
-
-/// The sum of the values.
-fn sum_of(values: &[u32]) -> u64
-    requires { length values.now ≤ 24 }
-    ensures { result ≡ sum values.now }
-{
-    let mut total = 0;
-    for value in values {
-        total += u64::from(*value);
-    }
-    total
 }

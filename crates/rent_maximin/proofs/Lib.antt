@@ -1,1 +1,3 @@
+pub mod Divisions
 pub mod PriceLaws
+pub mod Ranges

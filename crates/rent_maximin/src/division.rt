@@ -1,10 +1,5 @@
-ghost use Rattle.std.specs.Prelude.{◌≡◌, pos, map};
-ghost use Rattle.bid_rules.specs.Fractions.{IsQuotient, sum_of_fractions};
-ghost use Rattle.bid_rules.specs.Keys.{AreDualNumbers, HasGreatestKeySum, key_step};
-ghost use Rattle.bid_rules.specs.Maximin.{AreMaximinPrices, least_in_parts, value_step};
-ghost use Rattle.bid_rules.specs.Rent.{IsLeastUtility, IsValidRentCase, RentBest, room_count};
-ghost use Rattle.bid_rules.specs.Walks.{AreGreatestWeights, AreRanks};
-ghost use Rattle.split_frac.specs.Frac.{pair_of};
+ghost use Rattle.bid_rules.specs.Rent.{IsValidRentCase};
+ghost use Rattle.rent_maximin.specs.Division.{IsRentDivision};
 
 use crate::prices::{least_of, prices_of};
 use arrayvec::ArrayVec;
@@ -31,16 +26,7 @@ pub struct RentDivision {
 /// the list of rooms is the first. A member's utility is the least one and the greatest weight of a walk that ends at the member.
 pub fn solve_rent(case: &RentCase) -> RentDivision
     requires { IsValidRentCase case.now }
-    ensures best { RentBest case.now result.best.rooms.items (map pair_of result.prices.items) }
-    ensures least { IsLeastUtility case.now result.best.rooms.items (map pair_of result.prices.items) (pair_of result.least) }
-    ensures least_formula { IsQuotient (pair_of result.least) (least_in_parts case.now result.best.rooms.items result.walks.weights.items) (room_count case.now) }
-    ensures prices { AreMaximinPrices case.now result.best.rooms.items result.walks.weights.items (map pair_of result.prices.items) }
-    ensures total { IsQuotient (sum_of_fractions (map pair_of result.prices.items)) (pos case.now.facts.rent) 1 }
-    ensures rooms { HasGreatestKeySum case.now result.best.rooms.items }
-    ensures left { AreGreatestWeights (room_count case.now) (key_step case.now result.best.rooms.items) result.best.left.items }
-    ensures dual { AreDualNumbers case.now result.best.rooms.items result.best.left.items result.best.right.items }
-    ensures walks { AreGreatestWeights (room_count case.now) (value_step case.now result.best.rooms.items) result.walks.weights.items }
-    ensures ranks { AreRanks (room_count case.now) (value_step case.now result.best.rooms.items) result.walks.weights.items result.walks.ranks.items }
+    ensures division { IsRentDivision case.now result }
 {
     let best = best_rooms(case);
     let walks = value_walks(case, best.rooms.as_slice());

@@ -2,9 +2,11 @@
 #![tactic(auto)]
 
 mod division;
+mod laws;
 mod prices;
 
 pub use division::{RentDivision, solve_rent};
+pub use laws::division_range_law;
 
 #[cfg(test)]
 mod tests;

@@ -1,4 +1,5 @@
 pub mod Coprime
+pub mod Floors
 pub mod Lowest
 pub mod Order
 pub mod Scaled

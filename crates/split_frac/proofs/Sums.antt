@@ -1,5 +1,5 @@
 -- The denominator of a sum or a difference of two fractions divides each common multiple of theirs, and its numerator is as small as it is over that multiple.
-use Rattle.std.proofs.Common.{◌≡◌, ℕ, ℤ, pos, ◌+ℤ◌, ◌*ℤ◌, ◌*◌, ◌+◌, ◌/◌, ◌<◌, ◌≤◌, sym, subst, ap, ◌∙◌, arith, unsigned_abs}
+use Rattle.std.proofs.Common.{◌≡◌, ℕ, ℤ, pos, ◌+ℤ◌, ◌-ℤ◌, ◌*ℤ◌, ◌*◌, ◌+◌, ◌/◌, ◌<◌, ◌≤◌, sym, subst, ap, ◌∙◌, arith, unsigned_abs}
 use Rattle.std.specs.Int.{IsGcd, ◌∣◌}
 use Rattle.std.proofs.Math.IntN.{neg_ℤ}
 use Rattle.std.proofs.Math.Nat.{div-mul_cancel, dvd-mul_left, mul-le-mul_left, le_of_mul-le-mul_right, le_trans}
@@ -8,7 +8,7 @@ use Rattle.std.proofs.lemmas.Nat.{mul-lt}
 use Rattle.std.proofs.lemmas.Int.{unsigned_abs-mul, ints}
 use Rattle.split_frac.proofs.Coprime.{coprime_divides}
 use Rattle.split_frac.proofs.Scaled.{scaled_cancel, scaled_twice, sum-scaled, neg-scaled}
-use Rattle.split_frac.specs.Frac.{IsSum, IsDifference}
+use Rattle.split_frac.specs.Frac.{HasValue, IsSum, IsDifference}
 use Rattle.split_frac.specs.declared.frac.Frac.{Frac}
 
 -- three factors, regrouped
@@ -87,3 +87,38 @@ difference_small a b c whole some p q h =
     let size : unsigned_abs (neg_ℤ b.num) ≡ unsigned_abs b.num = omega (arith, ints) in
     subst (λ k. unsigned_abs c.num ≤ unsigned_abs a.num * (whole / a.den) + k * (whole / b.den)) size
     (small a.num (neg_ℤ b.num) c.num a.den b.den c.den whole a.positive b.positive c.lowest p q (turned a b c h) some)
+
+-- l over p plus m over q is n over r, and l over p is x k-ths and m over q is y k-ths: so n over r is x + y k-ths
+in_parts : (l m n x y : ℤ) (p q r k : ℕ) → 0 < p → 0 < q → l *ℤ pos k ≡ x *ℤ pos p → m *ℤ pos k ≡ y *ℤ pos q
+    → n *ℤ pos (p * q) ≡ (l *ℤ pos q +ℤ m *ℤ pos p) *ℤ pos r → n *ℤ pos k ≡ (x +ℤ y) *ℤ pos r
+in_parts l m n x y p q r k some_p some_q e f h =
+    let some : 0 < p * q = mul-lt 0 0 p q some_p some_q in
+    let turned : p * q * k ≡ k * (p * q) = omega arith in
+    let first : q * r * k ≡ k * q * r = omega arith in
+    let second : p * r * k ≡ k * p * r = omega arith in
+    let left : p * q * r ≡ r * (p * q) = omega arith in
+    let right : q * p * r ≡ r * (p * q) = omega arith in
+    let ours : l *ℤ pos q *ℤ pos r *ℤ pos k ≡ x *ℤ pos (r * (p * q)) =
+    ap (λ z. z *ℤ pos k) (scaled_twice l q r) ∙ scaled_twice l (q * r) k ∙ ap (λ i. l *ℤ pos i) first
+    ∙ sym (ap (λ z. z *ℤ pos r) (scaled_twice l k q) ∙ scaled_twice l (k * q) r) ∙ ap (λ z. z *ℤ pos q *ℤ pos r) e
+    ∙ ap (λ z. z *ℤ pos r) (scaled_twice x p q) ∙ scaled_twice x (p * q) r ∙ ap (λ i. x *ℤ pos i) left in
+    let theirs : m *ℤ pos p *ℤ pos r *ℤ pos k ≡ y *ℤ pos (r * (p * q)) =
+    ap (λ z. z *ℤ pos k) (scaled_twice m p r) ∙ scaled_twice m (p * r) k ∙ ap (λ i. m *ℤ pos i) second
+    ∙ sym (ap (λ z. z *ℤ pos r) (scaled_twice m k p) ∙ scaled_twice m (k * p) r) ∙ ap (λ z. z *ℤ pos p *ℤ pos r) f
+    ∙ ap (λ z. z *ℤ pos r) (scaled_twice y q p) ∙ scaled_twice y (q * p) r ∙ ap (λ i. y *ℤ pos i) right in
+    scaled_cancel (n *ℤ pos k) ((x +ℤ y) *ℤ pos r) (p * q) some
+    (scaled_twice n k (p * q) ∙ ap (λ i. n *ℤ pos i) (sym turned) ∙ sym (scaled_twice n (p * q) k) ∙ ap (λ z. z *ℤ pos k) h
+    ∙ ap (λ z. z *ℤ pos k) (sum-scaled (l *ℤ pos q) (m *ℤ pos p) r) ∙ sum-scaled (l *ℤ pos q *ℤ pos r) (m *ℤ pos p *ℤ pos r) k
+    ∙ ap (λ z. z +ℤ m *ℤ pos p *ℤ pos r *ℤ pos k) ours ∙ ap (λ z. x *ℤ pos (r * (p * q)) +ℤ z) theirs
+    ∙ sym (sum-scaled x y (r * (p * q))) ∙ sym (scaled_twice (x +ℤ y) r (p * q)))
+
+-- a sum of k-ths is so many k-ths
+pub sum_in_parts : (a b c : Frac) (x y : ℤ) (k : ℕ) → HasValue a x k → HasValue b y k → IsSum a b c → HasValue c (x +ℤ y) k
+sum_in_parts a b c x y k e f h = in_parts a.num b.num c.num x y a.den b.den c.den k a.positive b.positive e f h
+
+-- and a difference
+pub difference_in_parts : (a b c : Frac) (x y : ℤ) (k : ℕ) → HasValue a x k → HasValue b y k → IsDifference a b c → HasValue c (x -ℤ y) k
+difference_in_parts a b c x y k e f h =
+    let minus : neg_ℤ b.num *ℤ pos k ≡ neg_ℤ y *ℤ pos b.den = neg-scaled b.num k ∙ ap neg_ℤ f ∙ sym (neg-scaled y b.den) in
+    let less : x +ℤ neg_ℤ y ≡ x -ℤ y = omega (arith, ints) in
+    in_parts a.num (neg_ℤ b.num) c.num x (neg_ℤ y) a.den b.den c.den k a.positive b.positive e minus (turned a b c h) ∙ ap (λ z. z *ℤ pos c.den) less

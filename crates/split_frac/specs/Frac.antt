@@ -1,5 +1,5 @@
 -- The value, sum, difference, order, ranges and text of fractions in lowest terms.
-use Rattle.std.specs.Prelude.{◌≡◌, ℕ, ℤ, pos, ◌+ℤ◌, ◌-ℤ◌, ◌*ℤ◌, ◌*◌, ◌≤◌, ◌^◌, unsigned_abs, List, ◌∷◌, ◌++◌, ◌==◌, if◌then◌else◌}
+use Rattle.std.specs.Prelude.{◌≡◌, ℕ, ℤ, pos, ◌+ℤ◌, ◌-ℤ◌, ◌*ℤ◌, ◌<ℤ◌, ◌≤ℤ◌, ◌*◌, ◌≤◌, ◌^◌, unsigned_abs, List, ◌∷◌, ◌++◌, ◌==◌, if◌then◌else◌}
 use Rattle.std.specs.Fmt.{decimal, signed_decimal}
 use Rattle.std.specs.declared.cmp.Ordering.{Ordering}
 use Rattle.std.specs.Ordering.{int_cmp}
@@ -20,6 +20,10 @@ IsSum a b c = HasValue c (a.num *ℤ pos b.den +ℤ b.num *ℤ pos a.den) (a.den
 -- the first less the second, by cross products
 abbrev pub IsDifference : Frac → Frac → Frac → Type 0
 IsDifference a b c = HasValue c (a.num *ℤ pos b.den -ℤ b.num *ℤ pos a.den) (a.den * b.den)
+
+-- the greatest whole number that is not above the fraction
+abbrev pub IsFloor : Frac → ℤ → Type 0
+IsFloor a whole = ((whole *ℤ pos a.den) ≤ℤ a.num) × (a.num <ℤ ((whole +ℤ pos 1) *ℤ pos a.den))
 
 -- the ranges that calls ask for: a numerator between -10^24 and 10^24, a denominator up to 4,000,000
 abbrev pub IsWithin : Frac → Type 0

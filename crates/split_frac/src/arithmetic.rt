@@ -1,7 +1,7 @@
-ghost use Rattle.std.specs.Prelude.{◌≡◌, ℕ, ℤ, pos, ◌+ℤ◌, ◌*ℤ◌, ◌*◌, ◌<◌, ◌≤◌, ◌^◌, unsigned_abs};
+ghost use Rattle.std.specs.Prelude.{◌≡◌, ℕ, ℤ, pos, ◌+ℤ◌, ◌-ℤ◌, ◌*ℤ◌, ◌<ℤ◌, ◌≤ℤ◌, ◌*◌, ◌<◌, ◌≤◌, ◌^◌, unsigned_abs};
 ghost use Rattle.std.specs.Int.{IsGcd};
 ghost use Rattle.std.specs.Int.RustNames.{int_div};
-ghost use Rattle.split_frac.specs.Frac.{HasValue, IsSum, IsDifference, IsWithin, frac_cmp};
+ghost use Rattle.split_frac.specs.Frac.{HasValue, IsSum, IsDifference, IsFloor, IsWithin, frac_cmp};
 
 use crate::frac::Frac;
 use std::cmp::Ordering;
@@ -57,6 +57,33 @@ pub fn compare(a: &Frac, b: &Frac) -> Ordering
     ensures { result ≡ frac_cmp a.now b.now }
 {
     scaled(a.num, b.den).cmp(&scaled(b.num, a.den))
+}
+
+/// The greatest whole number that is not above the fraction.
+///
+/// Asks for a numerator between -10^24 and 10^24 and a denominator up to 4,000,000.
+pub fn floor(a: &Frac) -> i128
+    requires { IsWithin a.now }
+    ensures { IsFloor a.now result }
+{
+    a.num.div_euclid(i128::from(a.den))
+}
+
+/// The amount less its floor: from 0 to below 1, over the same denominator.
+///
+/// Asks for a numerator between -10^24 and 10^24 and a denominator up to 4,000,000.
+pub fn rem(a: &Frac) -> Frac
+    requires { IsWithin a.now }
+    ensures value { (whole : ℤ) → IsFloor a.now whole → result.num ≡ a.now.num -ℤ whole *ℤ pos a.now.den }
+    ensures den { result.den ≡ a.now.den }
+    ensures low { pos 0 ≤ℤ result.num }
+    ensures high { result.num <ℤ pos result.den }
+    ensures within { IsWithin result }
+{
+    Frac {
+        num: a.num.rem_euclid(i128::from(a.den)),
+        den: a.den,
+    }
 }
 
 /// A numerator times a denominator: a product too small to overflow a sum of two.

@@ -1,9 +1,9 @@
 // What callers may rest on: the statements of these functions, whose bodies do nothing.
-ghost use Rattle.std.specs.Prelude.{◌≡◌, ◌↔◌, ℕ, ℤ, pos, ◌*ℤ◌, ◌<ℤ◌, ◌+◌, ◌*◌, ◌/◌, ◌<◌, ◌≤◌, unsigned_abs};
+ghost use Rattle.std.specs.Prelude.{◌≡◌, ◌↔◌, ℕ, ℤ, pos, ◌+ℤ◌, ◌-ℤ◌, ◌*ℤ◌, ◌<ℤ◌, ◌+◌, ◌*◌, ◌/◌, ◌<◌, ◌≤◌, unsigned_abs};
 ghost use Rattle.std.specs.Int.{◌∣◌};
 ghost use Rattle.std.specs.Ordering.{ordering_reverse};
 ghost use Rattle.std.specs.declared.cmp.Ordering.TheVariants.{Less, Equal};
-ghost use Rattle.split_frac.specs.Frac.{HasValue, IsSum, IsDifference, frac_cmp, pair_of};
+ghost use Rattle.split_frac.specs.Frac.{HasValue, IsSum, IsDifference, IsFloor, frac_cmp, pair_of};
 ghost use Rattle.split_frac.specs.declared.frac.Frac.{Frac};
 
 /// Each value has one fraction: two fractions whose cross products agree are equal, and so are two
@@ -33,4 +33,15 @@ pub fn sum_law()
     ensures difference { (a b c : Frac) (multiple : ℕ) → a.den ∣ multiple → b.den ∣ multiple → IsDifference a b c → c.den ∣ multiple }
     ensures sum_size { (a b c : Frac) (multiple : ℕ) → 0 < multiple → a.den ∣ multiple → b.den ∣ multiple → IsSum a b c → unsigned_abs c.num ≤ unsigned_abs a.num * (multiple / a.den) + unsigned_abs b.num * (multiple / b.den) }
     ensures difference_size { (a b c : Frac) (multiple : ℕ) → 0 < multiple → a.den ∣ multiple → b.den ∣ multiple → IsDifference a b c → unsigned_abs c.num ≤ unsigned_abs a.num * (multiple / a.den) + unsigned_abs b.num * (multiple / b.den) }
+{}
+
+/// Two fractions that are whole numbers of k-ths have a sum and a difference of so many k-ths.
+pub fn parts_law()
+    ensures sum { (a b c : Frac) (x y : ℤ) (k : ℕ) → HasValue a x k → HasValue b y k → IsSum a b c → HasValue c (x +ℤ y) k }
+    ensures difference { (a b c : Frac) (x y : ℤ) (k : ℕ) → HasValue a x k → HasValue b y k → IsDifference a b c → HasValue c (x -ℤ y) k }
+{}
+
+/// A fraction has one floor.
+pub fn floor_law()
+    ensures { (a : Frac) (x y : ℤ) → IsFloor a x → IsFloor a y → x ≡ y }
 {}

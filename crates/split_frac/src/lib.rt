@@ -1,4 +1,4 @@
-//! Exact fractions in lowest terms: value, sum, difference, order and text.
+//! Exact fractions in lowest terms: value, sum, difference, order, floor and text.
 #![tactic(auto)]
 
 mod arithmetic;
@@ -6,9 +6,9 @@ mod frac;
 mod laws;
 mod printing;
 
-pub use arithmetic::{add, compare, make, sub};
+pub use arithmetic::{add, compare, floor, make, rem, sub};
 pub use frac::Frac;
-pub use laws::{order_law, sum_law, value_law};
+pub use laws::{floor_law, order_law, parts_law, sum_law, value_law};
 pub use printing::{NoMemory, text};
 
 #[cfg(test)]

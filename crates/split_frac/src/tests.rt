@@ -64,3 +64,21 @@ fn greatest_numerator_and_default(rt: HostRuntime) -> Result<(), Fail> {
     assert_text(&rt, rt.alloc(), &greatest, "1000000000000000000000000")?;
     assert_text(&rt, rt.alloc(), &Frac::default(), "0")
 }
+
+#[test]
+fn floors_and_remainders(rt: HostRuntime) -> Result<(), Fail> {
+    let rows: [((i8, u8), i128, &str); 5] = [
+        ((101, 2), 50, "1/2"),
+        ((-100, 3), -34, "2/3"),
+        ((5, 1), 5, "0"),
+        ((-5, 1), -5, "0"),
+        ((0, 7), 0, "0"),
+    ];
+    for ((num, den), whole, rest) in rows {
+        assert!(rt; den > 0);
+        let amount = small(num, den);
+        assert_eq!(rt; floor(&amount), whole);
+        assert_text(&rt, rt.alloc(), &rem(&amount), rest)?;
+    }
+    Ok(())
+}

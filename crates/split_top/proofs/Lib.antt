@@ -1,14 +1,4 @@
 pub mod CauseLaws
-pub mod LeastRoute
-pub mod ListedOrders
 pub mod Pieces
-pub mod ReadBodies
-pub mod ReadLegs
-pub mod ReadLists
-pub mod ReadRules
-pub mod ReadyCases
-pub mod Riders
-pub mod RouteCosts
 pub mod SameFares
 pub mod SameTexts
-pub mod Words

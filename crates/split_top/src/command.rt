@@ -4,8 +4,10 @@ ghost use Rattle.split_top.specs.Outcome.{IsNoRow, IsRow};
 /// A row of the command table.
 #[derive(Clone, Copy, Debug, PartialEq, Eq)]
 pub enum Command {
-    /// `solve 1`: reads a case as JSON, and writes its best division.
+    /// `solve 1`: reads a case as JSON, and writes its best division in two lines.
     Solve,
+    /// `report 1`: reads a case as JSON, and writes what its best division means for each member.
+    Report,
 }
 
 /// The command that the words name, if they are a row of the command table.
@@ -15,9 +17,9 @@ pub(crate) fn command_of(words: &[String]) -> Option<Command>
     let [name, workers] = words else {
         return None;
     };
-    if name.as_str() == "solve" && workers.as_str() == "1" {
-        Some(Command::Solve)
-    } else {
-        None
+    match (name.as_str(), workers.as_str()) {
+        ("solve", "1") => Some(Command::Solve),
+        ("report", "1") => Some(Command::Report),
+        _ => None,
     }
 }

@@ -1,16 +1,23 @@
 // What holds of the commands' definitions, for all inputs.
 ghost use Rattle.std.specs.Prelude.{◌≡◌, ℕ, List};
+ghost use Rattle.split_top.specs.declared.command.Command.{Command};
 ghost use Rattle.split_top.specs.Outcome.{IsOutput};
 
-use crate::solving::division_law;
 use bid_rules::best_rent_law;
+use nash_search::step_count_law;
+use shapley_core::division_law;
 use split_frac::value_law;
+use split_json::case_in_law;
+use split_reports::report_law;
 
-/// What a solved case writes is fixed by the input's bytes: a case has one best division, and a division has one text.
+/// What a command writes of a case is fixed by the input's bytes: a case has one best division, and a division has one text.
 pub fn output_law()
-    ensures { (bytes text other : List ℕ) → IsOutput bytes text → IsOutput bytes other → text ≡ other }
+    ensures { (command : Command) (bytes text other : List ℕ) → IsOutput command bytes text → IsOutput command bytes other → text ≡ other }
 {
     division_law();
     best_rent_law();
+    step_count_law();
     value_law();
+    case_in_law();
+    report_law();
 }

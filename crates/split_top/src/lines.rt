@@ -1,87 +1,106 @@
-ghost use Rattle.std.specs.Prelude.{◌≡◌, ◌++◌, ◌∷◌, codes, flat_map, map, IfOk, OnOk, string_bytes};
+// The two lines that tell a division.
+ghost use Rattle.std.specs.Prelude.{◌≡◌, ◌++◌, [], ◌∷◌, codes, flat_map, map, IfOk, OnOk};
 ghost use Rattle.std.specs.Fmt.{decimal};
 ghost use Rattle.split_frac.specs.Frac.{frac_text};
-ghost use Rattle.split_top.specs.Outcome.{home_lines, line, ride_lines};
+ghost use Rattle.split_top.specs.Outcome.{division_lines, line};
 
-use crate::solving::FareDivision;
-use rent_maximin::RentDivision;
+use certificates::Division;
+use itoa::Buffer;
+use nash_search::GoodsDivision;
 use split_base::NoMemory;
 use split_frac::{Frac, text};
 use std::alloc::{AllocError, Global};
 
-/// The lines of a shared ride: the route, and the fare of each rider.
-pub(crate) fn ride_lines(alloc: Global, division: &FareDivision) -> Result<String, NoMemory>
-    ensures { IfOk result (λ lines. string_bytes lines ≡ ride_lines division.now.route.items division.now.fares.items) }
+/// The two lines of a division: of a rent `rooms` and `prices`, of goods `owners` and `steps`, of fares `route` and `fares`.
+pub(crate) fn division_lines(alloc: Global, division: &Division) -> Result<Vec<u8>, NoMemory>
+    ensures { IfOk result (λ lines. lines.items ≡ division_lines division.now) }
 {
-    two_lines(
-        alloc,
-        ("route", division.route.as_slice()),
-        ("fares", division.fares.as_slice()),
-    )
-}
-
-/// The lines of a shared home: the room of each member, and the price of each room.
-pub(crate) fn home_lines(alloc: Global, division: &RentDivision) -> Result<String, NoMemory>
-    ensures { IfOk result (λ lines. string_bytes lines ≡ home_lines division.now.best.rooms.items division.now.prices.items) }
-{
-    two_lines(
-        alloc,
-        ("rooms", division.best.rooms.as_slice()),
-        ("prices", division.prices.as_slice()),
-    )
-}
-
-/// A line of numbers and a line of fractions, each behind its word.
-fn two_lines(
-    alloc: Global,
-    numbers: (&str, &[u8]),
-    fractions: (&str, &[Frac]),
-) -> Result<String, NoMemory>
-    ensures { IfOk result (λ lines. string_bytes lines ≡ line numbers.entry.0.now (map decimal numbers.entry.1.now) ++ line fractions.entry.0.now (map frac_text fractions.entry.1.now)) }
-{
-    let mut lines = String::new(alloc);
-    push(&mut lines, numbers.0)?;
-    push_numbers(alloc, &mut lines, numbers.1)?;
-    push(&mut lines, "\n")?;
-    push(&mut lines, fractions.0)?;
-    push_fractions(alloc, &mut lines, fractions.1)?;
-    push(&mut lines, "\n")?;
+    let mut lines = Vec::new(alloc);
+    match division {
+        Division::Rent(home) => {
+            push_numbers(&mut lines, b"rooms", home.best.rooms.as_slice())?;
+            push_fractions(alloc, &mut lines, b"prices", home.prices.as_slice())?;
+        }
+        Division::Goods(goods) => {
+            push_numbers(&mut lines, b"owners", goods.owners.as_slice())?;
+            push_number(&mut lines, b"steps", goods.steps)?;
+        }
+        Division::Fares(ride) => {
+            push_numbers(&mut lines, b"route", ride.route.as_slice())?;
+            push_fractions(alloc, &mut lines, b"fares", ride.fares.as_slice())?;
+        }
+    }
     Ok(lines)
 }
 
-fn push(lines: &mut String, piece: &str) -> Result<(), NoMemory>
-    ensures { OnOk result (string_bytes lines.new ≡ string_bytes lines.old ++ piece.now) }
+/// Appends a line of numbers.
+fn push_numbers(lines: &mut Vec<u8>, word: &[u8], numbers: &[u8]) -> Result<(), NoMemory>
+    ensures { OnOk result (lines.new.items ≡ lines.old.items ++ line word.now (map decimal numbers.now)) }
 {
-    match lines.push_str(piece) {
-        Ok(()) => Ok(()),
-        Err(AllocError) => Err(NoMemory),
-    }
+    push(lines, word)?;
+    push_each_number(lines, numbers)?;
+    push(lines, b"\n")
 }
 
 /// Appends each number after a space.
-fn push_numbers(alloc: Global, lines: &mut String, numbers: &[u8]) -> Result<(), NoMemory>
-    ensures { OnOk result (string_bytes lines.new ≡ string_bytes lines.old ++ flat_map (λ piece. 32 ∷ piece) (map decimal numbers.now)) }
+fn push_each_number(lines: &mut Vec<u8>, numbers: &[u8]) -> Result<(), NoMemory>
+    ensures { OnOk result (lines.new.items ≡ lines.old.items ++ flat_map (λ piece. 32 ∷ piece) (map decimal numbers.now)) }
 {
     for number in numbers {
-        let Ok(text) = number.to_string(alloc) else {
-            return Err(NoMemory);
-        };
-        push(lines, " ")?;
-        push(lines, &text)?;
+        push(lines, b" ")?;
+        push(lines, Buffer::new().format(*number).as_bytes())?;
     }
     Ok(())
 }
 
+/// Appends a line of one number.
+fn push_number(lines: &mut Vec<u8>, word: &[u8], number: u32) -> Result<(), NoMemory>
+    ensures { OnOk result (lines.new.items ≡ lines.old.items ++ line word.now (decimal number ∷ [])) }
+{
+    push(lines, word)?;
+    push(lines, b" ")?;
+    push(lines, Buffer::new().format(number).as_bytes())?;
+    push(lines, b"\n")
+}
+
+/// Appends a line of fractions.
+fn push_fractions(
+    alloc: Global,
+    lines: &mut Vec<u8>,
+    word: &[u8],
+    fractions: &[Frac],
+) -> Result<(), NoMemory>
+    ensures { OnOk result (lines.new.items ≡ lines.old.items ++ line word.now (map frac_text fractions.now)) }
+{
+    push(lines, word)?;
+    push_each_fraction(alloc, lines, fractions)?;
+    push(lines, b"\n")
+}
+
 /// Appends each fraction after a space.
-fn push_fractions(alloc: Global, lines: &mut String, fractions: &[Frac]) -> Result<(), NoMemory>
-    ensures { OnOk result (string_bytes lines.new ≡ string_bytes lines.old ++ flat_map (λ piece. 32 ∷ piece) (map frac_text fractions.now)) }
+fn push_each_fraction(
+    alloc: Global,
+    lines: &mut Vec<u8>,
+    fractions: &[Frac],
+) -> Result<(), NoMemory>
+    ensures { OnOk result (lines.new.items ≡ lines.old.items ++ flat_map (λ piece. 32 ∷ piece) (map frac_text fractions.now)) }
 {
     for fraction in fractions {
         let Ok(number) = text(alloc, fraction) else {
             return Err(NoMemory);
         };
-        push(lines, " ")?;
-        push(lines, &number)?;
+        push(lines, b" ")?;
+        push(lines, number.as_bytes())?;
     }
     Ok(())
+}
+
+/// Appends bytes.
+fn push(lines: &mut Vec<u8>, piece: &[u8]) -> Result<(), NoMemory>
+    ensures { OnOk result (lines.new.items ≡ lines.old.items ++ piece.now) }
+{
+    match lines.extend_from_slice(piece) {
+        Ok(()) => Ok(()),
+        Err(AllocError) => Err(NoMemory),
+    }
 }

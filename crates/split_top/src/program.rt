@@ -1,19 +1,23 @@
-ghost use Rattle.std.specs.Prelude.{◌≡◌, ◌≤◌, ℕ, List, Result, map, string_bytes, IfOk};
+ghost use Rattle.std.specs.Prelude.{◌≡◌, ◌≤◌, ℕ, List, Result, Ok, map, string_bytes, IfOk};
 ghost use Rattle.std.specs.Result.{result_map_both};
-ghost use Rattle.bid_rules.specs.Facts.{IsValidCase};
+ghost use Rattle.bid_rules.specs.Facts.{IsValidCase, case_of};
 ghost use Rattle.split_top.specs.declared.stop.Stop.{Stop};
 ghost use Rattle.split_top.specs.Causes.{HasCauses, IsComplete};
-ghost use Rattle.split_top.specs.Outcome.{Ends, IsCaseEnding, IsEnding, IsSolveEnding, IsTextOf, status_of, text_of, told};
-ghost use Rattle.split_top.specs.Reading.{IsReady, shown};
+ghost use Rattle.split_top.specs.Outcome.{Ends, IsBodyEnding, IsCaseEnding, IsEnding, IsSolved, IsTextOf, status_of, text_of, told};
+ghost use Rattle.split_json.specs.Reading.{IsReady, shown};
+ghost use Rattle.certificates.specs.Division.{IsDivisionOf};
 
-use crate::command::command_of;
-use crate::lines::{home_lines, ride_lines};
-use crate::reading::{CaseInput, read_case};
-use crate::solving::solve_fares;
+use crate::command::{Command, command_of};
+use crate::lines::division_lines;
 use crate::stop::Stop;
 use bid_rules::{Case, make_case};
+use certificates::Division;
+use nash_search::{search_alone, step_count_law};
 use rent_maximin::solve_rent;
+use shapley_core::solve_fares;
 use split_base::{Failed, NoMemory, ReadStop, Sink, Source, read_all, write_all};
+use split_json::{CaseInput, read_case};
+use split_reports::report;
 use std::alloc::Global;
 
 /// The most bytes that an input may have.
@@ -28,13 +32,14 @@ pub struct Status {
 
 /// Does what the words ask for: reads the input, and writes what the command owes.
 ///
-/// `solve 1` reads a case of at most 65,536 bytes as JSON and writes its best division: of a rent the lines `rooms` and `prices`, of
-/// fares the lines `route` and `fares`.
+/// Both commands read a case of at most 65,536 bytes as JSON and find its best division. `solve 1` writes two lines: of a rent
+/// `rooms` and `prices`, of goods `owners` and `steps`, of fares `route` and `fares`. `report 1` writes the report, which tells
+/// each member what the division means for them.
 ///
 /// | status | comes | line |
 /// |---|---|---|
-/// | 0 | the case is solved, and the input was read to its end | the two lines |
-/// | 1 | exactly where bids are missing: on a rent any, on fares all | `void:` and the members who lack a bid |
+/// | 0 | the case has a division, and the input was read to its end | the command's text |
+/// | 1 | exactly where bids are missing, on a rent any, on goods and fares all; or where the step count of goods is above the limit | `void:` and the members who lack a bid; `step limit` and the limit |
 /// | 2 | exactly where the words are no row of the command table | `refused: words` |
 /// | 3 | exactly where the input is too long, no JSON, or breaks a field's rule | `refused: too long`, `refused: json`, `refused: field NAME` |
 /// | 5 | only where the input's count of faults rose in this call | `read fault` |
@@ -63,8 +68,9 @@ pub fn run<I: Source, O: Sink>(
         (told (O.written output.old) (O.written output.new) (O.faults output.old) (O.faults output.new)) result.code }
     ensures counts { (I.faults input.old ≤ I.faults input.new) × (O.faults output.old ≤ O.faults output.new) }
 {
+    step_count_law();
     match decide(alloc, words, input) {
-        Ok(text) => write_out(output, text.as_bytes(), 0),
+        Ok(text) => write_out(output, &text, 0),
         Err(stop) => write_out(output, &stop.line(), stop.status()),
     }
 }
@@ -81,57 +87,82 @@ fn write_out<O: Sink>(output: &mut O, text: &[u8], code: u8) -> Status
 }
 
 /// How the command ends, before anything is written.
-fn decide<I: Source>(alloc: Global, words: &[String], input: &mut I) -> Result<String, Stop>
+fn decide<I: Source>(alloc: Global, words: &[String], input: &mut I) -> Result<Vec<u8>, Stop>
     ensures ending { IsEnding (map string_bytes words.now) (told (I.left input.old) (I.left input.new) (I.faults input.old) (I.faults input.new))
-        (result_map_both string_bytes (λ stop. stop) result) }
+        (result_map_both (λ text. text.items) (λ stop. stop) result) }
     ensures count { I.faults input.old ≤ I.faults input.new }
 {
-    if command_of(words).is_none() {
+    let Some(command) = command_of(words) else {
         return Err(Stop::BadWords);
-    }
+    };
     match read_all(alloc, input, LONGEST_INPUT) {
-        Ok(body) => solve(alloc, &body),
+        Ok(body) => body_output(alloc, command, &body),
         Err(ReadStop::Fault) => Err(Stop::ReadFault),
         Err(ReadStop::TooLong) => Err(Stop::TooLong),
         Err(ReadStop::NoMemory) => Err(Stop::NoMemory),
     }
 }
 
-/// How `solve` ends on an input that was read whole.
-fn solve(alloc: Global, body: &[u8]) -> Result<String, Stop>
-    ensures { IsSolveEnding body.now (result_map_both string_bytes (λ stop. stop) result) }
+/// How a command ends on an input that was read whole.
+fn body_output(alloc: Global, command: Command, body: &[u8]) -> Result<Vec<u8>, Stop>
+    ensures { IsBodyEnding command body.now (result_map_both (λ text. text.items) (λ stop. stop) result) }
 {
     match read_case(alloc, body) {
-        Ok(Ok(input)) => solve_input(alloc, &input),
+        Ok(Ok(input)) => case_output(alloc, command, &input),
         Ok(Err(fault)) => Err(Stop::BadCase { fault }),
         Err(NoMemory) => Err(Stop::NoMemory),
     }
 }
 
 /// How the facts and bids of a case end.
-fn solve_input(alloc: Global, input: &CaseInput) -> Result<String, Stop>
+fn case_output(alloc: Global, command: Command, input: &CaseInput) -> Result<Vec<u8>, Stop>
     requires { IsReady (shown input.now) }
-    ensures { IsCaseEnding (shown input.now) (result_map_both string_bytes (λ stop. stop) result) }
+    ensures { IsCaseEnding command (shown input.now) (result_map_both (λ text. text.items) (λ stop. stop) result) }
 {
-    match make_case(&input.facts, input.bids.as_slice()) {
-        Ok(case) => match best_text(alloc, &case) {
-            Ok(text) => Ok(text),
-            Err(NoMemory) => Err(Stop::NoMemory),
-        },
-        Err(missing) => Err(Stop::Void { missing }),
+    let case = match make_case(&input.facts, input.bids.as_slice()) {
+        Ok(case) => case,
+        Err(missing) => return Err(Stop::Void { missing }),
+    };
+    let division = best_division(alloc, &case)?;
+    match division_text(alloc, command, input, &case, &division) {
+        Ok(text) => Ok(text),
+        Err(NoMemory) => Err(Stop::NoMemory),
     }
 }
 
-/// The text of the best division of a case.
-fn best_text(alloc: Global, case: &Case) -> Result<String, NoMemory>
+/// The best division of a case.
+fn best_division(alloc: Global, case: &Case) -> Result<Division, Stop>
     requires { IsValidCase case.now }
-    ensures { IfOk result (λ text. IsTextOf case.now (string_bytes text)) }
+    ensures { IsSolved case.now result }
 {
     match case {
-        Case::Rent(case) => home_lines(alloc, &solve_rent(case)),
-        Case::Fares(case) => {
-            let division = solve_fares(alloc, case)?;
-            ride_lines(alloc, &division)
-        }
+        Case::Rent(case) => Ok(Division::Rent(solve_rent(case))),
+        Case::Goods(case) => match search_alone(case) {
+            Ok(division) => Ok(Division::Goods(division)),
+            Err(over) => Err(Stop::OverLimit { limit: over.limit }),
+        },
+        Case::Fares(case) => match solve_fares(alloc, case) {
+            Ok(division) => Ok(Division::Fares(division)),
+            Err(NoMemory) => Err(Stop::NoMemory),
+        },
+    }
+}
+
+/// What a command writes of a case and its division.
+fn division_text(
+    alloc: Global,
+    command: Command,
+    input: &CaseInput,
+    case: &Case,
+    division: &Division,
+) -> Result<Vec<u8>, NoMemory>
+    requires input { IsReady (shown input.now) }
+    requires case { case_of input.now.facts input.now.bids.items ≡ Ok case.now }
+    requires division { IsDivisionOf case.now division.now }
+    ensures { IfOk result (λ text. IsTextOf command (shown input.now) case.now division.now text.items) }
+{
+    match command {
+        Command::Solve => division_lines(alloc, division),
+        Command::Report => report(alloc, input, case, division),
     }
 }

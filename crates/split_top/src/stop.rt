@@ -1,18 +1,20 @@
-ghost use Rattle.std.specs.Prelude.{◌≡◌, ◌+◌, ◌≤◌, ◌++◌, codes, length, map};
+ghost use Rattle.std.specs.Prelude.{◌≡◌, ◌+◌, ◌≤◌, ◌++◌, [], ◌∷◌, codes, length, map};
 ghost use Rattle.arrayvec.specs.ArrayVec.{array_vec_len};
 ghost use Rattle.std.specs.Fmt.{decimal};
 ghost use Rattle.split_top.specs.Outcome.{fault_line, line, stop_line, stop_status};
 
-use crate::reading::BodyFault;
 use arrayvec::ArrayVec;
 use bid_rules::Missing;
 use itoa::Buffer;
+use split_json::BodyFault;
 
 /// Why a command ends without its text, but for a failure to write.
 #[derive(Debug, Drop, PartialEq, Eq)]
 pub enum Stop {
     /// The case lacks the bids of these members.
     Void { missing: Missing },
+    /// The step count of the case, which is of goods, is above this limit of the case.
+    OverLimit { limit: u32 },
     /// The words are no row of the command table.
     BadWords,
     /// The input has more than 65,536 bytes.
@@ -34,7 +36,7 @@ impl Stop {
         ensures { result ≡ stop_status self.now }
     {
         match self {
-            Stop::Void { .. } => 1,
+            Stop::Void { .. } | Stop::OverLimit { .. } => 1,
             Stop::BadWords => 2,
             Stop::TooLong | Stop::BadCase { .. } => 3,
             Stop::ReadFault => 5,
@@ -48,6 +50,7 @@ impl Stop {
     {
         match self {
             Stop::Void { missing } => void_line(missing.members.as_slice()),
+            Stop::OverLimit { limit } => limit_line(*limit),
             Stop::BadWords => line_of(b"refused: words\n"),
             Stop::TooLong => line_of(b"refused: too long\n"),
             Stop::BadCase { fault } => fault_line(*fault),
@@ -67,6 +70,17 @@ fn void_line(members: &[u8]) -> Line
         append(&mut line, b" ");
         append_number(&mut line, *member);
     }
+    append(&mut line, b"\n");
+    line
+}
+
+/// The line that names the limit.
+fn limit_line(limit: u32) -> Line
+    ensures { result.items ≡ line (codes "step limit") (decimal limit ∷ []) }
+{
+    let mut line = line_of(b"step limit ");
+    let mut buffer = Buffer::new();
+    append(&mut line, buffer.format(limit).as_bytes());
     append(&mut line, b"\n");
     line
 }

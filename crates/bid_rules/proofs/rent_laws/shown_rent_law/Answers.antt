@@ -1,3 +1,4 @@
+use Rattle.bid_rules.proofs.PriceRange.{formula_within}
 use Rattle.bid_rules.proofs.ShownRents.{shown_is_best, shown_least}
 use Rattle.bid_rules.proofs.rent_laws.shown_rent_law.Goals as goal
 
@@ -6,3 +7,6 @@ returns-clause-best c = shown_is_best
 
 pub returns-clause-least : goal.returns-clause-least
 returns-clause-least c case rooms walks prices least some best shown formula is = shown_least case rooms walks prices least some best.assignment shown formula is
+
+pub returns-clause-range : goal.returns-clause-range
+returns-clause-range c case rooms walks prices least valid best shown formula is = formula_within case rooms walks prices least valid best.assignment shown formula is

@@ -1,0 +1,109 @@
+-- Checked facts and valid cases of goods, the search order, allocations, and the best of these (Caragiannis and others 2016).
+use Rattle.std.specs.Prelude.{◌≡◌, ℕ, ◌+◌, ◌-◌, ◌<◌, ◌≤◌, ◌==◌, List, [], ◌∷◌, length, map, fold, sum, All, max, slice_index, slice_index_or, cond, ◌⊎◌, nat_le}
+use Rattle.std.specs.List.{range_with_len, position_or_len}
+use Rattle.std.specs.List.Sorted.{IsStrictlyIncreasing}
+use Rattle.std.specs.Cmp.Lexicographic.{slice_cmp}
+use Rattle.std.specs.Ordering.{nat_cmp}
+use Rattle.std.specs.declared.cmp.Ordering.TheVariants.{Less}
+use Rattle.bid_rules.specs.declared.goods.Goods.{Goods}
+use Rattle.bid_rules.specs.declared.goods.GoodsCase.{GoodsCase}
+use Rattle.bid_rules.specs.declared.bids.BidFault.{BidFault}
+use Rattle.bid_rules.specs.declared.bids.BidFault.TheVariants as fault
+use Rattle.bid_rules.specs.Pairs.{nash_welfare, IsLess}
+
+-- there are 2 to 12 members and 1 to 24 goods
+abbrev pub HasCounts : Goods → Type 0
+HasCounts facts = (2 ≤ facts.members) × (facts.members ≤ 12) × (1 ≤ facts.goods) × (facts.goods ≤ 24)
+
+-- the limit is 1 to 200,000 steps
+abbrev pub HasLimit : Goods → Type 0
+HasLimit facts = (1 ≤ facts.limit) × (facts.limit ≤ 200000)
+
+-- facts on goods without a fault
+pub record IsCheckedGoods (facts : Goods) : Type 0 where
+  pub counts : HasCounts facts
+  pub steps : HasLimit facts
+
+-- the first fault of facts on goods, in the order of the cases
+abbrev pub IsFaultOfGoods : Goods → BidFault → Type 0
+IsFaultOfGoods facts fault.Count = HasCounts facts → ⊥
+IsFaultOfGoods facts (fault.Range place) = HasCounts facts × (place ≡ 0) × (HasLimit facts → ⊥)
+IsFaultOfGoods facts (fault.Place place) = ⊥
+IsFaultOfGoods facts (fault.Sum got) = ⊥
+
+-- checked facts, and players in rising order of member, each with points for each good that sum to 1000
+pub record IsValidGoodsCase (case : GoodsCase) : Type 0 where
+  pub facts : IsCheckedGoods case.facts
+  pub rising : IsStrictlyIncreasing case.who.items
+  pub members : All (λ member. (1 ≤ member) × (member ≤ case.facts.members)) case.who.items
+  pub some : 1 ≤ length case.who.items
+  pub each : length case.values.items ≡ length case.who.items
+  pub goods : All (λ row. length row.items ≡ case.facts.goods) case.values.items
+  pub sums : All (λ row. sum row.items ≡ 1000) case.values.items
+
+-- how many players there are
+abbrev pub player_count : GoodsCase → ℕ
+player_count case = length case.values.items
+
+-- the points that a player gives a good, both numbered from 1
+abbrev pub points : GoodsCase → ℕ → ℕ → ℕ
+points case player good = slice_index (slice_index_or case.values.items (player - 1) (record { items = [] })).items (good - 1)
+
+-- the greatest points that any player gives the good
+abbrev pub greatest_points : GoodsCase → ℕ → ℕ
+greatest_points case good = fold max 0 (map (λ row. slice_index row.items (good - 1)) case.values.items)
+
+-- the good put before the first that has no more points
+abbrev pub put_in : GoodsCase → ℕ → List ℕ → List ℕ
+put_in case good [] = good ∷ []
+put_in case good (other ∷ others) =
+    cond (nat_le (greatest_points case other) (greatest_points case good)) (good ∷ other ∷ others) (other ∷ put_in case good others)
+
+-- rising goods, sorted by falling greatest points with ties to the lower number
+abbrev pub sorted_goods : GoodsCase → List ℕ → List ℕ
+sorted_goods case [] = []
+sorted_goods case (good ∷ goods) = put_in case good (sorted_goods case goods)
+
+-- the search order: all goods by falling greatest points, ties to the lower number
+abbrev pub order_of : GoodsCase → List ℕ
+order_of case = sorted_goods case (range_with_len 1 case.facts.goods)
+
+-- what a player has of some goods, of which the first few have these owners
+abbrev pub utility : GoodsCase → ℕ → List ℕ → List ℕ → ℕ
+utility case player [] owners = 0
+utility case player (good ∷ goods) [] = 0
+utility case player (good ∷ goods) (owner ∷ owners) = cond (owner == player) (points case player good) 0 + utility case player goods owners
+
+-- each player's utility, where the first few goods in search order have these owners
+abbrev pub utilities : GoodsCase → List ℕ → List ℕ
+utilities case owners = map (λ player. utility case player (order_of case) owners) (range_with_len 1 (player_count case))
+
+-- each owner is a player
+abbrev pub AreOwners : GoodsCase → List ℕ → Type 0
+AreOwners case owners = All (λ owner. (1 ≤ owner) × (owner ≤ player_count case)) owners
+
+-- an allocation: an owner for each good, in search order
+pub record IsAllocation (case : GoodsCase) (owners : List ℕ) : Type 0 where
+  pub each : length owners ≡ case.facts.goods
+  pub owned : AreOwners case owners
+
+-- another allocation dominates one: it gives every player at least as many points, and one player more
+pub record Dominates (case : GoodsCase) (others owners : List ℕ) : Type 0 where
+  pub each : (player : ℕ) → 1 ≤ player → player ≤ player_count case → utility case player (order_of case) owners ≤ utility case player (order_of case) others
+  pub more : (player : ℕ) × (1 ≤ player) × (player ≤ player_count case) × (utility case player (order_of case) owners < utility case player (order_of case) others)
+
+-- maximum Nash welfare (Caragiannis and others 2016), with an order of lists: no allocation has a greater pair, and none with the same pair
+-- is before it as a list of owners in search order
+pub record GoodsBest (case : GoodsCase) (owners : List ℕ) : Type 0 where
+  pub allocation : IsAllocation case owners
+  pub best : (others : List ℕ) → IsAllocation case others
+      → IsLess (nash_welfare (utilities case others)) (nash_welfare (utilities case owners))
+      ⊎ ((nash_welfare (utilities case others) ≡ nash_welfare (utilities case owners)) × (slice_cmp nat_cmp others owners ≡ Less → ⊥))
+
+-- who has the good, from the owners in search order
+abbrev pub owner_of_good : GoodsCase → List ℕ → ℕ → ℕ
+owner_of_good case owners good = slice_index owners (position_or_len (λ other. other == good) (order_of case))
+
+-- the owners by good number, from those in search order
+abbrev pub owners_by_good : GoodsCase → List ℕ → List ℕ
+owners_by_good case owners = map (owner_of_good case owners) (range_with_len 1 case.facts.goods)

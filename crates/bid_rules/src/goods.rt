@@ -1,0 +1,95 @@
+ghost use Rattle.std.specs.Prelude.{◌≡◌, ◌≤◌, ◌↔◌, length, All, IsErrOf, IsOk, IsTrue, MatchResult};
+ghost use Rattle.std.specs.List.Sorted.{IsStrictlyIncreasing};
+ghost use Rattle.bid_rules.specs.declared.bids.BidFault.TheVariants.{Count, Range};
+ghost use Rattle.bid_rules.specs.Goods.{HasCounts, HasLimit, IsCheckedGoods, IsFaultOfGoods, IsValidGoodsCase, player_count, points};
+
+use crate::BidFault;
+use crate::spread::check_spread;
+use arrayvec::ArrayVec;
+
+/// The facts of goods that are shared among heirs.
+#[derive(Debug, Drop, PartialEq, Eq)]
+pub struct Goods {
+    /// How many members may bid, 2 to 12.
+    pub members: u8,
+    /// How many goods there are, 1 to 24.
+    pub goods: u8,
+    /// The most steps that the search for the best allocation may take, 1 to 200,000.
+    pub limit: u32,
+}
+
+/// Goods to be shared among those members who bid. They are the players, numbered from 1 in the order of `who`.
+#[derive(Debug, Drop, PartialEq, Eq)]
+pub struct GoodsCase {
+    /// The counts and the limit.
+    pub facts: Goods,
+    /// The member, from 1, who is each player, in rising order.
+    pub who: ArrayVec<u8, 12>,
+    /// By player the points that they give each good. Each player gives 1000 points.
+    pub values: ArrayVec<ArrayVec<u32, 24>, 12>,
+}
+
+impl GoodsCase {
+    /// Whether the facts are within their limits, those who bid are members in rising order, one at least, and each gives points
+    /// for each good, 1000 in sum.
+    pub fn is_valid(&self) -> bool
+        ensures { IsTrue result ↔ IsValidGoodsCase self.now }
+    {
+        let facts = &self.facts;
+        check_goods(facts).is_ok()
+            && are_members(facts.members, self.who.as_slice())
+            && self.values.len() == self.who.len()
+            && self.values.iter().all(|row| check_spread(facts.goods, 1000, row.as_slice()).is_ok())
+    }
+
+    /// The points that a player gives a good, both numbered from 1.
+    pub fn points(&self, player: u8, good: u8) -> u32
+        requires case { IsValidGoodsCase self.now }
+        requires player_low { 1 ≤ player }
+        requires player_high { player ≤ player_count self.now }
+        requires good_low { 1 ≤ good }
+        requires good_high { good ≤ self.now.facts.goods }
+        ensures value { result ≡ points self.now player good }
+        ensures small { result ≤ 1000 }
+    {
+        self.values[player as usize - 1][good as usize - 1]
+    }
+}
+
+/// Whether there are some numbers of members, in rising order.
+fn are_members(members: u8, who: &[u8]) -> bool
+    ensures { IsTrue result ↔ IsStrictlyIncreasing who.now × All (λ member. (1 ≤ member) × (member ≤ members)) who.now × (1 ≤ length who.now) }
+{
+    !who.is_empty() && rises(who) && who.iter().all(|member| (1..=members).contains(member))
+}
+
+/// Whether each number is below the next.
+fn rises(numbers: &[u8]) -> bool
+    ensures { IsTrue result ↔ IsStrictlyIncreasing numbers.now }
+{
+    for next in 1..numbers.len() {
+        if numbers[next - 1] >= numbers[next] {
+            return false;
+        }
+    }
+    true
+}
+
+/// Whether the facts are within the limits, or their first fault.
+///
+/// `Count` where the members aren't 2 to 12 or the goods aren't 1 to 24, else `Range` with place 0 where the limit isn't 1 to
+/// 200,000.
+pub fn check_goods(facts: &Goods) -> Result<(), BidFault>
+    ensures fault { MatchResult result (λ _. IsCheckedGoods facts.now) (IsFaultOfGoods facts.now) }
+    ensures accepted { IsOk result ↔ IsCheckedGoods facts.now }
+    ensures count { IsErrOf result Count ↔ (HasCounts facts.now → ⊥) }
+    ensures range { IsErrOf result (Range 0) ↔ HasCounts facts.now × (HasLimit facts.now → ⊥) }
+{
+    if !(2..=12).contains(&facts.members) || !(1..=24).contains(&facts.goods) {
+        return Err(BidFault::Count);
+    }
+    if !(1..=200_000).contains(&facts.limit) {
+        return Err(BidFault::Range { place: 0 });
+    }
+    Ok(())
+}

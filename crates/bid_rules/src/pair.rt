@@ -1,0 +1,11 @@
+/// How many players have positive utility, and the product of the positive utilities, 1 over none.
+///
+/// Pairs are compared by the count, then by the product. An allocation with the greatest pair has the greatest Nash welfare
+/// (Caragiannis, Kurokawa, Moulin, Procaccia, Shah and Wang 2016).
+#[derive(Clone, Copy, Debug, PartialEq, Eq, PartialOrd, Ord)]
+pub struct Pair {
+    /// The number of players with positive utility, at most 12.
+    pub count: u8,
+    /// The product of the positive utilities in points, at most 1000 for each player.
+    pub product: u128,
+}

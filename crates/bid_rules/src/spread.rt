@@ -1,0 +1,34 @@
+ghost use Rattle.std.specs.Prelude.{◌≡◌, ◌≤◌, ◌↔◌, length, sum, IsOk, MatchResult};
+ghost use Rattle.bid_rules.specs.Facts.{IsFaultOfSpread, IsSpread};
+
+use crate::BidFault;
+
+/// Whether the values spread the whole over so many items, or their first fault.
+///
+/// `Count` where there isn't a value for each item, else `Sum` with their sum where it isn't the whole.
+pub(crate) fn check_spread(items: u8, whole: u32, values: &[u32]) -> Result<(), BidFault>
+    requires { length values.now ≤ 24 }
+    ensures fault { MatchResult result (λ _. IsSpread items whole values.now) (IsFaultOfSpread items whole values.now) }
+    ensures accepted { IsOk result ↔ IsSpread items whole values.now }
+{
+    if values.len() != usize::from(items) {
+        return Err(BidFault::Count);
+    }
+    let got = sum_of(values);
+    if got != u64::from(whole) {
+        return Err(BidFault::Sum { got });
+    }
+    Ok(())
+}
+
+/// The sum of the values.
+fn sum_of(values: &[u32]) -> u64
+    requires { length values.now ≤ 24 }
+    ensures { result ≡ sum values.now }
+{
+    let mut total = 0;
+    for value in values {
+        total += u64::from(*value);
+    }
+    total
+}

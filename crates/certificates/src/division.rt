@@ -1,0 +1,14 @@
+use nash_search::GoodsDivision;
+use rent_maximin::RentDivision;
+use shapley_core::FareDivision;
+
+/// The division of a case, by kind.
+#[derive(Drop)]
+pub enum Division {
+    /// The rooms and prices of a shared home.
+    Rent(RentDivision),
+    /// Who has each of the goods.
+    Goods(GoodsDivision),
+    /// What the riders of a shared ride pay.
+    Fares(FareDivision),
+}

@@ -1,0 +1,6 @@
+//! The division of a case, of whatever kind.
+#![tactic(auto)]
+
+mod division;
+
+pub use division::Division;

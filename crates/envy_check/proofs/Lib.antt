@@ -1,0 +1,10 @@
+pub mod CentEnvy
+pub mod CentOrder
+pub mod CentPlans
+pub mod CentShares
+pub mod CentSums
+pub mod EnvyParts
+pub mod EnvyTables
+pub mod GoodsEnvy
+pub mod Products
+pub mod Ranks

@@ -1,0 +1,2 @@
+pub mod Envy
+pub mod Goods

@@ -1,0 +1,195 @@
+ghost use Rattle.std.specs.Prelude.{◌≡◌, ℕ, ◌-◌, ◌<◌, ◌≤◌, if◌then◌else◌, length};
+ghost use Rattle.bid_rules.specs.Goods.{AreOwners, IsValidGoodsCase, player_count, points};
+ghost use Rattle.envy_check.specs.Goods.{IsBetter, IsEf1, IsEf1Row, IsEf1Table, IsMostValued, IsPointsRow, IsPointsTable, goods_of, is_owner, points_envy, points_for};
+
+use arrayvec::ArrayVec;
+use bid_rules::GoodsCase;
+
+/// Whether a player envies another, and what would end it (Budish 2011).
+#[derive(Clone, Copy, Debug, PartialEq, Eq)]
+pub enum Ef1 {
+    /// The player does not envy the other.
+    Content,
+    /// The player envies the other, and would not without this good of the other, numbered from 1: the one to which the player
+    /// gives most points, ties to the lower number.
+    Without { good: u8 },
+    /// The player envies the other, whichever good is taken away.
+    Fails,
+}
+
+impl Default for Ef1 {
+    ghost use Rattle.envy_check.specs.declared.goods.Ef1.TheVariants.{Content};
+
+    ghost is_default = { λ answer. answer ≡ Content };
+
+    /// No envy.
+    fn default() -> Self {
+        Ef1::Content
+    }
+}
+
+/// The points that each player gives the goods of each other, less those that they give their own.
+///
+/// The owners are players by number of the good. Entry (i, j) is above 0 where player i + 1 envies player j + 1.
+pub fn points_table(case: &GoodsCase, owners: &[u8]) -> ArrayVec<ArrayVec<i32, 12>, 12>
+    requires case { IsValidGoodsCase case.now }
+    requires each { length owners.now ≡ case.now.facts.goods }
+    requires owners { AreOwners case.now owners.now }
+    ensures { IsPointsTable case.now owners.now result.items }
+{
+    let mut table = ArrayVec::new();
+    for place in 0..case.values.len() {
+        table.push(points_row(case, owners, place as u8 + 1));
+    }
+    table
+}
+
+/// For each player and each other, whether they envy, and whether taking one good of the other away ends it.
+///
+/// The owners are players by number of the good.
+pub fn ef1_table(case: &GoodsCase, owners: &[u8]) -> ArrayVec<ArrayVec<Ef1, 12>, 12>
+    requires case { IsValidGoodsCase case.now }
+    requires each { length owners.now ≡ case.now.facts.goods }
+    requires owners { AreOwners case.now owners.now }
+    ensures { IsEf1Table case.now owners.now result.items }
+{
+    let mut table = ArrayVec::new();
+    for place in 0..case.values.len() {
+        table.push(ef1_row(case, owners, place as u8 + 1));
+    }
+    table
+}
+
+fn points_row(case: &GoodsCase, owners: &[u8], player: u8) -> ArrayVec<i32, 12>
+    requires case { IsValidGoodsCase case.now }
+    requires each { length owners.now ≡ case.now.facts.goods }
+    requires low { 1 ≤ player }
+    requires high { player ≤ player_count case.now }
+    ensures count { length result.items ≡ player_count case.now }
+    ensures entries { IsPointsRow case.now owners.now player result.items }
+{
+    let mut row = ArrayVec::new();
+    for place in 0..case.values.len() {
+        row.push(envy_in_points(case, owners, player, place as u8 + 1));
+    }
+    row
+}
+
+fn ef1_row(case: &GoodsCase, owners: &[u8], player: u8) -> ArrayVec<Ef1, 12>
+    requires case { IsValidGoodsCase case.now }
+    requires each { length owners.now ≡ case.now.facts.goods }
+    requires low { 1 ≤ player }
+    requires high { player ≤ player_count case.now }
+    ensures count { length result.items ≡ player_count case.now }
+    ensures entries { IsEf1Row case.now owners.now player result.items }
+{
+    let mut row = ArrayVec::new();
+    for place in 0..case.values.len() {
+        row.push(ef1_of(case, owners, player, place as u8 + 1));
+    }
+    row
+}
+
+/// A player's points for another's goods less those for their own.
+fn envy_in_points(case: &GoodsCase, owners: &[u8], player: u8, other: u8) -> i32
+    requires case { IsValidGoodsCase case.now }
+    requires each { length owners.now ≡ case.now.facts.goods }
+    requires low { 1 ≤ player }
+    requires high { player ≤ player_count case.now }
+    ensures { result ≡ points_envy case.now owners.now player other }
+{
+    points_of(case, owners, player, other) as i32 - points_of(case, owners, player, player) as i32
+}
+
+/// What taking one good of the other away does to a player's envy.
+fn ef1_of(case: &GoodsCase, owners: &[u8], player: u8, other: u8) -> Ef1
+    requires case { IsValidGoodsCase case.now }
+    requires each { length owners.now ≡ case.now.facts.goods }
+    requires low { 1 ≤ player }
+    requires high { player ≤ player_count case.now }
+    ensures { IsEf1 case.now owners.now player other result }
+{
+    let own = points_of(case, owners, player, player);
+    let theirs = points_of(case, owners, player, other);
+    if theirs <= own {
+        return Ef1::Content;
+    }
+    let good = most_valued(case, owners, player, other);
+    if theirs <= own + case.points(player, good) {
+        Ef1::Without { good }
+    } else {
+        Ef1::Fails
+    }
+}
+
+/// The points that a player gives the goods of an owner.
+fn points_of(case: &GoodsCase, owners: &[u8], player: u8, owner: u8) -> u32
+    requires case { IsValidGoodsCase case.now }
+    requires each { length owners.now ≡ case.now.facts.goods }
+    requires low { 1 ≤ player }
+    requires high { player ≤ player_count case.now }
+    ensures value { result ≡ points_for case.now player (goods_of owners.now owner) }
+    ensures small { result ≤ 24000 }
+{
+    let mut sum = 0;
+    for place in 0..owners.len() {
+        sum += points_if(case, owners, player, owner, place as u8 + 1);
+    }
+    sum
+}
+
+/// The points that a player gives a good, where the owner has it, else 0.
+fn points_if(case: &GoodsCase, owners: &[u8], player: u8, owner: u8, good: u8) -> u32
+    requires case { IsValidGoodsCase case.now }
+    requires each { length owners.now ≡ case.now.facts.goods }
+    requires low { 1 ≤ player }
+    requires high { player ≤ player_count case.now }
+    requires good_low { 1 ≤ good }
+    requires good_high { good ≤ case.now.facts.goods }
+    ensures value { result ≡ if is_owner owners.now owner good then points case.now player good else 0 }
+    ensures small { result ≤ 1000 }
+{
+    if owners[good as usize - 1] == owner {
+        case.points(player, good)
+    } else {
+        0
+    }
+}
+
+/// The good of the owner to which the player gives most points, ties to the lower number.
+fn most_valued(case: &GoodsCase, owners: &[u8], player: u8, owner: u8) -> u8
+    requires case { IsValidGoodsCase case.now }
+    requires each { length owners.now ≡ case.now.facts.goods }
+    requires low { 1 ≤ player }
+    requires high { player ≤ player_count case.now }
+    requires some { 0 < points_for case.now player (goods_of owners.now owner) }
+    ensures most { IsMostValued case.now player (goods_of owners.now owner) result }
+    ensures low { 1 ≤ result }
+    ensures high { result ≤ case.now.facts.goods }
+{
+    let mut best = 0;
+    for place in 0..owners.len() {
+        best = better(case, owners, player, owner, best, place as u8 + 1);
+    }
+    best
+}
+
+/// The next good where the owner has it and the player gives it more points than the best before, which is 0 where there is none.
+fn better(case: &GoodsCase, owners: &[u8], player: u8, owner: u8, best: u8, good: u8) -> u8
+    requires case { IsValidGoodsCase case.now }
+    requires each { length owners.now ≡ case.now.facts.goods }
+    requires low { 1 ≤ player }
+    requires high { player ≤ player_count case.now }
+    requires good_low { 1 ≤ good }
+    requires good_high { good ≤ case.now.facts.goods }
+    requires best { best < good }
+    ensures { IsBetter case.now owners.now player owner best good result }
+{
+    if owners[good as usize - 1] != owner {
+        return best;
+    }
+    if best == 0 || case.points(player, good) > case.points(player, best) {
+        return good;
+    }
+    best
+}

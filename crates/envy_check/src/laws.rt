@@ -1,0 +1,42 @@
+// What holds of cent plans and of envy over goods, for all cases: each law is the contract of a function that does nothing.
+ghost use Rattle.std.specs.Prelude.{◌≡◌, ◌↔◌, Contains, ℕ, ℤ, pos, negsuc, ◌<◌, ◌≤◌, ◌+ℤ◌, ◌-ℤ◌, ◌≤ℤ◌, List, [], ◌∷◌, slice_index, slice_index_or, ◌*ℤ◌, ◌<ℤ◌, All, count_by, nat_lt, length};
+ghost use Rattle.std.specs.List.{range_with_len};
+ghost use Rattle.bid_rules.specs.declared.goods.GoodsCase.{GoodsCase};
+ghost use Rattle.bid_rules.specs.declared.rents.RentCase.{RentCase};
+ghost use Rattle.bid_rules.specs.Cents.{IsCentPlan, amount_at, cent_plan, cents_left, floor_of, places_before, prices_by_member, remainder_of};
+ghost use Rattle.bid_rules.specs.Fractions.{Fraction, IsQuotient, sum_of_fractions};
+ghost use Rattle.bid_rules.specs.Rent.{HasParts, IsAssignment, IsEnvyFree, room_count, value};
+ghost use Rattle.envy_check.specs.Goods.{EndsEnvy, IsMostValued, goods_of};
+
+/// The floor is the greatest whole number that is not above the amount. As many places get a cent as cents are left over, and a
+/// place that fewer places come before has no smaller remainder.
+pub fn cent_plan_law()
+    ensures floor { (amount : Fraction) → 0 < amount.1 → ((floor_of amount *ℤ pos amount.1) ≤ℤ amount.0) × (amount.0 <ℤ ((floor_of amount +ℤ pos 1) *ℤ pos amount.1)) }
+    ensures given { (amounts : List Fraction) (whole : ℤ) → All (λ amount. 0 < amount.1) amounts → IsQuotient (sum_of_fractions amounts) whole 1
+        → (k : ℕ) × (cents_left amounts whole ≡ pos k) × (count_by (λ place. nat_lt (places_before amounts place) k) (range_with_len 0 (length amounts)) ≡ k) }
+    ensures greatest { (amounts : List Fraction) → All (λ amount. 0 < amount.1) amounts → (i j : ℕ) → j < length amounts → places_before amounts i < places_before amounts j
+        → ((remainder_of (amount_at amounts j)).0 *ℤ pos (amount_at amounts i).1) ≤ℤ ((remainder_of (amount_at amounts i)).0 *ℤ pos (amount_at amounts j).1) }
+{}
+
+/// Where members pay the cent plan of envy-free prices, taken over the members in order, nobody envies another by more than
+/// one cent.
+pub fn cent_envy_law()
+    ensures { (case : RentCase) (k : ℕ) (rooms : List ℕ) (prices : List Fraction) (parts : List ℤ) (whole : ℤ) (pays : List ℤ)
+        → 1 ≤ k → IsAssignment case rooms → HasParts prices k parts → IsEnvyFree case k rooms parts → IsCentPlan (prices_by_member rooms prices) whole pays
+        → (member other : ℕ) → member < room_count case → other < room_count case
+        → (value case member (slice_index rooms other) -ℤ slice_index_or pays other (pos 0))
+        ≤ℤ (value case member (slice_index rooms member) -ℤ slice_index_or pays member (pos 0) +ℤ pos 1) }
+{}
+
+/// Worked plans: an odd rent of two halves, and thirds of which one is below 0.
+pub fn worked_plans_law()
+    ensures halves { cent_plan ((pos 1101, 2) ∷ (pos 901, 2) ∷ []) (pos 1001) ≡ pos 551 ∷ pos 450 ∷ [] }
+    ensures thirds { cent_plan ((pos 800, 3) ∷ (negsuc 99, 3) ∷ (pos 200, 3) ∷ []) (pos 300) ≡ pos 267 ∷ negsuc 32 ∷ pos 66 ∷ [] }
+{}
+
+/// Taking the good away to which a player gives most points ends their envy exactly where taking some good of the other away
+/// does.
+pub fn ef1_law()
+    ensures { (case : GoodsCase) (owners : List ℕ) (player other best : ℕ) → IsMostValued case player (goods_of owners other) best
+        → (EndsEnvy case owners player other best ↔ ((good : ℕ) × Contains (goods_of owners other) good × EndsEnvy case owners player other good)) }
+{}

@@ -1,0 +1,12 @@
+pub mod Bound
+pub mod Levels
+pub mod Prefixes
+pub mod PairTests
+pub mod OwnerLists
+pub mod Allocations
+pub mod Tasks
+pub mod Counted
+pub mod Steps
+pub mod Start
+pub mod Tables
+pub mod SlowFilling

@@ -1,0 +1,10 @@
+pub mod Walks
+pub mod Places
+pub mod Leaders
+pub mod Steps
+pub mod All
+pub mod Starts
+pub mod Filtered
+pub mod Shares
+pub mod Divisions
+pub mod OwnedGoods

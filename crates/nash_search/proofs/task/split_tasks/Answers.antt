@@ -1,0 +1,24 @@
+use Rattle.std.proofs.Common.{arith, ◌≤◌, ◌^◌, ◌∙◌, sym, ap, subst}
+use Rattle.bid_rules.specs.Goods.{player_count}
+use Rattle.nash_search.proofs.Places.{depth_is}
+use Rattle.nash_search.proofs.task.split_tasks.Goals as goal
+
+pub returns-else-tasks-lt64-clause-depth : goal.returns-else-tasks-lt64-clause-depth
+returns-else-tasks-lt64-clause-depth c =
+    sym (depth_is c.args.case.now c.loop-depth.depth c.loop-depth.invariant.short c.loop-depth.invariant.below (λ _. subst (λ n. 64 ≤ n) c.loop-depth.invariant.tasks c.if-tasks-lt64.false))
+
+pub returns-else-tasks-lt64-clause-tasks : goal.returns-else-tasks-lt64-clause-tasks
+returns-else-tasks-lt64-clause-tasks c =
+    let e = depth_is c.args.case.now c.loop-depth.depth c.loop-depth.invariant.short c.loop-depth.invariant.below (λ _. subst (λ n. 64 ≤ n) c.loop-depth.invariant.tasks c.if-tasks-lt64.false) in
+    c.loop-depth.invariant.tasks ∙ ap (λ d. player_count c.args.case.now ^ d) (sym e)
+
+pub returns-after-loop-depth-clause-depth : goal.returns-after-loop-depth-clause-depth
+returns-after-loop-depth-clause-depth c =
+    let f = c.loop-depth-test.false in
+    sym (depth_is c.args.case.now c.loop-depth.depth c.loop-depth.invariant.short c.loop-depth.invariant.below (λ h. absurd (omega arith)))
+
+pub returns-after-loop-depth-clause-tasks : goal.returns-after-loop-depth-clause-tasks
+returns-after-loop-depth-clause-tasks c =
+    let f = c.loop-depth-test.false in
+    let e = depth_is c.args.case.now c.loop-depth.depth c.loop-depth.invariant.short c.loop-depth.invariant.below (λ h. absurd (omega arith)) in
+    c.loop-depth.invariant.tasks ∙ ap (λ d. player_count c.args.case.now ^ d) (sym e)

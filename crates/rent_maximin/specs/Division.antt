@@ -1,0 +1,28 @@
+-- The solver's division of a rent for a case (Gal, Mash, Procaccia and Zick 2016).
+use Rattle.std.specs.Prelude.{pos, map, All}
+use Rattle.std.specs.Int.{◌∣◌}
+use Rattle.bid_rules.specs.declared.rents.RentCase.{RentCase}
+use Rattle.bid_rules.specs.Fractions.{IsQuotient, sum_of_fractions}
+use Rattle.bid_rules.specs.Keys.{AreDualNumbers, HasGreatestKeySum, key_step}
+use Rattle.bid_rules.specs.Maximin.{AreMaximinPrices, least_in_parts, value_step}
+use Rattle.bid_rules.specs.Rent.{IsLeastUtility, IsWithinRent, RentBest, room_count}
+use Rattle.bid_rules.specs.Walks.{AreGreatestWeights, AreRanks}
+use Rattle.rent_maximin.specs.declared.division.RentDivision.{RentDivision}
+use Rattle.split_frac.specs.Frac.{pair_of}
+
+-- the best rooms and prices with the numbers that show it; each price is in whole n-ths of a cent and at most the rent, of either sign
+pub record IsRentDivision (case : RentCase) (division : RentDivision) : Type 0 where
+  pub best : RentBest case division.best.rooms.items (map pair_of division.prices.items)
+  pub least : IsLeastUtility case division.best.rooms.items (map pair_of division.prices.items) (pair_of division.least)
+  pub least_formula : IsQuotient (pair_of division.least) (least_in_parts case division.best.rooms.items division.walks.weights.items) (room_count case)
+  pub prices : AreMaximinPrices case division.best.rooms.items division.walks.weights.items (map pair_of division.prices.items)
+  pub total : IsQuotient (sum_of_fractions (map pair_of division.prices.items)) (pos case.facts.rent) 1
+  pub rooms : HasGreatestKeySum case division.best.rooms.items
+  pub left : AreGreatestWeights (room_count case) (key_step case division.best.rooms.items) division.best.left.items
+  pub dual : AreDualNumbers case division.best.rooms.items division.best.left.items division.best.right.items
+  pub walks : AreGreatestWeights (room_count case) (value_step case division.best.rooms.items) division.walks.weights.items
+  pub ranks : AreRanks (room_count case) (value_step case division.best.rooms.items) division.walks.weights.items division.walks.ranks.items
+  pub price_parts : All (λ price. price.den ∣ room_count case) division.prices.items
+  pub price_range : All (λ price. IsWithinRent case price.den price.num) division.prices.items
+  pub least_parts : division.least.den ∣ room_count case
+  pub least_range : IsWithinRent case division.least.den division.least.num

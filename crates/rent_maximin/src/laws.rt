@@ -1,0 +1,15 @@
+// What holds of the solver's divisions, for all cases: each law is the contract of a function that does nothing.
+ghost use Rattle.std.specs.Prelude.{◌*◌, ◌≤◌, ◌^◌, All, unsigned_abs};
+ghost use Rattle.bid_rules.specs.declared.rents.RentCase.{RentCase};
+ghost use Rattle.bid_rules.specs.Rent.{IsValidRentCase};
+ghost use Rattle.rent_maximin.specs.Division.{IsRentDivision};
+ghost use Rattle.rent_maximin.specs.declared.division.RentDivision.{RentDivision};
+ghost use Rattle.split_frac.specs.Frac.{IsWithin};
+
+/// The prices and the least utility lie in the ranges that calls on fractions ask for, and within 10^12 cents of 0.
+pub fn division_range_law()
+    ensures prices { (case : RentCase) (division : RentDivision) → IsValidRentCase case → IsRentDivision case division
+        → All (λ price. IsWithin price × (unsigned_abs price.num ≤ 10 ^ 12 * price.den)) division.prices.items }
+    ensures least { (case : RentCase) (division : RentDivision) → IsValidRentCase case → IsRentDivision case division
+        → IsWithin division.least × (unsigned_abs division.least.num ≤ 10 ^ 12 * division.least.den) }
+{}

@@ -1,0 +1,3 @@
+pub mod FareRanges
+pub mod OrderCosts
+pub mod SameFares

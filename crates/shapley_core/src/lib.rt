@@ -1,0 +1,11 @@
+//! Fares of a shared ride by the Shapley value over the costs of its riders (Shapley 1953).
+#![tactic(auto)]
+
+mod division;
+mod laws;
+mod marginals;
+#[cfg(test)]
+mod tests;
+
+pub use division::{FareDivision, solve_fares};
+pub use laws::division_law;

@@ -1,0 +1,113 @@
+-- What the lines of a rent ask of the division.
+use Rattle.std.proofs.Common.{◌≡◌, ℕ, ℤ, ◌+◌, ◌-◌, ◌*◌, ◌^◌, ◌<◌, ◌≤◌, List, [], ◌∷◌, ◌++◌, All, length, map, take, get_or, pos, arith, sym, ap, subst, ◌∙◌}
+use Rattle.std.specs.Prelude.{unsigned_abs}
+use Rattle.std.specs.List.{range_with_len}
+use Rattle.std.proofs.lemmas.List.{get_or-map, get_or_default, length-map, map-append, map_more}
+use Rattle.std.proofs.lemmas.List.Elements.{All-head, All-tail, All-weaker}
+use Rattle.std.proofs.lemmas.List.FromFn.{length-map-range_with_len}
+use Rattle.split_frac.specs.declared.frac.Frac.{Frac}
+use Rattle.split_frac.specs.Frac.{IsWithin, pair_of}
+use Rattle.bid_rules.specs.declared.rents.RentCase.{RentCase}
+use Rattle.bid_rules.specs.Cents.{amount_at, prices_by_member}
+use Rattle.bid_rules.specs.Fractions.{Fraction, IsQuotient, sum_of_fractions}
+use Rattle.bid_rules.specs.Rent.{HasParts, IsValidRentCase, RentBest, price_of, room_count}
+use Rattle.bid_rules.proofs.EnvyFreeWelfare.{prices_total}
+use Rattle.bid_rules.proofs.PartLaws.{whole_sum}
+use Rattle.bid_rules.proofs.RoomPlaces.{room_range, rooms_length}
+use Rattle.bid_rules.proofs.SignedSums.{total-map, total-permutation}
+use Rattle.bid_rules.proofs.Zipped.{AllZip-get_or}
+use Rattle.envy_check.specs.Envy.{ArePrices, IsAmount}
+use Rattle.rent_maximin.specs.Division.{IsRentDivision}
+use Rattle.rent_maximin.specs.declared.division.RentDivision.{RentDivision}
+use Rattle.split_json.specs.Reading.{CaseData}
+use Rattle.split_reports.specs.Rent.{AreFigures, AreFiguresOf, RentTold}
+
+-- a number of a room
+abbrev IsRoom : ℕ → ℕ → Type 0
+IsRoom n room = (1 ≤ room) × (room ≤ n)
+
+-- the prices by member are whole in the parts in which the prices are
+parts_of_members : (prices : List Fraction) (k : ℕ) (parts : List ℤ) (rooms : List ℕ) → HasParts prices k parts → All (IsRoom (length prices)) rooms → HasParts (prices_by_member rooms prices) k (map (price_of parts) rooms)
+parts_of_members prices k parts [] h all = tt
+parts_of_members prices k parts (room ∷ rooms) h all =
+    let here = All-head (IsRoom (length prices)) room rooms all in
+    let within : room - 1 < length prices = omega (arith, here.0, here.1) in
+    (AllZip-get_or (λ price part. IsQuotient price part k) prices parts (room - 1) (pos 0, 1) (pos 0) within h, parts_of_members prices k parts rooms h (All-tail (IsRoom (length prices)) room rooms all))
+
+-- the rooms of the best division are numbers of rooms
+pub best_rooms : (case : RentCase) (rooms : List ℕ) (prices : List Fraction) → RentBest case rooms prices → All (IsRoom (room_count case)) rooms
+best_rooms case rooms prices best = λ i d l.
+    let long = rooms_length (room_count case) rooms best.priced.assignment in
+    subst (IsRoom (room_count case)) (get_or_default rooms i 0 d l) (room_range (room_count case) rooms i best.priced.assignment (omega (arith, l, long)))
+
+-- the prices by member sum to the rent
+pub member_prices_sum : (case : RentCase) (rooms : List ℕ) (prices : List Fraction) → length prices ≡ room_count case → RentBest case rooms prices → IsQuotient (sum_of_fractions (prices_by_member rooms prices)) (pos case.facts.rent) 1
+member_prices_sum case rooms prices count best =
+    let n = room_count case in
+    let all : All (IsRoom (length prices)) rooms = subst (λ m. All (IsRoom m) rooms) (sym count) (best_rooms case rooms prices best) in
+    let by_member = parts_of_members prices best.k best.parts rooms best.in_parts all in
+    let whole = total-map (λ part. part) (price_of best.parts) rooms ∙ total-permutation (price_of best.parts) (range_with_len 1 n) rooms best.priced.assignment ∙ prices_total best.parts n best.priced.each ∙ best.priced.whole in
+    whole_sum best.k case.facts.rent (prices_by_member rooms prices) (map (price_of best.parts) rooms) best.priced.parts by_member whole
+
+-- how many prices there are
+pub price_count : (case : RentCase) (division : RentDivision) → IsRentDivision case division → length division.prices.items ≡ room_count case
+price_count case division is = sym (length-map division.prices.items pair_of) ∙ is.prices.count
+
+-- the prices are ones of which there is an envy table
+pub best_prices : (case : RentCase) (division : RentDivision) → IsValidRentCase case → IsRentDivision case division
+    → All (λ price. IsWithin price × (unsigned_abs price.num ≤ 10 ^ 12 * price.den)) division.prices.items → ArePrices case division.prices.items
+best_prices case division valid is within = record {
+  each = price_count case division is;
+  within = All-weaker (λ price. IsWithin price × (unsigned_abs price.num ≤ 10 ^ 12 * price.den)) (λ price. unsigned_abs price.num ≤ 10 ^ 12 * price.den) (λ price h. h.1) division.prices.items within;
+  common = record { whole = room_count case; some = omega (arith, valid.facts.0.0); small = omega (arith, valid.facts.0.1); divides = is.price_parts };
+}
+
+-- and of which there may be a cent plan
+pub price_amounts : (prices : List Frac) → All (λ price. IsWithin price × (unsigned_abs price.num ≤ 10 ^ 12 * price.den)) prices → All IsAmount prices
+price_amounts prices within = All-weaker (λ price. IsWithin price × (unsigned_abs price.num ≤ 10 ^ 12 * price.den)) IsAmount (λ price h. (h.1, h.0.1)) prices within
+
+-- there is a figure of each kind for each member
+pub figures_each : (given : CaseData) (case : RentCase) (division : RentDivision) (told : RentTold) → length given.members ≡ room_count case → length given.items ≡ room_count case
+    → IsRentDivision case division → AreFiguresOf case division told → AreFigures given told
+figures_each given case division told members items is are =
+    let n = room_count case in
+    let long = rooms_length n division.best.rooms.items is.best.priced.assignment in
+    let rooms : length told.rooms ≡ n = ap length are.rooms ∙ long in
+    let rows : All (IsRoom (length given.members)) told.rooms = subst (λ (xs : List ℕ). All (IsRoom (length given.members)) xs) (sym are.rooms) (subst (λ m. All (IsRoom m) division.best.rooms.items) (sym members) (best_rooms case division.best.rooms.items (map pair_of division.prices.items) is.best)) in
+    let plan : length told.pays ≡ length told.rooms = ap length are.pays ∙ length-map-range_with_len _ 0 _ ∙ length-map told.rooms _ in
+    let utilities : length told.utilities ≡ n = sym (length-map told.utilities pair_of) ∙ are.utilities.count in
+    let envy : length told.envy ≡ n = sym (length-map told.envy _) ∙ are.envy.members in
+    record {
+      rooms = rooms ∙ sym members;
+      each = rows;
+      prices = ap length are.prices ∙ price_count case division is ∙ sym members;
+      names = items ∙ sym members;
+      pays = plan ∙ rooms ∙ sym members;
+      utilities = utilities ∙ sym members;
+      envy = envy ∙ sym members;
+    }
+
+-- one more price by member
+pub price_more : (prices : List Frac) (rooms : List ℕ) (i : ℕ) (amounts : List Frac) (price : Frac) → i < length rooms → All (IsRoom (length prices)) rooms
+    → price ≡ get_or prices (get_or rooms i 0 - 1) price → map pair_of amounts ≡ prices_by_member (take i rooms) (map pair_of prices)
+    → map pair_of (amounts ++ price ∷ []) ≡ prices_by_member (take (i + 1) rooms) (map pair_of prices)
+price_more prices rooms i amounts price l all is before =
+    let place : ℕ = get_or rooms i 0 - 1 in
+    let here = all i 0 l in
+    let within : place < length prices = omega (arith, here.0, here.1) in
+    let amount : ℕ → Fraction = λ room. amount_at (map pair_of prices) (room - 1) in
+    let same : pair_of price ≡ amount (get_or rooms i 0) = ap pair_of is ∙ sym (get_or-map pair_of prices place price (pos 0, 1) within) in
+    map-append pair_of amounts (price ∷ []) ∙ ap (λ xs. xs ++ pair_of price ∷ []) before ∙ ap (λ x. map amount (take i rooms) ++ x ∷ []) same ∙ sym (map_more amount rooms i 0 l)
+
+-- the division's rooms are numbers of rooms, of which each has a price
+pub rooms_within : (case : RentCase) (division : RentDivision) (rooms : List ℕ) (prices : List Frac) → IsRentDivision case division → rooms ≡ division.best.rooms.items → prices ≡ division.prices.items
+    → All (IsRoom (length prices)) rooms
+rooms_within case division rooms prices is same_rooms same_prices =
+    let count : length prices ≡ room_count case = ap length same_prices ∙ price_count case division is in
+    subst (λ xs. All (IsRoom (length prices)) xs) (sym same_rooms) (subst (λ m. All (IsRoom m) division.best.rooms.items) (sym count) (best_rooms case division.best.rooms.items (map pair_of division.prices.items) is.best))
+
+-- the prices by member, as they are listed
+pub prices_listed : (division : RentDivision) (rooms : List ℕ) (prices amounts : List Frac) → rooms ≡ division.best.rooms.items → prices ≡ division.prices.items
+    → map pair_of amounts ≡ prices_by_member rooms (map pair_of prices) → map pair_of amounts ≡ prices_by_member division.best.rooms.items (map pair_of division.prices.items)
+prices_listed division rooms prices amounts same_rooms same_prices listed =
+    listed ∙ ap (λ xs. prices_by_member xs (map pair_of prices)) same_rooms ∙ ap (λ xs. prices_by_member division.best.rooms.items (map pair_of xs)) same_prices

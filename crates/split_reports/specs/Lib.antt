@@ -1,0 +1,5 @@
+pub mod Fares
+pub mod Goods
+pub mod Lines
+pub mod Rent
+pub mod Reports

@@ -1,0 +1,91 @@
+-- The report of a rent: the text, and what it tells.
+use Rattle.std.specs.Prelude.{◌≡◌, ◌<◌, ◌≤◌, ◌-◌, pos, ℕ, ℤ, List, [], ◌∷◌, ◌++◌, All, length, codes, map, slice_index_or}
+use Rattle.std.specs.List.{concat}
+use Rattle.std.specs.Fmt.{decimal, signed_decimal}
+use Rattle.split_frac.specs.declared.frac.Frac.{Frac}
+use Rattle.split_frac.specs.Frac.{frac_text, pair_of}
+use Rattle.bid_rules.specs.declared.rents.RentCase.{RentCase}
+use Rattle.bid_rules.specs.Cents.{amount_at, cent_plan, prices_by_member}
+use Rattle.bid_rules.specs.Fractions.{Fraction, IsQuotient}
+use Rattle.bid_rules.specs.Rent.{HasParts, room_count, utility}
+use Rattle.envy_check.specs.Envy.{IsEnvyTable}
+use Rattle.rent_maximin.specs.declared.division.RentDivision.{RentDivision}
+use Rattle.split_json.specs.Reading.{CaseData}
+use Rattle.split_reports.specs.Lines.{envy_line, lines_to, number_at, text_at}
+use Rattle.split_reports.specs.declared.rent.RentFigures.{RentFigures}
+
+-- what the report of a rent tells beside the names and the rent: by member, but for the prices, which are by room
+pub record RentTold : Type 0 where
+  pub rooms : List ℕ
+  pub prices : List Frac
+  pub pays : List ℤ
+  pub utilities : List Frac
+  pub least : Frac
+  pub envy : List (List Frac)
+
+-- what the figures tell
+abbrev pub figures_shown : RentFigures → RentTold
+figures_shown figures = record {
+  rooms = figures.division.now.best.rooms.items;
+  prices = figures.division.now.prices.items;
+  pays = figures.pays.items;
+  utilities = figures.utilities.items;
+  least = figures.division.now.least;
+  envy = map (λ row. row.items) figures.envy.items;
+}
+
+-- there is a room, a name, a price, a payment, a utility and a row of the envy table for each member
+pub record AreFigures (given : CaseData) (told : RentTold) : Type 0 where
+  pub rooms : length told.rooms ≡ length given.members
+  pub each : All (λ room. (1 ≤ room) × (room ≤ length given.members)) told.rooms
+  pub prices : length told.prices ≡ length given.members
+  pub names : length given.items ≡ length given.members
+  pub pays : length told.pays ≡ length given.members
+  pub utilities : length told.utilities ≡ length given.members
+  pub envy : length told.envy ≡ length given.members
+
+-- the title, the number of members and the rent
+abbrev pub home_head : List ℕ → ℕ → ℕ → List ℕ
+home_head title members rent =
+    concat (codes "rent " ∷ title ∷ codes "\nmembers " ∷ decimal members ∷ codes "\ntotal " ∷ decimal rent ∷ codes "\n" ∷ [])
+
+-- the line of a member: the room and its name, the exact price, what the member pays, and the exact utility
+abbrev pub home_line : CaseData → RentTold → ℕ → List ℕ
+home_line given told member =
+    let room = number_at told.rooms member in
+    concat (decimal member ∷ codes " " ∷ text_at given.members member ∷ codes ": room " ∷ decimal room ∷ codes " " ∷ text_at given.items room
+    ∷ codes ", price " ∷ text_at (map frac_text told.prices) room ∷ codes ", pays " ∷ text_at (map signed_decimal told.pays) member
+    ∷ codes ", utility " ∷ text_at (map frac_text told.utilities) member ∷ codes "\n" ∷ [])
+
+-- the line of the least utility
+abbrev pub home_least : Frac → List ℕ
+home_least least = concat (codes "least utility " ∷ frac_text least ∷ codes "\n" ∷ [])
+
+-- the line of a member in the envy table
+abbrev pub home_envy : RentTold → ℕ → List ℕ
+home_envy told member = envy_line member (map frac_text (slice_index_or told.envy (member - 1) []))
+
+-- the report
+abbrev pub rent_report : CaseData → ℕ → RentTold → List ℕ
+rent_report given rent told =
+    let members = length given.members in
+    home_head given.title members rent ++ lines_to members (home_line given told) ++ home_least told.least ++ lines_to members (home_envy told)
+
+-- each member's utility with the room of its own, whatever the parts in which the prices are whole
+pub record AreUtilities (case : RentCase) (rooms : List ℕ) (prices utilities : List Fraction) : Type 0 where
+  pub count : length utilities ≡ room_count case
+  pub each : (member : ℕ) → member < room_count case → (k : ℕ) (parts : List ℤ) → 1 ≤ k → HasParts prices k parts → IsQuotient (amount_at utilities member) (utility case k rooms parts member) k
+
+-- what is told of a division: its rooms, prices and least utility, the cent plan of the members' prices in the order of the members, their utilities and the
+-- envy table
+pub record AreFiguresOf (case : RentCase) (division : RentDivision) (told : RentTold) : Type 0 where
+  pub rooms : told.rooms ≡ division.best.rooms.items
+  pub prices : told.prices ≡ division.prices.items
+  pub least : told.least ≡ division.least
+  pub pays : told.pays ≡ cent_plan (prices_by_member told.rooms (map pair_of told.prices)) (pos case.facts.rent)
+  pub utilities : AreUtilities case told.rooms (map pair_of told.prices) (map pair_of told.utilities)
+  pub envy : IsEnvyTable case told.rooms (map pair_of told.prices) (map (map pair_of) told.envy)
+
+-- the text is the report of the division of a rent
+abbrev pub IsRentReport : CaseData → RentCase → RentDivision → List ℕ → Type 0
+IsRentReport given case division text = (told : RentTold) × AreFiguresOf case division told × (text ≡ rent_report given case.facts.rent told)

@@ -1,0 +1,24 @@
+// What holds of reports, for all cases: each law is the contract of a function that does nothing.
+ghost use Rattle.std.specs.Prelude.{◌≡◌, ℕ, List, Ok};
+ghost use Rattle.bid_rules.specs.declared.cases.Case.{Case};
+ghost use Rattle.bid_rules.specs.Facts.{case_of};
+ghost use Rattle.certificates.specs.declared.division.Division.{Division};
+ghost use Rattle.certificates.specs.Division.{IsDivisionOf};
+ghost use Rattle.split_json.specs.Reading.{CaseData, IsReady};
+ghost use Rattle.split_reports.specs.Reports.{IsReport};
+
+use bid_rules::{best_fares_law, best_rent_law, case_law};
+use nash_search::step_count_law;
+use split_frac::value_law;
+
+/// What is given fixes the report: a case has one division by the solver, and a division has one text.
+pub fn report_law()
+    ensures { (given : CaseData) (case : Case) (division others : Division) (text other : List ℕ) → IsReady given → case_of given.facts given.bids ≡ Ok case
+        → IsDivisionOf case division → IsDivisionOf case others → IsReport given case division text → IsReport given case others other → text ≡ other }
+{
+    best_fares_law();
+    best_rent_law();
+    case_law();
+    step_count_law();
+    value_law();
+}

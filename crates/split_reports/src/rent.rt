@@ -1,0 +1,238 @@
+// The report of a rent.
+ghost use Rattle.std.specs.Prelude.{◌≡◌, ◌≤◌, ◌++◌, ◌∷◌, length, map, slice_index, All, IfOk, OnOk, string_bytes};
+ghost use Rattle.bid_rules.specs.Cents.{prices_by_member};
+ghost use Rattle.bid_rules.specs.Rent.{IsValidRentCase, room_count};
+ghost use Rattle.envy_check.specs.Envy.{ArePrices, IsAmount};
+ghost use Rattle.rent_maximin.specs.Division.{IsRentDivision};
+ghost use Rattle.split_frac.specs.Frac.{pair_of};
+ghost use Rattle.split_json.specs.Reading.{shown};
+ghost use Rattle.split_reports.specs.Lines.{lines_to};
+ghost use Rattle.split_reports.specs.Rent.{AreFigures, AreFiguresOf, AreUtilities, IsRentReport, figures_shown, home_envy, home_head, home_least, home_line, rent_report};
+
+use crate::text::{
+    amount_text, fraction_text, name_at, number_text, push, push_all, push_fractions, share_text,
+};
+use arrayvec::ArrayVec;
+use bid_rules::RentCase;
+use envy_check::{cent_plan, envy_table, utility_at};
+use rent_maximin::{RentDivision, division_range_law};
+use split_base::NoMemory;
+use split_frac::Frac;
+use split_json::CaseInput;
+use std::alloc::Global;
+
+/// What the report of a rent tells beside the names and the rent.
+#[derive(Drop)]
+pub(crate) struct RentFigures<'a> {
+    /// The rooms by member, the prices by room and the least utility.
+    pub(crate) division: &'a RentDivision,
+    /// What each member pays in whole cents.
+    pub(crate) pays: ArrayVec<i64, 12>,
+    /// The utility of each member.
+    pub(crate) utilities: ArrayVec<Frac, 12>,
+    /// The envy table, by member.
+    pub(crate) envy: ArrayVec<ArrayVec<Frac, 12>, 12>,
+}
+
+/// Appends the title, the number of members and the rent.
+fn push_head(
+    alloc: Global,
+    lines: &mut String,
+    input: &CaseInput,
+    members: u8,
+    rent: u32,
+) -> Result<(), NoMemory>
+    ensures { OnOk result (string_bytes lines.new ≡ string_bytes lines.old ++ home_head input.now.title.bytes members rent) }
+{
+    let members = number_text(alloc, u64::from(members))?;
+    let rent = number_text(alloc, u64::from(rent))?;
+    push_all(
+        lines,
+        &[
+            "rent ",
+            input.title.as_str(),
+            "\nmembers ",
+            &members,
+            "\ntotal ",
+            &rent,
+            "\n",
+        ],
+    )
+}
+
+/// Appends the line of a member.
+fn push_member(
+    alloc: Global,
+    lines: &mut String,
+    input: &CaseInput,
+    figures: &RentFigures<'_>,
+    member: u8,
+) -> Result<(), NoMemory>
+    requires low { 1 ≤ member }
+    requires high { member ≤ length input.now.members.items }
+    requires figures { AreFigures (shown input.now) (figures_shown figures.now) }
+    ensures { OnOk result (string_bytes lines.new ≡ string_bytes lines.old ++ home_line (shown input.now) (figures_shown figures.now) member) }
+{
+    let division = figures.division;
+    let room = division.best.rooms[member as usize - 1];
+    let price = share_text(alloc, division.prices.as_slice(), room)?;
+    let pays = amount_text(alloc, figures.pays.as_slice(), member)?;
+    let utility = share_text(alloc, figures.utilities.as_slice(), member)?;
+    let name = name_at(input.members.as_slice(), member);
+    let room_name = name_at(input.items.as_slice(), room);
+    let member = number_text(alloc, u64::from(member))?;
+    let room = number_text(alloc, u64::from(room))?;
+    push_all(
+        lines,
+        &[
+            &member,
+            " ",
+            name,
+            ": room ",
+            &room,
+            " ",
+            room_name,
+            ", price ",
+            &price,
+            ", pays ",
+            &pays,
+            ", utility ",
+            &utility,
+            "\n",
+        ],
+    )
+}
+
+/// Appends the lines of the members.
+fn push_members(
+    alloc: Global,
+    lines: &mut String,
+    input: &CaseInput,
+    figures: &RentFigures<'_>,
+) -> Result<(), NoMemory>
+    requires figures { AreFigures (shown input.now) (figures_shown figures.now) }
+    ensures { OnOk result (string_bytes lines.new ≡ string_bytes lines.old ++ lines_to (length input.now.members.items) (home_line (shown input.now) (figures_shown figures.now))) }
+{
+    for k in 0..input.members.len() as u8 {
+        push_member(alloc, lines, input, figures, k + 1)?;
+    }
+    Ok(())
+}
+
+/// Appends the line of the least utility.
+fn push_least(alloc: Global, lines: &mut String, least: &Frac) -> Result<(), NoMemory>
+    ensures { OnOk result (string_bytes lines.new ≡ string_bytes lines.old ++ home_least least.now) }
+{
+    let least = fraction_text(alloc, least)?;
+    push_all(lines, &["least utility ", &least, "\n"])
+}
+
+/// Appends the line of a member in the envy table.
+fn push_envy(
+    alloc: Global,
+    lines: &mut String,
+    figures: &RentFigures<'_>,
+    member: u8,
+) -> Result<(), NoMemory>
+    requires low { 1 ≤ member }
+    requires high { member ≤ length figures.now.envy.items }
+    ensures { OnOk result (string_bytes lines.new ≡ string_bytes lines.old ++ home_envy (figures_shown figures.now) member) }
+{
+    let name = number_text(alloc, u64::from(member))?;
+    push_all(lines, &["envy ", &name, ":"])?;
+    push_fractions(alloc, lines, figures.envy[member as usize - 1].as_slice())?;
+    push(lines, "\n")
+}
+
+/// Appends the envy table.
+fn push_table(alloc: Global, lines: &mut String, figures: &RentFigures<'_>) -> Result<(), NoMemory>
+    ensures { OnOk result (string_bytes lines.new ≡ string_bytes lines.old ++ lines_to (length figures.now.envy.items) (home_envy (figures_shown figures.now))) }
+{
+    for k in 0..figures.envy.len() as u8 {
+        push_envy(alloc, lines, figures, k + 1)?;
+    }
+    Ok(())
+}
+
+/// The report of a rent, from the figures that it tells.
+fn rent_text(
+    alloc: Global,
+    input: &CaseInput,
+    rent: u32,
+    figures: &RentFigures<'_>,
+) -> Result<Vec<u8>, NoMemory>
+    requires { AreFigures (shown input.now) (figures_shown figures.now) }
+    ensures { IfOk result (λ text. text.items ≡ rent_report (shown input.now) rent (figures_shown figures.now)) }
+{
+    let mut lines = String::new(alloc);
+    push_head(alloc, &mut lines, input, input.members.len() as u8, rent)?;
+    push_members(alloc, &mut lines, input, figures)?;
+    push_least(alloc, &mut lines, &figures.division.least)?;
+    push_table(alloc, &mut lines, figures)?;
+    Ok(lines.into_bytes())
+}
+
+/// The price of each member's room, in the order of the members.
+fn prices_of_members(rooms: &[u8], prices: &[Frac]) -> ArrayVec<Frac, 12>
+    requires few { length rooms.now ≤ 12 }
+    requires rooms { All (λ room. (1 ≤ room) × (room ≤ length prices.now)) rooms.now }
+    requires amounts { All IsAmount prices.now }
+    ensures prices { map pair_of result.items ≡ prices_by_member rooms.now (map pair_of prices.now) }
+    ensures amounts { All IsAmount result.items }
+{
+    let mut amounts = ArrayVec::new();
+    for room in rooms {
+        amounts.push(prices[*room as usize - 1]);
+    }
+    amounts
+}
+
+/// The utility of each member with the room of its own.
+fn utilities_of(case: &RentCase, rooms: &[u8], prices: &[Frac]) -> ArrayVec<Frac, 12>
+    requires case { IsValidRentCase case.now }
+    requires count { length rooms.now ≡ room_count case.now }
+    requires rooms { All (λ room. (1 ≤ room) × (room ≤ room_count case.now)) rooms.now }
+    requires prices { ArePrices case.now prices.now }
+    ensures { AreUtilities case.now rooms.now (map pair_of prices.now) (map pair_of result.items) }
+{
+    let mut utilities = ArrayVec::new();
+    for member in 0..case.facts.members as usize {
+        utilities.push(utility_at(case, prices, member, rooms[member]));
+    }
+    utilities
+}
+
+/// What the report tells of a division.
+fn figures_of<'a>(case: &RentCase, division: &'a RentDivision) -> RentFigures<'a>
+    requires case { IsValidRentCase case.now }
+    requires division { IsRentDivision case.now division.now }
+    ensures { AreFiguresOf case.now division.now (figures_shown result) }
+{
+    division_range_law();
+    let rooms = division.best.rooms.as_slice();
+    let prices = division.prices.as_slice();
+    let amounts = prices_of_members(rooms, prices);
+    RentFigures {
+        division,
+        pays: cent_plan(amounts.as_slice(), i64::from(case.facts.rent)),
+        utilities: utilities_of(case, rooms, prices),
+        envy: envy_table(case, rooms, prices),
+    }
+}
+
+/// The report of a rent, from the division that the solver gives for the case.
+pub(crate) fn rent_report(
+    alloc: Global,
+    input: &CaseInput,
+    case: &RentCase,
+    division: &RentDivision,
+) -> Result<Vec<u8>, NoMemory>
+    requires case { IsValidRentCase case.now }
+    requires members { length input.now.members.items ≡ room_count case.now }
+    requires rooms { length input.now.items.items ≡ room_count case.now }
+    requires division { IsRentDivision case.now division.now }
+    ensures { IfOk result (λ text. IsRentReport (shown input.now) case.now division.now text.items) }
+{
+    let figures = figures_of(case, division);
+    rent_text(alloc, input, case.facts.rent, &figures)
+}

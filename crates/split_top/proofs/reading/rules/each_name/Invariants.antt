@@ -1,9 +1,0 @@
-use Rattle.std.proofs.Common.{◌≡◌, Some, take, map, length}
-use Rattle.serde_json.specs.View.{view}
-use Rattle.split_top.specs.Rules.{each, name_in}
-use Rattle.split_top.proofs.reading.rules.each_name.Given as goal
-
-abbrev pub invariant-loop-item : goal.invariant-loop-item
-invariant-loop-item g l =
-    (each (name_in) (map view (take l.item-index l.list)) ≡ Some (map (λ s. s.bytes) l.names.items))
-    × (length l.names.items ≡ l.item-index)

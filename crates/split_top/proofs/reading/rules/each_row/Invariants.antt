@@ -1,9 +1,0 @@
-use Rattle.std.proofs.Common.{◌≡◌, Some, take, map, length}
-use Rattle.serde_json.specs.View.{view}
-use Rattle.split_top.specs.Rules.{each, row_in}
-use Rattle.split_top.proofs.reading.rules.each_row.Given as goal
-
-abbrev pub invariant-loop-item : goal.invariant-loop-item
-invariant-loop-item l =
-    (each (row_in l.places) (map view (take l.item-index l.list)) ≡ Some (l.rows.items))
-    × (length l.rows.items ≡ l.item-index)
