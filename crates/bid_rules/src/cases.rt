@@ -4,7 +4,8 @@ ghost use Rattle.bid_rules.specs.Facts.{AreMissing, ArePointsOf, AreValuesOf, Is
 ghost use Rattle.bid_rules.specs.Goods.{IsCheckedGoods, IsValidGoodsCase};
 ghost use Rattle.bid_rules.specs.Rent.{IsCheckedRent, IsValidRentCase};
 
-use crate::{Bid, Facts, Fares, Goods, GoodsCase, Rent, RentCase};
+use crate::goods::are_members;
+use crate::{Bid, Facts, Fares, Goods, GoodsCase, Rent, RentCase, check_fares};
 use arrayvec::ArrayVec;
 
 /// A shared ride of those members who bid. They are its riders, numbered from 1 in the order of `who`.
@@ -16,6 +17,19 @@ pub struct FareCase {
     pub who: ArrayVec<u8, 8>,
     /// The place, from 1, at which each rider gets off.
     pub at: ArrayVec<u8, 8>,
+}
+
+impl FareCase {
+    /// Whether the facts are within their limits, those who bid are members in rising order, one at least, and each names a place.
+    pub fn is_valid(&self) -> bool
+        ensures { IsTrue result ↔ IsValidFareCase self.now }
+    {
+        let places = self.facts.places;
+        check_fares(&self.facts).is_ok()
+            && are_members(self.facts.members, self.who.as_slice())
+            && self.at.len() == self.who.len()
+            && self.at.iter().all(|place| (1..=places).contains(place))
+    }
 }
 
 /// A case to be solved, by kind.

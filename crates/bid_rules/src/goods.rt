@@ -57,7 +57,7 @@ impl GoodsCase {
 }
 
 /// Whether there are some numbers of members, in rising order.
-fn are_members(members: u8, who: &[u8]) -> bool
+pub(crate) fn are_members(members: u8, who: &[u8]) -> bool
     ensures { IsTrue result ↔ IsStrictlyIncreasing who.now × All (λ member. (1 ≤ member) × (member ≤ members)) who.now × (1 ≤ length who.now) }
 {
     !who.is_empty() && rises(who) && who.iter().all(|member| (1..=members).contains(member))

@@ -5,7 +5,7 @@ ghost use Rattle.bid_rules.specs.Goods.{Dominates, GoodsBest, IsAllocation, IsVa
 ghost use Rattle.bid_rules.specs.Pairs.{nash_welfare};
 ghost use Rattle.bid_rules.specs.WorkedGoods.{contested_good, two_heirs};
 
-/// A case has one best allocation, and no allocation dominates it: it is Pareto-optimal (Caragiannis and others 2016).
+/// A case has at most one best allocation, and no allocation dominates it: it is Pareto-optimal (Caragiannis and others 2016).
 pub fn best_goods_law()
     ensures one_allocation { (case : GoodsCase) (owners others : List ℕ) → GoodsBest case owners → GoodsBest case others → others ≡ owners }
     ensures one_division { (case : GoodsCase) (owners others : List ℕ) → GoodsBest case owners → GoodsBest case others → owners_by_good case others ≡ owners_by_good case owners }

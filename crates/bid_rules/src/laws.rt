@@ -16,7 +16,7 @@ pub fn orders_law()
     ensures count { (xs : List ℕ) → length (all_orders xs) ≡ factorial (length xs) }
 {}
 
-/// The cost of a route is the cost of one of its orders and not above any other's, however its riders are named.
+/// The cost of a route is the cost of one of its orders and not above any other's, in whatever order its riders are listed.
 pub fn route_cost_law()
     ensures attained { (case : FareCase) (from : ℕ) (riders : List ℕ) → Contains (map (legs_along case from) (all_orders riders)) (route_cost case from riders) }
     ensures least { (case : FareCase) (from : ℕ) (riders : List ℕ) → All (λ sum. route_cost case from riders ≤ sum) (map (legs_along case from) (all_orders riders)) }

@@ -2,7 +2,7 @@
 ///
 /// Pairs are compared by the count, then by the product. An allocation with the greatest pair has the greatest Nash welfare
 /// (Caragiannis, Kurokawa, Moulin, Procaccia, Shah and Wang 2016).
-#[derive(Clone, Copy, Debug, PartialEq, Eq, PartialOrd, Ord)]
+#[derive(Clone, Copy, Debug, PartialEq, Eq)]
 pub struct Pair {
     /// The number of players with positive utility, at most 12.
     pub count: u8,

@@ -11,6 +11,8 @@ use split_frac::{Frac, compare, floor, rem};
 
 /// Whole cents in place of exact amounts, which sum to the total.
 ///
+/// There are at most 12 amounts, from -10^12 to 10^12 cents, with denominators of at most 4,000,000.
+///
 /// Each amount is floored. The cents left over go one each to the greatest remainders, ties to the lower place in the list. The
 /// plan has the same total, differs from each amount by less than one cent, and adds to no amount over one cent more than to
 /// another.

@@ -96,7 +96,7 @@ fn room_of(rooms: &[u8], member: usize) -> u8
     rooms[member]
 }
 
-/// What a member would have with a room at its price: the value less the price.
+/// What a member, by place from 0, would have with a room, numbered from 1, at its price: the value less the price.
 pub fn utility_at(case: &RentCase, prices: &[Frac], member: usize, room: u8) -> Frac
     requires case { IsValidRentCase case.now }
     requires prices { ArePrices case.now prices.now }

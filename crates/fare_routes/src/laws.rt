@@ -6,7 +6,7 @@ ghost use Rattle.bid_rules.specs.Coalitions.{riders_in, set_number};
 
 /// Sets of riders and their numbers belong together: the riders of a set rise, and are those whose bit is set; a set is the sum
 /// of 2^(i-1) over its riders i; and each rising list of riders of 1 to n is the riders of one number, which is below 2^n.
-/// Riders in any order, each once, are in another order the riders of the set of their number.
+/// A list of riders, each once, in any order, is a permutation of the riders of the set of its number.
 pub fn coalition_law()
     ensures rising { (set : ℕ) → IsStrictlyIncreasing (riders_in set) }
     ensures bits { (set rider : ℕ) → Contains (riders_in set) rider ↔ (1 ≤ rider) × (bit_at set (rider - 1) ≡ 1) }

@@ -1,4 +1,4 @@
-//! What each coalition of riders costs, and the least of the cheapest routes.
+//! What each set of riders costs, and the least of the cheapest routes.
 #![tactic(auto)]
 
 mod laws;

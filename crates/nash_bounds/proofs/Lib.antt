@@ -21,3 +21,4 @@ pub mod SearchOrder
 pub mod EarlierBlocks
 pub mod SlowFilling
 pub mod OwnersByGood
+pub mod BelowPrefix

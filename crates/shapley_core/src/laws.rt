@@ -8,7 +8,7 @@ ghost use Rattle.split_frac.specs.declared.frac.Frac.{Frac};
 use bid_rules::best_fares_law;
 use split_frac::value_law;
 
-/// A case has one best division: two of them have the same fares, as fractions in lowest terms, and the same route.
+/// A case has at most one best division: two of them have the same fares, as fractions in lowest terms, and the same route.
 pub fn division_law()
     ensures fares { (case : FareCase) (fares others : List Frac) (route other : List ℕ)
         → FareBest case (map pair_of fares) route → FareBest case (map pair_of others) other → fares ≡ others }

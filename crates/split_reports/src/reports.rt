@@ -14,7 +14,8 @@ use split_base::NoMemory;
 use split_json::CaseInput;
 use std::alloc::Global;
 
-/// The report that people read: who gets what, what each pays in whole cents, and who envies whom. Lines end with LF.
+/// The report that people read: who gets what, of rents and fares what each pays in whole cents, and of rents and goods who envies
+/// whom. Lines end with LF.
 ///
 /// The lists of the input have the counts of its facts, the facts and bids have no fault, the case is the one that they make,
 /// and the division is the solver's for that case. `NoMemory` comes for want of memory alone.

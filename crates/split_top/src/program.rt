@@ -47,7 +47,7 @@ pub struct Status {
 /// | 9 | want of memory | `no memory` |
 ///
 /// The tests come in the order of the work: words, reading, solving, writing. 6 stands in place of the status whose text could
-/// not be written. With status 2 the input is untouched, and else at most 65,537 bytes of it were read.
+/// not be written, and 9 may come in place of any but 2. With status 2 the input is untouched, and else at most 65,537 bytes of it were read.
 pub fn run<I: Source, O: Sink>(
     alloc: Global,
     words: &[String],
