@@ -5,6 +5,7 @@ use Rattle.std.proofs.lemmas.List.{length-append}
 use Rattle.std.proofs.lemmas.List.Concat.{get_or-flat_map}
 use Rattle.std.proofs.lemmas.List.Elements.{All-head, All-tail}
 use Rattle.arrayvec.specs.declared.array_vec.ArrayVec.{ArrayVec}
+use Rattle.bid_rules.specs.declared.limits.TheConstants.{PLACE_ROOM}
 use Rattle.bid_rules.specs.declared.fares.Fares.{Fares}
 use Rattle.bid_rules.specs.Facts.{HasTable, leg, legs_in_order}
 
@@ -40,7 +41,7 @@ leg_at facts row column table l m =
 -- there are as many legs as the table has entries
 pub length-legs : (facts : Fares) → HasTable facts → length (legs_in_order facts) ≡ (facts.places + 1) * facts.places
 length-legs facts table =
-    let rows : List (ArrayVec ℕ 10 (Unit {0})) = facts.legs.items in
+    let rows : List (ArrayVec ℕ PLACE_ROOM (Unit {0})) = facts.legs.items in
     ap (λ rs. length (flat_map (λ row. row.items) rs)) (sym (take-length rows))
     ∙ length-rows (λ row. row.items) rows (length rows) facts.places (omega arith) table.columns
     ∙ ap (λ n. n * facts.places) table.rows

@@ -2,6 +2,7 @@
 use Rattle.std.specs.Prelude.{◌≡◌, ◌≢◌, ℕ, ◌+◌, ◌-◌, ◌<◌, ◌≤◌, List, [], ◌∷◌, length, All, flat_map, slice_index, slice_index_or, ⊤, Bool, if◌then◌else◌, is_some, is_none, sum, IsNone, IsSome, Option, Some, None, Result, Ok, Err}
 use Rattle.std.specs.List.{filter_map, enumerate_from, list_all}
 use Rattle.std.specs.List.Sorted.{IsStrictlyIncreasing}
+use Rattle.bid_rules.specs.declared.limits.TheConstants.{FEWEST_MEMBERS, ITEM_ROOM, MOST_FARE_CENTS, MOST_PLACES, MOST_RIDERS, WHOLE_POINTS}
 use Rattle.bid_rules.specs.declared.fares.Fares.{Fares}
 use Rattle.bid_rules.specs.declared.bids.Facts.{Facts}
 use Rattle.bid_rules.specs.declared.bids.Facts.TheVariants as facts
@@ -28,10 +29,10 @@ pub record HasTable (facts : Fares) : Type 0 where
 
 -- the counts are within the limits, and the table has all legs
 pub record HasShape (facts : Fares) : Type 0 where
-  pub members_low : 2 ≤ facts.members
-  pub members_high : facts.members ≤ 8
+  pub members_low : FEWEST_MEMBERS ≤ facts.members
+  pub members_high : facts.members ≤ MOST_RIDERS
   pub places_low : 1 ≤ facts.places
-  pub places_high : facts.places ≤ 10
+  pub places_high : facts.places ≤ MOST_PLACES
   pub table : HasTable facts
 
 -- the legs row by row
@@ -43,10 +44,10 @@ abbrev pub leg : Fares → ℕ → ℕ → ℕ
 leg facts from to = slice_index (slice_index_or facts.legs.items from (record { items = [] })).items (to - 1)
 
 -- the number at the place is the first above a million
-pub record IsFirstAboveMillion (numbers : List ℕ) (place : ℕ) : Type 0 where
+pub record IsFirstAboveLimit (numbers : List ℕ) (place : ℕ) : Type 0 where
   pub stands : place < length numbers
-  pub above : 1000000 < slice_index numbers place
-  pub first : (k : ℕ) → k < place → slice_index numbers k ≤ 1000000
+  pub above : MOST_FARE_CENTS < slice_index numbers place
+  pub first : (k : ℕ) → k < place → slice_index numbers k ≤ MOST_FARE_CENTS
 
 -- the leg of the place to itself is the first that is not 0
 pub record IsFirstOwnLeg (facts : Fares) (place : ℕ) : Type 0 where
@@ -56,20 +57,20 @@ pub record IsFirstOwnLeg (facts : Fares) (place : ℕ) : Type 0 where
   pub first : (p : ℕ) → 1 ≤ p → p < place → leg facts p p ≡ 0
 
 -- the flag fall and the legs are at most a million cents
-abbrev pub IsWithinMillion : Fares → Type 0
-IsWithinMillion facts = All (λ cents. cents ≤ 1000000) (facts.flag ∷ legs_in_order facts)
+abbrev pub AreWithinLimit : Fares → Type 0
+AreWithinLimit facts = All (λ cents. cents ≤ MOST_FARE_CENTS) (facts.flag ∷ legs_in_order facts)
 
 -- facts on fares without a fault
 pub record IsCheckedFares (facts : Fares) : Type 0 where
   pub shape : HasShape facts
-  pub million : IsWithinMillion facts
+  pub million : AreWithinLimit facts
   pub own_legs : (p : ℕ) → 1 ≤ p → p ≤ facts.places → leg facts p p ≡ 0
 
 -- the first fault of facts on fares, in the order of the cases; the flag fall stands at place 0, and the legs after it, row by row
 abbrev pub IsFaultOfFares : Fares → BidFault → Type 0
 IsFaultOfFares facts fault.Count = HasShape facts → ⊥
-IsFaultOfFares facts (fault.Range place) = HasShape facts × IsFirstAboveMillion (facts.flag ∷ legs_in_order facts) place
-IsFaultOfFares facts (fault.Place place) = HasShape facts × IsWithinMillion facts × IsFirstOwnLeg facts place
+IsFaultOfFares facts (fault.Range place) = HasShape facts × IsFirstAboveLimit (facts.flag ∷ legs_in_order facts) place
+IsFaultOfFares facts (fault.Place place) = HasShape facts × AreWithinLimit facts × IsFirstOwnLeg facts place
 IsFaultOfFares facts (fault.Sum got) = ⊥
 
 -- facts without a fault
@@ -116,7 +117,7 @@ AreValuesOf rent given = Spreads rent.members rent.rent given
 
 -- a bid gives points for each good, 1000 in sum
 abbrev pub ArePointsOf : Goods → Bid → Type 0
-ArePointsOf goods given = Spreads goods.goods 1000 given
+ArePointsOf goods given = Spreads goods.goods WHOLE_POINTS given
 
 -- a bid names a place of the fares
 abbrev pub IsPlaceOf : Fares → Bid → Type 0
@@ -132,7 +133,7 @@ IsCheckedBid (facts.Fares fares) given = IsPlaceOf fares given
 -- the first fault of a bid, in the order of the cases
 abbrev pub IsFaultOfBid : Facts → Bid → BidFault → Type 0
 IsFaultOfBid (facts.Rent rent) given other = IsFaultOfSpreading rent.members rent.rent given other
-IsFaultOfBid (facts.Goods goods) given other = IsFaultOfSpreading goods.goods 1000 given other
+IsFaultOfBid (facts.Goods goods) given other = IsFaultOfSpreading goods.goods WHOLE_POINTS given other
 IsFaultOfBid (facts.Fares fares) (bid.Values values) fault.Count = ⊤
 IsFaultOfBid (facts.Fares fares) (bid.Place place) (fault.Place got) = (got ≡ place) × ((1 ≤ place) × (place ≤ fares.places) → ⊥)
 IsFaultOfBid (facts.Fares fares) given other = ⊥
@@ -156,7 +157,7 @@ fare_case facts bids = record {
 }
 
 -- the values that a bid gives
-abbrev pub values_given : Option Bid → Option (ArrayVec ℕ 24 (Unit {0}))
+abbrev pub values_given : Option Bid → Option (ArrayVec ℕ ITEM_ROOM (Unit {0}))
 values_given None = None
 values_given (Some (bid.Values values)) = Some values
 values_given (Some (bid.Place place)) = None

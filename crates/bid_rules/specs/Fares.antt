@@ -1,5 +1,5 @@
 -- Routes, what coalitions of riders cost, and the best division of a shared fare (Shapley 1953).
-use Rattle.std.specs.Prelude.{◌≡◌, ◌≢◌, ℕ, ℤ, pos, ◌+◌, ◌-◌, ◌≤◌, ◌+ℤ◌, ◌-ℤ◌, List, [], ◌∷◌, ◌++◌, ◌==◌, not, length, map, fold, min, All, Contains, slice_index, take_while}
+use Rattle.std.specs.Prelude.{◌≡◌, ◌≢◌, ℕ, ℤ, pos, ◌+◌, ◌-◌, ◌+ℤ◌, ◌-ℤ◌, List, [], ◌∷◌, ◌++◌, ◌==◌, not, length, map, fold, min, All, Contains, slice_index, take_while}
 use Rattle.std.specs.List.{range_with_len, AllZip}
 use Rattle.std.specs.Cmp.Lexicographic.{slice_cmp}
 use Rattle.std.specs.Ordering.{nat_cmp}
@@ -16,11 +16,6 @@ riders_of case = range_with_len 1 (length case.at.items)
 -- the place at which a rider of the case gets off
 abbrev pub place_of : FareCase → ℕ → ℕ
 place_of case rider = slice_index case.at.items (rider - 1)
-
--- a list of riders of the case, at most eight
-pub record IsCoalition (case : FareCase) (riders : List ℕ) : Type 0 where
-  pub few : length riders ≤ 8
-  pub known : All (λ rider. (1 ≤ rider) × (rider ≤ length case.at.items)) riders
 
 -- the sum of the legs from a place through the riders' places, in this order
 abbrev pub legs_along : FareCase → ℕ → List ℕ → ℕ

@@ -5,19 +5,21 @@ use Rattle.std.specs.List.Sorted.{IsStrictlyIncreasing}
 use Rattle.std.specs.Cmp.Lexicographic.{slice_cmp}
 use Rattle.std.specs.Ordering.{nat_cmp}
 use Rattle.std.specs.declared.cmp.Ordering.TheVariants.{Less}
+use Rattle.bid_rules.specs.declared.limits.TheConstants.{FEWEST_MEMBERS, MOST_GOODS, MOST_MEMBERS, MOST_STEPS, WHOLE_POINTS}
 use Rattle.bid_rules.specs.declared.goods.Goods.{Goods}
 use Rattle.bid_rules.specs.declared.goods.GoodsCase.{GoodsCase}
 use Rattle.bid_rules.specs.declared.bids.BidFault.{BidFault}
 use Rattle.bid_rules.specs.declared.bids.BidFault.TheVariants as fault
+use Rattle.bid_rules.specs.declared.pair.Pair.{Pair}
 use Rattle.bid_rules.specs.Pairs.{nash_welfare, IsLess}
 
 -- there are 2 to 12 members and 1 to 24 goods
 abbrev pub HasCounts : Goods → Type 0
-HasCounts facts = (2 ≤ facts.members) × (facts.members ≤ 12) × (1 ≤ facts.goods) × (facts.goods ≤ 24)
+HasCounts facts = (FEWEST_MEMBERS ≤ facts.members) × (facts.members ≤ MOST_MEMBERS) × (1 ≤ facts.goods) × (facts.goods ≤ MOST_GOODS)
 
 -- the limit is 1 to 200,000 steps
 abbrev pub HasLimit : Goods → Type 0
-HasLimit facts = (1 ≤ facts.limit) × (facts.limit ≤ 200000)
+HasLimit facts = (1 ≤ facts.limit) × (facts.limit ≤ MOST_STEPS)
 
 -- facts on goods without a fault
 pub record IsCheckedGoods (facts : Goods) : Type 0 where
@@ -39,7 +41,7 @@ pub record IsValidGoodsCase (case : GoodsCase) : Type 0 where
   pub some : 1 ≤ length case.who.items
   pub each : length case.values.items ≡ length case.who.items
   pub goods : All (λ row. length row.items ≡ case.facts.goods) case.values.items
-  pub sums : All (λ row. sum row.items ≡ 1000) case.values.items
+  pub sums : All (λ row. sum row.items ≡ WHOLE_POINTS) case.values.items
 
 -- how many players there are
 abbrev pub player_count : GoodsCase → ℕ
@@ -92,13 +94,21 @@ pub record Dominates (case : GoodsCase) (others owners : List ℕ) : Type 0 wher
   pub each : (player : ℕ) → 1 ≤ player → player ≤ player_count case → utility case player (order_of case) owners ≤ utility case player (order_of case) others
   pub more : (player : ℕ) × (1 ≤ player) × (player ≤ player_count case) × (utility case player (order_of case) owners < utility case player (order_of case) others)
 
--- maximum Nash welfare (Caragiannis and others 2016), with an order of lists: no allocation has a greater pair, and none with the same pair
--- is before it as a list of owners in search order
+-- the pair of an allocation: the Nash welfare of the players' utilities
+abbrev pub pair_of : GoodsCase → List ℕ → Pair
+pair_of case owners = nash_welfare (utilities case owners)
+
+-- the first allocation is no better than the second: it has a smaller pair, or the same and is not before it as a list of owners in search
+-- order
+abbrev pub IsBehind : GoodsCase → List ℕ → List ℕ → Type 0
+IsBehind case others owners =
+    IsLess (pair_of case others) (pair_of case owners)
+    ⊎ ((pair_of case others ≡ pair_of case owners) × (slice_cmp nat_cmp others owners ≡ Less → ⊥))
+
+-- maximum Nash welfare (Caragiannis and others 2016), the first of equals: each allocation is behind it
 pub record GoodsBest (case : GoodsCase) (owners : List ℕ) : Type 0 where
   pub allocation : IsAllocation case owners
-  pub best : (others : List ℕ) → IsAllocation case others
-      → IsLess (nash_welfare (utilities case others)) (nash_welfare (utilities case owners))
-      ⊎ ((nash_welfare (utilities case others) ≡ nash_welfare (utilities case owners)) × (slice_cmp nat_cmp others owners ≡ Less → ⊥))
+  pub best : (others : List ℕ) → IsAllocation case others → IsBehind case others owners
 
 -- who has the good, from the owners in search order
 abbrev pub owner_of_good : GoodsCase → List ℕ → ℕ → ℕ
@@ -107,3 +117,11 @@ owner_of_good case owners good = slice_index owners (position_or_len (λ other. 
 -- the owners by good number, from those in search order
 abbrev pub owners_by_good : GoodsCase → List ℕ → List ℕ
 owners_by_good case owners = map (owner_of_good case owners) (range_with_len 1 case.facts.goods)
+
+-- the owners in search order, from those by good number
+abbrev pub in_search_order : GoodsCase → List ℕ → List ℕ
+in_search_order case owners = map (λ good. slice_index owners (good - 1)) (order_of case)
+
+-- the case with so many members
+abbrev pub with_members : GoodsCase → ℕ → GoodsCase
+with_members case members = record { facts = record { members = members; goods = case.facts.goods; limit = case.facts.limit }; who = case.who; values = case.values }

@@ -1,5 +1,7 @@
 pub mod Cents
 pub mod Coalitions
+pub mod Decisions
+pub mod FactFaults
 pub mod Facts
 pub mod Fares
 pub mod Fractions
@@ -11,5 +13,3 @@ pub mod Pairs
 pub mod Rent
 pub mod Sums
 pub mod Walks
-pub mod Worked
-pub mod WorkedGoods

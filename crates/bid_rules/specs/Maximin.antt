@@ -2,7 +2,7 @@
 use Rattle.std.specs.Prelude.{◌≡◌, ℕ, ℤ, pos, ◌-◌, ◌<◌, ◌+ℤ◌, ◌-ℤ◌, ◌*ℤ◌, List, length, slice_index, slice_index_or}
 use Rattle.bid_rules.specs.declared.rents.RentCase.{RentCase}
 use Rattle.bid_rules.specs.Fractions.{Fraction, IsQuotient}
-use Rattle.bid_rules.specs.Rent.{room_count, sum_over_members, value, welfare}
+use Rattle.bid_rules.specs.Rent.{HasParts, price_of, room_count, sum_over_members, value, welfare}
 use Rattle.bid_rules.specs.Walks.{weight_at}
 
 -- the step from one member to another: how much more the other would pay for the first one's room than the first one would
@@ -23,3 +23,14 @@ pub record AreMaximinPrices (case : RentCase) (rooms : List ℕ) (walks : List �
   pub count : length prices ≡ room_count case
   pub each : (member : ℕ) → member < room_count case
       → IsQuotient (slice_index_or prices (slice_index rooms member - 1) (pos 0, 1)) (price_in_parts case rooms walks member) (room_count case)
+
+-- the prices in n-ths, by room, are those of the formula
+abbrev pub ArePricesInParts : RentCase → List ℕ → List ℤ → List ℤ → Type 0
+ArePricesInParts case rooms walks parts = (member : ℕ) → member < room_count case → price_of parts (slice_index rooms member) ≡ price_in_parts case rooms walks member
+
+-- a list of the prices in n-ths, by room, which are those of the formula
+pub record HasFormulaParts (case : RentCase) (rooms : List ℕ) (walks : List ℤ) (prices : List Fraction) : Type 0 where
+  pub parts : List ℤ
+  pub count : length parts ≡ room_count case
+  pub in_parts : HasParts prices (room_count case) parts
+  pub formula : ArePricesInParts case rooms walks parts

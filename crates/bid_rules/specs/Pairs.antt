@@ -1,5 +1,5 @@
 -- The pair of a list of utilities, by which allocations of goods are compared, and the order of pairs (Caragiannis and others 2016).
-use Rattle.std.specs.Prelude.{◌≡◌, ℕ, ◌+◌, ◌*◌, ◌<◌, ◌≤◌, List, [], ◌∷◌, min, max, ◌⊎◌}
+use Rattle.std.specs.Prelude.{◌≡◌, ℕ, ◌+◌, ◌*◌, ◌<◌, ◌≤◌, List, [], ◌∷◌, min, max, ◌⊎◌, Bool, true, ◌==◌, ◌&&◌, ◌||◌, nat_lt, nat_le, Option, Some, None}
 use Rattle.bid_rules.specs.declared.pair.Pair.{Pair}
 
 -- how many utilities are positive
@@ -23,3 +23,15 @@ IsLess a b = (a.count < b.count) ⊎ ((a.count ≡ b.count) × (a.product < b.pr
 -- the first pair is not greater
 abbrev pub IsAtMost : Pair → Pair → Type 0
 IsAtMost a b = (a.count < b.count) ⊎ ((a.count ≡ b.count) × (a.product ≤ b.product))
+
+-- the tests of the two, for definitions that count and choose
+abbrev pub is_less : Pair → Pair → Bool
+is_less a b = nat_lt a.count b.count || (a.count == b.count && nat_lt a.product b.product)
+
+abbrev pub is_at_most : Pair → Pair → Bool
+is_at_most a b = nat_lt a.count b.count || (a.count == b.count && nat_le a.product b.product)
+
+-- greater than the pair, where one is there
+abbrev pub is_above : Option Pair → Pair → Bool
+is_above None b = true
+is_above (Some a) b = is_less a b

@@ -6,6 +6,7 @@ use Rattle.std.specs.Int.{int_min}
 use Rattle.std.specs.Cmp.Lexicographic.{slice_cmp}
 use Rattle.std.specs.Ordering.{nat_cmp}
 use Rattle.std.specs.declared.cmp.Ordering.TheVariants.{Less}
+use Rattle.bid_rules.specs.declared.limits.TheConstants.{FEWEST_MEMBERS, MOST_MEMBERS, MOST_RENT}
 use Rattle.bid_rules.specs.declared.rents.Rent.{Rent}
 use Rattle.bid_rules.specs.declared.rents.RentCase.{RentCase}
 use Rattle.bid_rules.specs.declared.bids.BidFault.{BidFault}
@@ -15,11 +16,11 @@ use Rattle.bid_rules.specs.Sums.{total}
 
 -- there are 2 to 12 members
 abbrev pub HasMembers : Rent → Type 0
-HasMembers facts = (2 ≤ facts.members) × (facts.members ≤ 12)
+HasMembers facts = (FEWEST_MEMBERS ≤ facts.members) × (facts.members ≤ MOST_MEMBERS)
 
 -- the rent is 1 to 10,000,000 cents
 abbrev pub HasRent : Rent → Type 0
-HasRent facts = (1 ≤ facts.rent) × (facts.rent ≤ 10000000)
+HasRent facts = (1 ≤ facts.rent) × (facts.rent ≤ MOST_RENT)
 
 -- facts on rent without a fault
 abbrev pub IsCheckedRent : Rent → Type 0

@@ -1,18 +1,19 @@
 ghost use Rattle.std.specs.Prelude.{◌↔◌, IsOk, MatchResult};
 ghost use Rattle.bid_rules.specs.Facts.{IsCheckedBid, IsCheckedFacts, IsFaultOfBid};
+ghost use Rattle.bid_rules.specs.FactFaults.{IsFaultOfFacts};
 
+use crate::limits::{Values, WHOLE_POINTS};
 use crate::spread::check_spread;
-use crate::{Fares, Goods, Rent};
-use arrayvec::ArrayVec;
+use crate::{Fares, Goods, Rent, check_fares, check_goods, check_rent};
 
 /// The facts of a case, by kind: what is to be divided among how many members.
 #[derive(Debug, Drop, PartialEq, Eq)]
 pub enum Facts {
-    /// The rent of a shared home.
+    /// A rent, and as many rooms as members.
     Rent(Rent),
-    /// Goods that are shared among heirs.
+    /// Goods, which are divided whole.
     Goods(Goods),
-    /// The cost of a shared ride.
+    /// A taxi fare: the flag fall and the legs.
     Fares(Fares),
 }
 
@@ -20,7 +21,7 @@ pub enum Facts {
 #[derive(Debug, Drop, PartialEq, Eq)]
 pub enum Bid {
     /// What each item is worth to the member, in cents or points, by item.
-    Values(ArrayVec<u32, 24>),
+    Values(Values),
     /// The place, from 1, at which the member gets off.
     Place(u8),
 }
@@ -36,6 +37,19 @@ pub enum BidFault {
     Range { place: u32 },
     /// A place, from 1, is at fault: a bid names it and the facts don't have it, or its leg to itself isn't 0.
     Place { place: u32 },
+}
+
+/// Whether the facts are within their limits, or their first fault, by the rule of their kind: that of `check_rent`, `check_goods`
+/// or `check_fares`.
+pub fn check_facts(facts: &Facts) -> Result<(), BidFault>
+    ensures fault { MatchResult result (λ _. IsCheckedFacts facts.now) (IsFaultOfFacts facts.now) }
+    ensures accepted { IsOk result ↔ IsCheckedFacts facts.now }
+{
+    match facts {
+        Facts::Rent(rent) => check_rent(rent),
+        Facts::Goods(goods) => check_goods(goods),
+        Facts::Fares(fares) => check_fares(fares),
+    }
 }
 
 /// Whether the facts, which are checked, allow the bid, or the bid's first fault.
@@ -55,7 +69,7 @@ pub fn check_bid(facts: &Facts, bid: &Bid) -> Result<(), BidFault>
         }
         (Facts::Goods(_), Bid::Place(_)) => Err(BidFault::Count),
         (Facts::Goods(goods), Bid::Values(values)) => {
-            check_spread(goods.goods, 1000, values.as_slice())
+            check_spread(goods.goods, WHOLE_POINTS, values.as_slice())
         }
         (Facts::Fares(_), Bid::Values(_)) => Err(BidFault::Count),
         (Facts::Fares(fares), Bid::Place(place)) => {

@@ -5,18 +5,19 @@ ghost use Rattle.bid_rules.specs.Goods.{IsCheckedGoods, IsValidGoodsCase};
 ghost use Rattle.bid_rules.specs.Rent.{IsCheckedRent, IsValidRentCase};
 
 use crate::goods::are_members;
+use crate::limits::{MEMBER_ROOM, MemberList, RIDER_ROOM, RiderList, ValueTable, Values};
 use crate::{Bid, Facts, Fares, Goods, GoodsCase, Rent, RentCase, check_fares};
 use arrayvec::ArrayVec;
 
-/// A shared ride of those members who bid. They are its riders, numbered from 1 in the order of `who`.
+/// A shared fare of those members who bid. They are its riders, numbered from 1 in the order of `who`.
 #[derive(Debug, Drop, PartialEq, Eq)]
 pub struct FareCase {
-    /// What a ride costs, in cents.
+    /// What the flag fall and the legs cost, in cents.
     pub facts: Fares,
     /// The member, from 1, who is each rider, in rising order.
-    pub who: ArrayVec<u8, 8>,
+    pub who: RiderList,
     /// The place, from 1, at which each rider gets off.
-    pub at: ArrayVec<u8, 8>,
+    pub at: RiderList,
 }
 
 impl FareCase {
@@ -35,11 +36,11 @@ impl FareCase {
 /// A case to be solved, by kind.
 #[derive(Debug, Drop, PartialEq, Eq)]
 pub enum Case {
-    /// A shared home, in which all members have bid.
+    /// A shared rent, on which all members have bid.
     Rent(RentCase),
     /// Goods to be shared among those who have bid.
     Goods(GoodsCase),
-    /// A shared ride of those who have bid.
+    /// A shared fare of those who have bid.
     Fares(FareCase),
 }
 
@@ -47,13 +48,13 @@ pub enum Case {
 #[derive(Debug, Drop, PartialEq, Eq)]
 pub struct Missing {
     /// The members, from 1, who lack a bid, in rising order.
-    pub members: ArrayVec<u8, 12>,
+    pub members: MemberList,
 }
 
 /// The case that checked facts and checked bids make. The bids are by member, `None` where one has not bid.
 ///
-/// On a rent all members must bid: where any lacks a bid there is no case. On goods those who bid are the players, on fares they
-/// ride. Only where nobody has bid is there no case there, and all members lack a bid.
+/// On a rent all members must bid: where any lacks a bid there is no case. On goods those who bid are the players, on fares the
+/// riders. Only where nobody has bid is there no case there, and all members lack a bid.
 pub fn make_case(facts: &Facts, bids: &[Option<Bid>]) -> Result<Case, Missing>
     requires facts { IsCheckedFacts facts.now }
     requires count { length bids.now ≡ member_count facts.now }
@@ -63,9 +64,9 @@ pub fn make_case(facts: &Facts, bids: &[Option<Bid>]) -> Result<Case, Missing>
     ensures missing { IsErr result ↔ AreMissing facts.now bids.now }
 {
     match facts {
-        Facts::Rent(rent) if has_all_bids(bids) => Ok(Case::Rent(shared_home(rent, bids))),
-        Facts::Goods(goods) if !has_no_bid(bids) => Ok(Case::Goods(shared_goods(goods, bids))),
-        Facts::Fares(fares) if !has_no_bid(bids) => Ok(Case::Fares(shared_ride(fares, bids))),
+        Facts::Rent(rent) if has_all_bids(bids) => Ok(Case::Rent(make_rent_case(rent, bids))),
+        Facts::Goods(goods) if !has_no_bid(bids) => Ok(Case::Goods(make_goods_case(goods, bids))),
+        Facts::Fares(fares) if !has_no_bid(bids) => Ok(Case::Fares(make_fare_case(fares, bids))),
         _ => Err(Missing {
             members: members_without(bids),
         }),
@@ -79,8 +80,8 @@ fn has_all_bids(bids: &[Option<Bid>]) -> bool
     bids.iter().all(|bid| bid.is_some())
 }
 
-/// The home of all members.
-fn shared_home(rent: &Rent, bids: &[Option<Bid>]) -> RentCase
+/// The case of all members, each with their values.
+fn make_rent_case(rent: &Rent, bids: &[Option<Bid>]) -> RentCase
     requires rent { IsCheckedRent rent.now }
     requires count { length bids.now ≡ rent.now.members }
     requires bids { All (λ bid. IfSome bid (AreValuesOf rent.now)) bids.now }
@@ -98,8 +99,8 @@ fn shared_home(rent: &Rent, bids: &[Option<Bid>]) -> RentCase
 }
 
 /// The values that the bids give, in the order of the members.
-fn values_of(bids: &[Option<Bid>]) -> ArrayVec<ArrayVec<u32, 24>, 12>
-    requires { length bids.now ≤ 12 }
+fn values_of(bids: &[Option<Bid>]) -> ValueTable
+    requires { length bids.now ≤ MEMBER_ROOM }
     ensures { result.items ≡ filter_map values_given bids.now }
 {
     let mut values = ArrayVec::new();
@@ -111,7 +112,7 @@ fn values_of(bids: &[Option<Bid>]) -> ArrayVec<ArrayVec<u32, 24>, 12>
     values
 }
 
-fn copied_values(bid: &Option<Bid>) -> Option<ArrayVec<u32, 24>>
+fn copied_values(bid: &Option<Bid>) -> Option<Values>
     ensures { result ≡ values_given bid.now }
 {
     match bid {
@@ -121,7 +122,7 @@ fn copied_values(bid: &Option<Bid>) -> Option<ArrayVec<u32, 24>>
 }
 
 /// The same values once more.
-fn same_values(values: &ArrayVec<u32, 24>) -> ArrayVec<u32, 24>
+fn same_values(values: &Values) -> Values
     ensures { result ≡ values.now }
 {
     let mut copy = ArrayVec::new();
@@ -138,8 +139,8 @@ fn has_no_bid(bids: &[Option<Bid>]) -> bool
     bids.iter().all(|bid| bid.is_none())
 }
 
-/// The goods, shared among those who bid.
-fn shared_goods(goods: &Goods, bids: &[Option<Bid>]) -> GoodsCase
+/// The case of those who bid, each with their points.
+fn make_goods_case(goods: &Goods, bids: &[Option<Bid>]) -> GoodsCase
     requires goods { IsCheckedGoods goods.now }
     requires count { length bids.now ≡ goods.now.members }
     requires bids { All (λ bid. IfSome bid (ArePointsOf goods.now)) bids.now }
@@ -158,8 +159,8 @@ fn shared_goods(goods: &Goods, bids: &[Option<Bid>]) -> GoodsCase
     }
 }
 
-/// The ride of those who bid.
-fn shared_ride(fares: &Fares, bids: &[Option<Bid>]) -> FareCase
+/// The case of those who bid, each with their place.
+fn make_fare_case(fares: &Fares, bids: &[Option<Bid>]) -> FareCase
     requires fares { IsCheckedFares fares.now }
     requires count { length bids.now ≡ fares.now.members }
     requires bids { All (λ bid. IfSome bid (IsPlaceOf fares.now)) bids.now }
@@ -176,7 +177,7 @@ fn shared_ride(fares: &Fares, bids: &[Option<Bid>]) -> FareCase
 
 /// The members who have a bid.
 fn members_with<const N: usize>(bids: &[Option<Bid>]) -> ArrayVec<u8, N>
-    requires few { length bids.now ≤ 12 }
+    requires few { length bids.now ≤ MEMBER_ROOM }
     requires room { length bids.now ≤ N }
     ensures { result.items ≡ members_where is_some bids.now }
 {
@@ -190,8 +191,8 @@ fn members_with<const N: usize>(bids: &[Option<Bid>]) -> ArrayVec<u8, N>
 }
 
 /// The members who lack a bid.
-fn members_without(bids: &[Option<Bid>]) -> ArrayVec<u8, 12>
-    requires { length bids.now ≤ 12 }
+fn members_without(bids: &[Option<Bid>]) -> MemberList
+    requires { length bids.now ≤ MEMBER_ROOM }
     ensures { result.items ≡ members_where is_none bids.now }
 {
     let mut missing = ArrayVec::new();
@@ -204,8 +205,8 @@ fn members_without(bids: &[Option<Bid>]) -> ArrayVec<u8, 12>
 }
 
 /// The places that the bids name, by rider.
-fn places_of(bids: &[Option<Bid>]) -> ArrayVec<u8, 8>
-    requires { length bids.now ≤ 8 }
+fn places_of(bids: &[Option<Bid>]) -> RiderList
+    requires { length bids.now ≤ RIDER_ROOM }
     ensures { result.items ≡ filter_map place_named bids.now }
 {
     let mut places = ArrayVec::new();

@@ -1,22 +1,26 @@
 ghost use Rattle.std.specs.Prelude.{◌≡◌, ℕ, ◌+◌, ◌*◌, ◌<◌, ◌≤◌, ◌↔◌, ◌∷◌, length, slice_index, All, IsTrue, IsOk, IsErrOf, MatchResult, MatchOption, IfSome};
 ghost use Rattle.bid_rules.specs.declared.bids.BidFault.TheVariants.{Count, Range};
-ghost use Rattle.bid_rules.specs.Facts.{HasShape, HasTable, IsCheckedFares, IsFaultOfFares, IsFirstAboveMillion, IsFirstOwnLeg, IsWithinMillion, leg, legs_in_order};
+ghost use Rattle.bid_rules.specs.Facts.{HasShape, HasTable, IsCheckedFares, IsFaultOfFares, IsFirstAboveLimit, IsFirstOwnLeg, AreWithinLimit, leg, legs_in_order};
 
 use crate::BidFault;
+use crate::limits::{
+    FEWEST_MEMBERS, LEG_ROW_ROOM, LegRow, Legs, MOST_FARE_CENTS, MOST_PLACES, MOST_RIDERS,
+    PLACE_ROOM,
+};
 use arrayvec::ArrayVec;
 
-/// The facts of a shared ride. Money is in cents.
+/// The facts of a shared fare. Money is in cents.
 #[derive(Debug, Drop, PartialEq, Eq)]
 pub struct Fares {
-    /// How many members may ride, 2 to 8.
+    /// How many members share the fare, 2 to 10.
     pub members: u8,
-    /// At how many places a rider may get off, 1 to 10.
+    /// At how many places a rider may get off, 1 to 12.
     pub places: u8,
-    /// The flag fall, which each ride costs before any leg, 0 to 1,000,000.
+    /// The flag fall, which is paid once before any leg, 0 to 1,000,000.
     pub flag: u32,
     /// What each leg costs, 0 to 1,000,000: a row of the legs from the origin and one of those from each place, with a leg to
     /// each place in order. That from a place to itself is 0.
-    pub legs: ArrayVec<ArrayVec<u32, 10>, 11>,
+    pub legs: Legs,
 }
 
 impl Fares {
@@ -27,7 +31,7 @@ impl Fares {
         requires to_low { 1 ≤ to }
         requires to_high { to ≤ self.now.places }
         ensures value { result ≡ leg self.now from to }
-        ensures small { result ≤ 1000000 }
+        ensures small { result ≤ MOST_FARE_CENTS }
     {
         self.legs[from as usize][to as usize - 1]
     }
@@ -50,8 +54,8 @@ impl Fares {
     }
 }
 
-fn copied_row(row: &[u32]) -> ArrayVec<u32, 10>
-    requires { length row.now ≤ 10 }
+fn copied_row(row: &[u32]) -> LegRow
+    requires { length row.now ≤ PLACE_ROOM }
     ensures { result.items ≡ row.now }
 {
     let mut copy = ArrayVec::new();
@@ -64,7 +68,9 @@ fn copied_row(row: &[u32]) -> ArrayVec<u32, 10>
 fn has_shape(facts: &Fares) -> bool
     ensures { IsTrue result ↔ HasShape facts.now }
 {
-    (2..=8).contains(&facts.members) && (1..=10).contains(&facts.places) && has_table(facts)
+    (FEWEST_MEMBERS..=MOST_RIDERS).contains(&facts.members)
+        && (1..=MOST_PLACES).contains(&facts.places)
+        && has_table(facts)
 }
 
 /// A row of legs from the origin and from each place, each with a leg to each place.
@@ -77,16 +83,16 @@ fn has_table(facts: &Fares) -> bool
 
 /// The index of the first number above a million.
 fn first_above(row: &[u32]) -> Option<usize>
-    ensures cases { MatchOption result (All (λ cents. cents ≤ 1000000) row.now) (IsFirstAboveMillion row.now) }
+    ensures cases { MatchOption result (All (λ cents. cents ≤ MOST_FARE_CENTS) row.now) (IsFirstAboveLimit row.now) }
     ensures within { IfSome result (λ place. place < length row.now) }
 {
-    row.iter().position(|cents| *cents > 1_000_000)
+    row.iter().position(|cents| *cents > MOST_FARE_CENTS)
 }
 
 /// The number of legs before the first one above a million.
 fn first_leg_above(facts: &Fares) -> Option<u32>
-    ensures cases { MatchOption result (All (λ cents. cents ≤ 1000000) (legs_in_order facts.now)) (IsFirstAboveMillion (legs_in_order facts.now)) }
-    ensures small { IfSome result (λ place. place < 110) }
+    ensures cases { MatchOption result (All (λ cents. cents ≤ MOST_FARE_CENTS) (legs_in_order facts.now)) (IsFirstAboveLimit (legs_in_order facts.now)) }
+    ensures small { IfSome result (λ place. place < LEG_ROW_ROOM * PLACE_ROOM) }
 {
     let mut passed = 0;
     for row in facts.legs.as_slice() {
@@ -113,7 +119,7 @@ fn first_own_leg(facts: &Fares) -> Option<u8>
 
 /// Whether the facts are within the limits, or their first fault. The faults come in this order:
 ///
-/// - `Count` where the members aren't 2 to 8, the places aren't 1 to 10, or the legs aren't `places + 1` rows of `places` legs;
+/// - `Count` where the members aren't 2 to 10, the places aren't 1 to 12, or the legs aren't `places + 1` rows of `places` legs;
 /// - `Range` with place 0 where the flag fall is above 1,000,000;
 /// - `Range` with the place of the first leg above 1,000,000, row by row: that in `row` and `column`, each from 0, has the place
 ///   `1 + row * places + column` (`leg_place_law`);
@@ -122,12 +128,12 @@ pub fn check_fares(facts: &Fares) -> Result<(), BidFault>
     ensures fault { MatchResult result (λ _. IsCheckedFares facts.now) (IsFaultOfFares facts.now) }
     ensures accepted { IsOk result ↔ IsCheckedFares facts.now }
     ensures count { IsErrOf result Count ↔ (HasShape facts.now → ⊥) }
-    ensures flag { IsErrOf result (Range 0) ↔ HasShape facts.now × (1000000 < facts.now.flag) }
+    ensures flag { IsErrOf result (Range 0) ↔ HasShape facts.now × (MOST_FARE_CENTS < facts.now.flag) }
 {
     if !has_shape(facts) {
         return Err(BidFault::Count);
     }
-    if facts.flag > 1_000_000 {
+    if facts.flag > MOST_FARE_CENTS {
         return Err(BidFault::Range { place: 0 });
     }
     if let Some(place) = first_leg_above(facts) {
@@ -141,9 +147,10 @@ pub fn check_fares(facts: &Fares) -> Result<(), BidFault>
     Ok(())
 }
 
-/// The place of a leg in a fault: the flag fall stands at place 0, and the legs after it, row by row.
+/// The place of a leg in a fault: the flag fall stands at place 0, and the legs after it, row by row. No leg is above the limit.
 pub fn leg_place_law()
     ensures place { (facts : Fares) (row column : ℕ) → HasTable facts → row ≤ facts.places → column < facts.places
         → slice_index (facts.flag ∷ legs_in_order facts) (1 + row * facts.places + column) ≡ leg facts row (column + 1) }
     ensures count { (facts : Fares) → HasTable facts → length (legs_in_order facts) ≡ (facts.places + 1) * facts.places }
+    ensures small { (facts : Fares) (from to : ℕ) → AreWithinLimit facts → leg facts from to ≤ MOST_FARE_CENTS }
 {}

@@ -1,13 +1,17 @@
 ghost use Rattle.std.specs.Prelude.{◌≡◌, ◌≤◌, ◌↔◌, length, All, IsErrOf, IsOk, IsTrue, MatchResult};
 ghost use Rattle.std.specs.List.Sorted.{IsStrictlyIncreasing};
 ghost use Rattle.bid_rules.specs.declared.bids.BidFault.TheVariants.{Count, Range};
+ghost use Rattle.bid_rules.specs.Facts.{IsSpread};
 ghost use Rattle.bid_rules.specs.Goods.{HasCounts, HasLimit, IsCheckedGoods, IsFaultOfGoods, IsValidGoodsCase, player_count, points};
 
 use crate::BidFault;
+use crate::limits::{
+    FEWEST_MEMBERS, MOST_GOODS, MOST_MEMBERS, MOST_STEPS, MemberList, ValueTable, Values,
+    WHOLE_POINTS,
+};
 use crate::spread::check_spread;
-use arrayvec::ArrayVec;
 
-/// The facts of goods that are shared among heirs.
+/// The facts of goods that are shared among members.
 #[derive(Debug, Drop, PartialEq, Eq)]
 pub struct Goods {
     /// How many members may bid, 2 to 12.
@@ -24,9 +28,9 @@ pub struct GoodsCase {
     /// The counts and the limit.
     pub facts: Goods,
     /// The member, from 1, who is each player, in rising order.
-    pub who: ArrayVec<u8, 12>,
+    pub who: MemberList,
     /// By player the points that they give each good. Each player gives 1000 points.
-    pub values: ArrayVec<ArrayVec<u32, 24>, 12>,
+    pub values: ValueTable,
 }
 
 impl GoodsCase {
@@ -39,7 +43,10 @@ impl GoodsCase {
         check_goods(facts).is_ok()
             && are_members(facts.members, self.who.as_slice())
             && self.values.len() == self.who.len()
-            && self.values.iter().all(|row| check_spread(facts.goods, 1000, row.as_slice()).is_ok())
+            && self
+                .values
+                .iter()
+                .all(|row| gives_all_points(facts.goods, row))
     }
 
     /// The points that a player gives a good, both numbered from 1.
@@ -50,10 +57,17 @@ impl GoodsCase {
         requires good_low { 1 ≤ good }
         requires good_high { good ≤ self.now.facts.goods }
         ensures value { result ≡ points self.now player good }
-        ensures small { result ≤ 1000 }
+        ensures small { result ≤ WHOLE_POINTS }
     {
         self.values[player as usize - 1][good as usize - 1]
     }
+}
+
+/// Whether a player gives points for each good, all of them in sum.
+fn gives_all_points(goods: u8, row: &Values) -> bool
+    ensures { IsTrue result ↔ IsSpread goods WHOLE_POINTS row.now.items }
+{
+    check_spread(goods, WHOLE_POINTS, row.as_slice()).is_ok()
 }
 
 /// Whether there are some numbers of members, in rising order.
@@ -85,10 +99,12 @@ pub fn check_goods(facts: &Goods) -> Result<(), BidFault>
     ensures count { IsErrOf result Count ↔ (HasCounts facts.now → ⊥) }
     ensures range { IsErrOf result (Range 0) ↔ HasCounts facts.now × (HasLimit facts.now → ⊥) }
 {
-    if !(2..=12).contains(&facts.members) || !(1..=24).contains(&facts.goods) {
+    if !(FEWEST_MEMBERS..=MOST_MEMBERS).contains(&facts.members)
+        || !(1..=MOST_GOODS).contains(&facts.goods)
+    {
         return Err(BidFault::Count);
     }
-    if !(1..=200_000).contains(&facts.limit) {
+    if !(1..=MOST_STEPS).contains(&facts.limit) {
         return Err(BidFault::Range { place: 0 });
     }
     Ok(())

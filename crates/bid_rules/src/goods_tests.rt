@@ -34,7 +34,7 @@ fn points_sum_to_a_thousand(rt: HostRuntime) -> Result<(), Fail> {
 }
 
 #[test]
-fn heirs_who_bid_are_the_players(rt: HostRuntime) -> Result<(), Fail> {
+fn members_who_bid_are_the_players(rt: HostRuntime) -> Result<(), Fail> {
     let goods = Goods {
         members: 3,
         goods: 2,

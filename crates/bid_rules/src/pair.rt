@@ -1,8 +1,8 @@
 /// How many players have positive utility, and the product of the positive utilities, 1 over none.
 ///
-/// Pairs are compared by the count, then by the product. An allocation with the greatest pair has the greatest Nash welfare
+/// Pairs are compared by the count, then by the product: the derived order reads the fields in their order. An allocation with the greatest pair has the greatest Nash welfare
 /// (Caragiannis, Kurokawa, Moulin, Procaccia, Shah and Wang 2016).
-#[derive(Clone, Copy, Debug, PartialEq, Eq)]
+#[derive(Clone, Copy, Debug, PartialEq, Eq, PartialOrd, Ord)]
 pub struct Pair {
     /// The number of players with positive utility, at most 12.
     pub count: u8,

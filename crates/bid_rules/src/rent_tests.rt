@@ -63,11 +63,11 @@ fn all_members_have_to_bid(rt: HostRuntime) -> Result<(), Fail> {
     assert!(rt; check_bid(&facts, &first).is_ok());
     assert!(rt; check_bid(&facts, &second).is_ok());
     assert!(rt; check_bid(&facts, &again).is_ok());
-    let Ok(Case::Rent(home)) = make_case(&facts, &[Some(first), Some(second)]) else {
+    let Ok(Case::Rent(case)) = make_case(&facts, &[Some(first), Some(second)]) else {
         return Err(Fail::from("both bid"));
     };
-    assert_eq!(rt; home.value(0, 1), 600);
-    assert_eq!(rt; home.value(1, 2), 500);
+    assert_eq!(rt; case.value(1, 1), 600);
+    assert_eq!(rt; case.value(2, 2), 500);
     let Err(Missing { members }) = make_case(&facts, &[Some(again), None]) else {
         return Err(Fail::from("one bid"));
     };

@@ -1,12 +1,12 @@
-ghost use Rattle.std.specs.Prelude.{◌≡◌, ◌<◌, ◌≤◌, ◌↔◌, pos, IsErrOf, IsOk, IsTrue, MatchResult};
+ghost use Rattle.std.specs.Prelude.{◌≡◌, ℕ, pos, ◌-◌, ◌<◌, ◌≤◌, ◌≤ℤ◌, ◌↔◌, IsErrOf, IsOk, IsTrue, MatchResult};
 ghost use Rattle.bid_rules.specs.declared.bids.BidFault.TheVariants.{Count, Range};
 ghost use Rattle.bid_rules.specs.Rent.{HasMembers, HasRent, IsCheckedRent, IsFaultOfRent, IsValidRentCase, room_count, value};
 
 use crate::BidFault;
+use crate::limits::{FEWEST_MEMBERS, MOST_MEMBERS, MOST_RENT, ValueTable};
 use crate::spread::check_spread;
-use arrayvec::ArrayVec;
 
-/// The facts of a shared home with a room for each member. Money is in cents.
+/// The facts of a rent, with a room for each member. Money is in cents.
 #[derive(Debug, Drop, PartialEq, Eq)]
 pub struct Rent {
     /// 2 to 12, which is the number of rooms too.
@@ -15,7 +15,7 @@ pub struct Rent {
     pub rent: u32,
 }
 
-/// A shared home: its facts, and what each member would pay for each room.
+/// A case of rent: its facts, and what each member would pay for each room.
 ///
 /// The values are in cents, by member and by room. Each member's values sum to the rent.
 #[derive(Debug, Drop, PartialEq, Eq)]
@@ -23,7 +23,7 @@ pub struct RentCase {
     /// The rent and the number of members.
     pub facts: Rent,
     /// By member what they would pay for each room, in cents.
-    pub values: ArrayVec<ArrayVec<u32, 24>, 12>,
+    pub values: ValueTable,
 }
 
 impl RentCase {
@@ -41,16 +41,17 @@ impl RentCase {
                 .all(|row| check_spread(members, rent, row.as_slice()).is_ok())
     }
 
-    /// What a member, by place from 0, would pay for a room, numbered from 1, in cents.
-    pub fn value(&self, member: usize, room: usize) -> u32
+    /// What a member would pay for a room, both numbered from 1, in cents.
+    pub fn value(&self, member: u8, room: u8) -> u32
         requires case { IsValidRentCase self.now }
-        requires member { member < room_count self.now }
+        requires member_low { 1 ≤ member }
+        requires member_high { member ≤ room_count self.now }
         requires room_low { 1 ≤ room }
         requires room_high { room ≤ room_count self.now }
-        ensures value { pos result ≡ value self.now member room }
-        ensures small { result ≤ 10000000 }
+        ensures value { pos result ≡ value self.now (member - 1) room }
+        ensures small { result ≤ MOST_RENT }
     {
-        self.values[member][room - 1]
+        self.values[member as usize - 1][room as usize - 1]
     }
 }
 
@@ -63,11 +64,17 @@ pub fn check_rent(facts: &Rent) -> Result<(), BidFault>
     ensures count { IsErrOf result Count ↔ (HasMembers facts.now → ⊥) }
     ensures range { IsErrOf result (Range 0) ↔ HasMembers facts.now × (HasRent facts.now → ⊥) }
 {
-    if !(2..=12).contains(&facts.members) {
+    if !(FEWEST_MEMBERS..=MOST_MEMBERS).contains(&facts.members) {
         return Err(BidFault::Count);
     }
-    if !(1..=10_000_000).contains(&facts.rent) {
+    if !(1..=MOST_RENT).contains(&facts.rent) {
         return Err(BidFault::Range { place: 0 });
     }
     Ok(())
 }
+
+/// Each value of a valid case is from 0 to the rent. This law is the contract of a function that does nothing.
+pub fn rent_value_law()
+    ensures low { (case : RentCase) (member room : ℕ) → pos 0 ≤ℤ value case member room }
+    ensures high { (case : RentCase) (member room : ℕ) → IsValidRentCase case → member < room_count case → value case member room ≤ℤ pos case.facts.rent }
+{}

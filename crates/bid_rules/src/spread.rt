@@ -2,12 +2,13 @@ ghost use Rattle.std.specs.Prelude.{◌≡◌, ◌≤◌, ◌↔◌, length, sum
 ghost use Rattle.bid_rules.specs.Facts.{IsFaultOfSpread, IsSpread};
 
 use crate::BidFault;
+use crate::limits::ITEM_ROOM;
 
 /// Whether the values spread the whole over so many items, or their first fault.
 ///
 /// `Count` where there isn't a value for each item, else `Sum` with their sum where it isn't the whole.
 pub(crate) fn check_spread(items: u8, whole: u32, values: &[u32]) -> Result<(), BidFault>
-    requires { length values.now ≤ 24 }
+    requires { length values.now ≤ ITEM_ROOM }
     ensures fault { MatchResult result (λ _. IsSpread items whole values.now) (IsFaultOfSpread items whole values.now) }
     ensures accepted { IsOk result ↔ IsSpread items whole values.now }
 {
@@ -23,7 +24,7 @@ pub(crate) fn check_spread(items: u8, whole: u32, values: &[u32]) -> Result<(), 
 
 /// The sum of the values.
 fn sum_of(values: &[u32]) -> u64
-    requires { length values.now ≤ 24 }
+    requires { length values.now ≤ ITEM_ROOM }
     ensures { result ≡ sum values.now }
 {
     let mut total = 0;

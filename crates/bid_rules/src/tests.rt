@@ -5,8 +5,8 @@ use std::test::Fail;
 
 const TAXI: [&[u32]; 3] = [&[1000, 1500], &[0, 700], &[900, 0]];
 
-// A ride with these legs.
-fn ride(rt: &impl Abort, members: u8, places: u8, flag: u32, rows: &[&[u32]]) -> Fares {
+// Facts with these legs.
+fn fares_with(rt: &impl Abort, members: u8, places: u8, flag: u32, rows: &[&[u32]]) -> Fares {
     let mut legs = ArrayVec::new();
     for row in rows {
         let mut cents = ArrayVec::new();
@@ -28,11 +28,13 @@ fn facts_have_at_most_one_first_fault(rt: HostRuntime) -> Result<(), Fail> {
     let dear_leg: [&[u32]; 3] = [&[1000, 1500], &[0, 1_000_001], &[900, 0]];
     let own_leg: [&[u32]; 3] = [&[1000, 1500], &[0, 700], &[900, 5]];
     let dear_and_own: [&[u32]; 3] = [&[1000, 1500], &[5, 700], &[900, 1_000_001]];
-    let table: [(u8, u8, u32, &[&[u32]], Result<(), BidFault>); 11] = [
+    let table: [(u8, u8, u32, &[&[u32]], Result<(), BidFault>); 13] = [
         (2, 2, 300, &TAXI, Ok(())),
         (1, 2, 300, &TAXI, Err(BidFault::Count)),
-        (9, 2, 300, &TAXI, Err(BidFault::Count)),
+        (10, 2, 300, &TAXI, Ok(())),
+        (11, 2, 300, &TAXI, Err(BidFault::Count)),
         (2, 0, 300, &TAXI, Err(BidFault::Count)),
+        (2, 13, 300, &TAXI, Err(BidFault::Count)),
         (2, 2, 300, &short_table, Err(BidFault::Count)),
         (2, 2, 300, &short_row, Err(BidFault::Count)),
         (2, 2, 1_000_001, &TAXI, Err(BidFault::Range { place: 0 })),
@@ -48,7 +50,7 @@ fn facts_have_at_most_one_first_fault(rt: HostRuntime) -> Result<(), Fail> {
         (2, 2, 300, &dear_and_own, Err(BidFault::Range { place: 6 })),
     ];
     for (members, places, flag, rows, want) in table {
-        let fares = ride(&rt, members, places, flag, rows);
+        let fares = fares_with(&rt, members, places, flag, rows);
         assert_eq!(rt; check_fares(&fares), want);
     }
     Ok(())
@@ -56,7 +58,7 @@ fn facts_have_at_most_one_first_fault(rt: HostRuntime) -> Result<(), Fail> {
 
 #[test]
 fn a_bid_names_a_place(rt: HostRuntime) -> Result<(), Fail> {
-    let fares = ride(&rt, 2, 2, 300, &TAXI);
+    let fares = fares_with(&rt, 2, 2, 300, &TAXI);
     assert!(rt; check_fares(&fares).is_ok());
     let facts = Facts::Fares(fares);
     assert_eq!(rt;
@@ -75,8 +77,8 @@ fn a_bid_names_a_place(rt: HostRuntime) -> Result<(), Fail> {
 }
 
 #[test]
-fn those_who_bid_ride(rt: HostRuntime) -> Result<(), Fail> {
-    let fares = ride(&rt, 2, 2, 300, &TAXI);
+fn those_who_bid_are_the_riders(rt: HostRuntime) -> Result<(), Fail> {
+    let fares = fares_with(&rt, 2, 2, 300, &TAXI);
     assert!(rt; check_fares(&fares).is_ok() && fares.members == 2 && fares.places == 2);
     let facts = Facts::Fares(fares);
     let Ok(Case::Fares(both)) = make_case(&facts, &[Some(Bid::Place(1)), Some(Bid::Place(2))])
@@ -90,7 +92,7 @@ fn those_who_bid_ride(rt: HostRuntime) -> Result<(), Fail> {
     };
     assert_eq!(rt; one.who.as_slice(), [2].as_slice());
     assert_eq!(rt; one.at.as_slice(), [2].as_slice());
-    assert_eq!(rt; one.facts, ride(&rt, 2, 2, 300, &TAXI));
+    assert_eq!(rt; one.facts, fares_with(&rt, 2, 2, 300, &TAXI));
     let Err(Missing { members }) = make_case(&facts, &[None, None]) else {
         return Err(Fail::from("nobody bid"));
     };

@@ -9,7 +9,7 @@ use Rattle.shapley_core.specs.Division.{IsFareDivision}
 
 -- the division is the one that the solver of its kind gives for the case
 abbrev pub IsDivisionOf : Case → Division → Type 0
-IsDivisionOf (case.Rent home) (Rent division) = IsRentDivision home division
+IsDivisionOf (case.Rent rent) (Rent division) = IsRentDivision rent division
 IsDivisionOf (case.Goods goods) (Goods division) = IsGoodsDivision goods division
-IsDivisionOf (case.Fares ride) (Fares division) = IsFareDivision ride division
+IsDivisionOf (case.Fares fares) (Fares division) = IsFareDivision fares division
 IsDivisionOf given division = ⊥

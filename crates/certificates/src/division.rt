@@ -5,10 +5,10 @@ use shapley_core::FareDivision;
 /// The division of a case, by kind.
 #[derive(Drop)]
 pub enum Division {
-    /// The rooms and prices of a shared home.
+    /// The rooms and prices of a rent.
     Rent(RentDivision),
     /// Who has each of the goods.
     Goods(GoodsDivision),
-    /// What the riders of a shared ride pay.
+    /// What the riders of a shared fare pay.
     Fares(FareDivision),
 }

@@ -10,12 +10,12 @@ use Rattle.bid_rules.specs.declared.rents.RentCase.{RentCase}
 use Rattle.bid_rules.specs.Cents.{AddsAtMostOneMore, IsCentPlan, amount_at, cents_at, prices_by_member}
 use Rattle.bid_rules.specs.Fractions.{Fraction, IsQuotient}
 use Rattle.bid_rules.specs.Rent.{HasParts, IsAssignment, IsEnvyFree, price_of, room_count, value}
-use Rattle.bid_rules.proofs.RoomPlaces.{room_range, rooms_length}
-use Rattle.bid_rules.proofs.SignedProducts.{add_times, times_swap, times_times}
-use Rattle.bid_rules.proofs.Totals.{times_add, times_cancel}
+use Rattle.split_lemmas.proofs.RoomPlaces.{room_range, rooms_length}
+use Rattle.split_lemmas.proofs.SignedProducts.{add_times, le_times, times_swap, times_times}
+use Rattle.split_lemmas.proofs.Totals.{times_add, times_cancel}
 use Rattle.envy_check.proofs.CentOrder.{HasDenominators}
 use Rattle.envy_check.proofs.CentShares.{plan_even}
-use Rattle.envy_check.proofs.Products.{le_cancel, scaled_le}
+use Rattle.envy_check.proofs.Products.{le_cancel}
 
 -- a difference, so many times
 sub_times : (x y : ℤ) (k : ℕ) → (x -ℤ y) *ℤ pos k ≡ x *ℤ pos k -ℤ y *ℤ pos k
@@ -41,7 +41,7 @@ fair a b x y q r v w k some is_a is_b even free =
     let d = a.1 in
     let e = b.1 in
     let turned : e * d ≡ d * e = omega arith in
-    let scaled = scaled_le ((x *ℤ pos d -ℤ a.0) *ℤ pos e) ((y *ℤ pos e -ℤ b.0) *ℤ pos d +ℤ pos (d * e)) k even in
+    let scaled = le_times ((x *ℤ pos d -ℤ a.0) *ℤ pos e) ((y *ℤ pos e -ℤ b.0) *ℤ pos d +ℤ pos (d * e)) k even in
     let ours = added_in_parts x a.0 q d e k is_a.1 in
     let theirs = added_in_parts y b.0 r e d k is_b.1 ∙ ap (λ n. (y *ℤ pos k -ℤ r) *ℤ pos n) turned in
     let more = add_times ((y *ℤ pos e -ℤ b.0) *ℤ pos d) (pos (d * e)) k in

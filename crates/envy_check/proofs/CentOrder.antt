@@ -1,16 +1,17 @@
 -- The order in which places get the cents left over is a strict total order, of falling remainders.
-use Rattle.std.proofs.Common.{◌≡◌, ℕ, ℤ, pos, ◌<◌, ◌+ℤ◌, ◌*ℤ◌, ◌<ℤ◌, ◌≤ℤ◌, Bool, true, false, ◌⊎◌, inl, inr, List, length, All, refl, sym, ap, ◌∙◌, arith, ⊎_elim}
-use Rattle.std.specs.Int.{int_rem_euclid}
+use Rattle.std.proofs.Common.{◌≡◌, ℕ, ℤ, pos, negsuc, suc, ◌+◌, ◌*◌, ◌/◌, ◌%◌, ◌<◌, ◌+ℤ◌, ◌*ℤ◌, ◌<ℤ◌, ◌≤ℤ◌, Bool, true, false, ◌⊎◌, inl, inr, List, length, All, refl, sym, ap, ◌∙◌, arith, ⊎_elim}
+use Rattle.std.specs.Int.{int_div_euclid}
 use Rattle.std.specs.Ordering.{int_cmp, nat_cmp, ordering_then, is_lt, MatchOrdering}
 use Rattle.std.specs.Cmp.{int_ranks, ranks, nat_cmp_is, int_cmp_is}
 use Rattle.std.specs.declared.cmp.Ordering.{Ordering}
 use Rattle.std.specs.declared.cmp.Ordering.TheVariants.{Less, Equal, Greater}
+use Rattle.std.proofs.Math.Nat.{div-add-mod, mod-lt}
 use Rattle.std.proofs.lemmas.Bool.{cases_lt, cases_order, false≢true}
 use Rattle.std.proofs.lemmas.Int.{ints, by_lt_z}
 use Rattle.std.proofs.lemmas.List.{get_or_past}
 use Rattle.bid_rules.specs.Cents.{amount_at, comes_before, floor_of, remainder_of}
 use Rattle.bid_rules.specs.Fractions.{Fraction}
-use Rattle.split_frac.proofs.Floors.{quotient_rest, rest_range, floor_is}
+use Rattle.split_lemmas.proofs.SignedProducts.{add_times}
 use Rattle.envy_check.proofs.Products.{less_less, less_same, same_less, same_same}
 use Rattle.envy_check.proofs.Ranks.{IsStrictOrder}
 
@@ -47,9 +48,25 @@ some_at amounts h i = ⊎_elim
 abbrev pub rest_of : Fraction → ℤ
 rest_of a = (remainder_of a).0
 
+-- a number lies from its quotient, so many times, to below one more
+between : (num : ℤ) (den : ℕ) → 0 < den → ((int_div_euclid num (pos den) *ℤ pos den) ≤ℤ num) × (num <ℤ ((int_div_euclid num (pos den) +ℤ pos 1) *ℤ pos den))
+between (pos n) den some =
+    let parts : den * (n / den) + n % den ≡ n = div-add-mod n den in
+    let below : n % den < den = mod-lt n some in
+    let times : n / den * den ≡ den * (n / den) = omega arith in
+    let more : (n / den + 1) * den ≡ den * (n / den) + den = omega arith in
+    (omega (arith, ints, parts, times), omega (arith, ints, parts, below, more))
+between (negsuc n) den some =
+    let parts : den * (n / den) + n % den ≡ n = div-add-mod n den in
+    let below : n % den < den = mod-lt n some in
+    let times : suc (n / den) * den ≡ den * (n / den) + den = omega arith in
+    let more = add_times (negsuc (n / den)) (pos 1) den in
+    let once : 1 * den ≡ den = omega arith in
+    (omega (arith, ints, parts, below, times), omega (arith, ints, parts, below, times, more, once))
+
 -- an amount lies from its floor to below one more
 pub floor_parts : (a : Fraction) → 0 < a.1 → ((floor_of a *ℤ pos a.1) ≤ℤ a.0) × (a.0 <ℤ ((floor_of a +ℤ pos 1) *ℤ pos a.1))
-floor_parts a some = let range = rest_range a.0 a.1 some in floor_is a.0 (floor_of a) (int_rem_euclid a.0 (pos a.1)) a.1 (quotient_rest a.0 a.1 some) range.0 range.1
+floor_parts a some = between a.0 a.1 some
 
 -- so it has from 0 to below one cent above it
 pub rest_low : (a : Fraction) → 0 < a.1 → pos 0 ≤ℤ rest_of a
@@ -65,11 +82,13 @@ before_says amounts i j e =
     let y = rest_of (amount_at amounts i) *ℤ pos (amount_at amounts j).1 in
     by_keys x y i j (int_cmp x y) (int_ranks x y) e
 
+-- a place with a greater remainder comes before
 pub before_greater : (amounts : List Fraction) (i j : ℕ)
     → (rest_of (amount_at amounts j) *ℤ pos (amount_at amounts i).1) <ℤ (rest_of (amount_at amounts i) *ℤ pos (amount_at amounts j).1) → comes_before amounts i j ≡ true
 unfolding comes_before
 before_greater amounts i j h = keys_less (rest_of (amount_at amounts j) *ℤ pos (amount_at amounts i).1) (rest_of (amount_at amounts i) *ℤ pos (amount_at amounts j).1) i j h
 
+-- of equal remainders the lower place comes before
 pub before_lower : (amounts : List Fraction) (i j : ℕ)
     → rest_of (amount_at amounts j) *ℤ pos (amount_at amounts i).1 ≡ rest_of (amount_at amounts i) *ℤ pos (amount_at amounts j).1 → i < j → comes_before amounts i j ≡ true
 unfolding comes_before
@@ -123,5 +142,6 @@ module _ (amounts : List Fraction) (some : HasDenominators amounts) where
         (cases_order i j)));
   }
 
+-- the order is strict, for denominators above 0
 pub cent_order : (amounts : List Fraction) → HasDenominators amounts → IsStrictOrder (comes_before amounts)
 cent_order amounts some = order amounts some

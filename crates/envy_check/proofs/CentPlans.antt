@@ -9,7 +9,7 @@ use Rattle.std.proofs.lemmas.List.Sums.{sum_by_push}
 use Rattle.bid_rules.specs.Cents.{AddsAtMostOneMore, IsCentPlan, IsWithinOneCent, amount_at, cents_at, cents_left, comes_before, floor_of, fraction_cmp, places_before, remainder_of}
 use Rattle.bid_rules.specs.Fractions.{Fraction, IsQuotient, sum_of_fractions}
 use Rattle.bid_rules.specs.Sums.{total}
-use Rattle.bid_rules.proofs.Totals.{range_more}
+use Rattle.split_lemmas.proofs.Totals.{range_more}
 use Rattle.split_frac.specs.declared.frac.Frac.{Frac}
 use Rattle.split_frac.specs.Frac.{IsFloor, frac_cmp, pair_of}
 use Rattle.envy_check.proofs.CentOrder.{HasDenominators, floor_parts}
@@ -85,9 +85,11 @@ order_is amounts i j r s e f =
 pub count_push : (p : ℕ → Bool) (k : ℕ) → count_by p (range_with_len 0 (k + 1)) ≡ count_by p (range_with_len 0 k) + cond (p k) 1 0
 count_push p k = ap (count_by p) (range_more k) ∙ sum_by_push (λ i. cond (p i) 1 0) (range_with_len 0 k) k
 
+-- a place that passes is one more
 pub count_push_yes : (p : ℕ → Bool) (k : ℕ) → p k ≡ true → count_by p (range_with_len 0 (k + 1)) ≡ count_by p (range_with_len 0 k) + 1
 count_push_yes p k e = count_push p k ∙ ap (λ (b : Bool). count_by p (range_with_len 0 k) + cond b 1 0) e
 
+-- a place that fails is none more
 pub count_push_no : (p : ℕ → Bool) (k : ℕ) → p k ≡ false → count_by p (range_with_len 0 (k + 1)) ≡ count_by p (range_with_len 0 k)
 count_push_no p k e = let more = count_push p k ∙ ap (λ (b : Bool). count_by p (range_with_len 0 k) + cond b 1 0) e in omega (arith, more)
 

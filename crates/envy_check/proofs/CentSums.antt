@@ -8,9 +8,9 @@ use Rattle.std.proofs.Math.IntN.{zero-*ℤ}
 use Rattle.bid_rules.specs.Cents.{amount_at, cent_plan, cents_at, cents_left, comes_before, floor_of, places_before}
 use Rattle.bid_rules.specs.Fractions.{Fraction, IsQuotient, sum_of_fractions}
 use Rattle.bid_rules.specs.Sums.{total}
-use Rattle.bid_rules.proofs.SignedProducts.{add_times, times_one}
-use Rattle.bid_rules.proofs.SignedSums.{total-map, total-add}
-use Rattle.bid_rules.proofs.Totals.{total-places, total-same}
+use Rattle.split_lemmas.proofs.SignedProducts.{add_times, times_one}
+use Rattle.split_lemmas.proofs.SignedSums.{total-map, total-add}
+use Rattle.split_lemmas.proofs.Totals.{total-places, total-same}
 use Rattle.std.proofs.lemmas.Nat.{mul-lt}
 use Rattle.envy_check.proofs.CentOrder.{HasDenominators, cent_order, floor_parts, rest_of}
 use Rattle.envy_check.proofs.Products.{le_cancel, natural, sum_low, sum_high}

@@ -1,9 +1,8 @@
 -- Prices as whole numbers of parts, and the ranges of what members would have at them.
-use Rattle.std.proofs.Common.{◌≡◌, ℕ, ℤ, pos, ◌+◌, ◌-◌, ◌*◌, ◌/◌, ◌^◌, ◌<◌, ◌≤◌, ◌-ℤ◌, ◌*ℤ◌, ◌≤ℤ◌, List, [], ◌∷◌, ◌++◌, length, map, All, get_or, unsigned_abs, sym, ap, ◌∙◌, subst, arith, ⊎_elim}
+use Rattle.std.proofs.Common.{◌≡◌, ℕ, ℤ, pos, ◌-◌, ◌*◌, ◌/◌, ◌^◌, ◌<◌, ◌≤◌, ◌-ℤ◌, ◌*ℤ◌, ◌≤ℤ◌, List, [], ◌∷◌, length, map, All, get_or, unsigned_abs, sym, ap, ◌∙◌, subst, arith}
 use Rattle.std.specs.Int.{◌∣◌}
-use Rattle.std.proofs.lemmas.Bool.{cases_lt}
 use Rattle.std.proofs.lemmas.Int.{ints, unsigned_abs-mul}
-use Rattle.std.proofs.lemmas.List.{get_or-map, get_or_push, get_or_append_left, length-map, map-append}
+use Rattle.std.proofs.lemmas.List.{get_or-map}
 use Rattle.std.proofs.lemmas.List.Elements.{All-head, All-tail}
 use Rattle.std.proofs.lemmas.Nat.Gcd.{le_of_dvd}
 use Rattle.std.proofs.Math.IntN.{*ℤ_comm}
@@ -11,13 +10,10 @@ use Rattle.std.proofs.Math.Nat.{div-mul_cancel, mul-le-mul_right, le_trans}
 use Rattle.bid_rules.specs.declared.rents.RentCase.{RentCase}
 use Rattle.bid_rules.specs.Fractions.{Fraction, IsQuotient}
 use Rattle.bid_rules.specs.Rent.{HasParts, IsValidRentCase, price_of, room_count, utility_with, value}
-use Rattle.bid_rules.proofs.RentValues.{value_low, value_high}
-use Rattle.bid_rules.proofs.SignedProducts.{times_one, times_swap, times_times}
-use Rattle.bid_rules.proofs.Totals.{times_le, times_zero}
+use Rattle.split_lemmas.proofs.SignedProducts.{times_one, times_swap, times_times}
+use Rattle.split_lemmas.proofs.Totals.{times_le, times_zero}
 use Rattle.split_frac.specs.declared.frac.Frac.{Frac}
 use Rattle.split_frac.specs.Frac.{HasValue, IsDifference, IsWithin, pair_of}
-use Rattle.split_frac.proofs.Sums.{difference_in_parts}
-use Rattle.split_frac.proofs.Values.{den_divides, num_small}
 use Rattle.envy_check.proofs.CentEnvy.{price_parts}
 use Rattle.envy_check.specs.Envy.{ArePrices}
 
@@ -51,11 +47,15 @@ part_small whole price divides small =
     let turned : 10 ^ 12 * price.den * m ≡ 10 ^ 12 * (m * price.den) = omega arith in
     omega (arith, size, e, scaled, turned)
 
+-- values are from 0 to the rent
+abbrev pub HaveValuesWithinRent : RentCase → Type 0
+HaveValuesWithinRent case = (member room : ℕ) → IsValidRentCase case → member < room_count case → (pos 0 ≤ℤ value case member room) × (value case member room ≤ℤ pos case.facts.rent)
+
 -- so is what a member would have with a room, in those parts
-pub utility_small : (case : RentCase) (prices : List Frac) (h : ArePrices case prices) (member room : ℕ) → IsValidRentCase case → member < room_count case → 1 ≤ room → room ≤ room_count case
+pub utility_small : (case : RentCase) (prices : List Frac) (h : ArePrices case prices) (member room : ℕ) → IsValidRentCase case → member < room_count case → 1 ≤ room → room ≤ room_count case → HaveValuesWithinRent case
     → unsigned_abs (utility_with case h.common.whole (parts_of h.common.whole prices) member room) ≤ 2 * 10 ^ 12 * h.common.whole
 unfolding parts_of
-utility_small case prices h member room valid l low high =
+utility_small case prices h member room valid l low high within =
     let w = h.common.whole in
     let each = h.each in
     let place : room - 1 < length prices = omega arith in
@@ -63,8 +63,8 @@ utility_small case prices h member room valid l low high =
     let is : price_of (map (part_of w) prices) room ≡ part_of w first = get_or-map (part_of w) prices (room - 1) (record_of prices (room - 1) place) (pos 0) place in
     let part = part_small w first (h.common.divides (room - 1) (record_of prices (room - 1) place) place) (h.within (room - 1) (record_of prices (room - 1) place) place) in
     let same = ap unsigned_abs is in
-    let up = times_le w (value case member room) (pos 10000000) (value_high case member room valid l) in
-    let down = times_le w (pos 0) (value case member room) (value_low case member room) in
+    let up = times_le w (value case member room) (pos 10000000) (let rent = valid.facts.1 in let most = (within member room valid l).1 in omega (arith, ints, rent, most)) in
+    let down = times_le w (pos 0) (value case member room) (within member room valid l).0 in
     let none = *ℤ_comm (pos w) (pos 0) in
     let zero = times_zero (pos w) in
     small (pos w *ℤ value case member room) (price_of (map (part_of w) prices) room) w up (omega (arith, ints, down, none, zero)) (omega (arith, same, part))
@@ -76,11 +76,17 @@ utility_small case prices h member room valid l low high =
     small : (worth price : ℤ) (w : ℕ) → worth ≤ℤ (pos w *ℤ pos 10000000) → pos 0 ≤ℤ worth → unsigned_abs price ≤ 10 ^ 12 * w → unsigned_abs (worth -ℤ price) ≤ 2 * 10 ^ 12 * w
     small worth price w up down part = omega (arith, ints)
 
+-- what the laws of fractions say of values, of differences in parts, and of the least way to write a value
+pub record HaveLeastParts : Type 0 where
+  pub difference : (a b d : Frac) (x y : ℤ) (k : ℕ) → HasValue a x k → HasValue b y k → IsDifference a b d → HasValue d (x -ℤ y) k
+  pub divides : (a : Frac) (num : ℤ) (den : ℕ) → HasValue a num den → a.den ∣ den
+  pub size : (a : Frac) (num : ℤ) (den : ℕ) → 0 < den → HasValue a num den → unsigned_abs a.num ≤ unsigned_abs num
+
 -- the difference of two fractions of few parts keeps the ranges
-pub difference_within : (a b d : Frac) (x y : ℤ) (whole : ℕ) → 1 ≤ whole → whole ≤ 4000000 → HasValue a x whole → HasValue b y whole → unsigned_abs (x -ℤ y) ≤ 10 ^ 24 → IsDifference a b d → IsWithin d
-difference_within a b d x y whole some small h g size is =
-    let value = difference_in_parts a b d x y whole h g is in
-    (le_trans (num_small d (x -ℤ y) whole some value) size, le_trans (le_of_dvd some (den_divides d (x -ℤ y) whole value)) small)
+pub difference_within : HaveLeastParts → (a b d : Frac) (x y : ℤ) (whole : ℕ) → 1 ≤ whole → whole ≤ 4000000 → HasValue a x whole → HasValue b y whole → unsigned_abs (x -ℤ y) ≤ 10 ^ 24 → IsDifference a b d → IsWithin d
+difference_within laws a b d x y whole some small h g size is =
+    let value = laws.difference a b d x y whole h g is in
+    (le_trans (laws.size d (x -ℤ y) whole some value) size, le_trans (le_of_dvd some (laws.divides d (x -ℤ y) whole value)) small)
 
 -- a whole number in parts
 pub whole_in_parts : (a : Frac) (z : ℤ) (k : ℕ) → HasValue a z 1 → HasValue a (pos k *ℤ z) k
@@ -95,17 +101,6 @@ price_within case prices place price h l is =
     let low = le_of_dvd h.common.some divides in
     let small = h.common.small in
     (omega (arith, low, small, within), omega (arith, low, small))
-
--- one more in a list whose images hold by place
-pub push_at : {X Y : Type 0} (f : X → Y) (d : Y) (P : ℕ → Y → Type 0) (k : ℕ) (xs : List X) (x : X) → length xs ≡ k → ((i : ℕ) → i < k → P i (get_or (map f xs) i d)) → P k (f x)
-    → (i : ℕ) → i < k + 1 → P i (get_or (map f (xs ++ x ∷ [])) i d)
-push_at {X} {Y} f d P k xs x e h here i l =
-    let count : length (map f xs) ≡ k = length-map xs f ∙ e in
-    let more : map f (xs ++ x ∷ []) ≡ map f xs ++ f x ∷ [] = map-append f xs (x ∷ []) in
-    subst (λ (zs : List Y). P i (get_or zs i d)) (sym more) (⊎_elim
-    (λ (early : i < k). let a : i < length (map f xs) = omega arith in subst (P i) (sym (get_or_append_left (map f xs) (f x ∷ []) d i a)) (h i early))
-    (λ (late : k ≤ i). let is : i ≡ k = omega arith in subst (P i) (sym (get_or_push (map f xs) (f x) d i (count ∙ sym is))) (subst (λ j. P j (f x)) (sym is) here))
-    (cases_lt i k))
 
 -- a price at a place in parts
 pub quotient_at : (prices : List Frac) (k : ℕ) (parts : List ℤ) (place : ℕ) (price : Frac) → HasParts (map pair_of prices) k parts → place < length prices → price ≡ get_or prices place price → HasValue price (get_or parts place (pos 0)) k

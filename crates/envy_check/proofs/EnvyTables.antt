@@ -9,22 +9,24 @@ use Rattle.bid_rules.specs.declared.rents.RentCase.{RentCase}
 use Rattle.bid_rules.specs.Cents.{amount_at}
 use Rattle.bid_rules.specs.Fractions.{Fraction, IsQuotient}
 use Rattle.bid_rules.specs.Rent.{HasParts, IsAssignment, IsEnvyFree, room_count, utility, utility_with}
-use Rattle.bid_rules.proofs.RoomPlaces.{room_place, room_range}
+use Rattle.split_lemmas.proofs.RoomPlaces.{room_place, room_range}
 use Rattle.split_frac.specs.declared.frac.Frac.{Frac}
 use Rattle.split_frac.specs.Frac.{pair_of}
 use Rattle.envy_check.specs.Envy.{IsEnvyTable, entry_at, envy, rows_of}
-use Rattle.envy_check.proofs.Products.{le_cancel, scaled_le}
+use Rattle.envy_check.proofs.Products.{le_cancel}
+use Rattle.split_lemmas.proofs.SignedProducts.{le_times}
 
 -- a quotient of a number that is not above 0 is not above 0, and the other way round
 sign_to : (a : Fraction) (z : ℤ) (k : ℕ) → IsQuotient a z k → a.0 ≤ℤ pos 0 → z ≤ℤ pos 0
 sign_to a z k is low =
-    let s = scaled_le a.0 (pos 0) k low in
+    let s = le_times a.0 (pos 0) k low in
     let e = is.1 in
     le_cancel z (pos 0) a.1 is.0 (omega (arith, ints, s, e, zero-*ℤ (pos k), zero-*ℤ (pos a.1)))
 
+-- a quotient of a number that is not above 0 is not above 0
 sign_from : (a : Fraction) (z : ℤ) (k : ℕ) → 1 ≤ k → IsQuotient a z k → z ≤ℤ pos 0 → a.0 ≤ℤ pos 0
 sign_from a z k some is low =
-    let s = scaled_le z (pos 0) a.1 low in
+    let s = le_times z (pos 0) a.1 low in
     let e = is.1 in
     le_cancel a.0 (pos 0) k some (omega (arith, ints, s, e, zero-*ℤ (pos k), zero-*ℤ (pos a.1)))
 
@@ -32,6 +34,7 @@ sign_from a z k some is low =
 less_to : (x y : ℤ) → (x -ℤ y) ≤ℤ pos 0 → x ≤ℤ y
 less_to x y h = omega (arith, ints)
 
+-- a difference with a number that is no smaller is not above 0
 less_from : (x y : ℤ) → x ≤ℤ y → (x -ℤ y) ≤ℤ pos 0
 less_from x y h = omega (arith, ints)
 
@@ -82,10 +85,12 @@ module _ (table : Table) (case : RentCase) (rooms : List ℕ) (prices : List Fra
       let low = sign_from (entry_at (rows_of table) i j) (envy case k rooms parts i j) k some (is.entries i j l m k parts some in_parts) kept in
       subst (λ (a : Fraction). a.0 ≤ℤ pos 0) entry low
 
+-- a table with no entry above 0 is of envy-free prices
 pub free_to : (table : ArrayVec (ArrayVec Frac 12 (Unit {0})) 12 (Unit {0})) (case : RentCase) (rooms : List ℕ) (prices : List Fraction) → IsAssignment case rooms → IsEnvyTable case rooms prices (rows_of table)
     → (k : ℕ) (parts : List ℤ) → 1 ≤ k → HasParts prices k parts → HasNoneAbove table → IsEnvyFree case k rooms parts
 free_to table case rooms prices h is k parts some in_parts none = to table case rooms prices h is k parts some in_parts none
 
+-- envy-free prices have a table with no entry above 0
 pub free_from : (table : ArrayVec (ArrayVec Frac 12 (Unit {0})) 12 (Unit {0})) (case : RentCase) (rooms : List ℕ) (prices : List Fraction) → IsAssignment case rooms → IsEnvyTable case rooms prices (rows_of table)
     → (k : ℕ) (parts : List ℤ) → 1 ≤ k → HasParts prices k parts → IsEnvyFree case k rooms parts → HasNoneAbove table
 free_from table case rooms prices h is k parts some in_parts free = from table case rooms prices h is k parts some in_parts free

@@ -9,8 +9,9 @@ use Rattle.std.proofs.lemmas.List.FromFn.{map-range_with_len_more}
 use Rattle.std.proofs.lemmas.List.Sums.{sum_by-append, sum_by-cons, get_or-le-sum_by}
 use Rattle.bid_rules.specs.declared.goods.GoodsCase.{GoodsCase}
 use Rattle.bid_rules.specs.Goods.{points}
-use Rattle.bid_rules.proofs.Counts.{mark, mark_same, no_repeat-range}
-use Rattle.envy_check.specs.Goods.{EndsEnvy, IsBetter, IsMostValued, goods_of, is_owner, points_for, without}
+use Rattle.split_lemmas.proofs.Counts.{mark, mark_same, no_repeat-range}
+use Rattle.envy_check.specs.BestGoods.{IsBetter}
+use Rattle.envy_check.specs.Goods.{EndsEnvy, IsMostValued, goods_of, is_owner, points_for, without}
 
 -- the numbers from 1, and one more
 range_more : (k : ℕ) → range_with_len 1 (k + 1) ≡ range_with_len 1 k ++ (k + 1) ∷ []
@@ -147,6 +148,7 @@ without_step f g x w s m rest false e is h =
     let none : (0 + m) * f g ≡ m * f g = omega arith in
     omega (arith, is, h, cons, none)
 
+-- the sum over a list is that over the list without a good, and what the good adds each time it stands there
 without_all : (f : ℕ → ℕ) (g : ℕ) (xs : List ℕ) → sum_by f xs ≡ sum_by f (without xs g) + sum_by (mark g) xs * f g
 without_all f g [] = let none : 0 * f g ≡ 0 = omega arith in omega (arith, none)
 without_all f g (x ∷ xs) =

@@ -19,9 +19,11 @@ rank_of before n i = count_by (λ o. before o i) (range_with_len 0 n)
 abbrev mark : Bool → ℕ
 mark b = cond b 1 0
 
+-- a test that passes counts 1
 mark_yes : (b : Bool) → b ≡ true → mark b ≡ 1
 mark_yes b e = grind (arith, nat_tests)
 
+-- a test that fails counts 0
 mark_no : (b : Bool) → b ≡ false → mark b ≡ 0
 mark_no b e = grind (arith, nat_tests)
 
@@ -46,6 +48,7 @@ count_le p q a (suc n) h =
 mark_lt : (b d : Bool) → b ≡ false → d ≡ true → cond b 1 0 + 1 ≤ cond d 1 0
 mark_lt b d e f = grind (arith, nat_tests)
 
+-- a test that passes wherever another does, and at one place more, is passed more often
 pub count_lt : (p q : ℕ → Bool) (a n i : ℕ) → ((i : ℕ) → a ≤ i → i < a + n → p i ≡ true → q i ≡ true) → a ≤ i → i < a + n → p i ≡ false → q i ≡ true
     → count_by p (range_with_len a n) < count_by q (range_with_len a n)
 count_lt p q a zero i h l m e f = absurd (omega arith)
@@ -81,10 +84,11 @@ count_all p a (suc n) h =
     let rest = count_all p (a + 1) n (λ i l m. h i (omega arith) (omega arith)) in
     omega (arith, first, rest, count-cons p a (range_with_len (a + 1) n))
 
--- a test that passes at one place at most
+-- a test passes or fails
 bool_cases : (b : Bool) → (b ≡ true) ⊎ (b ≡ false)
 bool_cases b = grind (arith, nat_tests)
 
+-- a test that passes at one place at most is passed at most once
 pub count_once : (p : ℕ → Bool) (a n : ℕ) → ((i j : ℕ) → a ≤ i → i < a + n → a ≤ j → j < a + n → p i ≡ true → p j ≡ true → i ≡ j) → count_by p (range_with_len a n) ≤ 1
 count_once p a zero h = omega arith
 count_once p a (suc n) h = ⊎_elim
@@ -104,6 +108,7 @@ count_once p a (suc n) h = ⊎_elim
 mark_more : (x k : ℕ) → cond (nat_lt x (k + 1)) 1 0 ≡ cond (nat_lt x k) 1 0 + cond (nat_eq x k) 1 0
 mark_more x k = grind (arith, nat_tests)
 
+-- as many are below one more as are below, and equal
 count_more : (f : ℕ → ℕ) (k : ℕ) (xs : List ℕ) → count_by (λ i. nat_lt (f i) (k + 1)) xs ≡ count_by (λ i. nat_lt (f i) k) xs + count_by (λ i. nat_eq (f i) k) xs
 count_more f k [] = refl
 count_more f k (x ∷ xs) =
@@ -141,6 +146,7 @@ module _ (f : ℕ → ℕ) (n : ℕ) (apart : (i j : ℕ) → i < n → j < n �
   exact : (k : ℕ) → k ≤ n → below k ≡ k
   exact k l = let e : k + (n - k) ≡ n = omega arith in let same = ap below e in omega (arith, same, at_all, most k, rest_up k (n - k))
 
+-- of different numbers below n, as many as k are below k
 pub count_below : (f : ℕ → ℕ) (n : ℕ) → ((i j : ℕ) → i < n → j < n → f i ≡ f j → i ≡ j) → ((i : ℕ) → i < n → f i < n) → (k : ℕ) → k ≤ n
     → count_by (λ i. nat_lt (f i) k) (range_with_len 0 n) ≡ k
 unfolding below

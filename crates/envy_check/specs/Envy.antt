@@ -1,7 +1,8 @@
--- What the members of a shared home would have with the rooms of others, as a table.
+-- What the members of a shared rent would have with the rooms of others, as a table.
 use Rattle.std.specs.Prelude.{◌≡◌, ℕ, ℤ, ◌*◌, ◌^◌, ◌<◌, ◌≤◌, ◌-ℤ◌, List, [], length, map, All, slice_index, slice_index_or, unsigned_abs}
 use Rattle.std.specs.Int.{◌∣◌}
 use Rattle.arrayvec.specs.declared.array_vec.ArrayVec.{ArrayVec}
+use Rattle.bid_rules.specs.declared.limits.TheConstants.{MEMBER_ROOM}
 use Rattle.bid_rules.specs.declared.rents.RentCase.{RentCase}
 use Rattle.bid_rules.specs.Cents.{amount_at}
 use Rattle.bid_rules.specs.Fractions.{Fraction, IsQuotient}
@@ -31,7 +32,7 @@ abbrev pub envy : RentCase → ℕ → List ℕ → List ℤ → ℕ → ℕ →
 envy case k rooms prices member other = utility_with case k prices member (slice_index rooms other) -ℤ utility case k rooms prices member
 
 -- a table of fractions, by row and column
-abbrev pub rows_of : ArrayVec (ArrayVec Frac 12 (Unit {0})) 12 (Unit {0}) → List (List Fraction)
+abbrev pub rows_of : ArrayVec (ArrayVec Frac MEMBER_ROOM (Unit {0})) MEMBER_ROOM (Unit {0}) → List (List Fraction)
 rows_of table = map (λ row. map pair_of row.items) table.items
 
 -- the entry in a row and a column

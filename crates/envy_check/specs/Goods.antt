@@ -1,7 +1,8 @@
 -- Who envies whom over goods, and whether taking one good away ends it.
-use Rattle.std.specs.Prelude.{◌≡◌, ℕ, ℤ, pos, ◌-ℤ◌, ◌-◌, ◌<◌, ◌≤◌, ◌==◌, ◌⊎◌, Bool, true, false, not, List, [], length, filter, All, Contains, sum_by, slice_index, slice_index_or}
+use Rattle.std.specs.Prelude.{◌≡◌, ℕ, ℤ, pos, ◌-ℤ◌, ◌-◌, ◌<◌, ◌≤◌, ◌==◌, ◌⊎◌, Bool, not, List, [], length, filter, All, Contains, sum_by, slice_index, slice_index_or}
 use Rattle.std.specs.List.{range_with_len}
 use Rattle.arrayvec.specs.declared.array_vec.ArrayVec.{ArrayVec}
+use Rattle.bid_rules.specs.declared.limits.TheConstants.{MEMBER_ROOM}
 use Rattle.bid_rules.specs.declared.goods.GoodsCase.{GoodsCase}
 use Rattle.bid_rules.specs.Goods.{player_count, points}
 use Rattle.envy_check.specs.declared.goods.Ef1.{Ef1}
@@ -58,21 +59,13 @@ abbrev pub IsEf1Row : GoodsCase → List ℕ → ℕ → List Ef1 → Type 0
 IsEf1Row case owners player row = (other : ℕ) → 1 ≤ other → other ≤ player_count case → IsEf1 case owners player other (slice_index_or row (other - 1) Content)
 
 -- the table of points by player and by other player, both from 1
-pub record IsPointsTable (case : GoodsCase) (owners : List ℕ) (table : List (ArrayVec ℤ 12 (Unit {0}))) : Type 0 where
+pub record IsPointsTable (case : GoodsCase) (owners : List ℕ) (table : List (ArrayVec ℤ MEMBER_ROOM (Unit {0}))) : Type 0 where
   pub players : length table ≡ player_count case
   pub others : All (λ row. length row.items ≡ player_count case) table
   pub entries : (player : ℕ) → 1 ≤ player → player ≤ player_count case → IsPointsRow case owners player (slice_index_or table (player - 1) (record { items = [] })).items
 
 -- the table of answers by player and by other player, both from 1
-pub record IsEf1Table (case : GoodsCase) (owners : List ℕ) (table : List (ArrayVec Ef1 12 (Unit {0}))) : Type 0 where
+pub record IsEf1Table (case : GoodsCase) (owners : List ℕ) (table : List (ArrayVec Ef1 MEMBER_ROOM (Unit {0}))) : Type 0 where
   pub players : length table ≡ player_count case
   pub others : All (λ row. length row.items ≡ player_count case) table
   pub entries : (player : ℕ) → 1 ≤ player → player ≤ player_count case → IsEf1Row case owners player (slice_index_or table (player - 1) (record { items = [] })).items
-
--- of the best good so far, 0 for none, and the next good, the one that is the best now
-abbrev pub IsBetter : GoodsCase → List ℕ → ℕ → ℕ → ℕ → ℕ → ℕ → Type 0
-IsBetter case owners player owner best good next =
-    ((is_owner owners owner good ≡ false) × (next ≡ best))
-    ⊎ (((is_owner owners owner good ≡ true) × (best ≡ 0) × (next ≡ good))
-    ⊎ (((is_owner owners owner good ≡ true) × (1 ≤ best) × (points case player best < points case player good) × (next ≡ good))
-    ⊎ ((is_owner owners owner good ≡ true) × (1 ≤ best) × (points case player good ≤ points case player best) × (next ≡ best))))

@@ -1,2 +1,3 @@
+pub mod BestGoods
 pub mod Envy
 pub mod Goods

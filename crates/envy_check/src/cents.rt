@@ -7,17 +7,18 @@ ghost use Rattle.envy_check.specs.Envy.{IsAmount};
 ghost use Rattle.split_frac.specs.Frac.{IsWithin, pair_of};
 
 use arrayvec::ArrayVec;
-use split_frac::{Frac, compare, floor, rem};
+use bid_rules::limits::MEMBER_ROOM;
+use split_frac::{Frac, compare, floor, floor_law, rem};
 
 /// Whole cents in place of exact amounts, which sum to the total.
 ///
-/// There are at most 12 amounts, from -10^12 to 10^12 cents, with denominators of at most 4,000,000.
+/// There are as many amounts as members at most, from -10^12 to 10^12 cents, with denominators of at most 4,000,000.
 ///
 /// Each amount is floored. The cents left over go one each to the greatest remainders, ties to the lower place in the list. The
 /// plan has the same total, differs from each amount by less than one cent, and adds to no amount over one cent more than to
 /// another.
-pub fn cent_plan(amounts: &[Frac], total: i64) -> ArrayVec<i64, 12>
-    requires few { length amounts.now ≤ 12 }
+pub fn cent_plan(amounts: &[Frac], total: i64) -> ArrayVec<i64, MEMBER_ROOM>
+    requires few { length amounts.now ≤ MEMBER_ROOM }
     requires amounts { All IsAmount amounts.now }
     requires sum { IsQuotient (sum_of_fractions (map pair_of amounts.now)) total 1 }
     ensures plan { IsCentPlan (map pair_of amounts.now) total result.items }
@@ -36,7 +37,7 @@ pub fn cent_plan(amounts: &[Frac], total: i64) -> ArrayVec<i64, 12>
 
 /// The cents of the total that the floors leave over.
 fn left_over(amounts: &[Frac], total: i64) -> i128
-    requires few { length amounts.now ≤ 12 }
+    requires few { length amounts.now ≤ MEMBER_ROOM }
     requires amounts { All IsAmount amounts.now }
     ensures { result ≡ cents_left (map pair_of amounts.now) total }
 {
@@ -49,14 +50,15 @@ fn whole_cents(amount: &Frac) -> i128
     ensures value { result ≡ floor_of (pair_of amount.now) }
     ensures small { unsigned_abs result ≤ 10 ^ 12 }
 {
+    floor_law();
     floor(amount)
 }
 
 fn sum_of_floors(amounts: &[Frac]) -> i128
-    requires few { length amounts.now ≤ 12 }
+    requires few { length amounts.now ≤ MEMBER_ROOM }
     requires amounts { All IsAmount amounts.now }
     ensures value { result ≡ total_of floor_of (map pair_of amounts.now) }
-    ensures small { unsigned_abs result ≤ 12 * 10 ^ 12 }
+    ensures small { unsigned_abs result ≤ MEMBER_ROOM * 10 ^ 12 }
 {
     let mut sum = 0;
     for place in 0..amounts.len() {
@@ -89,11 +91,11 @@ fn is_before(amounts: &[Frac], place: usize, other: usize) -> bool
 
 /// How many places come before one.
 fn count_before(amounts: &[Frac], place: usize) -> usize
-    requires few { length amounts.now ≤ 12 }
+    requires few { length amounts.now ≤ MEMBER_ROOM }
     requires amounts { All IsAmount amounts.now }
     requires place { place < length amounts.now }
     ensures value { result ≡ places_before (map pair_of amounts.now) place }
-    ensures small { result ≤ 12 }
+    ensures small { result ≤ MEMBER_ROOM }
 {
     let mut count = 0;
     for other in 0..amounts.len() {
@@ -106,7 +108,7 @@ fn count_before(amounts: &[Frac], place: usize) -> usize
 
 /// A cent where fewer places come before than cents are left over.
 fn extra_cent(before: usize, left: i128) -> i128
-    requires { before ≤ 12 }
+    requires { before ≤ MEMBER_ROOM }
     ensures value { result ≡ if int_lt (pos before) left then pos 1 else pos 0 }
     ensures small { unsigned_abs result ≤ 1 }
 {
@@ -115,7 +117,7 @@ fn extra_cent(before: usize, left: i128) -> i128
 
 /// The whole cents at a place, where so many cents are left over.
 fn cents_of(amounts: &[Frac], left: i128, place: usize) -> i64
-    requires few { length amounts.now ≤ 12 }
+    requires few { length amounts.now ≤ MEMBER_ROOM }
     requires amounts { All IsAmount amounts.now }
     requires place { place < length amounts.now }
     ensures { (whole : ℤ) → left ≡ cents_left (map pair_of amounts.now) whole → result ≡ cents_at (map pair_of amounts.now) whole place }

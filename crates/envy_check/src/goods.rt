@@ -1,9 +1,11 @@
-ghost use Rattle.std.specs.Prelude.{◌≡◌, ℕ, ◌-◌, ◌<◌, ◌≤◌, if◌then◌else◌, length};
+ghost use Rattle.std.specs.Prelude.{◌≡◌, ℕ, ◌-◌, ◌*◌, ◌<◌, ◌≤◌, if◌then◌else◌, length};
 ghost use Rattle.bid_rules.specs.Goods.{AreOwners, IsValidGoodsCase, player_count, points};
-ghost use Rattle.envy_check.specs.Goods.{IsBetter, IsEf1, IsEf1Row, IsEf1Table, IsMostValued, IsPointsRow, IsPointsTable, goods_of, is_owner, points_envy, points_for};
+ghost use Rattle.envy_check.specs.BestGoods.{IsBetter};
+ghost use Rattle.envy_check.specs.Goods.{IsEf1, IsEf1Row, IsEf1Table, IsMostValued, IsPointsRow, IsPointsTable, goods_of, is_owner, points_envy, points_for};
 
 use arrayvec::ArrayVec;
 use bid_rules::GoodsCase;
+use bid_rules::limits::{MEMBER_ROOM, MOST_GOODS, WHOLE_POINTS};
 
 /// Whether a player envies another, and what would end it (Budish 2011).
 #[derive(Clone, Copy, Debug, PartialEq, Eq)]
@@ -31,7 +33,10 @@ impl Default for Ef1 {
 /// The points that each player gives the goods of each other, less those that they give their own.
 ///
 /// The owners are players by number of the good. Entry (i, j) is above 0 where player i + 1 envies player j + 1.
-pub fn points_table(case: &GoodsCase, owners: &[u8]) -> ArrayVec<ArrayVec<i32, 12>, 12>
+pub fn points_table(
+    case: &GoodsCase,
+    owners: &[u8],
+) -> ArrayVec<ArrayVec<i32, MEMBER_ROOM>, MEMBER_ROOM>
     requires case { IsValidGoodsCase case.now }
     requires each { length owners.now ≡ case.now.facts.goods }
     requires owners { AreOwners case.now owners.now }
@@ -47,7 +52,10 @@ pub fn points_table(case: &GoodsCase, owners: &[u8]) -> ArrayVec<ArrayVec<i32, 1
 /// For each player and each other, whether they envy, and whether taking one good of the other away ends it.
 ///
 /// The owners are players by number of the good.
-pub fn ef1_table(case: &GoodsCase, owners: &[u8]) -> ArrayVec<ArrayVec<Ef1, 12>, 12>
+pub fn ef1_table(
+    case: &GoodsCase,
+    owners: &[u8],
+) -> ArrayVec<ArrayVec<Ef1, MEMBER_ROOM>, MEMBER_ROOM>
     requires case { IsValidGoodsCase case.now }
     requires each { length owners.now ≡ case.now.facts.goods }
     requires owners { AreOwners case.now owners.now }
@@ -60,7 +68,7 @@ pub fn ef1_table(case: &GoodsCase, owners: &[u8]) -> ArrayVec<ArrayVec<Ef1, 12>,
     table
 }
 
-fn points_row(case: &GoodsCase, owners: &[u8], player: u8) -> ArrayVec<i32, 12>
+fn points_row(case: &GoodsCase, owners: &[u8], player: u8) -> ArrayVec<i32, MEMBER_ROOM>
     requires case { IsValidGoodsCase case.now }
     requires each { length owners.now ≡ case.now.facts.goods }
     requires low { 1 ≤ player }
@@ -75,7 +83,7 @@ fn points_row(case: &GoodsCase, owners: &[u8], player: u8) -> ArrayVec<i32, 12>
     row
 }
 
-fn ef1_row(case: &GoodsCase, owners: &[u8], player: u8) -> ArrayVec<Ef1, 12>
+fn ef1_row(case: &GoodsCase, owners: &[u8], player: u8) -> ArrayVec<Ef1, MEMBER_ROOM>
     requires case { IsValidGoodsCase case.now }
     requires each { length owners.now ≡ case.now.facts.goods }
     requires low { 1 ≤ player }
@@ -122,14 +130,16 @@ fn ef1_of(case: &GoodsCase, owners: &[u8], player: u8, other: u8) -> Ef1
     }
 }
 
-/// The points that a player gives the goods of an owner.
-fn points_of(case: &GoodsCase, owners: &[u8], player: u8, owner: u8) -> u32
+/// The points that a player gives the goods of an owner together, both players numbered from 1.
+///
+/// The owners are players by number of the good.
+pub fn points_of(case: &GoodsCase, owners: &[u8], player: u8, owner: u8) -> u32
     requires case { IsValidGoodsCase case.now }
     requires each { length owners.now ≡ case.now.facts.goods }
     requires low { 1 ≤ player }
     requires high { player ≤ player_count case.now }
     ensures value { result ≡ points_for case.now player (goods_of owners.now owner) }
-    ensures small { result ≤ 24000 }
+    ensures small { result ≤ MOST_GOODS * WHOLE_POINTS }
 {
     let mut sum = 0;
     for place in 0..owners.len() {
@@ -147,7 +157,7 @@ fn points_if(case: &GoodsCase, owners: &[u8], player: u8, owner: u8, good: u8) -
     requires good_low { 1 ≤ good }
     requires good_high { good ≤ case.now.facts.goods }
     ensures value { result ≡ if is_owner owners.now owner good then points case.now player good else 0 }
-    ensures small { result ≤ 1000 }
+    ensures small { result ≤ WHOLE_POINTS }
 {
     if owners[good as usize - 1] == owner {
         case.points(player, good)

@@ -9,8 +9,9 @@ ghost use Rattle.envy_check.specs.Envy.{ArePrices, IsEnvy, IsEnvyTable, rows_of}
 ghost use Rattle.split_frac.specs.Frac.{HasValue, IsWithin, pair_of};
 
 use arrayvec::ArrayVec;
-use bid_rules::RentCase;
-use split_frac::{Frac, make, sub};
+use bid_rules::limits::MEMBER_ROOM;
+use bid_rules::{RentCase, rent_value_law};
+use split_frac::{Frac, make, parts_law, sub, value_law};
 
 /// What each member would have with each other's room at its price, less their own utility, in cents.
 ///
@@ -20,7 +21,7 @@ pub fn envy_table(
     case: &RentCase,
     rooms: &[u8],
     prices: &[Frac],
-) -> ArrayVec<ArrayVec<Frac, 12>, 12>
+) -> ArrayVec<ArrayVec<Frac, MEMBER_ROOM>, MEMBER_ROOM>
     requires case { IsValidRentCase case.now }
     requires rooms { IsAssignment case.now rooms.now }
     requires prices { ArePrices case.now prices.now }
@@ -34,7 +35,7 @@ pub fn envy_table(
 }
 
 /// Whether no entry of an envy table is above 0: whether nobody envies anybody.
-pub fn is_envy_free(table: &ArrayVec<ArrayVec<Frac, 12>, 12>) -> bool
+pub fn is_envy_free(table: &ArrayVec<ArrayVec<Frac, MEMBER_ROOM>, MEMBER_ROOM>) -> bool
     ensures entries { IsTrue result ↔ All (λ row. All (λ entry. entry.num ≤ℤ pos 0) row.items) table.now.items }
     ensures prices { (case : RentCase) (rooms : List ℕ) (prices : List Fraction) → IsAssignment case rooms → IsEnvyTable case rooms prices (rows_of table.now)
         → (k : ℕ) (parts : List ℤ) → 1 ≤ k → HasParts prices k parts → (IsTrue result ↔ IsEnvyFree case k rooms parts) }
@@ -42,20 +43,25 @@ pub fn is_envy_free(table: &ArrayVec<ArrayVec<Frac, 12>, 12>) -> bool
     has_none_above(table)
 }
 
-fn has_none_above(table: &ArrayVec<ArrayVec<Frac, 12>, 12>) -> bool
+fn has_none_above(table: &ArrayVec<ArrayVec<Frac, MEMBER_ROOM>, MEMBER_ROOM>) -> bool
     ensures { IsTrue result ↔ All (λ row. All (λ entry. entry.num ≤ℤ pos 0) row.items) table.now.items }
 {
     table.iter().all(|row| is_row_without(row))
 }
 
-fn is_row_without(row: &ArrayVec<Frac, 12>) -> bool
+fn is_row_without(row: &ArrayVec<Frac, MEMBER_ROOM>) -> bool
     ensures { IsTrue result ↔ All (λ entry. entry.num ≤ℤ pos 0) row.now.items }
 {
     row.iter().all(|entry| entry.num <= 0)
 }
 
 /// A member's row of the envy table, by the holder of the room.
-fn envy_row(case: &RentCase, rooms: &[u8], prices: &[Frac], member: usize) -> ArrayVec<Frac, 12>
+fn envy_row(
+    case: &RentCase,
+    rooms: &[u8],
+    prices: &[Frac],
+    member: usize,
+) -> ArrayVec<Frac, MEMBER_ROOM>
     requires case { IsValidRentCase case.now }
     requires rooms { IsAssignment case.now rooms.now }
     requires prices { ArePrices case.now prices.now }
@@ -79,6 +85,9 @@ fn envy_of(case: &RentCase, rooms: &[u8], prices: &[Frac], member: usize, other:
     requires other { other < room_count case.now }
     ensures { IsEnvy case.now rooms.now (map pair_of prices.now) member other (pair_of result) }
 {
+    rent_value_law();
+    parts_law();
+    value_law();
     sub(
         utility_at(case, prices, member, room_of(rooms, other)),
         utility_at(case, prices, member, room_of(rooms, member)),
@@ -106,6 +115,9 @@ pub fn utility_at(case: &RentCase, prices: &[Frac], member: usize, room: u8) -> 
     ensures value { (k : ℕ) (parts : List ℤ) → 1 ≤ k → HasParts (map pair_of prices.now) k parts → IsQuotient (pair_of result) (utility_with case.now k parts member room) k }
     ensures within { IsWithin result }
 {
+    rent_value_law();
+    parts_law();
+    value_law();
     let room = usize::from(room);
     sub(value_of(case, member, room), prices[room - 1])
 }
@@ -118,5 +130,5 @@ fn value_of(case: &RentCase, member: usize, room: usize) -> Frac
     ensures value { HasValue result (value case.now member room) 1 }
     ensures within { IsWithin result }
 {
-    make(i128::from(case.value(member, room)), 1)
+    make(i128::from(case.value(member as u8 + 1, room as u8)), 1)
 }

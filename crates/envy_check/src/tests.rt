@@ -40,8 +40,8 @@ fn plans_of_halves_and_thirds(rt: HostRuntime) -> Result<(), Fail> {
     Ok(())
 }
 
-// A home with these values of three members.
-fn home(rt: &impl Abort, values: &[[u32; 3]; 3]) -> RentCase
+// A rent with these values of three members.
+fn rent_case(rt: &impl Abort, values: &[[u32; 3]; 3]) -> RentCase
     ensures valid { IsValidRentCase result }
     ensures members { room_count result ≡ 3 }
 {
@@ -77,7 +77,7 @@ fn table_of(case: &RentCase, prices: [i32; 3]) -> ArrayVec<ArrayVec<Frac, 12>, 1
 
 #[test]
 fn flat_for_three(rt: HostRuntime) -> Result<(), Fail> {
-    let case = home(&rt, &[[800, 100, 0], [700, 200, 0], [300, 300, 300]]);
+    let case = rent_case(&rt, &[[800, 100, 0], [700, 200, 0], [300, 300, 300]]);
     let table = table_of(&case, [700, 100, 100]);
     assert_eq!(rt; table.len(), 3);
     for (row, expected) in table
@@ -112,8 +112,8 @@ fn both() -> ArrayVec<u8, 12>
     who
 }
 
-/// Two heirs of two goods.
-fn heirs() -> GoodsCase
+/// Two players and two goods.
+fn two_players() -> GoodsCase
     ensures valid { IsValidGoodsCase result }
     ensures players { player_count result ≡ 2 }
     ensures goods { result.facts.goods ≡ 2 }
@@ -134,7 +134,7 @@ fn heirs() -> GoodsCase
 
 #[test]
 fn heirs_and_their_goods(rt: HostRuntime) -> Result<(), Fail> {
-    let case = heirs();
+    let case = two_players();
     let rows = points_table(&case, &[1, 2]);
     let expected: [[i32; 2]; 2] = [[0, -400], [-200, 0]];
     assert_eq!(rt; rows.len(), 2);

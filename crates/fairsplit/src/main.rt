@@ -1,19 +1,23 @@
 //! The program: the commands over the standard streams.
 #![tactic(auto)]
 
+mod arguments;
 mod streams;
+#[cfg(test)]
+mod tests;
 mod words;
 
+use arguments::Started;
 use split_base::{NoMemory, write_all};
 use split_top::run;
+use std::io;
 use std::process::ExitCode;
-use std::{env, io};
 use streams::{Reading, Writing};
 use words::words_of;
 
 fn main(rt: HostRuntime) -> ExitCode {
     let mut output = Writing::new(io::writer(&rt));
-    let words = match words_of(rt.alloc(), env::args(&rt)) {
+    let words = match words_of(rt.alloc(), &Started::new(&rt)) {
         Ok(words) => words,
         Err(NoMemory) => {
             let _ = write_all(&mut output, b"no memory\n");

@@ -1,5 +1,6 @@
 // A reader as a source and a writer as a sink: each failed call of theirs is counted as a fault.
-ghost use Rattle.std.specs.Prelude.{◌≡◌};
+ghost use Rattle.std.specs.Prelude.{◌≡◌, ◌≤◌};
+ghost use Rattle.split_base.specs.Faults.{HasRisen, counted};
 
 use split_base::{Failed, Sink, Source};
 use std::io::{Read, Write};
@@ -18,6 +19,12 @@ impl<R: Read> Reading<R> {
     {
         Reading { inner, faults: 0 }
     }
+
+    /// How many of its reads have failed.
+    #[cfg(test)]
+    pub fn faults(&self) -> u64 {
+        self.faults
+    }
 }
 
 impl<R: Read> Source for Reading<R> {
@@ -28,10 +35,7 @@ impl<R: Read> Source for Reading<R> {
     fn read(&mut self, into: &mut [u8]) -> Result<usize, Failed> {
         match self.inner.read(into) {
             Ok(count) => Ok(count),
-            Err(_) => {
-                self.faults = self.faults.saturating_add(1);
-                Err(Failed)
-            }
+            Err(_) => Err(fault(&mut self.faults)),
         }
     }
 }
@@ -50,6 +54,12 @@ impl<W: Write> Writing<W> {
     {
         Writing { inner, faults: 0 }
     }
+
+    /// How many of its writes have failed.
+    #[cfg(test)]
+    pub fn faults(&self) -> u64 {
+        self.faults
+    }
 }
 
 impl<W: Write> Sink for Writing<W> {
@@ -61,10 +71,17 @@ impl<W: Write> Sink for Writing<W> {
     fn write(&mut self, piece: &[u8]) -> Result<usize, Failed> {
         match self.inner.write(piece) {
             Ok(count) if count > 0 || piece.is_empty() => Ok(count),
-            _ => {
-                self.faults = self.faults.saturating_add(1);
-                Err(Failed)
-            }
+            _ => Err(fault(&mut self.faults)),
         }
     }
+}
+
+// Counts a fault.
+fn fault(faults: &mut u64) -> Failed
+    ensures count { faults.new ≡ counted faults.old }
+    ensures risen { HasRisen faults.old faults.new }
+    ensures never_falls { faults.old ≤ faults.new }
+{
+    *faults = faults.saturating_add(1);
+    Failed
 }

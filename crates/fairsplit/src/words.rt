@@ -1,23 +1,29 @@
-ghost use Rattle.std.specs.Prelude.{◌≡◌, [], IfErr, IfOk};
+// The words of a command.
+ghost use Rattle.std.specs.Prelude.{IfOk, IfSome, map, string_bytes};
+ghost use Rattle.fairsplit.specs.Words.{IsWords};
 
+use crate::arguments::Arguments;
 use split_base::NoMemory;
 use std::alloc::Global;
-use std::env::Args;
-use std::io;
-use std::io::ErrorKind;
 
-/// The words after the program's name. Where one of them is no UTF-8 there are no words at all.
+/// The words of a command: all arguments after the program's own path, in order. Where one of
+/// those is no UTF-8 there are no words at all. The program's own path may be any bytes.
 ///
 /// `NoMemory` comes where there was no memory for the words.
-pub fn words_of(alloc: Global, args: io::Result<Args<Global>>) -> Result<Vec<String>, NoMemory>
-    ensures { IfErr args (λ _. IfOk result (λ words. words.items ≡ [])) }
+pub fn words_of<A: Arguments>(alloc: Global, arguments: &A) -> Result<Vec<String>, NoMemory>
+    ensures { IfOk result (λ words. IfSome (A.told arguments.now) (λ all. IsWords all (map string_bytes words.items))) }
 {
-    match args {
-        Ok(mut args) => {
-            let _program = args.next();
-            args.collect(alloc).map_err(|_| NoMemory)
+    let mut words = Vec::new(alloc);
+    for place in 1..usize::MAX {
+        let Some(bytes) = arguments.argument(alloc, place)? else {
+            return Ok(words);
+        };
+        let Ok(word) = String::from_utf8(bytes) else {
+            return Ok(Vec::new(alloc));
+        };
+        if words.push(word).is_err() {
+            return Err(NoMemory);
         }
-        Err(error) if error.kind() == ErrorKind::OutOfMemory => Err(NoMemory),
-        Err(_) => Ok(Vec::new(alloc)),
     }
+    Err(NoMemory)
 }

@@ -1,7 +1,4 @@
-pub mod LeastRoute
-pub mod ListedOrders
-pub mod Riders
-pub mod RouteCosts
-pub mod SetLaws
-pub mod Sets
-pub mod Tables
+pub mod FirstRiders
+pub mod LeastRoutes
+pub mod SetBits
+pub mod TableRows

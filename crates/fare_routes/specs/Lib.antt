@@ -1,2 +1,1 @@
-pub mod Routes
 pub mod Table

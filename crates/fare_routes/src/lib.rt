@@ -1,15 +1,13 @@
-//! What each set of riders costs, and the least of the cheapest routes.
+//! What each set of riders costs, and the least of the cheapest routes, by the recursion over sets of riders.
 #![tactic(auto)]
 
-mod laws;
-mod listing;
-mod orders;
-mod routes;
+mod filling;
+mod recurrence;
+mod riders;
 mod table;
 #[cfg(test)]
 mod tests;
 
-pub use laws::coalition_law;
-pub use listing::costs;
-pub use orders::{Order, orders_of, riders_in_turn};
+pub use filling::costs;
+pub use riders::{riders_of_set, without};
 pub use table::Costs;

@@ -1,7 +1,6 @@
 pub mod Bound
 pub mod Levels
 pub mod Prefixes
-pub mod PairTests
 pub mod OwnerLists
 pub mod Allocations
 pub mod Tasks
@@ -10,3 +9,10 @@ pub mod Steps
 pub mod Start
 pub mod Tables
 pub mod SlowFilling
+pub mod Lanes
+pub mod Reach
+pub mod Serving
+pub mod LeftOut
+pub mod FarLanes
+pub mod NextOwner
+pub mod Raised

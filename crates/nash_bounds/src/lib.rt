@@ -3,19 +3,28 @@
 //! The definitions of start value, counted prefixes and step count stand here too. They speak of allocations, and of no search.
 #![tactic(auto)]
 
+mod lanes;
 mod laws;
 mod levels;
+pub mod limits;
 mod order;
+mod owners;
 mod prefix;
+mod reach;
+mod step_laws;
 mod table;
 
 pub use bid_rules::Pair;
-pub use laws::{
-    allocations_law, best_before_law, bound_law, owners_by_good_law, search_order_law,
-    slow_filling_law, start_value_law, whole_list_law,
-};
+pub use lanes::{LaneRow, LaneTable, Lanes, fork, give, join, lane_table, lanes_of, players, take};
+pub use laws::{bound_law, owners_by_good_law, search_order_law, slow_filling_law, whole_list_law};
 pub use order::search_order;
+pub use owners::{owners_by_good, owners_in_order};
 pub use prefix::{Prefix, bound, empty_prefix, extend, extend_by};
+pub use reach::{Flat, flat_of, lane_bound, may_reach, next_bound};
+pub use step_laws::{
+    allocations_law, best_before_law, best_counted_law, open_prefixes_law, owner_lists_law,
+    serving_law, steps_law, tasks_law,
+};
 pub use table::{PointRow, PointTable, point_table};
 
 #[cfg(test)]

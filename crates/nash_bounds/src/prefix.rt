@@ -4,13 +4,15 @@ ghost use Rattle.bid_rules.specs.Pairs.{IsAtMost};
 ghost use Rattle.bid_rules.specs.Goods.{IsValidGoodsCase, player_count, order_of, utilities};
 ghost use Rattle.nash_bounds.specs.Bound.{IsBound};
 ghost use Rattle.nash_bounds.specs.Levels.{bound_of};
-ghost use Rattle.nash_bounds.specs.Prefixes.{IsPrefix, HasBound, IsNext, highest, top_of};
+ghost use Rattle.nash_bounds.specs.Prefixes.{IsPrefix, HasBound, highest, top_of};
+ghost use Rattle.nash_bounds.specs.NextOwner.{IsNext};
 ghost use Rattle.nash_bounds.specs.Tables.{IsRow, IsTable};
 
 use crate::levels::bound_between;
 use crate::order::greatest;
 use crate::table::{PointRow, PointTable, point_row};
 use arrayvec::ArrayVec;
+use bid_rules::limits::{ITEM_ROOM, MEMBER_ROOM, WHOLE_POINTS};
 use bid_rules::{GoodsCase, Pair};
 
 /// Owners of the first few goods in search order. The other goods are free.
@@ -19,11 +21,11 @@ use bid_rules::{GoodsCase, Pair};
 #[derive(Drop)]
 pub struct Prefix {
     /// The owner, a player from 1, of each of the first few goods in search order.
-    pub owners: ArrayVec<u8, 24>,
+    pub owners: ArrayVec<u8, ITEM_ROOM>,
     /// By player the points that they have so far.
-    pub low: ArrayVec<u32, 12>,
-    /// By player the points that they would have with all free goods, at most 1000.
-    pub high: ArrayVec<u32, 12>,
+    pub low: ArrayVec<u32, MEMBER_ROOM>,
+    /// By player the points that they would have with all free goods, at most `WHOLE_POINTS`.
+    pub high: ArrayVec<u32, MEMBER_ROOM>,
     /// The sum of `low` and, for each free good, the greatest points that any player gives it.
     pub top: u32,
 }
@@ -31,8 +33,8 @@ pub struct Prefix {
 /// A prefix's `low`, `high` and `top`.
 #[derive(Drop)]
 struct Limits {
-    low: ArrayVec<u32, 12>,
-    high: ArrayVec<u32, 12>,
+    low: ArrayVec<u32, MEMBER_ROOM>,
+    high: ArrayVec<u32, MEMBER_ROOM>,
     top: u32,
 }
 
@@ -45,7 +47,13 @@ pub fn bound(prefix: &Prefix) -> Pair
     ensures greatest { IsBound prefix.now.low.items prefix.now.high.items prefix.now.top result }
     ensures value { result ≡ bound_of prefix.now.low.items prefix.now.high.items prefix.now.top }
 {
-    bound_between(prefix.low.as_slice(), prefix.high.as_slice(), prefix.top)
+    let players = (prefix.low.len() as u32).max(1);
+    bound_between(
+        prefix.low.as_slice(),
+        prefix.high.as_slice(),
+        prefix.top,
+        prefix.top / players,
+    )
 }
 
 /// The prefix in which no good has an owner.
@@ -59,7 +67,7 @@ pub fn empty_prefix(case: &GoodsCase) -> Prefix
     let mut high = ArrayVec::new();
     for _place in 0..case.values.len() {
         low.push(0);
-        high.push(1000);
+        high.push(WHOLE_POINTS);
     }
     let mut top = 0;
     for k in 0..case.facts.goods {

@@ -1,6 +1,8 @@
-pub mod Counted
-pub mod Tasks
-pub mod Steps
+pub mod Best
+pub mod Ends
+pub mod SearchEnds
 pub mod Division
-pub mod Totals
 pub mod First
+pub mod Waiting
+pub mod Pieces
+pub mod Tables

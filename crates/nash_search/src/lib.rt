@@ -5,18 +5,21 @@
 
 mod blocks;
 mod division;
+mod found;
 mod laws;
-mod pairs;
+mod pieces;
 mod start;
+mod tables;
+mod tally;
 mod task;
-mod totals;
 mod walk;
 
 pub use division::{GoodsDivision, OverLimit, search_alone};
+pub use found::{Found, better};
 pub use laws::step_count_law;
+pub use pieces::{TaskWalk, start_walk};
 pub use start::start_value;
 pub use task::{TaskEnd, search_task, tasks};
-pub use walk::Found;
 
 #[cfg(test)]
 mod plain;

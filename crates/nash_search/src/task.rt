@@ -2,21 +2,25 @@ ghost use Rattle.std.specs.Prelude.{◌≡◌, ℕ, ◌+◌, ◌-◌, ◌*◌, �
 ghost use Rattle.bid_rules.specs.Goods.{IsValidGoodsCase, player_count};
 ghost use Rattle.nash_bounds.specs.Prefixes.{IsPrefix, HasBound};
 ghost use Rattle.nash_bounds.specs.Tasks.{depth_of, tasks_of, task_list};
-ghost use Rattle.nash_bounds.specs.Counted.{counted_leaves};
-ghost use Rattle.nash_search.specs.Tasks.{IsTaskEnd, HasBest};
+ghost use Rattle.nash_bounds.specs.Counted.{count_task, counted_leaves};
+ghost use Rattle.nash_search.specs.Ends.{EndsTask};
+ghost use Rattle.nash_search.specs.Tables.{AreTables};
 ghost use Rattle.nash_bounds.specs.Tables.{IsTable};
 
-use crate::totals::least_total;
-use crate::walk::{Found, Rules, Tally, walk};
+use crate::found::Found;
+use crate::pieces::walk_by;
+use crate::tables::Tables;
 use bid_rules::GoodsCase;
-use nash_bounds::{Pair, PointTable, Prefix, empty_prefix, extend_by, point_table, search_order};
+use bid_rules::limits::MOST_STEPS;
+use nash_bounds::limits::{FEWEST_LISTS, MOST_TASKS};
+use nash_bounds::{Pair, PointTable, Prefix, empty_prefix, extend_by, owner_lists_law};
 
 /// How the search of a task ended.
 #[derive(Debug, Drop, PartialEq, Eq)]
 pub enum TaskEnd {
     /// All counted prefixes are counted: how many, and the best allocation among them, `None` where none is an allocation.
     Done { nodes: u32, best: Option<Found> },
-    /// The counted prefixes are more than the allowance. So are `nodes`, and they are at most the counted prefixes.
+    /// The counted prefixes are more than the allowance, and `nodes` is one above it.
     Stopped { nodes: u32 },
 }
 
@@ -31,13 +35,14 @@ fn split_tasks(case: &GoodsCase) -> Split
     requires { IsValidGoodsCase case.now }
     ensures depth { result.depth ≡ depth_of case.now }
     ensures tasks { result.tasks ≡ tasks_of case.now }
-    ensures few { result.tasks ≤ 756 }
+    ensures few { result.tasks ≤ MOST_TASKS }
     ensures short { result.depth ≤ case.now.facts.goods }
+    ensures some { 0 < depth_of case.now }
 {
     let players = case.values.len() as u32;
     let mut depth = 0;
     let mut tasks = 1;
-    while depth < case.facts.goods && tasks < 64 {
+    while depth < case.facts.goods && tasks < FEWEST_LISTS {
         tasks *= players;
         depth += 1;
     }
@@ -46,11 +51,11 @@ fn split_tasks(case: &GoodsCase) -> Split
 
 /// How many tasks a case has: one for each list of owners of the first few goods in search order.
 ///
-/// The lists have the least length of which there are at least 64, or have an owner for each good.
+/// The lists have the least length of which there are at least `FEWEST_LISTS`, or have an owner for each good.
 pub fn tasks(case: &GoodsCase) -> u32
     requires { IsValidGoodsCase case.now }
     ensures value { result ≡ tasks_of case.now }
-    ensures few { result ≤ 756 }
+    ensures few { result ≤ MOST_TASKS }
 {
     split_tasks(case).tasks
 }
@@ -62,9 +67,11 @@ pub(crate) fn task_prefix(case: &GoodsCase, table: &PointTable, task: u32) -> Pr
     requires task { task < tasks_of case.now }
     ensures owners { result.owners.items ≡ task_list case.now task }
     ensures long { length result.owners.items ≡ depth_of case.now }
+    ensures some { 0 < length result.owners.items }
     ensures prefix { IsPrefix case.now result }
     ensures bound { HasBound result }
 {
+    owner_lists_law();
     let split = split_tasks(case);
     let players = case.values.len() as u32;
     let mut left = split.tasks;
@@ -79,10 +86,10 @@ pub(crate) fn task_prefix(case: &GoodsCase, table: &PointTable, task: u32) -> Pr
 }
 
 /// Counts the prefixes of a task whose bound is at least `floor` and, where `above` is there, greater than it, and finds the best
-/// allocation among them, the least among equals.
+/// allocation among them, the least list among equals.
 ///
-/// `task` is a task of the case, from 0, and `allowance` at most 200,000. The search stops exactly where more prefixes are counted than
-/// the allowance.
+/// `task` is a task of the case, from 0, and `allowance` at most `MOST_STEPS`. The search stops exactly where more prefixes are counted than
+/// the allowance, and then it has counted one more.
 pub fn search_task(
     case: &GoodsCase,
     task: u32,
@@ -92,29 +99,35 @@ pub fn search_task(
 ) -> TaskEnd
     requires case { IsValidGoodsCase case.now }
     requires task { task < tasks_of case.now }
-    requires allowance { allowance ≤ 200000 }
-    ensures end { IsTaskEnd case.now task floor above allowance result }
-    ensures best { HasBest case.now (counted_leaves case.now task floor above) result }
+    requires allowance { allowance ≤ MOST_STEPS }
+    ensures { EndsTask case.now (count_task case.now task floor above) (counted_leaves case.now task floor above) allowance result }
 {
-    let order = search_order(case);
-    let table = point_table(case, order.as_slice());
-    let prefix = task_prefix(case, &table, task);
-    let rules = Rules {
-        floor,
-        above,
-        allowance,
-        least: least_total(case.values.len() as u8, floor, above),
-    };
-    let mut tally = Tally {
-        nodes: 0,
-        best: None,
-    };
-    if walk(case, &table, &prefix, &rules, &mut tally) {
-        TaskEnd::Done {
-            nodes: tally.nodes,
-            best: tally.best,
-        }
-    } else {
-        TaskEnd::Stopped { nodes: tally.nodes }
+    search_by(case, &Tables::of(case), task, floor, above, allowance)
+}
+
+/// The same with the case's tables at hand.
+pub(crate) fn search_by(
+    case: &GoodsCase,
+    tables: &Tables,
+    task: u32,
+    floor: Pair,
+    above: Option<Pair>,
+    allowance: u32,
+) -> TaskEnd
+    requires case { IsValidGoodsCase case.now }
+    requires tables { AreTables case.now tables.now }
+    requires task { task < tasks_of case.now }
+    requires allowance { allowance ≤ MOST_STEPS }
+    ensures { EndsTask case.now (count_task case.now task floor above) (counted_leaves case.now task floor above) allowance result }
+{
+    let mut walk = walk_by(case, tables, task, floor, above);
+    let _all = walk.advance(case, allowance + 1);
+    let nodes = walk.nodes();
+    if nodes > allowance {
+        return TaskEnd::Stopped { nodes };
+    }
+    TaskEnd::Done {
+        nodes,
+        best: walk.best(),
     }
 }

@@ -1,52 +1,40 @@
--- Greatest keys, longest walks and the prices of the formula make the solver's division.
-use Rattle.std.proofs.Common.{◌≤◌, map, arith}
-use Rattle.bid_rules.specs.declared.rents.RentCase.{RentCase}
-use Rattle.bid_rules.specs.Fractions.{IsQuotient}
-use Rattle.bid_rules.specs.Keys.{AreDualNumbers, HasGreatestKeySum, key_step}
-use Rattle.bid_rules.specs.Maximin.{AreMaximinPrices, least_in_parts, value_step}
-use Rattle.bid_rules.specs.Rent.{IsValidRentCase, IsWithinRent, room_count}
-use Rattle.bid_rules.specs.Walks.{AreGreatestWeights, AreRanks}
-use Rattle.bid_rules.proofs.PriceRange.{best_within, formula_within}
-use Rattle.bid_rules.proofs.ShownRents.{shown_is_best, shown_least}
-use Rattle.bid_rules.proofs.UniqueRents.{best_whole}
-use Rattle.bid_rules.proofs.WalkWeights.{greatest_shown}
+-- A case has one division.
+use Rattle.std.proofs.Common.{◌≡◌, ℕ, ℤ, pos, ◌*ℤ◌, List, [], ◌∷◌, map, refl, ap, ◌∙◌}
+use Rattle.std.specs.List.{AllZip}
+use Rattle.bid_rules.specs.Fractions.{HasSameValue}
 use Rattle.rent_maximin.specs.declared.division.RentDivision.{RentDivision}
-use Rattle.rent_maximin.specs.Division.{IsRentDivision}
-use Rattle.rent_maximin.proofs.Ranges.{of_pairs, prices_divide, quotient_divides}
+use Rattle.split_frac.specs.declared.frac.Frac.{Frac}
 use Rattle.split_frac.specs.Frac.{pair_of}
 
--- what the parts of the division are computed to be
-pub record IsComputed (case : RentCase) (division : RentDivision) : Type 0 where
-  pub least_formula : IsQuotient (pair_of division.least) (least_in_parts case division.best.rooms.items division.walks.weights.items) (room_count case)
-  pub prices : AreMaximinPrices case division.best.rooms.items division.walks.weights.items (map pair_of division.prices.items)
-  pub rooms : HasGreatestKeySum case division.best.rooms.items
-  pub left : AreGreatestWeights (room_count case) (key_step case division.best.rooms.items) division.best.left.items
-  pub dual : AreDualNumbers case division.best.rooms.items division.best.left.items division.best.right.items
-  pub walks : AreGreatestWeights (room_count case) (value_step case division.best.rooms.items) division.walks.weights.items
-  pub ranks : AreRanks (room_count case) (value_step case division.best.rooms.items) division.walks.weights.items division.walks.ranks.items
+-- fractions whose cross products agree are equal
+abbrev pub HaveOneValue : Type 0
+HaveOneValue = (a b : Frac) → a.num *ℤ pos b.den ≡ b.num *ℤ pos a.den → a ≡ b
 
--- such parts are the best division
-pub is_division : (case : RentCase) (division : RentDivision) → IsValidRentCase case → IsComputed case division → IsRentDivision case division
-is_division case division valid parts =
-    let rooms = division.best.rooms.items in
-    let walks = division.walks.weights.items in
-    let prices = map pair_of division.prices.items in
-    let some : 1 ≤ room_count case = (let few = valid.facts.0 in omega arith) in
-    let shown = greatest_shown (room_count case) (value_step case rooms) walks parts.walks in
-    let best = shown_is_best case rooms walks prices some parts.rooms shown parts.prices in
-    record {
-      best = best;
-      least = shown_least case rooms walks prices (pair_of division.least) some parts.rooms.assignment shown parts.prices parts.least_formula;
-      least_formula = parts.least_formula;
-      prices = parts.prices;
-      total = best_whole case rooms prices best;
-      rooms = parts.rooms;
-      left = parts.left;
-      dual = parts.dual;
-      walks = parts.walks;
-      ranks = parts.ranks;
-      price_parts = prices_divide case rooms walks division.prices.items parts.rooms.assignment parts.prices;
-      price_range = of_pairs (λ price. IsWithinRent case price.1 price.0) division.prices.items (best_within case rooms prices valid best);
-      least_parts = quotient_divides division.least (least_in_parts case rooms walks) (room_count case) parts.least_formula;
-      least_range = formula_within case rooms walks prices (pair_of division.least) valid parts.rooms.assignment shown parts.prices parts.least_formula;
-    }
+-- so are lists of fractions of the same values
+pub same_fractions : HaveOneValue → (xs ys : List Frac) → AllZip HasSameValue (map pair_of xs) (map pair_of ys) → xs ≡ ys
+same_fractions value [] [] h = refl
+same_fractions value [] (y ∷ ys) h = absurd h
+same_fractions value (x ∷ xs) [] h = absurd h
+same_fractions value (x ∷ xs) (y ∷ ys) h = ap (λ z. z ∷ xs) (value x y h.0) ∙ ap (λ zs. y ∷ zs) (same_fractions value xs ys h.1)
+
+-- a division from its lists
+made : List ℕ → List ℤ → List ℤ → List Frac → Frac → List ℤ → List ℕ → RentDivision
+made rooms left right prices least weights ranks = record {
+  best = record { rooms = record { items = rooms }; left = record { items = left }; right = record { items = right } };
+  prices = record { items = prices };
+  least = least;
+  walks = record { weights = record { items = weights }; ranks = record { items = ranks } };
+}
+
+-- divisions of the same lists are equal
+pub same_division : (d e : RentDivision) → d.best.rooms.items ≡ e.best.rooms.items → d.best.left.items ≡ e.best.left.items → d.best.right.items ≡ e.best.right.items → d.prices.items ≡ e.prices.items → d.least ≡ e.least
+    → d.walks.weights.items ≡ e.walks.weights.items → d.walks.ranks.items ≡ e.walks.ranks.items → d ≡ e
+unfolding made
+same_division d e rooms left right prices least weights ranks =
+    ap (λ x. made x d.best.left.items d.best.right.items d.prices.items d.least d.walks.weights.items d.walks.ranks.items) rooms
+    ∙ ap (λ x. made e.best.rooms.items x d.best.right.items d.prices.items d.least d.walks.weights.items d.walks.ranks.items) left
+    ∙ ap (λ x. made e.best.rooms.items e.best.left.items x d.prices.items d.least d.walks.weights.items d.walks.ranks.items) right
+    ∙ ap (λ x. made e.best.rooms.items e.best.left.items e.best.right.items x d.least d.walks.weights.items d.walks.ranks.items) prices
+    ∙ ap (λ x. made e.best.rooms.items e.best.left.items e.best.right.items e.prices.items x d.walks.weights.items d.walks.ranks.items) least
+    ∙ ap (λ x. made e.best.rooms.items e.best.left.items e.best.right.items e.prices.items e.least x d.walks.ranks.items) weights
+    ∙ ap (λ x. made e.best.rooms.items e.best.left.items e.best.right.items e.prices.items e.least e.walks.weights.items x) ranks

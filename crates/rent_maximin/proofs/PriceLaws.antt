@@ -1,27 +1,28 @@
--- Prices that are made room by room are those of the formula.
-use Rattle.std.proofs.Common.{◌≡◌, ℕ, ℤ, pos, ◌+◌, ◌-◌, ◌<◌, ◌≤◌, List, [], ◌∷◌, ◌++◌, length, map, get_or, arith, sym, ap, ◌∙◌, subst, ⊎_elim}
-use Rattle.std.proofs.lemmas.Bool.{cases_lt}
-use Rattle.std.proofs.lemmas.List.{get_or_push, get_or_append_left, length-map, map-append}
+-- What the prices are computed from, and that prices made room by room are those of the formula.
+use Rattle.std.proofs.Common.{◌≡◌, ℕ, ℤ, pos, ◌-◌, ◌*◌, ◌^◌, ◌<◌, ◌≤◌, List, length, All, get_or, unsigned_abs, arith, sym, ap, ◌∙◌, subst}
+use Rattle.std.proofs.lemmas.List.Elements.{All-weaker}
+use Rattle.bid_rules.specs.declared.limits.TheConstants.{MOST_MEMBERS}
 use Rattle.bid_rules.specs.declared.rents.RentCase.{RentCase}
 use Rattle.bid_rules.specs.Fractions.{Fraction, IsQuotient}
-use Rattle.bid_rules.specs.Rent.{room_count, IsAssignment}
+use Rattle.bid_rules.specs.Rent.{room_count, IsAssignment, IsValidRentCase}
 use Rattle.bid_rules.specs.Maximin.{price_in_parts, AreMaximinPrices}
-use Rattle.bid_rules.proofs.Permutations.{permutation_apart}
-use Rattle.bid_rules.proofs.RoomPlaces.{room_range}
-use Rattle.rent_maximin.specs.Prices.{IsPriceAt}
-use Rattle.split_frac.specs.declared.frac.Frac.{Frac}
-use Rattle.split_frac.specs.Frac.{pair_of}
+use Rattle.split_lemmas.proofs.Permutations.{permutation_apart}
+use Rattle.split_lemmas.proofs.RoomPlaces.{room_range, rooms_length}
+use Rattle.rent_maximin.specs.Prices.{HasWalks, IsPriceAt}
 
--- one price more in a list that is made room by room
-pub push_price : (P : ℕ → Fraction → Type 0) (k : ℕ) (prices : List Frac) (price : Frac) → length prices ≡ k → ((i : ℕ) → i < k → P i (get_or (map pair_of prices) i (pos 0, 1))) → P k (pair_of price)
-    → (i : ℕ) → i < k + 1 → P i (get_or (map pair_of (prices ++ price ∷ [])) i (pos 0, 1))
-push_price P k prices price e h here i l =
-    let count : length (map pair_of prices) ≡ k = length-map prices pair_of ∙ e in
-    let pairs : map pair_of (prices ++ price ∷ []) ≡ map pair_of prices ++ pair_of price ∷ [] = map-append pair_of prices (price ∷ []) in
-    subst (λ (zs : List Fraction). P i (get_or zs i (pos 0, 1))) (sym pairs) (⊎_elim
-    (λ (early : i < k). let a : i < length (map pair_of prices) = omega arith in subst (P i) (sym (get_or_append_left (map pair_of prices) (pair_of price ∷ []) (pos 0, 1) i a)) (h i early))
-    (λ (late : k ≤ i). let is : i ≡ k = omega arith in subst (P i) (sym (get_or_push (map pair_of prices) (pair_of price) (pos 0, 1) i (count ∙ sym is))) (subst (λ j. P j (pair_of price)) (sym is) here))
-    (cases_lt i k))
+-- rooms and walks that are read from lists are those that the prices are computed from
+pub has_walks : (case : RentCase) (s rooms : List ℕ) (weights walks : List ℤ) → IsValidRentCase case → IsAssignment case s → length weights ≡ room_count case → All (λ z. unsigned_abs z ≤ 10 ^ 21 * room_count case) weights
+    → rooms ≡ s → walks ≡ weights → HasWalks case rooms walks
+has_walks case s rooms weights walks valid h count small same read =
+    let n = room_count case in
+    let few = valid.facts.0 in
+    record {
+      valid = valid;
+      assignment = subst (IsAssignment case) (sym same) h;
+      rooms_count = ap length same ∙ rooms_length n s h;
+      walks_count = ap length read ∙ count;
+      small = subst (All (λ z. unsigned_abs z ≤ MOST_MEMBERS * 10 ^ 21)) (sym read) (All-weaker (λ z. unsigned_abs z ≤ 10 ^ 21 * n) (λ z. unsigned_abs z ≤ MOST_MEMBERS * 10 ^ 21) (λ z a. omega (arith, a, few)) weights small);
+    }
 
 -- the prices by room are those of the formula by member
 pub prices_are : (case : RentCase) (s : List ℕ) (walks : List ℤ) (prices : List Fraction) → IsAssignment case s → length prices ≡ room_count case

@@ -1,36 +1,25 @@
 -- Prices in n-ths of a cent that are at most the rent: their denominators and ranges.
-use Rattle.std.proofs.Common.{◌≡◌, ℕ, ℤ, pos, ◌*◌, ◌^◌, ◌<◌, ◌≤◌, List, [], ◌∷◌, map, All, arith, sym, ap, ◌∙◌, subst, unsigned_abs}
+use Rattle.std.proofs.Common.{ℕ, ℤ, ◌*◌, ◌^◌, ◌<◌, ◌≤◌, List, [], ◌∷◌, map, All, arith, unsigned_abs}
 use Rattle.std.specs.Int.{◌∣◌}
 use Rattle.std.specs.List.{AllZip}
-use Rattle.std.proofs.lemmas.Int.{unsigned_abs-mul}
 use Rattle.std.proofs.lemmas.List.Elements.{All-nil, All-cons, All-head, All-tail}
-use Rattle.std.proofs.Math.Nat.{dvd-mul_left, le_of_dvd, mul-le-mul_left}
+use Rattle.std.proofs.Math.Nat.{le_of_dvd, mul-le-mul_left}
 use Rattle.bid_rules.specs.declared.rents.RentCase.{RentCase}
 use Rattle.bid_rules.specs.Fractions.{Fraction, IsQuotient}
-use Rattle.bid_rules.specs.Rent.{IsAssignment, IsValidRentCase, IsWithinRent, room_count}
-use Rattle.bid_rules.specs.Maximin.{AreMaximinPrices}
-use Rattle.bid_rules.proofs.ShownRents.{formula_parts}
+use Rattle.bid_rules.specs.Rent.{IsValidRentCase, IsWithinRent, room_count}
 use Rattle.split_frac.specs.declared.frac.Frac.{Frac}
-use Rattle.split_frac.specs.Frac.{IsWithin, pair_of}
-use Rattle.split_frac.proofs.Coprime.{coprime_divides}
+use Rattle.split_frac.specs.Frac.{HasValue, IsWithin, pair_of}
 
--- the denominator of a quotient in lowest terms divides the number of parts
-pub quotient_divides : (a : Frac) (whole : ℤ) (n : ℕ) → IsQuotient (pair_of a) whole n → a.den ∣ n
-quotient_divides a whole n is =
-    let same : unsigned_abs a.num * n ≡ unsigned_abs whole * a.den = sym (unsigned_abs-mul a.num (pos n)) ∙ ap unsigned_abs is.1 ∙ unsigned_abs-mul whole (pos a.den) in
-    coprime_divides (unsigned_abs a.num) a.den n a.lowest (subst (λ k. a.den ∣ k) (sym same) (dvd-mul_left a.den (unsigned_abs whole)))
+-- the denominator of a fraction divides that of each way to write its value
+abbrev pub DenominatorsDivide : Type 0
+DenominatorsDivide = (a : Frac) (num : ℤ) (den : ℕ) → HasValue a num den → a.den ∣ den
 
--- so do those of a list of quotients
-all_divide : (n : ℕ) (prices : List Frac) (parts : List ℤ) → AllZip (λ price part. IsQuotient price part n) (map pair_of prices) parts → All (λ (price : Frac). price.den ∣ n) prices
-all_divide n [] parts zip = All-nil (λ (price : Frac). price.den ∣ n)
-all_divide n (price ∷ prices) [] zip = absurd zip
-all_divide n (price ∷ prices) (part ∷ parts) zip =
-    All-cons (λ (price : Frac). price.den ∣ n) price prices (quotient_divides price part n zip.0) (all_divide n prices parts zip.1)
-
--- the prices of the formula are in whole n-ths
-pub prices_divide : (case : RentCase) (rooms : List ℕ) (walks : List ℤ) (prices : List Frac) → IsAssignment case rooms → AreMaximinPrices case rooms walks (map pair_of prices)
-    → All (λ (price : Frac). price.den ∣ room_count case) prices
-prices_divide case rooms walks prices h formula = let found = formula_parts case rooms walks (map pair_of prices) h formula in all_divide (room_count case) prices found.parts found.in_parts
+-- the denominators of quotients in lowest terms divide the number of parts
+pub all_divide : DenominatorsDivide → (n : ℕ) (prices : List Frac) (parts : List ℤ) → AllZip (λ price part. IsQuotient price part n) (map pair_of prices) parts → All (λ (price : Frac). price.den ∣ n) prices
+all_divide divides n [] parts zip = All-nil (λ (price : Frac). price.den ∣ n)
+all_divide divides n (price ∷ prices) [] zip = absurd zip
+all_divide divides n (price ∷ prices) (part ∷ parts) zip =
+    All-cons (λ (price : Frac). price.den ∣ n) price prices (divides price part n zip.0.1) (all_divide divides n prices parts zip.1)
 
 -- what holds of all pairs holds of all fractions
 pub of_pairs : (P : Fraction → Type 0) (prices : List Frac) → All P (map pair_of prices) → All (λ price. P (pair_of price)) prices

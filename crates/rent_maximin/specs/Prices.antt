@@ -1,9 +1,23 @@
--- Prices by room, where the formula goes by member.
-use Rattle.std.specs.Prelude.{◌≡◌, ℕ, ℤ, ◌+◌, ◌<◌, List, slice_index}
+-- What the prices are computed from, and prices by room, where the formula goes by member.
+use Rattle.std.specs.Prelude.{◌≡◌, ℕ, ℤ, ◌+◌, ◌*◌, ◌<◌, ◌≤◌, ◌^◌, List, length, All, slice_index, unsigned_abs}
+use Rattle.bid_rules.specs.declared.limits.TheConstants.{MOST_MEMBERS}
 use Rattle.bid_rules.specs.declared.rents.RentCase.{RentCase}
 use Rattle.bid_rules.specs.Fractions.{Fraction, IsQuotient}
-use Rattle.bid_rules.specs.Maximin.{price_in_parts}
-use Rattle.bid_rules.specs.Rent.{room_count}
+use Rattle.bid_rules.specs.Maximin.{least_in_parts, price_in_parts}
+use Rattle.bid_rules.specs.Rent.{IsAssignment, IsValidRentCase, room_count}
+
+-- a valid case, an assignment, and for each member the weight of a walk
+pub record HasWalks (case : RentCase) (rooms : List ℕ) (walks : List ℤ) : Type 0 where
+  pub valid : IsValidRentCase case
+  pub assignment : IsAssignment case rooms
+  pub rooms_count : length rooms ≡ room_count case
+  pub walks_count : length walks ≡ room_count case
+  pub small : All (λ weight. unsigned_abs weight ≤ MOST_MEMBERS * 10 ^ 21) walks
+
+-- the number is n times the least utility of the formula
+pub record IsLeastOf (case : RentCase) (rooms : List ℕ) (walks : List ℤ) (least : ℤ) : Type 0 where
+  pub is : least ≡ least_in_parts case rooms walks
+  pub small : unsigned_abs least ≤ 2 * 10 ^ 23
 
 -- the number is n times the price of the room at the place, from 0: that of the member who has it
 abbrev pub IsPartAt : RentCase → List ℕ → List ℤ → ℕ → ℤ → Type 0

@@ -4,8 +4,10 @@ ghost use Rattle.rent_maximin.specs.Division.{IsRentDivision};
 use crate::prices::{least_of, prices_of};
 use arrayvec::ArrayVec;
 use bid_rules::RentCase;
+use bid_rules::limits::MEMBER_ROOM;
+use rent_laws::{best_rent_law, formula_law, price_range_law, shown_rent_law, walk_law};
 use room_assignment::{Rooms, Walks, best_rooms, value_walks};
-use split_frac::{Frac, make};
+use split_frac::{Frac, make, value_law};
 
 /// The division of a rent, with the numbers that show it. Money is in cents.
 #[derive(Drop)]
@@ -13,7 +15,7 @@ pub struct RentDivision {
     /// The rooms by member, and the dual numbers over the keys.
     pub best: Rooms,
     /// The price of each room, which may be negative.
-    pub prices: ArrayVec<Frac, 12>,
+    pub prices: ArrayVec<Frac, MEMBER_ROOM>,
     /// The least utility of a member.
     pub least: Frac,
     /// The longest walks over the values, by member.
@@ -28,6 +30,12 @@ pub fn solve_rent(case: &RentCase) -> RentDivision
     requires { IsValidRentCase case.now }
     ensures division { IsRentDivision case.now result }
 {
+    best_rent_law();
+    formula_law();
+    price_range_law();
+    shown_rent_law();
+    walk_law();
+    value_law();
     let best = best_rooms(case);
     let walks = value_walks(case, best.rooms.as_slice());
     let least = least_of(case, best.rooms.as_slice(), walks.weights.as_slice());

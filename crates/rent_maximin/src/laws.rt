@@ -1,10 +1,13 @@
 // What holds of the solver's divisions, for all cases: each law is the contract of a function that does nothing.
-ghost use Rattle.std.specs.Prelude.{◌*◌, ◌≤◌, ◌^◌, All, unsigned_abs};
+ghost use Rattle.std.specs.Prelude.{◌≡◌, ◌*◌, ◌≤◌, ◌^◌, All, unsigned_abs};
 ghost use Rattle.bid_rules.specs.declared.rents.RentCase.{RentCase};
 ghost use Rattle.bid_rules.specs.Rent.{IsValidRentCase};
 ghost use Rattle.rent_maximin.specs.Division.{IsRentDivision};
 ghost use Rattle.rent_maximin.specs.declared.division.RentDivision.{RentDivision};
 ghost use Rattle.split_frac.specs.Frac.{IsWithin};
+
+use rent_laws::{best_rent_law, key_law, walk_law};
+use split_frac::value_law;
 
 /// The prices and the least utility lie in the ranges that calls on fractions ask for, and within 10^12 cents of 0.
 pub fn division_range_law()
@@ -13,3 +16,13 @@ pub fn division_range_law()
     ensures least { (case : RentCase) (division : RentDivision) → IsValidRentCase case → IsRentDivision case division
         → IsWithin division.least × (unsigned_abs division.least.num ≤ 10 ^ 12 * division.least.den) }
 {}
+
+/// A valid case has one division: two are equal in every field.
+pub fn one_rent_division_law()
+    ensures { (case : RentCase) (division other : RentDivision) → IsValidRentCase case → IsRentDivision case division → IsRentDivision case other → division ≡ other }
+{
+    best_rent_law();
+    key_law();
+    walk_law();
+    value_law();
+}

@@ -1,4 +1,4 @@
-//! Rooms and prices of a shared home by the maximin rule: envy-free, with the greatest least utility.
+//! Rooms and prices of a shared rent by the maximin rule: envy-free, with the greatest least utility.
 #![tactic(auto)]
 
 mod division;
@@ -6,7 +6,7 @@ mod laws;
 mod prices;
 
 pub use division::{RentDivision, solve_rent};
-pub use laws::division_range_law;
+pub use laws::{division_range_law, one_rent_division_law};
 
 #[cfg(test)]
 mod tests;

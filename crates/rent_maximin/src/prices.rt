@@ -1,15 +1,16 @@
 ghost use Rattle.std.specs.Prelude.{◌≡◌, ℕ, ℤ, pos, ◌+◌, ◌*◌, ◌-◌, ◌<◌, ◌≤◌, ◌^◌, ◌+ℤ◌, ◌-ℤ◌, ◌*ℤ◌, ◌≤ℤ◌, length, map, All, slice_index, unsigned_abs};
 ghost use Rattle.std.specs.List.{range_with_len};
 ghost use Rattle.std.specs.List.Sorted.{IsPermutation};
-ghost use Rattle.bid_rules.specs.Maximin.{AreMaximinPrices, least_in_parts};
+ghost use Rattle.bid_rules.specs.Maximin.{AreMaximinPrices};
 ghost use Rattle.bid_rules.specs.Rent.{IsAssignment, IsValidRentCase, room_count, value, welfare};
 ghost use Rattle.bid_rules.specs.Sums.{total};
 ghost use Rattle.bid_rules.specs.Walks.{weight_at};
-ghost use Rattle.rent_maximin.specs.Prices.{IsPartAt, IsPriceAt};
+ghost use Rattle.rent_maximin.specs.Prices.{HasWalks, IsLeastOf, IsPartAt, IsPriceAt};
 ghost use Rattle.split_frac.specs.Frac.{pair_of};
 
 use arrayvec::ArrayVec;
 use bid_rules::RentCase;
+use bid_rules::limits::{MEMBER_ROOM, MOST_MEMBERS, MOST_RENT};
 use split_frac::{Frac, make};
 
 /// What a member, from 0, would pay for a room, from 1.
@@ -20,9 +21,9 @@ fn value_of(case: &RentCase, member: usize, room: usize) -> i128
     requires room_high { room ≤ room_count case.now }
     ensures value { result ≡ value case.now member room }
     ensures low { pos 0 ≤ℤ result }
-    ensures high { result ≤ℤ pos 10000000 }
+    ensures high { result ≤ℤ pos MOST_RENT }
 {
-    i128::from(case.value(member, room))
+    i128::from(case.value(member as u8 + 1, room as u8))
 }
 
 /// The sum of what the members would pay for their own rooms.
@@ -41,8 +42,8 @@ fn welfare_of(case: &RentCase, rooms: &[u8]) -> i128
 
 /// The sum of the weights of the walks.
 fn sum_of(walks: &[i128]) -> i128
-    requires few { length walks.now ≤ 12 }
-    requires small { All (λ weight. unsigned_abs weight ≤ 12 * 10 ^ 21) walks.now }
+    requires few { length walks.now ≤ MEMBER_ROOM }
+    requires small { All (λ weight. unsigned_abs weight ≤ MOST_MEMBERS * 10 ^ 21) walks.now }
     ensures value { result ≡ total (weight_at walks.now) (range_with_len 0 (length walks.now)) }
     ensures small { unsigned_abs result ≤ 144 * 10 ^ 21 }
 {
@@ -55,8 +56,8 @@ fn sum_of(walks: &[i128]) -> i128
 
 /// A number some times.
 fn times(count: u8, number: i128) -> i128
-    requires count { count ≤ 12 }
-    requires number { unsigned_abs number ≤ 12 * 10 ^ 21 }
+    requires count { count ≤ MEMBER_ROOM }
+    requires number { unsigned_abs number ≤ MOST_MEMBERS * 10 ^ 21 }
     ensures value { result ≡ pos count *ℤ number }
     ensures small { unsigned_abs result ≤ 144 * 10 ^ 21 }
 {
@@ -81,13 +82,8 @@ fn holder(rooms: &[u8], room: usize) -> usize
 
 /// n times the price of a room, from 0.
 fn part_of(case: &RentCase, rooms: &[u8], walks: &[i128], least: i128, room: usize) -> i128
-    requires case { IsValidRentCase case.now }
-    requires rooms { IsAssignment case.now rooms.now }
-    requires count { length rooms.now ≡ room_count case.now }
-    requires walks { length walks.now ≡ room_count case.now }
-    requires small { All (λ weight. unsigned_abs weight ≤ 12 * 10 ^ 21) walks.now }
-    requires least { least ≡ least_in_parts case.now rooms.now walks.now }
-    requires least_small { unsigned_abs least ≤ 2 * 10 ^ 23 }
+    requires walks { HasWalks case.now rooms.now walks.now }
+    requires least { IsLeastOf case.now rooms.now walks.now least }
     requires room { room < room_count case.now }
     ensures value { IsPartAt case.now rooms.now walks.now room result }
     ensures small { unsigned_abs result ≤ 10 ^ 24 }
@@ -99,13 +95,8 @@ fn part_of(case: &RentCase, rooms: &[u8], walks: &[i128], least: i128, room: usi
 
 /// The price of a room, from 0.
 fn price_of(case: &RentCase, rooms: &[u8], walks: &[i128], least: i128, room: usize) -> Frac
-    requires case { IsValidRentCase case.now }
-    requires rooms { IsAssignment case.now rooms.now }
-    requires count { length rooms.now ≡ room_count case.now }
-    requires walks { length walks.now ≡ room_count case.now }
-    requires small { All (λ weight. unsigned_abs weight ≤ 12 * 10 ^ 21) walks.now }
-    requires least { least ≡ least_in_parts case.now rooms.now walks.now }
-    requires least_small { unsigned_abs least ≤ 2 * 10 ^ 23 }
+    requires walks { HasWalks case.now rooms.now walks.now }
+    requires least { IsLeastOf case.now rooms.now walks.now least }
     requires room { room < room_count case.now }
     ensures { IsPriceAt case.now rooms.now walks.now room (pair_of result) }
 {
@@ -121,14 +112,9 @@ pub(crate) fn prices_of(
     rooms: &[u8],
     walks: &[i128],
     least: i128,
-) -> ArrayVec<Frac, 12>
-    requires case { IsValidRentCase case.now }
-    requires rooms { IsAssignment case.now rooms.now }
-    requires count { length rooms.now ≡ room_count case.now }
-    requires walks { length walks.now ≡ room_count case.now }
-    requires small { All (λ weight. unsigned_abs weight ≤ 12 * 10 ^ 21) walks.now }
-    requires least { least ≡ least_in_parts case.now rooms.now walks.now }
-    requires least_small { unsigned_abs least ≤ 2 * 10 ^ 23 }
+) -> ArrayVec<Frac, MEMBER_ROOM>
+    requires walks { HasWalks case.now rooms.now walks.now }
+    requires least { IsLeastOf case.now rooms.now walks.now least }
     ensures { AreMaximinPrices case.now rooms.now walks.now (map pair_of result.items) }
 {
     let mut prices = ArrayVec::new();
@@ -140,12 +126,8 @@ pub(crate) fn prices_of(
 
 /// n times the least utility: the welfare less the rent and the walks.
 pub(crate) fn least_of(case: &RentCase, rooms: &[u8], walks: &[i128]) -> i128
-    requires case { IsValidRentCase case.now }
-    requires rooms { IsAssignment case.now rooms.now }
-    requires walks { length walks.now ≡ room_count case.now }
-    requires small { All (λ weight. unsigned_abs weight ≤ 12 * 10 ^ 21) walks.now }
-    ensures value { result ≡ least_in_parts case.now rooms.now walks.now }
-    ensures small { unsigned_abs result ≤ 2 * 10 ^ 23 }
+    requires { HasWalks case.now rooms.now walks.now }
+    ensures { IsLeastOf case.now rooms.now walks.now result }
 {
     welfare_of(case, rooms) - i128::from(case.facts.rent) - sum_of(walks)
 }

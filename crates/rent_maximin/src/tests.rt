@@ -133,8 +133,8 @@ const WORKED: [Worked; 7] = [
     },
 ];
 
-// A home with these values.
-fn home(rt: &impl Abort, worked: &Worked) -> RentCase {
+// A rent with these values.
+fn rent_case(rt: &impl Abort, worked: &Worked) -> RentCase {
     let mut values = ArrayVec::new();
     for given in worked.values {
         let mut row = ArrayVec::new();
@@ -157,7 +157,7 @@ fn pair_of(fraction: &Frac) -> (i128, u64) {
 #[test]
 fn worked_rents(rt: HostRuntime) -> Result<(), Fail> {
     for worked in &WORKED {
-        let case = home(&rt, worked);
+        let case = rent_case(&rt, worked);
         assert!(rt; case.is_valid());
         let division = solve_rent(&case);
         assert_eq!(rt; division.best.rooms.as_slice(), worked.rooms);
@@ -174,7 +174,7 @@ fn worked_rents(rt: HostRuntime) -> Result<(), Fail> {
 
 #[test]
 fn three_rooms_have_these_dual_numbers(rt: HostRuntime) -> Result<(), Fail> {
-    let case = home(&rt, &WORKED[2]);
+    let case = rent_case(&rt, &WORKED[2]);
     assert!(rt; case.is_valid());
     let RentDivision { best, .. } = solve_rent(&case);
     assert_eq!(rt; best.left.as_slice(), [0, 0, 2702].as_slice());

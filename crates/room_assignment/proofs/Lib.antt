@@ -1,5 +1,5 @@
-pub mod NoCycle
-pub mod RoomLaws
-pub mod TreeLaws
-pub mod TreeUse
-pub mod WalkLaws
+pub mod AlternatingTrees
+pub mod FoundRooms
+pub mod LongestWalks
+pub mod TreeLists
+pub mod ValueSteps

@@ -1,3 +1,4 @@
+pub mod Entries
 pub mod Matrix
 pub mod Rounds
 pub mod Tree

@@ -1,7 +1,8 @@
--- How the assignment of greatest sum is found: members settled one by one, each by a tree of members who could be the one left over.
+-- How the assignment of greatest sum is found: members are matched one by one, each by an alternating tree (Kuhn 1955; Munkres 1957).
 use Rattle.std.specs.Prelude.{◌≡◌, ◌≢◌, ℕ, ℤ, Bool, true, false, pos, ◌<◌, ◌≤◌, ◌^◌, ◌+ℤ◌, ◌-ℤ◌, ◌≤ℤ◌, List, [], length, slice_index, slice_index_or, unsigned_abs, sum_by, if◌then◌else◌}
 use Rattle.std.specs.List.{range_with_len}
 use Rattle.std.specs.List.Sorted.{IsPermutation}
+use Rattle.bid_rules.specs.declared.limits.TheConstants.{MEMBER_ROOM}
 use Rattle.room_assignment.specs.Matrix.{Matrix, IsSquare, entry}
 use Rattle.room_assignment.specs.declared.tree.Plan.{Plan}
 use Rattle.room_assignment.specs.declared.tree.Tree.{Tree}
@@ -11,24 +12,24 @@ use Rattle.room_assignment.specs.declared.tree.Choice.{Choice}
 abbrev pub Bounds : ℕ → (ℕ → ℕ → ℤ) → (ℕ → ℤ) → (ℕ → ℤ) → Type 0
 Bounds n key left right = (i j : ℕ) → i < n → j < n → key i j ≤ℤ (left i +ℤ right j)
 
--- the members below m have rooms whose keys the dual numbers reach; the rooms of the others have the dual number 0
-pub record IsSettled (n m : ℕ) (key : ℕ → ℕ → ℤ) (left right : ℕ → ℤ) (rooms : List ℕ) : Type 0 where
+-- the members below m are matched: they and their rooms have no slack; the rooms of the others have the dual number 0
+pub record IsMatched (n m : ℕ) (key : ℕ → ℕ → ℤ) (left right : ℕ → ℤ) (rooms : List ℕ) : Type 0 where
   pub permutation : IsPermutation (range_with_len 0 n) rooms
   pub bound : Bounds n key left right
   pub top : (i : ℕ) → i < n → left i ≤ℤ pos (10 ^ 20)
   pub tight : (i : ℕ) → i < m → left i +ℤ right (slice_index rooms i) ≡ key i (slice_index rooms i)
   pub zero : (i : ℕ) → m ≤ i → i < n → right (slice_index rooms i) ≡ pos 0
 
--- rooms in which the member k is left over with the room that was m's, and each other member up to m has a room that is reached
-pub record IsPlanWithout (n m k : ℕ) (key : ℕ → ℕ → ℤ) (left right : ℕ → ℤ) (rooms : List ℕ) (in_tree labelled : ℕ → Bool) (plan : List ℕ) : Type 0 where
+-- an assignment that leaves the member k free, with the room that was m's, while each other member up to m has no slack with its room
+pub record LeavesFree (n m k : ℕ) (key : ℕ → ℕ → ℤ) (left right : ℕ → ℤ) (rooms : List ℕ) (in_tree labelled : ℕ → Bool) (plan : List ℕ) : Type 0 where
   pub permutation : IsPermutation (range_with_len 0 n) plan
   pub over : slice_index plan k ≡ slice_index rooms m
   pub tight : (i : ℕ) → i ≤ m → i ≢ k → left i +ℤ right (slice_index plan i) ≡ key i (slice_index plan i)
   pub same : (i : ℕ) → i < n → i ≢ k → in_tree i ≡ labelled (slice_index plan i)
   pub others : (i : ℕ) → i < n → in_tree i ≡ false → slice_index plan i ≡ slice_index rooms i
 
--- each member of the tree could be the one left over
-pub record IsGrown (n m : ℕ) (key : ℕ → ℕ → ℤ) (left right : ℕ → ℤ) (rooms : List ℕ) (in_tree labelled : ℕ → Bool) (plan : ℕ → List ℕ) : Type 0 where
+-- an alternating tree from the member m: for each of its members it has an assignment that leaves this one free
+pub record IsAlternatingTree (n m : ℕ) (key : ℕ → ℕ → ℤ) (left right : ℕ → ℤ) (rooms : List ℕ) (in_tree labelled : ℕ → Bool) (plan : ℕ → List ℕ) : Type 0 where
   pub permutation : IsPermutation (range_with_len 0 n) rooms
   pub bound : Bounds n key left right
   pub top : (i : ℕ) → i < n → left i ≤ℤ pos (10 ^ 20)
@@ -36,16 +37,16 @@ pub record IsGrown (n m : ℕ) (key : ℕ → ℕ → ℤ) (left right : ℕ →
   pub free : (i : ℕ) → m ≤ i → i < n → labelled (slice_index rooms i) ≡ false
   pub root : in_tree m ≡ true
   pub high : (i : ℕ) → m < i → i < n → in_tree i ≡ false
-  pub plans : (k : ℕ) → k < n → in_tree k ≡ true → IsPlanWithout n m k key left right rooms in_tree labelled (plan k)
+  pub plans : (k : ℕ) → k < n → in_tree k ≡ true → LeavesFree n m k key left right rooms in_tree labelled (plan k)
 
--- how dual numbers move
-pub record AreMoved (n : ℕ) (d : ℤ) (in_tree labelled : ℕ → Bool) (left right left' right' : ℕ → ℤ) : Type 0 where
+-- how dual numbers are adjusted: down by d for the members of the tree, up by d for the rooms that it labels
+pub record AreAdjusted (n : ℕ) (d : ℤ) (in_tree labelled : ℕ → Bool) (left right left' right' : ℕ → ℤ) : Type 0 where
   pub left_in : (i : ℕ) → i < n → in_tree i ≡ true → left' i ≡ left i -ℤ d
   pub left_out : (i : ℕ) → i < n → in_tree i ≡ false → left' i ≡ left i
   pub right_in : (j : ℕ) → j < n → labelled j ≡ true → right' j ≡ right j +ℤ d
   pub right_out : (j : ℕ) → j < n → labelled j ≡ false → right' j ≡ right j
 
--- d is what a member of the tree and a room that is not labelled lack
+-- d is the slack of a member of the tree and a room that is not labelled
 pub record IsSlack (n : ℕ) (key : ℕ → ℕ → ℤ) (left right : ℕ → ℤ) (in_tree labelled : ℕ → Bool) (k j : ℕ) (d : ℤ) : Type 0 where
   pub member : k < n
   pub room : j < n
@@ -53,13 +54,13 @@ pub record IsSlack (n : ℕ) (key : ℕ → ℕ → ℤ) (left right : ℕ → �
   pub outside : labelled j ≡ false
   pub is : d ≡ left k +ℤ right j -ℤ key k j
 
--- d is the least that a pair of the tree and a room that is not labelled lack
+-- d is the least slack of a member of the tree and a room that is not labelled
 pub record IsLeastSlack (n : ℕ) (key : ℕ → ℕ → ℤ) (left right : ℕ → ℤ) (in_tree labelled : ℕ → Bool) (k j : ℕ) (d : ℤ) : Type 0 where
   pub pair : IsSlack n key left right in_tree labelled k j d
   pub least : (i r : ℕ) → i < n → r < n → in_tree i ≡ true → labelled r ≡ false → d ≤ℤ (left i +ℤ right r -ℤ key i r)
 
--- the tree as it grows by the member h
-pub record AreMore (h j : ℕ) (in_tree labelled in_tree' labelled' : ℕ → Bool) : Type 0 where
+-- the member h and the room j have joined the tree
+pub record HasJoined (h j : ℕ) (in_tree labelled in_tree' labelled' : ℕ → Bool) : Type 0 where
   pub inside : in_tree' h ≡ true
   pub outside : labelled' j ≡ true
   pub members : (i : ℕ) → i ≢ h → in_tree' i ≡ in_tree i
@@ -69,22 +70,24 @@ pub record AreMore (h j : ℕ) (in_tree labelled in_tree' labelled' : ℕ → Bo
 pub record AreKeys (keys : Matrix) : Type 0 where
   pub square : IsSquare keys
   pub some : 1 ≤ length keys.items
-  pub few : length keys.items ≤ 12
+  pub few : length keys.items ≤ MEMBER_ROOM
   pub keys_small : (i j : ℕ) → i < length keys.items → j < length keys.items → unsigned_abs (entry keys i j) ≤ 10 ^ 20
 
--- a list as a function
+-- numbers by place, 0 past the last
 abbrev pub numbers : List ℤ → ℕ → ℤ
 numbers xs i = slice_index_or xs i (pos 0)
 
+-- marks by place, false past the last
 abbrev pub marks : List Bool → ℕ → Bool
 marks xs i = slice_index_or xs i false
 
--- the members below m are settled in the plan
-pub record IsSettledPlan (m : ℕ) (keys : Matrix) (plan : Plan) : Type 0 where
+-- the assignment in which the members below m are matched, with its dual numbers
+pub record IsMatchedPlan (m : ℕ) (keys : Matrix) (plan : Plan) : Type 0 where
   pub lefts : length plan.left.items ≡ length keys.items
   pub rights : length plan.right.items ≡ length keys.items
-  pub settled : IsSettled (length keys.items) m (entry keys) (numbers plan.left.items) (numbers plan.right.items) plan.rooms.items
+  pub matched : IsMatched (length keys.items) m (entry keys) (numbers plan.left.items) (numbers plan.right.items) plan.rooms.items
 
+-- the assignment that leaves the member k of the tree free
 abbrev pub plan_of : Tree → ℕ → List ℕ
 plan_of tree k = (slice_index_or tree.plans.items k (record { items = [] })).items
 
@@ -97,18 +100,20 @@ pub record HasCounts (n : ℕ) (tree : Tree) : Type 0 where
   pub plans : length tree.plans.items ≡ n
 
 -- the tree of the member m
-pub record IsGrownTree (m : ℕ) (keys : Matrix) (tree : Tree) : Type 0 where
+pub record IsTreeOf (m : ℕ) (keys : Matrix) (tree : Tree) : Type 0 where
   pub low : m < length keys.items
   pub counts : HasCounts (length keys.items) tree
-  pub grown : IsGrown (length keys.items) m (entry keys) (numbers tree.left.items) (numbers tree.right.items) tree.rooms.items (marks tree.in_tree.items) (marks tree.labelled.items) (plan_of tree)
+  pub grown : IsAlternatingTree (length keys.items) m (entry keys) (numbers tree.left.items) (numbers tree.right.items) tree.rooms.items (marks tree.in_tree.items) (marks tree.labelled.items) (plan_of tree)
 
+-- the choice has its slack
 abbrev pub IsChoice : Matrix → Tree → Choice → Type 0
 IsChoice keys tree choice = IsSlack (length keys.items) (entry keys) (numbers tree.left.items) (numbers tree.right.items) (marks tree.in_tree.items) (marks tree.labelled.items) choice.member choice.room choice.slack
 
+-- and no other choice has less
 abbrev pub IsLeastChoice : Matrix → Tree → Choice → Type 0
 IsLeastChoice keys tree choice = IsLeastSlack (length keys.items) (entry keys) (numbers tree.left.items) (numbers tree.right.items) (marks tree.in_tree.items) (marks tree.labelled.items) choice.member choice.room choice.slack
 
--- what a member and a room lack
+-- the slack of a member and a room: the sum of their dual numbers, less the key
 abbrev pub slack_of : Matrix → Tree → ℕ → ℕ → ℤ
 slack_of keys tree i r = numbers tree.left.items i +ℤ numbers tree.right.items r -ℤ entry keys i r
 

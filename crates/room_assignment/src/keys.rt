@@ -3,17 +3,18 @@ ghost use Rattle.bid_rules.specs.Rent.{IsValidRentCase, value, room_count};
 ghost use Rattle.room_assignment.specs.Matrix.{IsSquare, entry};
 ghost use Rattle.room_assignment.specs.Tree.{AreKeys};
 ghost use Rattle.bid_rules.specs.Keys.{key};
-ghost use Rattle.room_assignment.specs.Matrix.{IsRowOf, HasEntries};
+ghost use Rattle.room_assignment.specs.Entries.{IsRowOf, HasEntries};
 
 use crate::walks::{Matrix, step};
 use arrayvec::ArrayVec;
 use bid_rules::RentCase;
+use bid_rules::limits::{MEMBER_ROOM, MOST_MEMBERS, MOST_RENT};
 
 /// The power of a small base.
 fn power(base: u8, exponent: usize) -> u64
     requires low { 1 ≤ base }
-    requires high { base ≤ 12 }
-    requires exponent { exponent ≤ 12 }
+    requires high { base ≤ MOST_MEMBERS }
+    requires exponent { exponent ≤ MOST_MEMBERS }
     ensures value { result ≡ base ^ exponent }
     ensures small { result ≤ 8916100448256 }
 {
@@ -27,7 +28,7 @@ fn power(base: u8, exponent: usize) -> u64
 /// A value times a power.
 fn lifted(value: i128, by: u64) -> i128
     requires low { pos 0 ≤ℤ value }
-    requires high { value ≤ℤ pos 10000000 }
+    requires high { value ≤ℤ pos MOST_RENT }
     requires by { by ≤ 8916100448256 }
     ensures value { result ≡ pos by *ℤ value }
     ensures low { pos 0 ≤ℤ result }
@@ -46,21 +47,36 @@ fn digit(room: usize, by: u64) -> i128
     i128::from(room as u64 * by)
 }
 
-/// What a member, from 0, would pay for a room, from 1.
+/// What a member would pay for a room, both by place from 0.
 fn value_of(case: &RentCase, member: usize, room: usize) -> i128
     requires case { IsValidRentCase case.now }
     requires member { member < room_count case.now }
-    requires room_low { 1 ≤ room }
-    requires room_high { room ≤ room_count case.now }
-    ensures value { result ≡ value case.now member room }
+    requires room { room < room_count case.now }
+    ensures value { result ≡ value case.now member (room + 1) }
     ensures low { pos 0 ≤ℤ result }
-    ensures high { result ≤ℤ pos 10000000 }
+    ensures high { result ≤ℤ pos MOST_RENT }
 {
-    i128::from(case.value(member, room))
+    i128::from(case.value(member as u8 + 1, room as u8 + 1))
 }
 
-/// The key of a member and a room, both counted from 0.
-fn key_at(case: &RentCase, member: usize, room: usize) -> i128
+/// The key of a member and a room, both numbered from 1: the value in cents times n^n, less a digit to the base n that counts
+/// against high rooms of early members.
+///
+/// The assignment with the greatest sum of keys is the first one of greatest welfare.
+pub fn key_at(case: &RentCase, member: u8, room: u8) -> i128
+    requires case { IsValidRentCase case.now }
+    requires member_low { 1 ≤ member }
+    requires member_high { member ≤ room_count case.now }
+    requires room_low { 1 ≤ room }
+    requires room_high { room ≤ room_count case.now }
+    ensures value { result ≡ key case.now (member - 1) room }
+    ensures small { unsigned_abs result ≤ 10 ^ 20 }
+{
+    key_of(case, member as usize - 1, room as usize - 1)
+}
+
+/// The key of a member and a room, both by place from 0.
+fn key_of(case: &RentCase, member: usize, room: usize) -> i128
     requires case { IsValidRentCase case.now }
     requires member { member < room_count case.now }
     requires room { room < room_count case.now }
@@ -68,20 +84,20 @@ fn key_at(case: &RentCase, member: usize, room: usize) -> i128
     ensures small { unsigned_abs result ≤ 10 ^ 20 }
 {
     let count = case.facts.members;
-    let value = value_of(case, member, room + 1);
+    let value = value_of(case, member, room);
     lifted(value, power(count, count as usize))
         - digit(room, power(count, count as usize - 1 - member))
 }
 
 /// The keys of one member.
-fn key_row(case: &RentCase, member: usize) -> ArrayVec<i128, 12>
+fn key_row(case: &RentCase, member: usize) -> ArrayVec<i128, MEMBER_ROOM>
     requires case { IsValidRentCase case.now }
     requires member { member < room_count case.now }
     ensures { IsRowOf (room_count case.now) (10 ^ 20) (λ j. key case.now member (j + 1)) result.items }
 {
     let mut row = ArrayVec::new();
     for room in 0..case.facts.members as usize {
-        row.push(key_at(case, member, room));
+        row.push(key_of(case, member, room));
     }
     row
 }
@@ -99,14 +115,14 @@ pub(crate) fn keys_of(case: &RentCase) -> Matrix
 }
 
 /// The values of one member.
-fn value_row(case: &RentCase, member: usize) -> ArrayVec<i128, 12>
+fn value_row(case: &RentCase, member: usize) -> ArrayVec<i128, MEMBER_ROOM>
     requires case { IsValidRentCase case.now }
     requires member { member < room_count case.now }
     ensures { IsRowOf (room_count case.now) (10 ^ 20) (λ j. value case.now member (j + 1)) result.items }
 {
     let mut row = ArrayVec::new();
     for room in 0..case.facts.members as usize {
-        row.push(value_of(case, member, room + 1));
+        row.push(value_of(case, member, room));
     }
     row
 }
@@ -124,7 +140,7 @@ pub(crate) fn values_of(case: &RentCase) -> Matrix
 }
 
 /// The weights of the steps from one member.
-fn step_row(weights: &Matrix, rooms: &[u8], from: usize) -> ArrayVec<i128, 12>
+fn step_row(weights: &Matrix, rooms: &[u8], from: usize) -> ArrayVec<i128, MEMBER_ROOM>
     requires weights { AreKeys weights.now }
     requires count { length rooms.now ≡ length weights.now.items }
     requires rooms { All (λ room. room < length weights.now.items) rooms.now }

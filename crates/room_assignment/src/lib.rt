@@ -6,6 +6,7 @@ mod rooms;
 mod tree;
 mod walks;
 
+pub use keys::key_at;
 pub use rooms::{Rooms, best_rooms, value_walks};
 pub use walks::{Matrix, Walks, longest_walks};
 

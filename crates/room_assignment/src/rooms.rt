@@ -13,22 +13,24 @@ use crate::tree::{assign, holder};
 use crate::walks::{Matrix, Walks, longest_walks, step};
 use arrayvec::ArrayVec;
 use bid_rules::RentCase;
+use bid_rules::limits::MEMBER_ROOM;
+use rent_laws::{key_law, potential_law, value_cycle_law};
 
 /// An assignment, and the dual numbers that show that it has the greatest sum of keys.
 #[derive(Drop)]
 pub struct Rooms {
     /// The room of each member, by member, rooms from 1.
-    pub rooms: ArrayVec<u8, 12>,
+    pub rooms: ArrayVec<u8, MEMBER_ROOM>,
     /// The dual number of each member: the greatest weight of a walk over the keys that ends there, in cents times n^n.
-    pub left: ArrayVec<i128, 12>,
+    pub left: ArrayVec<i128, MEMBER_ROOM>,
     /// The dual number of each room: the key of the member who has it, less that member's number.
-    pub right: ArrayVec<i128, 12>,
+    pub right: ArrayVec<i128, MEMBER_ROOM>,
 }
 
 /// The rooms counted from 1.
-fn numbered(rooms: &[u8]) -> ArrayVec<u8, 12>
-    requires few { length rooms.now ≤ 12 }
-    requires small { All (λ room. room < 12) rooms.now }
+fn numbered(rooms: &[u8]) -> ArrayVec<u8, MEMBER_ROOM>
+    requires few { length rooms.now ≤ MEMBER_ROOM }
+    requires small { All (λ room. room < MEMBER_ROOM) rooms.now }
     ensures { result.items ≡ map (λ r. r + 1) rooms.now }
 {
     let mut numbered = ArrayVec::new();
@@ -53,7 +55,7 @@ fn right_of(keys: &Matrix, rooms: &[u8], left: &[i128], room: usize) -> i128
 }
 
 /// The dual numbers of the rooms.
-fn rights(keys: &Matrix, rooms: &[u8], left: &[i128]) -> ArrayVec<i128, 12>
+fn rights(keys: &Matrix, rooms: &[u8], left: &[i128]) -> ArrayVec<i128, MEMBER_ROOM>
     requires keys { AreKeys keys.now }
     requires rooms { IsPermutation (range_with_len 0 (length keys.now.items)) rooms.now }
     requires count { length rooms.now ≡ length keys.now.items }
@@ -81,7 +83,11 @@ pub fn best_rooms(case: &RentCase) -> Rooms
     ensures first { IsFirstOfItsWelfare case.now result.rooms.items }
     ensures left { AreGreatestWeights (room_count case.now) (key_step case.now result.rooms.items) result.left.items }
     ensures dual { AreDualNumbers case.now result.rooms.items result.left.items result.right.items }
+    ensures left_small { All (λ number. unsigned_abs number < 10 ^ 25) result.left.items }
+    ensures right_small { All (λ number. unsigned_abs number < 10 ^ 25) result.right.items }
 {
+    key_law();
+    potential_law();
     let keys = keys_of(case);
     let plan = assign(&keys);
     let steps = walk_matrix(&keys, plan.rooms.as_slice());
@@ -95,8 +101,8 @@ pub fn best_rooms(case: &RentCase) -> Rooms
 }
 
 /// The rooms counted from 0.
-fn unnumbered(rooms: &[u8]) -> ArrayVec<u8, 12>
-    requires few { length rooms.now ≤ 12 }
+fn unnumbered(rooms: &[u8]) -> ArrayVec<u8, MEMBER_ROOM>
+    requires few { length rooms.now ≤ MEMBER_ROOM }
     requires low { All (λ room. 1 ≤ room) rooms.now }
     ensures { result.items ≡ map (λ r. r - 1) rooms.now }
 {
@@ -117,7 +123,9 @@ pub fn value_walks(case: &RentCase, rooms: &[u8]) -> Walks
     ensures weights { AreGreatestWeights (room_count case.now) (value_step case.now rooms.now) result.weights.items }
     ensures ranks { AreRanks (room_count case.now) (value_step case.now rooms.now) result.weights.items result.ranks.items }
     ensures small { All (λ weight. unsigned_abs weight ≤ 10 ^ 21 * room_count case.now) result.weights.items }
+    ensures below { All (λ rank. rank < room_count case.now) result.ranks.items }
 {
+    value_cycle_law();
     let values = values_of(case);
     // Its dual numbers show that no cycle has a positive weight.
     let _plan = assign(&values);

@@ -4,8 +4,8 @@ use bid_rules::{Rent, RentCase};
 use std::process::Abort;
 use std::test::Fail;
 
-// A home whose members' values are small and often equal.
-fn home(rt: &impl Abort, members: u8, seed: u32) -> RentCase {
+// A rent whose members' values are small and often equal.
+fn rent_case(rt: &impl Abort, members: u8, seed: u32) -> RentCase {
     let mut state = seed;
     let mut values = ArrayVec::new();
     for _member in 0..members {
@@ -82,7 +82,7 @@ fn listed_best(rt: &impl Abort, case: &RentCase, lists: u32) -> ArrayVec<u8, 12>
 fn rooms_are_those_of_the_plain_listing(rt: HostRuntime) -> Result<(), Fail> {
     for (members, lists) in [(2, 4), (3, 27), (4, 256)] {
         for seed in 0..100 {
-            let case = home(&rt, members, seed);
+            let case = rent_case(&rt, members, seed);
             assert!(rt; case.is_valid());
             let found = best_rooms(&case);
             let listed = listed_best(&rt, &case, lists);

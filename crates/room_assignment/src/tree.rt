@@ -1,35 +1,39 @@
+// The Hungarian method (Kuhn 1955; Munkres 1957): members are matched one by one. From the next one an alternating tree grows over
+// pairs without slack, until it reaches a room that no matched member holds. In place of paths it keeps, for each of its members, the
+// assignment that leaves this member free.
 ghost use Rattle.std.specs.Prelude.{◌≡◌, ℕ, [], ℤ, pos, true, false, ◌+◌, ◌*◌, ◌-◌, ◌<◌, ◌≤◌, ◌^◌, ◌+ℤ◌, ◌-ℤ◌, ◌≤ℤ◌, ◌≢◌, ◌⊎◌, length, All, slice_index, slice_index_or, unsigned_abs};
 ghost use Rattle.std.specs.List.{range_with_len, swap};
 ghost use Rattle.std.specs.List.Sorted.{IsPermutation};
 ghost use Rattle.room_assignment.specs.Matrix.{entry};
-ghost use Rattle.room_assignment.specs.Tree.{AreKeys, IsSettledPlan, IsGrownTree, IsChoice, IsLeastChoice, slack_of, numbers, marks, plan_of, missing, IsMost};
+ghost use Rattle.room_assignment.specs.Tree.{AreKeys, IsMatchedPlan, IsTreeOf, IsChoice, IsLeastChoice, slack_of, numbers, marks, plan_of, missing, IsMost};
 
 use crate::walks::{Matrix, greater, step};
 use arrayvec::ArrayVec;
+use bid_rules::limits::MEMBER_ROOM;
 
 /// A list of rooms by member, both counted from 0.
-pub(crate) type Order = ArrayVec<u8, 12>;
+pub(crate) type Order = ArrayVec<u8, MEMBER_ROOM>;
 
-/// The rooms of the members, and dual numbers.
+/// An assignment of rooms to members, and dual numbers by member and by room.
 #[derive(Drop)]
 pub(crate) struct Plan {
     pub rooms: Order,
-    pub left: ArrayVec<i128, 12>,
-    pub right: ArrayVec<i128, 12>,
+    pub left: ArrayVec<i128, MEMBER_ROOM>,
+    pub right: ArrayVec<i128, MEMBER_ROOM>,
 }
 
-/// The members who could be the one left over, and for each of them a plan in which it is.
+/// An alternating tree: its members and the rooms that it labels, with the assignment that leaves each of its members free.
 #[derive(Drop)]
 struct Tree {
     rooms: Order,
-    left: ArrayVec<i128, 12>,
-    right: ArrayVec<i128, 12>,
-    in_tree: ArrayVec<bool, 12>,
-    labelled: ArrayVec<bool, 12>,
-    plans: ArrayVec<Order, 12>,
+    left: ArrayVec<i128, MEMBER_ROOM>,
+    right: ArrayVec<i128, MEMBER_ROOM>,
+    in_tree: ArrayVec<bool, MEMBER_ROOM>,
+    labelled: ArrayVec<bool, MEMBER_ROOM>,
+    plans: ArrayVec<Order, MEMBER_ROOM>,
 }
 
-/// A member of the tree, a room that is not labelled, and what the two lack.
+/// A member of the tree, a room that is not labelled, and the slack of the two.
 #[derive(Clone, Copy)]
 struct Choice {
     member: usize,
@@ -37,10 +41,10 @@ struct Choice {
     slack: i128,
 }
 
-/// What a member and a room lack.
-fn slack(keys: &Matrix, tree: &Tree, settled: usize, member: usize, room: usize) -> i128
+/// The slack of a member and a room: the sum of their dual numbers, less the key.
+fn slack(keys: &Matrix, tree: &Tree, matched: usize, member: usize, room: usize) -> i128
     requires keys { AreKeys keys.now }
-    requires tree { IsGrownTree settled keys.now tree.now }
+    requires tree { IsTreeOf matched keys.now tree.now }
     requires member { member < length keys.now.items }
     requires room { room < length keys.now.items }
     ensures value { result ≡ slack_of keys.now tree.now member room }
@@ -49,8 +53,8 @@ fn slack(keys: &Matrix, tree: &Tree, settled: usize, member: usize, room: usize)
 }
 
 /// The list with the numbers lowered where there is a mark.
-fn lowered(values: &[i128], marked: &[bool], by: i128) -> ArrayVec<i128, 12>
-    requires few { length values.now ≤ 12 }
+fn lowered(values: &[i128], marked: &[bool], by: i128) -> ArrayVec<i128, MEMBER_ROOM>
+    requires few { length values.now ≤ MEMBER_ROOM }
     requires same { length marked.now ≡ length values.now }
     requires small { All (λ z. unsigned_abs z ≤ 10 ^ 22) values.now }
     requires by { unsigned_abs by ≤ 10 ^ 22 }
@@ -65,6 +69,7 @@ fn lowered(values: &[i128], marked: &[bool], by: i128) -> ArrayVec<i128, 12>
     lowered
 }
 
+/// The number, lowered where it is marked.
 fn one_lowered(value: i128, marked: bool, by: i128) -> i128
     requires value { unsigned_abs value ≤ 10 ^ 22 }
     requires by { unsigned_abs by ≤ 10 ^ 22 }
@@ -77,9 +82,9 @@ fn one_lowered(value: i128, marked: bool, by: i128) -> i128
     value
 }
 
-/// The plan with two rooms exchanged.
+/// The assignment with two rooms exchanged.
 fn swapped(plan: &[u8], first: usize, second: usize) -> Order
-    requires few { length plan.now ≤ 12 }
+    requires few { length plan.now ≤ MEMBER_ROOM }
     requires first { first < length plan.now }
     requires second { second < length plan.now }
     ensures { result.items ≡ swap plan.now first second }
@@ -93,7 +98,7 @@ fn swapped(plan: &[u8], first: usize, second: usize) -> Order
     swapped
 }
 
-/// The member who has the room in the plan.
+/// The member who has the room in the assignment.
 pub(crate) fn holder(plan: &[u8], room: usize) -> usize
     requires plan { IsPermutation (range_with_len 0 (length plan.now)) plan.now }
     requires room { room < length plan.now }
@@ -108,7 +113,7 @@ pub(crate) fn holder(plan: &[u8], room: usize) -> usize
     0
 }
 
-/// The choice that lacks less.
+/// The choice of less slack.
 fn better(first: Choice, second: Choice) -> Choice
     ensures one { (result ≡ first) ⊎ (result ≡ second) }
     ensures first { result.slack ≤ℤ first.slack }
@@ -120,16 +125,17 @@ fn better(first: Choice, second: Choice) -> Choice
     first
 }
 
+/// The choice so far, or the member with this room where that is not labelled and has less slack.
 fn with_room(
     keys: &Matrix,
     tree: &Tree,
-    settled: usize,
+    matched: usize,
     member: usize,
     room: usize,
     least: Choice,
 ) -> Choice
     requires keys { AreKeys keys.now }
-    requires tree { IsGrownTree settled keys.now tree.now }
+    requires tree { IsTreeOf matched keys.now tree.now }
     requires member { member < length keys.now.items }
     requires room { room < length keys.now.items }
     requires inside { marks tree.now.in_tree.items member ≡ true }
@@ -141,7 +147,7 @@ fn with_room(
     if tree.labelled[room] {
         return least;
     }
-    let slack = slack(keys, tree, settled, member, room);
+    let slack = slack(keys, tree, matched, member, room);
     better(
         least,
         Choice {
@@ -152,9 +158,10 @@ fn with_room(
     )
 }
 
-fn with_rooms(keys: &Matrix, tree: &Tree, settled: usize, member: usize, least: Choice) -> Choice
+/// The choice so far, or the member with a room where that has less slack.
+fn with_rooms(keys: &Matrix, tree: &Tree, matched: usize, member: usize, least: Choice) -> Choice
     requires keys { AreKeys keys.now }
-    requires tree { IsGrownTree settled keys.now tree.now }
+    requires tree { IsTreeOf matched keys.now tree.now }
     requires member { member < length keys.now.items }
     requires inside { marks tree.now.in_tree.items member ≡ true }
     requires least { IsChoice keys.now tree.now least }
@@ -164,14 +171,15 @@ fn with_rooms(keys: &Matrix, tree: &Tree, settled: usize, member: usize, least: 
 {
     let mut best = least;
     for room in 0..keys.len() {
-        best = with_room(keys, tree, settled, member, room, best);
+        best = with_room(keys, tree, matched, member, room, best);
     }
     best
 }
 
-fn with_member(keys: &Matrix, tree: &Tree, settled: usize, member: usize, least: Choice) -> Choice
+/// The choice so far, or this member with a room, where it is in the tree and that has less slack.
+fn with_member(keys: &Matrix, tree: &Tree, matched: usize, member: usize, least: Choice) -> Choice
     requires keys { AreKeys keys.now }
-    requires tree { IsGrownTree settled keys.now tree.now }
+    requires tree { IsTreeOf matched keys.now tree.now }
     requires member { member < length keys.now.items }
     requires least { IsChoice keys.now tree.now least }
     ensures choice { IsChoice keys.now tree.now result }
@@ -179,36 +187,37 @@ fn with_member(keys: &Matrix, tree: &Tree, settled: usize, member: usize, least:
     ensures rooms { marks tree.now.in_tree.items member ≡ true → (r : ℕ) → r < length keys.now.items → marks tree.now.labelled.items r ≡ false → result.slack ≤ℤ slack_of keys.now tree.now member r }
 {
     if tree.in_tree[member] {
-        return with_rooms(keys, tree, settled, member, least);
+        return with_rooms(keys, tree, matched, member, least);
     }
     least
 }
 
-/// The choice that lacks least.
-fn least_choice(keys: &Matrix, tree: &Tree, settled: usize) -> Choice
+/// The choice of least slack.
+fn least_choice(keys: &Matrix, tree: &Tree, matched: usize) -> Choice
     requires keys { AreKeys keys.now }
-    requires tree { IsGrownTree settled keys.now tree.now }
+    requires tree { IsTreeOf matched keys.now tree.now }
     ensures { IsLeastChoice keys.now tree.now result }
 {
-    let room = usize::from(tree.rooms[settled]);
-    let slack = slack(keys, tree, settled, settled, room);
+    let room = usize::from(tree.rooms[matched]);
+    let slack = slack(keys, tree, matched, matched, room);
     let mut least = Choice {
-        member: settled,
+        member: matched,
         room,
         slack,
     };
     for member in 0..keys.len() {
-        least = with_member(keys, tree, settled, member, least);
+        least = with_member(keys, tree, matched, member, least);
     }
     least
 }
 
-/// Moves the dual numbers, so that they reach the key of the choice.
-fn move_by(keys: &Matrix, tree: &mut Tree, settled: usize, choice: Choice)
+/// Adjusts the dual numbers by the least slack: down for the members of the tree, up for the rooms that it labels. The choice
+/// then has no slack.
+fn adjust(keys: &Matrix, tree: &mut Tree, matched: usize, choice: Choice)
     requires keys { AreKeys keys.now }
-    requires tree { IsGrownTree settled keys.now tree.old }
+    requires tree { IsTreeOf matched keys.now tree.old }
     requires choice { IsLeastChoice keys.now tree.old choice }
-    ensures tree { IsGrownTree settled keys.now tree.new }
+    ensures tree { IsTreeOf matched keys.now tree.new }
     ensures tight { numbers tree.new.left.items choice.member +ℤ numbers tree.new.right.items choice.room ≡ entry keys.now choice.member choice.room }
     ensures members { tree.new.in_tree.items ≡ tree.old.in_tree.items }
     ensures rooms { tree.new.labelled.items ≡ tree.old.labelled.items }
@@ -224,19 +233,19 @@ fn move_by(keys: &Matrix, tree: &mut Tree, settled: usize, choice: Choice)
     tree.right = right;
 }
 
-/// Lets the tree grow by the member who holds the room.
-fn grow(keys: &Matrix, tree: &mut Tree, settled: usize, member: usize, room: usize, holder: usize)
+/// Lets the tree grow by the member who holds the room, along a pair without slack.
+fn grow(keys: &Matrix, tree: &mut Tree, matched: usize, member: usize, room: usize, holder: usize)
     requires keys { AreKeys keys.now }
-    requires tree { IsGrownTree settled keys.now tree.old }
+    requires tree { IsTreeOf matched keys.now tree.old }
     requires member { member < length keys.now.items }
     requires inside { marks tree.old.in_tree.items member ≡ true }
     requires outside { marks tree.old.labelled.items room ≡ false }
     requires room { room < length keys.now.items }
     requires holder { slice_index (plan_of tree.old member) holder ≡ room }
     requires other { holder ≢ member }
-    requires low { holder ≤ settled }
+    requires low { holder ≤ matched }
     requires tight { numbers tree.old.left.items member +ℤ numbers tree.old.right.items room ≡ entry keys.now member room }
-    ensures tree { IsGrownTree settled keys.now tree.new }
+    ensures tree { IsTreeOf matched keys.now tree.new }
     ensures fewer { missing tree.new.in_tree.items < missing tree.old.in_tree.items }
 {
     let plan = swapped(tree.plans[member].as_slice(), member, holder);
@@ -245,16 +254,16 @@ fn grow(keys: &Matrix, tree: &mut Tree, settled: usize, member: usize, room: usi
     tree.labelled[room] = true;
 }
 
-/// The plan where the member left over takes the room of a holder who needs none.
-fn ended(keys: &Matrix, tree: Tree, settled: usize, member: usize, holder: usize) -> Plan
+/// The assignment that the tree augments: the member left free takes the room of a holder who is not matched.
+fn augmented(keys: &Matrix, tree: Tree, matched: usize, member: usize, holder: usize) -> Plan
     requires keys { AreKeys keys.now }
-    requires tree { IsGrownTree settled keys.now tree }
+    requires tree { IsTreeOf matched keys.now tree }
     requires member { member < length keys.now.items }
     requires holder { holder < length keys.now.items }
     requires inside { marks tree.in_tree.items member ≡ true }
     requires tight { numbers tree.left.items member +ℤ numbers tree.right.items (slice_index (plan_of tree member) holder) ≡ entry keys.now member (slice_index (plan_of tree member) holder) }
-    requires end { (holder ≡ member) ⊎ (settled < holder) }
-    ensures { IsSettledPlan (settled + 1) keys.now result }
+    requires end { (holder ≡ member) ⊎ (matched < holder) }
+    ensures { IsMatchedPlan (matched + 1) keys.now result }
 {
     let rooms = swapped(tree.plans[member].as_slice(), member, holder);
     Plan {
@@ -264,8 +273,9 @@ fn ended(keys: &Matrix, tree: Tree, settled: usize, member: usize, holder: usize
     }
 }
 
-fn one_mark(count: usize, place: usize) -> ArrayVec<bool, 12>
-    requires { count ≤ 12 }
+/// Marks for so many places, of which one is set.
+fn one_mark(count: usize, place: usize) -> ArrayVec<bool, MEMBER_ROOM>
+    requires { count ≤ MEMBER_ROOM }
     ensures count { length result.items ≡ count }
     ensures yes { place < count → marks result.items place ≡ true }
     ensures no { (i : ℕ) → i ≢ place → marks result.items i ≡ false }
@@ -278,8 +288,9 @@ fn one_mark(count: usize, place: usize) -> ArrayVec<bool, 12>
     marked
 }
 
+/// The same list of rooms.
 fn copied(rooms: &[u8]) -> Order
-    requires { length rooms.now ≤ 12 }
+    requires { length rooms.now ≤ MEMBER_ROOM }
     ensures { result.items ≡ rooms.now }
 {
     let mut copied = Order::new();
@@ -289,9 +300,10 @@ fn copied(rooms: &[u8]) -> Order
     copied
 }
 
-fn copies(rooms: &[u8], count: usize) -> ArrayVec<Order, 12>
-    requires few { length rooms.now ≤ 12 }
-    requires count { count ≤ 12 }
+/// The same list of rooms, so many times.
+fn copies(rooms: &[u8], count: usize) -> ArrayVec<Order, MEMBER_ROOM>
+    requires few { length rooms.now ≤ MEMBER_ROOM }
+    requires count { count ≤ MEMBER_ROOM }
     ensures count { length result.items ≡ count }
     ensures each { (k : ℕ) → k < count → (slice_index_or result.items k (record { items = [] })).items ≡ rooms.now }
 {
@@ -302,12 +314,12 @@ fn copies(rooms: &[u8], count: usize) -> ArrayVec<Order, 12>
     copies
 }
 
-/// The tree of the next member alone.
-fn started(keys: &Matrix, plan: Plan, settled: usize) -> Tree
+/// The alternating tree of its root alone, the next member.
+fn rooted(keys: &Matrix, plan: Plan, matched: usize) -> Tree
     requires keys { AreKeys keys.now }
-    requires plan { IsSettledPlan settled keys.now plan }
-    requires low { settled < length keys.now.items }
-    ensures { IsGrownTree settled keys.now result }
+    requires plan { IsMatchedPlan matched keys.now plan }
+    requires low { matched < length keys.now.items }
+    ensures { IsTreeOf matched keys.now result }
 {
     let count = keys.len();
     let plans = copies(plan.rooms.as_slice(), count);
@@ -315,31 +327,31 @@ fn started(keys: &Matrix, plan: Plan, settled: usize) -> Tree
         rooms: plan.rooms,
         left: plan.left,
         right: plan.right,
-        in_tree: one_mark(count, settled),
+        in_tree: one_mark(count, matched),
         labelled: one_mark(count, count),
         plans,
     }
 }
 
-/// Settles the next member.
-fn settle(keys: &Matrix, plan: Plan, settled: usize) -> Plan
+/// Matches the next member.
+fn match_next(keys: &Matrix, plan: Plan, matched: usize) -> Plan
     requires keys { AreKeys keys.now }
-    requires plan { IsSettledPlan settled keys.now plan }
-    requires low { settled < length keys.now.items }
-    ensures { IsSettledPlan (settled + 1) keys.now result }
+    requires plan { IsMatchedPlan matched keys.now plan }
+    requires low { matched < length keys.now.items }
+    ensures { IsMatchedPlan (matched + 1) keys.now result }
 {
-    let mut tree = started(keys, plan, settled);
+    let mut tree = rooted(keys, plan, matched);
     loop {
-        let choice = least_choice(keys, &tree, settled);
-        move_by(keys, &mut tree, settled, choice);
+        let choice = least_choice(keys, &tree, matched);
+        adjust(keys, &mut tree, matched, choice);
         let holder = holder(tree.plans[choice.member].as_slice(), choice.room);
         if holder == choice.member {
-            return ended(keys, tree, settled, choice.member, holder);
+            return augmented(keys, tree, matched, choice.member, holder);
         }
-        if settled < holder {
-            return ended(keys, tree, settled, choice.member, holder);
+        if matched < holder {
+            return augmented(keys, tree, matched, choice.member, holder);
         }
-        grow(keys, &mut tree, settled, choice.member, choice.room, holder);
+        grow(keys, &mut tree, matched, choice.member, choice.room, holder);
     }
 }
 
@@ -356,10 +368,10 @@ fn most(keys: &Matrix, member: usize) -> i128
     most
 }
 
-/// Nobody is settled.
+/// The assignment in which nobody is matched yet: the greatest key of each member is its dual number, and that of each room is 0.
 fn first_plan(keys: &Matrix) -> Plan
     requires { AreKeys keys.now }
-    ensures { IsSettledPlan 0 keys.now result }
+    ensures { IsMatchedPlan 0 keys.now result }
 {
     let mut rooms = Order::new();
     let mut left = ArrayVec::new();
@@ -375,11 +387,11 @@ fn first_plan(keys: &Matrix) -> Plan
 /// The rooms of greatest sum of keys, with dual numbers that show it.
 pub(crate) fn assign(keys: &Matrix) -> Plan
     requires { AreKeys keys.now }
-    ensures { IsSettledPlan (length keys.now.items) keys.now result }
+    ensures { IsMatchedPlan (length keys.now.items) keys.now result }
 {
     let mut plan = first_plan(keys);
-    for settled in 0..keys.len() {
-        plan = settle(keys, plan, settled);
+    for matched in 0..keys.len() {
+        plan = match_next(keys, plan, matched);
     }
     plan
 }

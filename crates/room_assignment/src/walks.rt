@@ -4,17 +4,18 @@ ghost use Rattle.room_assignment.specs.Matrix.{IsSquare, entry};
 ghost use Rattle.room_assignment.specs.Rounds.{IsLongestWithin, AreLongestWithin};
 
 use arrayvec::ArrayVec;
+use bid_rules::limits::MEMBER_ROOM;
 
 /// A matrix of weights: the entry (from, to) is the weight of the step from one vertex to another, both from 0.
-pub type Matrix = ArrayVec<ArrayVec<i128, 12>, 12>;
+pub type Matrix = ArrayVec<ArrayVec<i128, MEMBER_ROOM>, MEMBER_ROOM>;
 
 /// The longest walks, by vertex.
 #[derive(Drop)]
 pub struct Walks {
     /// The greatest weight of a walk that ends at the vertex, the walk of no steps included.
-    pub weights: ArrayVec<i128, 12>,
+    pub weights: ArrayVec<i128, MEMBER_ROOM>,
     /// The least number of steps of a walk of that weight.
-    pub ranks: ArrayVec<u8, 12>,
+    pub ranks: ArrayVec<u8, MEMBER_ROOM>,
 }
 
 /// A longest walk: its weight and its steps.
@@ -117,7 +118,7 @@ fn longer_walks(matrix: &Matrix, walks: &Walks, limit: u8) -> Walks
 
 /// The walks of no steps.
 fn no_walks(count: usize) -> Walks
-    requires { count ≤ 12 }
+    requires { count ≤ MEMBER_ROOM }
     ensures weights { result.weights.items ≡ replicate count (pos 0) }
     ensures ranks { result.ranks.items ≡ replicate count 0 }
 {
@@ -140,6 +141,7 @@ pub fn longest_walks(matrix: &Matrix) -> Walks
     ensures weights { AreGreatestWeights (length matrix.now.items) (entry matrix.now) result.weights.items }
     ensures ranks { AreRanks (length matrix.now.items) (entry matrix.now) result.weights.items result.ranks.items }
     ensures small { All (λ weight. unsigned_abs weight ≤ 10 ^ 21 * length matrix.now.items) result.weights.items }
+    ensures below { All (λ rank. rank < length matrix.now.items) result.ranks.items }
 {
     let mut walks = no_walks(matrix.len());
     for limit in 1..matrix.len() {

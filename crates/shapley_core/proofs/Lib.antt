@@ -1,3 +1,4 @@
+pub mod Factorials
 pub mod FareRanges
-pub mod OrderCosts
 pub mod SameFares
+pub mod SetSums

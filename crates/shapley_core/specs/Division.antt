@@ -1,19 +1,21 @@
 -- The division of a shared fare that the solver gives for a case.
-use Rattle.std.specs.Prelude.{◌≡◌, ℕ, pos, ◌*◌, ◌≤◌, length, map, All, unsigned_abs}
+use Rattle.std.specs.Prelude.{◌≡◌, ℕ, pos, ◌+◌, ◌*◌, ◌≤◌, length, map, All, unsigned_abs}
 use Rattle.std.specs.Int.{◌∣◌}
 use Rattle.bid_rules.specs.declared.cases.FareCase.{FareCase}
 use Rattle.bid_rules.specs.Fares.{FareBest, coalition_cost, riders_of}
 use Rattle.bid_rules.specs.Fractions.{IsQuotient, sum_of_fractions}
 use Rattle.bid_rules.specs.Orders.{factorial}
+use Rattle.bid_rules.specs.declared.limits.TheConstants.{MOST_FARE_CENTS, MOST_RIDERS}
 use Rattle.split_frac.specs.Frac.{pair_of}
 use Rattle.split_frac.specs.declared.frac.Frac.{Frac}
 use Rattle.shapley_core.specs.declared.division.FareDivision.{FareDivision}
 
--- a fare among so many riders is in parts of n!, of which there are at most 40,320, and at most 9,000,000 cents in size
+-- a fare among so many riders is in parts of n!, of which there are at most 10! = 3,628,800, and in size at most the flag fall and a leg
+-- a rider
 pub record IsFareInRange (riders : ℕ) (fare : Frac) : Type 0 where
   pub parts : fare.den ∣ factorial riders
-  pub few_parts : fare.den ≤ 40320
-  pub size : unsigned_abs fare.num ≤ 9000000 * fare.den
+  pub few_parts : fare.den ≤ factorial MOST_RIDERS
+  pub size : unsigned_abs fare.num ≤ MOST_FARE_CENTS * (MOST_RIDERS + 1) * fare.den
 
 -- the division of the case: the best fares and route, the cost of all riders, to which the fares sum, and the costs of this case
 pub record IsFareDivision (case : FareCase) (division : FareDivision) : Type 0 where
@@ -21,5 +23,5 @@ pub record IsFareDivision (case : FareCase) (division : FareDivision) : Type 0 w
   pub total : division.total ≡ coalition_cost case (riders_of case)
   pub sum : IsQuotient (sum_of_fractions (map pair_of division.fares.items)) (pos division.total) 1
   pub costs : division.costs ≡ case
-  pub few_riders : length case.at.items ≤ 8
+  pub few_riders : length case.at.items ≤ MOST_RIDERS
   pub ranges : All (IsFareInRange (length case.at.items)) division.fares.items

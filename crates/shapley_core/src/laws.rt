@@ -5,7 +5,7 @@ ghost use Rattle.bid_rules.specs.Fares.{FareBest};
 ghost use Rattle.split_frac.specs.Frac.{pair_of};
 ghost use Rattle.split_frac.specs.declared.frac.Frac.{Frac};
 
-use bid_rules::best_fares_law;
+use fare_laws::best_fares_law;
 use split_frac::value_law;
 
 /// A case has at most one best division: two of them have the same fares, as fractions in lowest terms, and the same route.

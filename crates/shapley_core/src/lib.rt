@@ -1,9 +1,9 @@
-//! Fares of a shared ride by the Shapley value over the costs of its riders (Shapley 1953).
+//! Fares of a taxi by the Shapley value over the costs of its riders (Shapley 1953).
 #![tactic(auto)]
 
 mod division;
 mod laws;
-mod marginals;
+mod sums;
 #[cfg(test)]
 mod tests;
 

@@ -26,6 +26,23 @@ const LINE: [&[u32]; 9] = [
     &[700, 600, 500, 400, 300, 200, 100, 0],
 ];
 
+/// All legs cost nothing but those from the origin to places 1 to 9.
+const FREE_LAST: [&[u32]; 11] = [
+    &[1, 1, 1, 1, 1, 1, 1, 1, 1, 0],
+    &FREE,
+    &FREE,
+    &FREE,
+    &FREE,
+    &FREE,
+    &FREE,
+    &FREE,
+    &FREE,
+    &FREE,
+    &FREE,
+];
+
+const FREE: [u32; 10] = [0; 10];
+
 const AT_THE_ORIGIN: [&[u32]; 2] = [&[0], &[0]];
 
 /// Facts with these legs.
@@ -36,7 +53,7 @@ fn fares(rt: &impl Abort, members: usize, flag: u32, rows: &[&[u32]]) -> Fares {
         assert!(rt; cents.try_extend_from_slice(row).is_ok());
         assert!(rt; legs.try_push(cents).is_ok());
     }
-    assert!(rt; members <= 8 && 1 <= rows.len() && rows.len() <= 11);
+    assert!(rt; members <= 10 && 1 <= rows.len() && rows.len() <= 13);
     Fares {
         members: members as u8,
         places: rows.len() as u8 - 1,
@@ -45,13 +62,13 @@ fn fares(rt: &impl Abort, members: usize, flag: u32, rows: &[&[u32]]) -> Fares {
     }
 }
 
-/// The ride of the members who name a place.
-fn ride(rt: &impl Abort, fares: Fares, places: &[Option<u8>]) -> Result<FareCase, Fail>
+/// The case of the members who name a place.
+fn case_with(rt: &impl Abort, fares: Fares, places: &[Option<u8>]) -> Result<FareCase, Fail>
     ensures { IfOk result IsValidFareCase }
 {
     assert!(rt; check_fares(&fares).is_ok() && places.len() == usize::from(fares.members));
     let facts = Facts::Fares(fares);
-    let mut bids = ArrayVec::<Option<Bid>, 8>::new();
+    let mut bids = ArrayVec::<Option<Bid>, 10>::new();
     for place in places {
         let mut bid = None;
         if let Some(place) = place {
@@ -63,14 +80,14 @@ fn ride(rt: &impl Abort, fares: Fares, places: &[Option<u8>]) -> Result<FareCase
     }
     match make_case(&facts, bids.as_slice()) {
         Ok(Case::Fares(case)) => Ok(case),
-        _ => Err(Fail::from("nobody rides")),
+        _ => Err(Fail::from("nobody bids")),
     }
 }
 
 #[test]
 fn fares_are_means_and_the_route_is_the_least(rt: HostRuntime) -> Result<(), Fail> {
     let alloc = rt.alloc();
-    let table: [(u32, &[&[u32]], &[Option<u8>], &[(i128, u64)], u32, &[u8]); 7] = [
+    let table: [(u32, &[&[u32]], &[Option<u8>], &[(i128, u64)], u32, &[u8]); 8] = [
         (
             300,
             &TAXI,
@@ -113,7 +130,7 @@ fn fares_are_means_and_the_route_is_the_least(rt: HostRuntime) -> Result<(), Fai
             &[1, 2, 3, 4],
         ),
         (
-            0,
+            800,
             &LINE,
             &[
                 Some(1),
@@ -126,21 +143,51 @@ fn fares_are_means_and_the_route_is_the_least(rt: HostRuntime) -> Result<(), Fai
                 Some(8),
             ],
             &[
-                (25, 2),
-                (375, 14),
-                (1825, 42),
-                (2665, 42),
-                (3715, 42),
-                (1705, 14),
-                (2405, 14),
+                (225, 2),
+                (1775, 14),
+                (6025, 42),
+                (6865, 42),
+                (7915, 42),
+                (3105, 14),
                 (3805, 14),
+                (5205, 14),
             ],
-            800,
+            1600,
             &[1, 2, 3, 4, 5, 6, 7, 8],
+        ),
+        (
+            0,
+            &FREE_LAST,
+            &[
+                Some(1),
+                Some(2),
+                Some(3),
+                Some(4),
+                Some(5),
+                Some(6),
+                Some(7),
+                Some(8),
+                Some(9),
+                Some(10),
+            ],
+            &[
+                (1, 10),
+                (1, 10),
+                (1, 10),
+                (1, 10),
+                (1, 10),
+                (1, 10),
+                (1, 10),
+                (1, 10),
+                (1, 10),
+                (-9, 10),
+            ],
+            0,
+            &[10, 1, 2, 3, 4, 5, 6, 7, 8, 9],
         ),
     ];
     for (flag, rows, places, want, total, route) in table {
-        let case = ride(&rt, fares(&rt, places.len(), flag, rows), places)?;
+        let case = case_with(&rt, fares(&rt, places.len(), flag, rows), places)?;
         let Ok(division) = solve_fares(alloc, &case) else {
             return Err(Fail::from("no memory"));
         };

@@ -1,1 +1,3 @@
 pub mod KnownBytes
+mod KeptDisk
+mod Replayed

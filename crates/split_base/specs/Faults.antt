@@ -1,5 +1,5 @@
 -- What an object's count of faults shows of its calls.
-use Rattle.std.specs.Prelude.{◌≡◌, ◌⊎◌, ℕ, ◌-◌, ◌^◌, ◌<◌, ◌≤◌, Result, IsErr}
+use Rattle.std.specs.Prelude.{◌≡◌, ◌⊎◌, ℕ, ◌+◌, ◌-◌, ◌^◌, ◌<◌, ◌≤◌, min, Result, IsErr, MatchResult}
 
 -- the count went up, or stands at its greatest value, where it can't
 abbrev pub HasRisen : ℕ → ℕ → Type 0
@@ -9,3 +9,11 @@ HasRisen before now = (before < now) ⊎ (now ≡ 2 ^ 64 - 1)
 pub record HasCause {T E : Type 0} (before now : ℕ) (result : Result T E) : Type 0 where
   pub never_falls : before ≤ now
   pub failed : IsErr result → HasRisen before now
+
+-- one more, up to the greatest number that is kept
+abbrev pub counted : ℕ → ℕ
+counted n = min (n + 1) (2 ^ 64 - 1)
+
+-- the count goes up by one where the call fails, and only there
+abbrev pub IsCounted : {T E : Type 0} → ℕ → ℕ → Result T E → Type 0
+IsCounted before now result = MatchResult result (λ _. now ≡ before) (λ _. now ≡ counted before)

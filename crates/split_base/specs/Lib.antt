@@ -1,3 +1,10 @@
+pub mod Disk
 pub mod Faults
-pub mod Streams
 pub mod Memory
+pub mod MemoryDisk
+pub mod Moments
+pub mod Past
+pub mod PastLaws
+pub mod Replay
+pub mod Streams
+pub mod Whole

@@ -1,5 +1,6 @@
 -- What contracts see of the objects in memory, and what each call makes of it.
-use Rattle.std.specs.Prelude.{ℕ, ◌+◌, ◌-◌, ◌^◌, min, List, [], ◌∷◌, ◌++◌, length, drop}
+use Rattle.std.specs.Prelude.{ℕ, ◌-◌, ◌^◌, List, [], ◌∷◌, ◌++◌, length, drop}
+pub use Rattle.split_base.specs.Faults.{counted}
 
 -- a source: the bytes that are left, the most bytes that each next call gives, the numbers of the calls that fail, and how many calls were made and have failed
 pub record SourceState : Type 0 where
@@ -16,10 +17,6 @@ pub record SinkState : Type 0 where
   pub fails : List ℕ
   pub calls : ℕ
   pub faults : ℕ
-
--- one more, up to the greatest number that is kept
-abbrev pub counted : ℕ → ℕ
-counted n = min (n + 1) (2 ^ 64 - 1)
 
 -- the most bytes that the next call gives: any number where the list has ended
 abbrev pub next_piece : List ℕ → ℕ

@@ -1,9 +1,11 @@
 // Objects in memory, whose calls fail where they are told to.
 mod calls;
+mod disk;
 mod pieces;
 mod sink;
 mod source;
 
+pub use disk::MemDisk;
 pub use sink::MemSink;
 pub use source::MemSource;
 

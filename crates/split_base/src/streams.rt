@@ -1,10 +1,10 @@
 // Sources and sinks of bytes. Each has a count of its faults, which never falls.
 ghost use Rattle.std.specs.Prelude.{◌≡◌, ℕ, List, Option, None};
-ghost use Rattle.split_base.specs.Faults.{HasCause};
+ghost use Rattle.split_base.specs.Faults.{HasCause, IsCounted};
 ghost use Rattle.split_base.specs.Streams.{Reads, Writes};
 
-/// A call failed. The count of faults of the object that was called has risen in this call, or
-/// stands at its greatest value, 2^64 - 1.
+/// A call failed. The count of faults of the object that was called has risen by one in this call,
+/// or stands at its greatest value, 2^64 - 1.
 #[derive(Clone, Copy, Debug, PartialEq, Eq)]
 pub struct Failed;
 
@@ -13,7 +13,7 @@ pub trait Source {
     /// The bytes that are left to read; `None` where the object doesn't tell them.
     ghost left: { Self → Option (List ℕ) };
 
-    /// How many of its calls have failed.
+    /// How many of its calls have failed, up to 2^64 - 1.
     ghost faults: { Self → ℕ };
 
     /// Where the object is a sink too: what that side has written, and its count of faults.
@@ -23,11 +23,13 @@ pub trait Source {
     /// Moves the next bytes to the front of `into`, and answers how many: from 1 to the length of
     /// `into` where that isn't empty, or 0 exactly at the end.
     ///
-    /// `Failed` comes only where the count of faults has risen. No byte was taken then.
+    /// `Failed` comes only where the count of faults has risen, by one. No byte was taken then.
+    /// A call that answers a number leaves the count as it is.
     fn read(&mut self, into: &mut [u8]) -> Result<usize, Failed>
         ensures bytes { Reads (left self.old) (left self.new) result into.new }
         ensures beside { beside self.new ≡ beside self.old }
-        ensures cause { HasCause (faults self.old) (faults self.new) result };
+        ensures cause { HasCause (faults self.old) (faults self.new) result }
+        ensures count { IsCounted (faults self.old) (faults self.new) result };
 }
 
 /// Takes bytes.
@@ -35,7 +37,7 @@ pub trait Sink {
     /// The bytes that were written; `None` where the object doesn't tell them.
     ghost written: { Self → Option (List ℕ) };
 
-    /// How many of its calls have failed.
+    /// How many of its calls have failed, up to 2^64 - 1.
     ghost faults: { Self → ℕ };
 
     /// Where the object is a source too: what that side has left, and its count of faults.
@@ -45,9 +47,11 @@ pub trait Sink {
     /// Writes the front of `piece`, and answers how many bytes: from 1 to the length of `piece`
     /// where that isn't empty.
     ///
-    /// `Failed` comes only where the count of faults has risen. No byte was written then.
+    /// `Failed` comes only where the count of faults has risen, by one. No byte was written then.
+    /// A call that answers a number leaves the count as it is.
     fn write(&mut self, piece: &[u8]) -> Result<usize, Failed>
         ensures bytes { Writes (written self.old) (written self.new) result piece.now }
         ensures beside { beside self.new ≡ beside self.old }
-        ensures cause { HasCause (faults self.old) (faults self.new) result };
+        ensures cause { HasCause (faults self.old) (faults self.new) result }
+        ensures count { IsCounted (faults self.old) (faults self.new) result };
 }

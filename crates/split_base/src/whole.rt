@@ -1,7 +1,8 @@
 // Reading to the end and writing whole pieces, over any source and any sink.
 ghost use Rattle.std.specs.Prelude.{◌≡◌, ◌<◌, ◌≤◌, ◌+◌, ℕ, List, length, take, drop, IfOk, IfSome, OnErr, IsErrOf, Some};
 ghost use Rattle.std.specs.Io.KnownBytes.{Appends, Consumes, IsAtEnd};
-ghost use Rattle.split_base.specs.Faults.{HasCause, HasRisen};
+ghost use Rattle.split_base.specs.Faults.{HasCause, HasRisen, IsCounted};
+ghost use Rattle.split_base.specs.Whole.{faults_after};
 
 use crate::{Failed, Sink, Source};
 use std::alloc::Global;
@@ -19,7 +20,9 @@ pub enum ReadStop {
 
 /// Reads to the end, and gives all the bytes, at most `most` of them.
 ///
-/// - `Fault` comes only where the source's count of faults has risen.
+/// - `Fault` comes only where the source's count of faults has risen. A failed read ends the
+///   reading: it is not tried again, so the count has risen by one then, and not at all with
+///   every other answer.
 /// - `TooLong` comes exactly where more than `most` bytes stand. Then `most + 1` of them were read.
 /// - `NoMemory` comes for want of memory alone.
 ///
@@ -35,6 +38,7 @@ pub fn read_all<S: Source>(alloc: Global, source: &mut S, most: usize) -> Result
     ensures too_long { IsErrOf result ReadStop.TooLong →
         IfSome (S.left source.old) (λ bytes. (most < length bytes) × (S.left source.new ≡ Some (drop (most + 1) bytes))) }
     ensures fault { IsErrOf result ReadStop.Fault → HasRisen (S.faults source.old) (S.faults source.new) }
+    ensures faults { S.faults source.new ≡ faults_after (S.faults source.old) result }
     ensures count { S.faults source.old ≤ S.faults source.new }
     ensures beside { S.beside source.new ≡ S.beside source.old }
 {
@@ -62,11 +66,13 @@ pub fn read_all<S: Source>(alloc: Global, source: &mut S, most: usize) -> Result
 /// Writes all the bytes. It takes no memory.
 ///
 /// `Failed` comes only where the sink's count of faults has risen. A prefix of the bytes was
-/// written then.
+/// written then. A failed write is not tried again: the count has risen by one then, and not at
+/// all where all was written.
 pub fn write_all<S: Sink>(sink: &mut S, bytes: &[u8]) -> Result<(), Failed>
     ensures ok { IfOk result (λ _. Appends (S.written sink.old) (S.written sink.new) bytes.now) }
     ensures prefix { OnErr result ((n : ℕ) × (n ≤ length bytes.now) × Appends (S.written sink.old) (S.written sink.new) (take n bytes.now)) }
     ensures cause { HasCause (S.faults sink.old) (S.faults sink.new) result }
+    ensures count { IsCounted (S.faults sink.old) (S.faults sink.new) result }
     ensures beside { S.beside sink.new ≡ S.beside sink.old }
 {
     let mut done = 0;

@@ -33,6 +33,10 @@ IsWithin a = (unsigned_abs a.num ≤ 10 ^ 24) × (a.den ≤ 4000000)
 abbrev pub frac_cmp : Frac → Frac → Ordering
 frac_cmp a b = int_cmp (a.num *ℤ pos b.den) (b.num *ℤ pos a.den)
 
--- the numerator, and where the denominator is not 1 a slash, which is 47, and the denominator
+-- a number over a denominator in decimal: the numerator, and where the denominator is not 1 a slash, which is 47, and the denominator
+unfoldable pub pair_text : ℤ × ℕ → List ℕ
+pair_text number = if number.1 == 1 then signed_decimal number.0 else signed_decimal number.0 ++ 47 ∷ decimal number.1
+
+-- the fraction in decimal
 abbrev pub frac_text : Frac → List ℕ
-frac_text a = if a.den == 1 then signed_decimal a.num else signed_decimal a.num ++ 47 ∷ decimal a.den
+frac_text a = pair_text (pair_of a)

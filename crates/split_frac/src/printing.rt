@@ -1,26 +1,36 @@
-ghost use Rattle.std.specs.Prelude.{◌≡◌, IfOk};
+ghost use Rattle.std.specs.Prelude.{◌≡◌, IfOk, Some};
 ghost use Rattle.std.specs.String.{string_bytes};
 ghost use Rattle.split_frac.specs.Frac.{frac_text};
 
 use crate::frac::Frac;
 use std::alloc::Global;
+use std::fmt;
 
 /// The answer where memory runs out.
 #[derive(Clone, Copy, Debug, PartialEq, Eq)]
 pub struct NoMemory;
 
-/// The fraction in decimal: the numerator, with a `-` where it is below 0, and where the
-/// denominator is not 1 a `/` and the denominator, as `-3/2` and `5`.
+/// In decimal: the numerator, with a `-` where it is below 0, and where the denominator is not 1 a
+/// `/` and the denominator, as `-3/2` and `5`.
+impl fmt::Display for Frac {
+    ghost output = { λ a. Some (frac_text a) };
+
+    #[tactic(auto, unfolding(crate::specs::Frac::pair_text))]
+    fn fmt<W: fmt::Write>(&self, f: &mut fmt::Formatter<W>) -> fmt::Result {
+        let (num, den) = (self.num, self.den);
+        if den == 1 {
+            write!(f, "{num}")
+        } else {
+            write!(f, "{num}/{den}")
+        }
+    }
+}
+
+/// The fraction in decimal, as `Display` writes it.
 ///
 /// `NoMemory`: the text could not be allocated.
 pub fn text(alloc: Global, a: &Frac) -> Result<String, NoMemory>
     ensures { IfOk result (λ text. string_bytes text ≡ frac_text a.now) }
 {
-    let (num, den) = (a.num, a.den);
-    let printed = if den == 1 {
-        format!(in alloc; "{num}")
-    } else {
-        format!(in alloc; "{num}/{den}")
-    };
-    printed.map_err(|_| NoMemory)
+    a.to_string(alloc).map_err(|_| NoMemory)
 }

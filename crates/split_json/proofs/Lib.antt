@@ -1,5 +1,5 @@
 pub mod Bodies
-pub mod KeptRules
+pub mod FreeFares
 pub mod Lists
-pub mod OwnLegs
 pub mod ReadyCases
+pub mod WrittenBids

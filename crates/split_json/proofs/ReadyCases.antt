@@ -1,151 +1,170 @@
--- A case that is read is ready: its facts and bids have no fault.
-use Rattle.std.proofs.Common.{◌≡◌, ℕ, ◌≤◌, List, length, Bool, true, false, if◌then◌else◌, Option, Some, None, Result, Ok, Err, refl, subst, arith}
-use Rattle.std.specs.Prelude.{⊤, is_some, option_and_then}
+-- A head and a case that are read are ready: their facts and bids have no fault.
+use Rattle.std.proofs.Common.{◌≡◌, ℕ, List, [], ◌∷◌, length, Bool, true, false, if◌then◌else◌, Option, Some, None, IfSome, option_map, option_and_then, Result, Ok, Err, All, refl, ap, subst, arith}
+use Rattle.std.specs.Prelude.{nat_le, is_some, ⊤}
 use Rattle.std.specs.Option.{ok_or}
 use Rattle.std.specs.Result.{result_map_both}
+use Rattle.std.proofs.lemmas.Bool.{and_parts, leb-true}
 use Rattle.std.proofs.lemmas.Option.{option_and_then_some}
-use Rattle.std.proofs.lemmas.List.Elements.{All-cons}
+use Rattle.std.proofs.lemmas.List.Elements.{All-nil, All-cons}
 use Rattle.serde_json.specs.Data.{Data}
-use Rattle.serde_json.specs.Find.{get}
-use Rattle.arrayvec.specs.ArrayVec.{ArrayVec}
-use Rattle.bid_rules.specs.declared.fares.Fares.{Fares}
+use Rattle.serde_json.specs.Find.{as_null, get}
+use Rattle.bid_rules.specs.declared.bids.Bid.{Bid}
 use Rattle.bid_rules.specs.declared.bids.Facts.{Facts}
-use Rattle.bid_rules.specs.declared.bids.Facts.TheVariants as facts
-use Rattle.bid_rules.specs.declared.goods.Goods.{Goods}
-use Rattle.bid_rules.specs.Goods.{IsCheckedGoods}
-use Rattle.bid_rules.specs.declared.rents.Rent.{Rent}
-use Rattle.bid_rules.specs.Rent.{IsCheckedRent}
-use Rattle.bid_rules.specs.Facts.{IsCheckedFacts, IsCheckedFares, member_count}
-use Rattle.split_json.specs.Rules.{bids_in, cents_in, json_of, kind_in, legs_in, limit_in, name_in, names_in, rent_in}
-use Rattle.split_json.specs.Reading.{CaseData, IsReady, answer_of, case_in, case_of_object, fares_of_object, field_text, goods_of_object, held, held_or, item_count, rent_of_object, rest_of_object, with_bids, ◌>>=◌}
-use Rattle.split_json.specs.declared.input.FieldName.{FieldName}
-use Rattle.split_json.specs.declared.input.FieldName.TheVariants as field
-use Rattle.split_json.specs.declared.input.Kind.{Kind}
-use Rattle.split_json.specs.declared.input.Kind.TheVariants as kind
-use Rattle.split_json.specs.declared.input.BodyFault.TheVariants.{Field}
-use Rattle.split_json.proofs.KeptRules.{All-parts, IsTable, bids_in-some, legs_in-some, list_in-some, own_legs, whole_in-some}
+use Rattle.bid_rules.specs.declared.limits.TheConstants.{ITEM_ROOM, MEMBER_ROOM, MOST_GOODS, MOST_PLACES, MOST_RENT, PLACE_ROOM, USUAL_STEPS}
+use Rattle.bid_rules.specs.Decisions.{Decision, holds, fails, is_checked_bid, is_checked_facts, where_holds}
+use Rattle.bid_rules.specs.Facts.{IsCheckedBid, IsCheckedFacts, member_count}
+use Rattle.split_json.specs.Rules.{allowed_bid, bid_in, bids_in, each, elements, entry_in, is_within, json_of, kind_in, legs_in, list_in, listed, name_in, names_in, number_in, passing, written_bid}
+use Rattle.split_json.specs.Reading.{CaseData, HeadData, IsReady, IsReadyHead, allowed, answer_of, case_in, case_of_object, fares_head, field_text, free_fares, goods_head, head_of_object, held, held_or, item_count, rent_head, rest_of_head, goods_facts, rent_facts, fares_facts, ◌>>=◌}
+use Rattle.sealed_core.specs.declared.fields.FieldName.{FieldName}
+use Rattle.sealed_core.specs.declared.fields.FieldName.TheVariants as field
+use Rattle.split_json.specs.declared.rules.Kind.{Kind}
+use Rattle.split_json.specs.declared.rules.Kind.TheVariants as kind
+use Rattle.sealed_core.specs.declared.fields.BodyFault.TheVariants.{Field}
 
--- the facts of counts, a flag fall and a table that keep their rules
-abbrev pub fares_of : List (List ℕ) → List (List ℕ) → ℕ → List (ArrayVec ℕ) → Fares
-fares_of members places flag legs = record { members = length members; places = length places; flag = flag; legs = record { items = legs } }
+-- where a decision lets x pass, the fact holds
+passed : {A : Type 0} (P : Type 0) (decision : Decision P) (x y : A) → where_holds P decision x ≡ Some y → P × (x ≡ y)
+passed P (holds p) x y h = (p, cc h)
+passed P (fails not) x y h = cc h
 
--- facts whose counts, flag fall and table keep their rules have no fault
-checked : (members places : List (List ℕ)) (flag : ℕ) (legs : List (ArrayVec ℕ))
-    → 2 ≤ length members → length members ≤ 4 → 1 ≤ length places → length places ≤ 10 → flag ≤ 1000000 → IsTable (length places) legs
-    → IsCheckedFares (fares_of members places flag legs)
-checked members places flag legs some few first last small table = record {
-  shape = record {
-    members_low = some;
-    members_high = omega arith;
-    places_low = first;
-    places_high = last;
-    table = record { rows = table.count; columns = λ k d below. (table.each k d below).0 };
-  };
-  million = All-cons (λ cents. cents ≤ 1000000) flag _ small (All-parts (λ row. row.items) (λ cents. cents ≤ 1000000) legs (λ k d below. (table.each k d below).1));
-  own_legs = (own_legs (length places) legs table.count _).0 table.free;
-}
+-- an option that gave a value
+given-ok : {A E : Type 0} (o : Option A) (error : E) (x : A) → ok_or o error ≡ Ok x → o ≡ Some x
+given-ok None error x h = cc h
+given-ok (Some y) error x h = cc h
 
--- the value of a field that keeps its rule
-held-ok : {A P : Type 0} (name : FieldName) (rule : Data → Option A) (body : Data) (x : A) → held name rule body ≡ Ok x → ((d : Data) → rule d ≡ Some x → P) → P
-held-ok name rule body x h next = option_and_then_some rule (get (field_text name) body) x (some (option_and_then rule (get (field_text name) body)) h) (λ d found kept. next d kept)
-  where
-    some : {A : Type 0} {x : A} (o : Option A) → ok_or o name ≡ Ok x → o ≡ Some x
-    some None e = cc e
-    some (Some y) e = cc e
+-- a choice that gave a value
+chosen-some : {A : Type 0} (b : Bool) (x y : A) → (if b then Some x else None) ≡ Some y → (b ≡ true) × (x ≡ y)
+chosen-some true x y h = (refl, cc h)
+chosen-some false x y h = cc h
 
--- the value of a field that may be missing: the usual one, or one that keeps the rule
-held_or-ok : {A P : Type 0} (usual : A) (name : FieldName) (rule : Data → Option A) (body : Data) (x : A) → held_or usual name rule body ≡ Ok x → (usual ≡ x → P) → ((d : Data) → rule d ≡ Some x → P) → P
-held_or-ok {A} {P} usual name rule body x h missing next = by_field (is_some (get (field_text name) body)) h
-  where
-    by_field : (b : Bool) → (if b then held name rule body else Ok usual) ≡ Ok x → P
-    by_field true e = held-ok name rule body x e next
-    by_field false e = missing (cc e)
+-- a value that was mapped
+option_map-some : {A B P : Type 0} (f : A → B) (o : Option A) (y : B) → option_map f o ≡ Some y → ((x : A) → o ≡ Some x → f x ≡ y → P) → P
+option_map-some f None y h next = cc h
+option_map-some f (Some x) y h next = next x refl (cc h)
 
--- the two tests of which both gave a value
+-- two tests of which both gave a value
 both-ok : {A B P : Type 0} (first : Result A FieldName) (next : A → Result B FieldName) (y : B) → (first >>= next) ≡ Ok y → ((x : A) → first ≡ Ok x → next x ≡ Ok y → P) → P
 both-ok (Ok x) next y h and_so = and_so x refl h
 both-ok (Err name) next y h and_so = cc h
 
--- a case of facts without fault, with a name for each member and item, is ready
-with_bids-ready : (title : List ℕ) (members items : List (List ℕ)) (given : Facts) (body : Data) (read : CaseData)
-    → IsCheckedFacts given → length members ≡ member_count given → length items ≡ item_count given
-    → with_bids title members items given body ≡ Ok read → IsReady read
-with_bids-ready title members items given body read no_fault member_names item_names h =
-    both-ok (held field.Bids (bids_in given) body) _ read h (λ bids bids_held is.
-    held-ok field.Bids (bids_in given) body bids bids_held (λ value kept.
-    let entries = bids_in-some given value bids kept in
-    let ready : IsReady (record { title = title; members = members; items = items; facts = given; bids = bids }) = record {
-      facts = no_fault;
-      members = member_names;
-      items = item_names;
+-- the value of a field that keeps its rule
+held-ok : {A P : Type 0} (name : FieldName) (rule : Data → Option A) (body : Data) (x : A) → held name rule body ≡ Ok x → ((d : Data) → rule d ≡ Some x → P) → P
+held-ok name rule body x h next =
+    option_and_then_some rule (get (field_text name) body) x (given-ok (option_and_then rule (get (field_text name) body)) name x h) (λ d found kept. next d kept)
+
+-- as many elements as before, and each keeps what the rule gives
+pub each-some : {A B : Type 0} (rule : A → Option B) (P : B → Type 0) → ((x : A) (y : B) → rule x ≡ Some y → P y) → (xs : List A) (ys : List B) → each rule xs ≡ Some ys → (length ys ≡ length xs) × All P ys
+each-some {A} {B} rule P keeps [] ys h =
+    let none : [] ≡ ys = cc h in
+    subst (λ (zs : List B). (length zs ≡ 0) × All P zs) none (refl, All-nil P)
+each-some {A} {B} rule P keeps (x ∷ xs) ys h =
+    option_and_then_some (λ y. option_map (λ zs. y ∷ zs) (each rule xs)) (rule x) ys h (λ y first rest.
+    option_map-some (λ zs. y ∷ zs) (each rule xs) ys rest (λ zs others is.
+    let more = each-some rule P keeps xs zs others in
+    subst (λ (ws : List B). (length ws ≡ length (x ∷ xs)) × All P ws) is (omega (arith, more.0), All-cons P y zs (keeps x y first) more.1)))
+
+-- a list of just so many elements, and each keeps what the rule gives
+list_in-some : {B : Type 0} (rule : Data → Option B) (P : B → Type 0) → ((d : Data) (y : B) → rule d ≡ Some y → P y) → (count : ℕ) (d : Data) (ys : List B) → list_in rule count count d ≡ Some ys → (length ys ≡ count) × All P ys
+list_in-some rule P keeps count d ys h =
+    option_and_then_some (each rule) (elements count count d) ys h (λ ds found kept.
+    option_and_then_some (passing (λ es. is_within count count (length es))) (listed d) ds found (λ es some chosen.
+    let fits = chosen-some (is_within count count (length es)) es ds chosen in
+    let within = and_parts (nat_le count (length es)) (nat_le (length es) count) fits.0 in
+    let all = each-some rule P keeps ds ys kept in
+    let same : length es ≡ length ds = ap length fits.1 in
+    (omega (arith, all.0, same, leb-true count (length es) within.0, leb-true (length es) count within.1), all.1)))
+
+-- a bid that is read is checked
+pub bid_in-some : (given : Facts) (d : Data) (one : Bid) → bid_in given d ≡ Some one → IsCheckedBid given one
+unfolding allowed_bid
+bid_in-some given d one h =
+    option_and_then_some (allowed_bid given) (written_bid given d) one h (λ written found kept.
+    let checked = passed (IsCheckedBid given written) (is_checked_bid given written) written one kept in
+    subst (IsCheckedBid given) checked.1 checked.0)
+
+-- an entry of the bids is none, or checked
+entry_in-some : (given : Facts) (d : Data) (entry : Option Bid) → entry_in given d ≡ Some entry → IfSome entry (IsCheckedBid given)
+entry_in-some given d entry h = by_null (is_some (as_null d)) h
+  where
+    by_null : (b : Bool) → (if b then Some None else option_map Some (bid_in given d)) ≡ Some entry → IfSome entry (IsCheckedBid given)
+    by_null true e =
+        let none : None ≡ entry = cc e in
+        subst (λ (o : Option Bid). IfSome o (IsCheckedBid given)) none tt
+    by_null false e = option_map-some Some (bid_in given d) entry e (λ one found is.
+        subst (λ (o : Option Bid). IfSome o (IsCheckedBid given)) is (bid_in-some given d one found))
+
+-- a head of facts that were allowed, with a name for each member and item, is ready
+allowed-ready : (name : FieldName) (title : List ℕ) (members items : List (List ℕ)) (given : Facts) (head : HeadData)
+    → length members ≡ member_count given → length items ≡ item_count given
+    → (allowed name given >>= (λ all. Ok (record { title = title; members = members; items = items; facts = all }))) ≡ Ok head → IsReadyHead head
+unfolding allowed
+allowed-ready name title members items given head each_member each_item h =
+    both-ok (allowed name given) _ head h (λ all found is.
+    let checked = passed (IsCheckedFacts given) (is_checked_facts given) given all (given-ok (where_holds (IsCheckedFacts given) (is_checked_facts given) given) name all found) in
+    let ready : IsReadyHead (record { title = title; members = members; items = items; facts = given }) = record { facts = checked.0; members = each_member; items = each_item } in
+    subst IsReadyHead (cc is) (subst (λ (f : Facts). IsReadyHead (record { title = title; members = members; items = items; facts = f })) checked.1 ready))
+
+rent_head-ready : (title : List ℕ) (body : Data) (head : HeadData) → rent_head title body ≡ Ok head → IsReadyHead head
+unfolding rent_head
+rent_head-ready title body head h =
+    both-ok (held field.Members (names_in 0 MEMBER_ROOM) body) _ head h (λ members _ after_members.
+    both-ok (allowed field.Members (rent_facts (length members) MOST_RENT)) _ head after_members (λ _ _ rest.
+    both-ok (held field.Rooms (names_in (length members) (length members)) body) _ head rest (λ rooms rooms_held after_rooms.
+    both-ok (held field.Rent number_in body) _ head after_rooms (λ rent _ after_rent.
+    held-ok field.Rooms (names_in (length members) (length members)) body rooms rooms_held (λ value kept.
+    allowed-ready field.Rent title members rooms (rent_facts (length members) rent) head refl (list_in-some name_in (λ _. ⊤) (λ _ _ _. tt) (length members) value rooms kept).0 after_rent)))))
+
+goods_head-ready : (title : List ℕ) (body : Data) (head : HeadData) → goods_head title body ≡ Ok head → IsReadyHead head
+unfolding goods_head
+goods_head-ready title body head h =
+    both-ok (held field.Members (names_in 0 MEMBER_ROOM) body) _ head h (λ members _ after_members.
+    both-ok (allowed field.Members (goods_facts (length members) MOST_GOODS USUAL_STEPS)) _ head after_members (λ _ _ rest.
+    both-ok (held field.Goods (names_in 0 ITEM_ROOM) body) _ head rest (λ goods _ after_goods.
+    both-ok (allowed field.Goods (goods_facts (length members) (length goods) USUAL_STEPS)) _ head after_goods (λ _ _ more.
+    both-ok (held_or USUAL_STEPS field.Limit number_in body) _ head more (λ limit _ after_limit.
+    allowed-ready field.Limit title members goods (goods_facts (length members) (length goods) limit) head refl refl after_limit)))))
+
+fares_head-ready : (title : List ℕ) (body : Data) (head : HeadData) → fares_head title body ≡ Ok head → IsReadyHead head
+unfolding fares_head
+fares_head-ready title body head h =
+    both-ok (held field.Members (names_in 0 MEMBER_ROOM) body) _ head h (λ members _ after_members.
+    both-ok (allowed field.Members (free_fares (length members) MOST_PLACES 0)) _ head after_members (λ _ _ rest.
+    both-ok (held field.Places (names_in 0 PLACE_ROOM) body) _ head rest (λ places _ after_places.
+    both-ok (allowed field.Places (free_fares (length members) (length places) 0)) _ head after_places (λ _ _ more.
+    both-ok (held field.Flag number_in body) _ head more (λ flag _ after_flag.
+    both-ok (allowed field.Flag (free_fares (length members) (length places) flag)) _ head after_flag (λ _ _ most.
+    both-ok (held field.Legs legs_in body) _ head most (λ legs _ after_legs.
+    allowed-ready field.Legs title members places (fares_facts (length members) (length places) flag legs) head refl refl after_legs)))))))
+
+-- a head that an object gives is ready
+pub head_of_object-ready : (body : Data) (head : HeadData) → head_of_object body ≡ Ok head → IsReadyHead head
+unfolding head_of_object
+head_of_object-ready body head h =
+    both-ok (held field.Kind kind_in body) _ head h (λ kind _ after_kind.
+    both-ok (held field.Title name_in body) _ head after_kind (λ title _ after_title.
+    by_kind kind title after_title))
+  where
+    by_kind : (kind : Kind) (title : List ℕ) → rest_of_head kind title body ≡ Ok head → IsReadyHead head
+    by_kind kind.Rent title rest = rent_head-ready title body head rest
+    by_kind kind.Goods title rest = goods_head-ready title body head rest
+    by_kind kind.Fares title rest = fares_head-ready title body head rest
+
+-- a case that an object gives is ready
+case_of_object-ready : (body : Data) (case : CaseData) → case_of_object body ≡ Ok case → IsReady case
+unfolding case_of_object
+case_of_object-ready body case h =
+    both-ok (head_of_object body) _ case h (λ head found after_head.
+    both-ok (held field.Bids (bids_in head.facts) body) _ case after_head (λ bids bids_held is.
+    held-ok field.Bids (bids_in head.facts) body bids bids_held (λ value kept.
+    let whole = head_of_object-ready body head found in
+    let entries = list_in-some (entry_in head.facts) (λ entry. IfSome entry (IsCheckedBid head.facts)) (entry_in-some head.facts) (member_count head.facts) value bids kept in
+    let ready : IsReady (record { title = head.title; members = head.members; items = head.items; facts = head.facts; bids = bids }) = record {
+      facts = whole.facts;
+      members = whole.members;
+      items = whole.items;
       count = entries.0;
       bids = entries.1;
     } in
-    subst IsReady (cc is) ready))
-
--- a rent that an object gives is ready
-rent_of_object-ready : (title : List ℕ) (body : Data) (read : CaseData) → rent_of_object title body ≡ Ok read → IsReady read
-unfolding rent_of_object
-rent_of_object-ready title body read h =
-    both-ok (held field.Members (names_in 2 12) body) _ read h (λ members members_held after_members.
-    both-ok (held field.Rooms (names_in (length members) (length members)) body) _ read after_members (λ rooms rooms_held after_rooms.
-    both-ok (held field.Rent rent_in body) _ read after_rooms (λ rent rent_held after_rent.
-    held-ok field.Members (names_in 2 12) body members members_held (λ members_value members_kept.
-    held-ok field.Rooms (names_in (length members) (length members)) body rooms rooms_held (λ rooms_value rooms_kept.
-    held-ok field.Rent rent_in body rent rent_held (λ rent_value rent_kept.
-    let member_names = list_in-some name_in (λ _. ⊤) (λ _ _ _. tt) 2 12 members_value members members_kept in
-    let room_names = list_in-some name_in (λ _. ⊤) (λ _ _ _. tt) (length members) (length members) rooms_value rooms rooms_kept in
-    let home : Rent = record { members = length members; rent = rent } in
-    let no_fault : IsCheckedRent home = ((member_names.0, member_names.1), whole_in-some 1 10000000 rent_value rent rent_kept) in
-    with_bids-ready title members rooms (facts.Rent home) body read no_fault refl (omega (arith, room_names.0, room_names.1)) after_rent))))))
-
--- goods that an object gives are ready
-goods_of_object-ready : (title : List ℕ) (body : Data) (read : CaseData) → goods_of_object title body ≡ Ok read → IsReady read
-unfolding goods_of_object
-goods_of_object-ready title body read h =
-    both-ok (held field.Members (names_in 2 12) body) _ read h (λ members members_held after_members.
-    both-ok (held field.Goods (names_in 1 24) body) _ read after_members (λ goods goods_held after_goods.
-    both-ok (held_or 100000 field.Limit limit_in body) _ read after_goods (λ limit limit_held after_limit.
-    held-ok field.Members (names_in 2 12) body members members_held (λ members_value members_kept.
-    held-ok field.Goods (names_in 1 24) body goods goods_held (λ goods_value goods_kept.
-    let member_names = list_in-some name_in (λ _. ⊤) (λ _ _ _. tt) 2 12 members_value members members_kept in
-    let good_names = list_in-some name_in (λ _. ⊤) (λ _ _ _. tt) 1 24 goods_value goods goods_kept in
-    let steps : (1 ≤ limit) × (limit ≤ 200000) = held_or-ok 100000 field.Limit limit_in body limit limit_held (λ is. (omega (arith, is), omega (arith, is))) (λ limit_value limit_kept. whole_in-some 1 200000 limit_value limit limit_kept) in
-    let given : Goods = record { members = length members; goods = length goods; limit = limit } in
-    let no_fault : IsCheckedGoods given = record { counts = (member_names.0, member_names.1, good_names.0, good_names.1); steps = steps } in
-    with_bids-ready title members goods (facts.Goods given) body read no_fault refl refl after_limit)))))
-
--- a shared ride that an object gives is ready
-fares_of_object-ready : (title : List ℕ) (body : Data) (read : CaseData) → fares_of_object title body ≡ Ok read → IsReady read
-unfolding fares_of_object
-fares_of_object-ready title body read h =
-    both-ok (held field.Members (names_in 2 4) body) _ read h (λ members members_held after_members.
-    both-ok (held field.Places (names_in 1 10) body) _ read after_members (λ places places_held after_places.
-    both-ok (held field.Flag cents_in body) _ read after_places (λ flag flag_held after_flag.
-    both-ok (held field.Legs (legs_in (length places)) body) _ read after_flag (λ legs legs_held after_legs.
-    held-ok field.Members (names_in 2 4) body members members_held (λ members_value members_kept.
-    held-ok field.Places (names_in 1 10) body places places_held (λ places_value places_kept.
-    held-ok field.Flag cents_in body flag flag_held (λ flag_value flag_kept.
-    held-ok field.Legs (legs_in (length places)) body legs legs_held (λ legs_value legs_kept.
-    let member_names = list_in-some name_in (λ _. ⊤) (λ _ _ _. tt) 2 4 members_value members members_kept in
-    let place_names = list_in-some name_in (λ _. ⊤) (λ _ _ _. tt) 1 10 places_value places places_kept in
-    let small = (whole_in-some 0 1000000 flag_value flag flag_kept).1 in
-    let table = legs_in-some (length places) legs_value legs legs_kept in
-    let no_fault = checked members places flag legs member_names.0 member_names.1 place_names.0 place_names.1 small table in
-    with_bids-ready title members places (facts.Fares (fares_of members places flag legs)) body read no_fault refl refl after_legs))))))))
-
--- a case that an object gives is ready
-case_of_object-ready : (body : Data) (read : CaseData) → case_of_object body ≡ Ok read → IsReady read
-unfolding case_of_object
-case_of_object-ready body read h =
-    both-ok (held field.Kind kind_in body) _ read h (λ kind _ after_kind.
-    both-ok (held field.Title name_in body) _ read after_kind (λ title _ after_title.
-    by_kind kind title after_title))
-  where
-    by_kind : (kind : Kind) (title : List ℕ) → rest_of_object kind title body ≡ Ok read → IsReady read
-    by_kind kind.Rent title rest = rent_of_object-ready title body read rest
-    by_kind kind.Goods title rest = goods_of_object-ready title body read rest
-    by_kind kind.Fares title rest = fares_of_object-ready title body read rest
+    subst IsReady (cc is) ready)))
 
 -- an answer that was mapped
 answer-ok : {A B E F P : Type 0} (f : A → B) (g : E → F) (r : Result A E) (y : B) → result_map_both f g r ≡ Ok y → ((x : A) → r ≡ Ok x → f x ≡ y → P) → P
@@ -153,11 +172,11 @@ answer-ok f g (Ok x) y h next = next x refl (cc h)
 answer-ok f g (Err e) y h next = cc h
 
 -- a case that a value gives is ready
-pub answer_of-ready : (value : Option Data) (read : CaseData) → answer_of value ≡ Ok read → IsReady read
-answer_of-ready None read h = cc h
-answer_of-ready (Some body) read h = answer-ok (λ case. case) Field (case_of_object body) read h (λ case found is.
-    subst IsReady is (case_of_object-ready body case found))
+pub answer_of-ready : (value : Option Data) (case : CaseData) → answer_of value ≡ Ok case → IsReady case
+answer_of-ready None case h = cc h
+answer_of-ready (Some body) case h = answer-ok (λ read. read) Field (case_of_object body) case h (λ read found is.
+    subst IsReady is (case_of_object-ready body read found))
 
 -- a case that is read is ready
-pub case_in-ready : (body : List ℕ) (read : CaseData) → case_in body ≡ Ok read → IsReady read
-case_in-ready body read h = answer_of-ready (json_of body) read h
+pub case_in-ready : (body : List ℕ) (case : CaseData) → case_in body ≡ Ok case → IsReady case
+case_in-ready body case h = answer_of-ready (json_of body) case h

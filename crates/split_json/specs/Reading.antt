@@ -1,21 +1,43 @@
 -- What a body of a case gives: the case, or what is wrong with the body.
-use Rattle.std.specs.Prelude.{◌≡◌, ◌≤◌, ℕ, List, All, map, length, codes, Option, Some, None, IfSome, ⊤, if◌then◌else◌, is_some, option_and_then, Result, Ok, Err}
+use Rattle.std.specs.Prelude.{◌≡◌, ℕ, ◌+◌, List, All, map, length, replicate, Option, Some, None, IfSome, if◌then◌else◌, is_some, option_and_then, Result, Ok, Err}
 use Rattle.std.specs.Option.{ok_or}
 use Rattle.std.specs.Result.{result_map_both}
+use Rattle.arrayvec.specs.ArrayVec.{ArrayVec}
 use Rattle.serde_json.specs.Data.{Data}
 use Rattle.serde_json.specs.Find.{get}
 use Rattle.bid_rules.specs.declared.bids.Facts.{Facts}
 use Rattle.bid_rules.specs.declared.bids.Facts.TheVariants as facts
 use Rattle.bid_rules.specs.declared.bids.Bid.{Bid}
+use Rattle.bid_rules.specs.declared.limits.TheConstants.{ITEM_ROOM, MEMBER_ROOM, MOST_GOODS, MOST_PLACES, MOST_RENT, PLACE_ROOM, USUAL_STEPS}
+use Rattle.bid_rules.specs.Decisions.{is_checked_facts, where_holds}
 use Rattle.bid_rules.specs.Facts.{IsCheckedBid, IsCheckedFacts, member_count}
-use Rattle.split_json.specs.Rules.{bids_in, cents_in, json_of, kind_in, legs_in, limit_in, name_in, names_in, rent_in}
-use Rattle.split_json.specs.declared.input.FieldName.{FieldName}
-use Rattle.split_json.specs.declared.input.FieldName.TheVariants as field
-use Rattle.split_json.specs.declared.input.Kind.{Kind}
-use Rattle.split_json.specs.declared.input.Kind.TheVariants as kind
-use Rattle.split_json.specs.declared.input.BodyFault.{BodyFault}
-use Rattle.split_json.specs.declared.input.BodyFault.TheVariants.{Json, Field}
+use Rattle.split_json.specs.Rules.{bids_in, json_of, kind_in, legs_in, name_in, names_in, number_in}
+use Rattle.sealed_core.specs.declared.fields.FieldName.{FieldName}
+use Rattle.sealed_core.specs.declared.fields.FieldName.TheVariants as field
+use Rattle.split_json.specs.declared.rules.Kind.{Kind}
+use Rattle.split_json.specs.declared.rules.Kind.TheVariants as kind
+use Rattle.sealed_core.specs.declared.fields.BodyFault.{BodyFault}
+use Rattle.sealed_core.specs.declared.fields.BodyFault.TheVariants.{Json, Field}
 use Rattle.split_json.specs.declared.input.CaseInput.{CaseInput}
+use Rattle.split_json.specs.declared.input.Head.{Head}
+pub use Rattle.sealed_core.specs.Fields.{field_text}
+pub use Rattle.sealed_core.specs.Host.{item_count}
+
+-- what a case is of, with its texts as plain lists of bytes
+pub record HeadData : Type 0 where
+  pub title : List ℕ
+  pub members : List (List ℕ)
+  pub items : List (List ℕ)
+  pub facts : Facts
+
+-- what a head that was read shows
+abbrev pub shown_head : Head → HeadData
+shown_head head = record {
+  title = head.title.bytes;
+  members = map (λ text. text.bytes) head.members.items;
+  items = map (λ text. text.bytes) head.items.items;
+  facts = head.facts;
+}
 
 -- a case with its texts as plain lists of bytes
 pub record CaseData : Type 0 where
@@ -35,20 +57,6 @@ shown input = record {
   bids = input.bids.items;
 }
 
--- the key of a field
-abbrev pub field_text : FieldName → List ℕ
-field_text field.Kind = codes "kind"
-field_text field.Title = codes "title"
-field_text field.Members = codes "members"
-field_text field.Rooms = codes "rooms"
-field_text field.Rent = codes "rent"
-field_text field.Goods = codes "goods"
-field_text field.Limit = codes "limit"
-field_text field.Places = codes "places"
-field_text field.Flag = codes "flag"
-field_text field.Legs = codes "legs"
-field_text field.Bids = codes "bids"
-
 -- what the body holds in a field, by the field's rule, or the field's name where it is missing or breaks the rule
 abbrev pub held : {A : Type 0} → FieldName → (Data → Option A) → Data → Result A FieldName
 held name rule body = ok_or (option_and_then rule (get (field_text name) body)) name
@@ -63,49 +71,78 @@ abbrev pub ◌>>=◌ : {A B : Type 0} → Result A FieldName → (A → Result B
 Ok x >>= next = next x
 Err name >>= next = Err name
 
--- the case of these names and facts with the bids that the body holds
-abbrev pub with_bids : List ℕ → List (List ℕ) → List (List ℕ) → Facts → Data → Result CaseData FieldName
-with_bids title members items facts body = do
-  bids ← held field.Bids (bids_in facts) body
-  Ok (record { title = title; members = members; items = items; facts = facts; bids = bids })
+-- the facts, where they have no fault; else the fault is that of the field that was read last
+unfoldable pub allowed : FieldName → Facts → Result Facts FieldName
+allowed name given = ok_or (where_holds (IsCheckedFacts given) (is_checked_facts given) given) name
 
--- the fields of a rent after the title: as many rooms as members, and the rent
-unfoldable pub rent_of_object : List ℕ → Data → Result CaseData FieldName
-rent_of_object title body = do
-  members ← held field.Members (names_in 2 12) body
+-- the facts of a rent, of goods and of fares
+abbrev pub rent_facts : ℕ → ℕ → Facts
+rent_facts members rent = facts.Rent (record { members = members; rent = rent })
+
+abbrev pub goods_facts : ℕ → ℕ → ℕ → Facts
+goods_facts members goods limit = facts.Goods (record { members = members; goods = goods; limit = limit })
+
+abbrev pub fares_facts : ℕ → ℕ → ℕ → List (ArrayVec ℕ) → Facts
+fares_facts members places flag legs = facts.Fares (record { members = members; places = places; flag = flag; legs = record { items = legs } })
+
+-- fares whose legs cost nothing
+unfoldable pub free_fares : ℕ → ℕ → ℕ → Facts
+free_fares members places flag = fares_facts members places flag (replicate (places + 1) (record { items = replicate places 0 }))
+
+-- the fields of a rent after the title: as many rooms as members, and the rent. Facts are checked as soon as one of their fields is read,
+-- here and below, with good values in place of those that are still to come (`field_fault_law`)
+unfoldable pub rent_head : List ℕ → Data → Result HeadData FieldName
+rent_head title body = do
+  members ← held field.Members (names_in 0 MEMBER_ROOM) body
+  some ← allowed field.Members (rent_facts (length members) MOST_RENT)
   rooms ← held field.Rooms (names_in (length members) (length members)) body
-  rent ← held field.Rent rent_in body
-  with_bids title members rooms (facts.Rent (record { members = length members; rent = rent })) body
+  rent ← held field.Rent number_in body
+  all ← allowed field.Rent (rent_facts (length members) rent)
+  Ok (record { title = title; members = members; items = rooms; facts = all })
 
--- the fields of goods after the title: the goods, and the limit of steps, 100,000 where it is missing
-unfoldable pub goods_of_object : List ℕ → Data → Result CaseData FieldName
-goods_of_object title body = do
-  members ← held field.Members (names_in 2 12) body
-  goods ← held field.Goods (names_in 1 24) body
-  limit ← held_or 100000 field.Limit limit_in body
-  with_bids title members goods (facts.Goods (record { members = length members; goods = length goods; limit = limit })) body
+-- the fields of goods after the title: the goods, and the limit of steps, which may be missing
+unfoldable pub goods_head : List ℕ → Data → Result HeadData FieldName
+goods_head title body = do
+  members ← held field.Members (names_in 0 MEMBER_ROOM) body
+  some ← allowed field.Members (goods_facts (length members) MOST_GOODS USUAL_STEPS)
+  goods ← held field.Goods (names_in 0 ITEM_ROOM) body
+  more ← allowed field.Goods (goods_facts (length members) (length goods) USUAL_STEPS)
+  limit ← held_or USUAL_STEPS field.Limit number_in body
+  all ← allowed field.Limit (goods_facts (length members) (length goods) limit)
+  Ok (record { title = title; members = members; items = goods; facts = all })
 
--- the fields of a shared ride after the title: the places, the flag fall and the legs
-unfoldable pub fares_of_object : List ℕ → Data → Result CaseData FieldName
-fares_of_object title body = do
-  members ← held field.Members (names_in 2 4) body
-  places ← held field.Places (names_in 1 10) body
-  flag ← held field.Flag cents_in body
-  legs ← held field.Legs (legs_in (length places)) body
-  with_bids title members places (facts.Fares (record { members = length members; places = length places; flag = flag; legs = record { items = legs } })) body
+-- the fields of fares after the title: the places, the flag fall and the legs
+unfoldable pub fares_head : List ℕ → Data → Result HeadData FieldName
+fares_head title body = do
+  members ← held field.Members (names_in 0 MEMBER_ROOM) body
+  some ← allowed field.Members (free_fares (length members) MOST_PLACES 0)
+  places ← held field.Places (names_in 0 PLACE_ROOM) body
+  more ← allowed field.Places (free_fares (length members) (length places) 0)
+  flag ← held field.Flag number_in body
+  most ← allowed field.Flag (free_fares (length members) (length places) flag)
+  legs ← held field.Legs legs_in body
+  all ← allowed field.Legs (fares_facts (length members) (length places) flag legs)
+  Ok (record { title = title; members = members; items = places; facts = all })
 
 -- the fields after the title, by kind
-abbrev pub rest_of_object : Kind → List ℕ → Data → Result CaseData FieldName
-rest_of_object kind.Rent = rent_of_object
-rest_of_object kind.Goods = goods_of_object
-rest_of_object kind.Fares = fares_of_object
+abbrev pub rest_of_head : Kind → List ℕ → Data → Result HeadData FieldName
+rest_of_head kind.Rent = rent_head
+rest_of_head kind.Goods = goods_head
+rest_of_head kind.Fares = fares_head
 
--- the fields in the order in which they are tested: the first whose rule is broken is the answer, else the case
-unfoldable pub case_of_object : Data → Result CaseData FieldName
-case_of_object body = do
+-- the fields before the bids, in the order in which they are tested: the first whose rule is broken is the answer, else the head
+unfoldable pub head_of_object : Data → Result HeadData FieldName
+head_of_object body = do
   kind ← held field.Kind kind_in body
   title ← held field.Title name_in body
-  rest_of_object kind title body
+  rest_of_head kind title body
+
+-- the head, and then the bids
+unfoldable pub case_of_object : Data → Result CaseData FieldName
+case_of_object body = do
+  head ← head_of_object body
+  bids ← held field.Bids (bids_in head.facts) body
+  Ok (record { title = head.title; members = head.members; items = head.items; facts = head.facts; bids = bids })
 
 -- the answer on a JSON value, and on none
 abbrev pub answer_of : Option Data → Result CaseData BodyFault
@@ -116,11 +153,11 @@ answer_of (Some body) = result_map_both (λ case. case) Field (case_of_object bo
 abbrev pub case_in : List ℕ → Result CaseData BodyFault
 case_in body = answer_of (json_of body)
 
--- how many items the facts have: the rooms of a rent, which are as many as its members, the goods, or the places of a shared ride
-abbrev pub item_count : Facts → ℕ
-item_count (facts.Rent rent) = rent.members
-item_count (facts.Goods goods) = goods.goods
-item_count (facts.Fares fares) = fares.places
+-- the facts have no fault, and there is a name for each member and item
+pub record IsReadyHead (head : HeadData) : Type 0 where
+  pub facts : IsCheckedFacts head.facts
+  pub members : length head.members ≡ member_count head.facts
+  pub items : length head.items ≡ item_count head.facts
 
 -- the facts and the bids have no fault, and there is a name for each member and item, and an entry of the bids for each member
 pub record IsReady (case : CaseData) : Type 0 where

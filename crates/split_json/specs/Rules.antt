@@ -1,5 +1,5 @@
--- The rules of a body's fields, over the JSON values that they hold.
-use Rattle.std.specs.Prelude.{ℕ, ◌+◌, ◌==◌, ◌&&◌, nat_le, nat_lt, suc, not, Bool, true, if◌then◌else◌, List, [], ◌∷◌, length, slice_index, drop, codes, bytes_eq, sum, Option, Some, None, is_some, option_map, option_and_then}
+-- What the fields of a body hold, by form: texts, whole numbers and lists. Which of these make checked facts and bids is said by `bid_rules`.
+use Rattle.std.specs.Prelude.{ℕ, ◌==◌, ◌&&◌, nat_le, nat_lt, not, Bool, if◌then◌else◌, List, [], ◌∷◌, length, codes, bytes_eq, Option, Some, None, is_some, option_map, option_and_then}
 use Rattle.std.specs.List.{list_all}
 use Rattle.std.specs.Str.{is_utf8}
 use Rattle.serde_json.specs.Data.{Data, Items, no_items, item}
@@ -10,10 +10,11 @@ use Rattle.bid_rules.specs.declared.bids.Bid.{Bid}
 use Rattle.bid_rules.specs.declared.bids.Bid.TheVariants as bid
 use Rattle.bid_rules.specs.declared.bids.Facts.{Facts}
 use Rattle.bid_rules.specs.declared.bids.Facts.TheVariants as facts
-use Rattle.bid_rules.specs.declared.fares.Fares.{Fares}
-use Rattle.bid_rules.specs.Facts.{member_count}
-use Rattle.split_json.specs.declared.input.Kind.{Kind}
-use Rattle.split_json.specs.declared.input.Kind.TheVariants as kind
+use Rattle.bid_rules.specs.declared.limits.TheConstants.{ITEM_ROOM, LEG_ROW_ROOM, LONGEST_NAME, PLACE_ROOM}
+use Rattle.bid_rules.specs.Decisions.{is_checked_bid, where_holds}
+use Rattle.bid_rules.specs.Facts.{IsCheckedBid, member_count}
+use Rattle.split_json.specs.declared.rules.Kind.{Kind}
+use Rattle.split_json.specs.declared.rules.Kind.TheVariants as kind
 
 -- the JSON value (RFC 8259) that the bytes are, if they are UTF-8 and serde_json reads them: at most 127 levels, each number within f64
 abbrev pub json_of : List ℕ → Option Data
@@ -23,9 +24,9 @@ json_of body = if is_utf8 body then read body else None
 abbrev pub is_plain : ℕ → Bool
 is_plain byte = nat_le 32 byte && not (byte == 127)
 
--- a name: 1 to 40 bytes without ASCII control characters
+-- a name: not empty, not too long, without ASCII control characters
 abbrev pub is_name : List ℕ → Bool
-is_name text = nat_lt 0 (length text) && nat_le (length text) 40 && list_all is_plain text
+is_name text = nat_lt 0 (length text) && nat_le (length text) LONGEST_NAME && list_all is_plain text
 
 -- the value, where it passes the test
 abbrev pub passing : {A : Type 0} → (A → Bool) → A → Option A
@@ -55,25 +56,17 @@ is_within low high n = nat_le low n && nat_le n high
 abbrev pub whole_number : Data → Option ℕ
 whole_number d = option_and_then as_u64 (as_number d)
 
--- a whole number within the limits
-abbrev pub whole_in : ℕ → ℕ → Data → Option ℕ
-whole_in low high d = option_and_then (passing (is_within low high)) (whole_number d)
+-- a whole number, at most so great
+abbrev pub whole_in : ℕ → Data → Option ℕ
+whole_in most d = option_and_then (passing (λ n. nat_le n most)) (whole_number d)
 
--- an amount in cents, 0 to 1,000,000
-abbrev pub cents_in : Data → Option ℕ
-cents_in = whole_in 0 1000000
+-- a number of cents, points or steps: whole, below 2^32
+abbrev pub number_in : Data → Option ℕ
+number_in = whole_in 4294967295
 
--- a rent in cents, 1 to 10,000,000
-abbrev pub rent_in : Data → Option ℕ
-rent_in = whole_in 1 10000000
-
--- a limit of steps, 1 to 200,000
-abbrev pub limit_in : Data → Option ℕ
-limit_in = whole_in 1 200000
-
--- a value of a room in cents or of a good in points, 0 to 4,294,967,295
-abbrev pub value_in : Data → Option ℕ
-value_in = whole_in 0 4294967295
+-- the number of a place: whole, below 2^8
+abbrev pub place_in : Data → Option ℕ
+place_in = whole_in 255
 
 -- the items of an array as a list
 abbrev pub list_of : Items → List Data
@@ -101,39 +94,40 @@ list_in rule least most d = option_and_then (each rule) (elements least most d)
 abbrev pub names_in : ℕ → ℕ → Data → Option (List (List ℕ))
 names_in = list_in name_in
 
--- a row of the table: the legs to each place
-abbrev pub row_in : ℕ → Data → Option (ArrayVec ℕ)
-row_in places d = option_map (λ legs. record { items = legs }) (list_in cents_in places places d)
+-- a list of numbers, at most so many
+abbrev pub numbers_in : ℕ → Data → Option (List ℕ)
+numbers_in = list_in number_in 0
 
--- in the rows of the places from number i on, counted from 0, the leg of each place to itself is 0
-abbrev pub stays_free : ℕ → List (ArrayVec ℕ) → Bool
-stays_free i [] = true
-stays_free i (row ∷ rows) = (slice_index row.items i == 0) && stays_free (suc i) rows
+-- a row of legs: those to each place
+abbrev pub row_in : Data → Option (ArrayVec ℕ)
+row_in d = option_map (λ legs. record { items = legs }) (numbers_in PLACE_ROOM d)
 
--- the table of legs: a row from the origin, then one from each place, whose leg to itself is 0
-abbrev pub legs_in : ℕ → Data → Option (List (ArrayVec ℕ))
-legs_in places d = option_and_then (passing (λ rows. stays_free 0 (drop 1 rows))) (list_in (row_in places) (places + 1) (places + 1) d)
+-- rows of legs
+abbrev pub legs_in : Data → Option (List (ArrayVec ℕ))
+legs_in = list_in row_in 0 LEG_ROW_ROOM
 
--- the values of so many items: a list of one per item, whose sum is the whole
-abbrev pub values_in : ℕ → ℕ → Data → Option Bid
-values_in items whole d =
-    option_map (λ values. bid.Values (record { items = values }))
-    (option_and_then (passing (λ values. sum values == whole)) (list_in value_in items items d))
+-- values or points by item
+abbrev pub values_in : Data → Option Bid
+values_in d = option_map (λ values. bid.Values (record { items = values })) (numbers_in ITEM_ROOM d)
 
--- the number of a place, from 1
-abbrev pub place_in : Fares → Data → Option Bid
-place_in fares d = option_map bid.Place (whole_in 1 fares.places d)
+-- a bid as it is written: values or points by item, for fares the number of a place
+abbrev pub written_bid : Facts → Data → Option Bid
+written_bid (facts.Rent rent) d = values_in d
+written_bid (facts.Goods goods) d = values_in d
+written_bid (facts.Fares fares) d = option_map bid.Place (place_in d)
 
--- a bid, by the rule of the facts' kind: on a rent cents for each room, the rent in sum, and on goods points for each good, 1000 in sum
+-- a bid, where the facts allow it
+unfoldable pub allowed_bid : Facts → Bid → Option Bid
+allowed_bid given one = where_holds (IsCheckedBid given one) (is_checked_bid given one) one
+
+-- a written bid that the facts allow
 abbrev pub bid_in : Facts → Data → Option Bid
-bid_in (facts.Rent rent) d = values_in rent.members rent.rent d
-bid_in (facts.Goods goods) d = values_in goods.goods 1000 d
-bid_in (facts.Fares fares) d = place_in fares d
+bid_in given d = option_and_then (allowed_bid given) (written_bid given d)
 
--- an entry of the bids: null where there is none, else a bid by the rule
-abbrev pub entry_in : (Data → Option Bid) → Data → Option (Option Bid)
-entry_in rule d = if is_some (as_null d) then Some None else option_map Some (rule d)
+-- an entry of the bids: null where there is none, else a bid
+abbrev pub entry_in : Facts → Data → Option (Option Bid)
+entry_in given d = if is_some (as_null d) then Some None else option_map Some (bid_in given d)
 
 -- the bids: a list of one entry per member
 abbrev pub bids_in : Facts → Data → Option (List (Option Bid))
-bids_in facts = list_in (entry_in (bid_in facts)) (member_count facts) (member_count facts)
+bids_in given = list_in (entry_in given) (member_count given) (member_count given)

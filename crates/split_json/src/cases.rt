@@ -1,18 +1,14 @@
 // Reads a case from the bytes of its JSON text.
-ghost use Rattle.std.specs.Prelude.{◌≡◌, ◌≤◌, ◌↔◌, map, IfOk, None};
+ghost use Rattle.std.specs.Prelude.{◌≡◌, ◌↔◌, IfOk, None};
 ghost use Rattle.std.specs.Result.{result_map_both};
 ghost use Rattle.serde_json.specs.View.{view};
-ghost use Rattle.bid_rules.specs.Facts.{member_count};
 ghost use Rattle.split_json.specs.Rules.{json_of};
-ghost use Rattle.split_json.specs.Reading.{IsReady, case_in, case_of_object, fares_of_object, goods_of_object, item_count, rent_of_object, shown, with_bids};
+ghost use Rattle.split_json.specs.Reading.{IsReady, case_in, case_of_object, shown};
 
-use crate::fields::{
-    bids_of, flag_of, goods_of, kind_of, legs_of, limit_of, members_of, places_of, rent_of,
-    rooms_of, title_of,
-};
-use crate::input::{BodyFault, CaseInput, FieldName, Kind, Name};
-use arrayvec::ArrayVec;
-use bid_rules::{Facts, Fares, Goods, Rent};
+use crate::heads::head_of_object;
+use crate::held::bids_of;
+use crate::input::CaseInput;
+use sealed_core::{BodyFault, FieldName};
 use serde_json::Value;
 use split_base::NoMemory;
 use std::alloc::Global;
@@ -37,86 +33,18 @@ pub fn read_case(alloc: Global, body: &[u8]) -> Result<Result<CaseInput, BodyFau
     }
 }
 
-// The fields, in the order in which they are tested: first those of every kind.
+// The head, and then the bids.
 #[tactic(auto, unfolding(crate::specs::Reading::case_of_object))]
 fn case_of_object(body: &Value) -> Result<CaseInput, FieldName>
     ensures { result_map_both shown (λ name. name) result ≡ case_of_object (view body.now) }
 {
-    let kind = kind_of(body)?;
-    let title = title_of(body)?;
-    match kind {
-        Kind::Rent => rent_of_object(body, title),
-        Kind::Goods => goods_of_object(body, title),
-        Kind::Fares => fares_of_object(body, title),
-    }
-}
-
-#[tactic(auto, unfolding(crate::specs::Reading::rent_of_object))]
-fn rent_of_object(body: &Value, title: Name) -> Result<CaseInput, FieldName>
-    ensures { result_map_both shown (λ name. name) result ≡ rent_of_object title.bytes (view body.now) }
-{
-    let members = members_of(body, 12)?;
-    let count = members.len();
-    let rooms = rooms_of(body, count)?;
-    let rent = rent_of(body)?;
-    let facts = Facts::Rent(Rent {
-        members: count as u8,
-        rent,
-    });
-    with_bids(body, title, members, rooms, facts)
-}
-
-#[tactic(auto, unfolding(crate::specs::Reading::goods_of_object))]
-fn goods_of_object(body: &Value, title: Name) -> Result<CaseInput, FieldName>
-    ensures { result_map_both shown (λ name. name) result ≡ goods_of_object title.bytes (view body.now) }
-{
-    let members = members_of(body, 12)?;
-    let goods = goods_of(body)?;
-    let limit = limit_of(body)?;
-    let facts = Facts::Goods(Goods {
-        members: members.len() as u8,
-        goods: goods.len() as u8,
-        limit,
-    });
-    with_bids(body, title, members, goods, facts)
-}
-
-#[tactic(auto, unfolding(crate::specs::Reading::fares_of_object))]
-fn fares_of_object(body: &Value, title: Name) -> Result<CaseInput, FieldName>
-    ensures { result_map_both shown (λ name. name) result ≡ fares_of_object title.bytes (view body.now) }
-{
-    let members = members_of(body, 4)?;
-    let places = places_of(body)?;
-    let flag = flag_of(body)?;
-    let legs = legs_of(body, places.len())?;
-    let facts = Facts::Fares(Fares {
-        members: members.len() as u8,
-        places: places.len() as u8,
-        flag,
-        legs,
-    });
-    with_bids(body, title, members, places, facts)
-}
-
-// The case of these names and facts, with the bids of the body.
-fn with_bids(
-    body: &Value,
-    title: Name,
-    members: ArrayVec<Name, 12>,
-    items: ArrayVec<Name, 24>,
-    facts: Facts,
-) -> Result<CaseInput, FieldName>
-    requires members { member_count facts ≤ 12 }
-    requires items { item_count facts ≤ 24 }
-    ensures { result_map_both shown (λ name. name) result ≡ with_bids title.bytes (map (λ text. text.bytes) members.items)
-        (map (λ text. text.bytes) items.items) facts (view body.now) }
-{
-    let bids = bids_of(body, &facts)?;
+    let head = head_of_object(body)?;
+    let bids = bids_of(body, &head.facts)?;
     Ok(CaseInput {
-        title,
-        members,
-        items,
-        facts,
+        title: head.title,
+        members: head.members,
+        items: head.items,
+        facts: head.facts,
         bids,
     })
 }

@@ -1,14 +1,15 @@
 // What holds of the definitions of reading, for all bodies: each law is the contract of a function that does nothing.
-ghost use Rattle.std.specs.Prelude.{◌≡◌, ◌≤◌, ◌↔◌, ℕ, List, Ok, Some, IsTrue, drop};
+ghost use Rattle.std.specs.Prelude.{◌≡◌, ◌≤◌, ◌↔◌, ℕ, List, Ok, Some};
 ghost use Rattle.serde_json.specs.Data.{Data};
-ghost use Rattle.bid_rules.specs.Facts.{HasTable, IsCheckedBid, leg};
 ghost use Rattle.arrayvec.specs.ArrayVec.{ArrayVec};
-ghost use Rattle.bid_rules.specs.declared.fares.Fares.{Fares};
-ghost use Rattle.bid_rules.specs.declared.goods.Goods.{Goods};
-ghost use Rattle.bid_rules.specs.declared.rents.Rent.{Rent};
-ghost use Rattle.split_json.specs.Rules.{bid_in, each, listed, stays_free, value_in, whole_number};
-ghost use Rattle.split_json.specs.Reading.{CaseData, IsReady, case_in};
+ghost use Rattle.bid_rules.specs.Facts.{IsCheckedBid, IsCheckedFacts};
+ghost use Rattle.split_json.specs.Rules.{bid_in, each, listed, number_in, whole_number};
+ghost use Rattle.split_json.specs.Reading.{CaseData, HeadData, IsReady, IsReadyHead, case_in, free_fares, goods_facts, head_of_object, rent_facts};
 
+use bid_rules::limits::{
+    FEWEST_MEMBERS, MOST_FARE_CENTS, MOST_GOODS, MOST_MEMBERS, MOST_PLACES, MOST_RENT, MOST_RIDERS,
+    USUAL_STEPS,
+};
 use bid_rules::{Bid, Facts};
 
 /// Whatever the body, a case that is read from it has facts and bids without fault.
@@ -16,17 +17,29 @@ pub fn case_in_law()
     ensures { (body : List ℕ) (case : CaseData) → case_in body ≡ Ok case → IsReady case }
 {}
 
-/// The rule of a place's leg to itself is that of checked facts, and the rules of a bid are those of a checked bid: of a place,
-/// and of values and points, where the body has a list of whole numbers below 2^32.
+/// Whatever the value, a head that an object gives has facts without fault, and names for all members and items.
+pub fn head_law()
+    ensures { (body : Data) (head : HeadData) → head_of_object body ≡ Ok head → IsReadyHead head }
+{}
+
+/// The form of a bid refuses none that the rules allow. Under checked facts a whole number is a bid exactly where it is a checked
+/// place, and a list of whole numbers below 2^32 exactly where they are checked values or points.
 pub fn field_rules_law()
-    ensures legs { (fares : Fares) → HasTable fares
-        → IsTrue (stays_free 0 (drop 1 fares.legs.items)) ↔ ((p : ℕ) → 1 ≤ p → p ≤ fares.places → leg fares p p ≡ 0) }
-    ensures places { (fares : Fares) (value : Data) (place : ℕ) → whole_number value ≡ Some place
-        → (bid_in (Facts.Fares fares) value ≡ Some (Bid.Place place)) ↔ IsCheckedBid (Facts.Fares fares) (Bid.Place place) }
-    ensures values { (rent : Rent) (value : Data) (list : List Data) (values : ArrayVec ℕ) → listed value ≡ Some list
-        → each value_in list ≡ Some values.items
-        → (bid_in (Facts.Rent rent) value ≡ Some (Bid.Values values)) ↔ IsCheckedBid (Facts.Rent rent) (Bid.Values values) }
-    ensures points { (goods : Goods) (value : Data) (list : List Data) (values : ArrayVec ℕ) → listed value ≡ Some list
-        → each value_in list ≡ Some values.items
-        → (bid_in (Facts.Goods goods) value ≡ Some (Bid.Values values)) ↔ IsCheckedBid (Facts.Goods goods) (Bid.Values values) }
+    ensures places { (facts : Facts) (value : Data) (place : ℕ) → IsCheckedFacts facts → whole_number value ≡ Some place
+        → (bid_in facts value ≡ Some (Bid.Place place)) ↔ IsCheckedBid facts (Bid.Place place) }
+    ensures values { (facts : Facts) (value : Data) (list : List Data) (values : ArrayVec ℕ) → IsCheckedFacts facts
+        → listed value ≡ Some list → each number_in list ≡ Some values.items
+        → (bid_in facts value ≡ Some (Bid.Values values)) ↔ IsCheckedBid facts (Bid.Values values) }
+{}
+
+/// Why a fault of facts that aren't read whole is that of the field read last: the values that stand in place of those to come are
+/// good. So a rent and goods are refused after the members, and goods after the goods, exactly where their number is out of its
+/// limits, and fares before the legs exactly where a count or the flag fall is.
+pub fn field_fault_law()
+    ensures rent { (members : ℕ) → IsCheckedFacts (rent_facts members MOST_RENT)
+        ↔ (FEWEST_MEMBERS ≤ members) × (members ≤ MOST_MEMBERS) }
+    ensures goods { (members goods : ℕ) → IsCheckedFacts (goods_facts members goods USUAL_STEPS)
+        ↔ (FEWEST_MEMBERS ≤ members) × (members ≤ MOST_MEMBERS) × (1 ≤ goods) × (goods ≤ MOST_GOODS) }
+    ensures fares { (members places flag : ℕ) → IsCheckedFacts (free_fares members places flag)
+        ↔ (FEWEST_MEMBERS ≤ members) × (members ≤ MOST_RIDERS) × (1 ≤ places) × (places ≤ MOST_PLACES) × (flag ≤ MOST_FARE_CENTS) }
 {}

@@ -2,7 +2,8 @@
 #![tactic(auto)]
 
 mod cases;
-mod fields;
+mod heads;
+mod held;
 mod input;
 mod laws;
 mod rules;
@@ -10,5 +11,5 @@ mod rules;
 mod tests;
 
 pub use cases::read_case;
-pub use input::{BodyFault, CaseInput, FieldName, Name};
-pub use laws::{case_in_law, field_rules_law};
+pub use input::{CaseInput, Head};
+pub use laws::{case_in_law, field_fault_law, field_rules_law, head_law};

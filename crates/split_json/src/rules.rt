@@ -1,15 +1,23 @@
 // The rules of the fields, over the JSON values that they hold.
-ghost use Rattle.std.specs.Prelude.{◌≡◌, ◌≤◌, ◌==◌, length, map, sum, IfSome, option_map, slice_index};
+ghost use Rattle.std.specs.Prelude.{◌≡◌, ◌≤◌, length, map, IfSome, option_map};
 ghost use Rattle.std.specs.List.{list_all};
 ghost use Rattle.serde_json.specs.View.{view};
-ghost use Rattle.bid_rules.specs.Facts.{member_count};
-ghost use Rattle.split_json.specs.Rules.{bid_in, bids_in, cents_in, each, elements, entry_in, is_name, is_plain, is_within, kind_in, kind_named, legs_in, limit_in, name_in, names_in, place_in, rent_in, row_in, stays_free, value_in, values_in, whole_in};
-ghost use Rattle.split_json.specs.Reading.{item_count};
+ghost use Rattle.bid_rules.specs.Facts.{IsCheckedFacts, member_count};
+ghost use Rattle.split_json.specs.Rules.{allowed_bid, bid_in, bids_in, each, elements, entry_in, is_name, is_plain, is_within, kind_in, kind_named, legs_in, name_in, names_in, number_in, numbers_in, place_in, row_in, whole_in, written_bid};
 
-use crate::input::{Kind, Name};
 use arrayvec::ArrayVec;
-use bid_rules::{Bid, Facts, Fares};
+use bid_rules::limits::{LEG_ROW_ROOM, LONGEST_NAME, LegRow, Legs, MEMBER_ROOM};
+use bid_rules::{Bid, Facts, check_bid};
+use sealed_core::Name;
 use serde_json::Value;
+
+/// The kinds of case.
+#[derive(Clone, Copy, Debug, PartialEq, Eq)]
+pub(crate) enum Kind {
+    Rent,
+    Goods,
+    Fares,
+}
 
 fn kind_named(text: &str) -> Option<Kind>
     ensures { result ≡ kind_named text.now }
@@ -44,7 +52,7 @@ fn has_plain_bytes(text: &str) -> bool
 fn is_name(text: &str) -> bool
     ensures { result ≡ is_name text.now }
 {
-    let has_length = !text.is_empty() && text.len() <= 40;
+    let has_length = !text.is_empty() && text.len() <= LONGEST_NAME;
     has_length && has_plain_bytes(text)
 }
 
@@ -58,59 +66,43 @@ pub(crate) fn name_in(value: &Value) -> Option<Name>
     Name::from(text).ok()
 }
 
-fn is_within(low: u64, high: u64, number: u64) -> bool
+// The whole number that a value is, at most so great.
+fn whole_in(value: &Value, most: u64) -> Option<u64>
+    ensures { result ≡ whole_in most (view value.now) }
+{
+    let number = value.as_u64()?;
+    if number <= most { Some(number) } else { None }
+}
+
+// A number of cents, points or steps.
+pub(crate) fn number_in(value: &Value) -> Option<u32>
+    ensures { result ≡ number_in (view value.now) }
+{
+    let number = whole_in(value, u64::from(u32::MAX))?;
+    Some(number as u32)
+}
+
+// The number of a place.
+fn place_in(value: &Value) -> Option<u8>
+    ensures { result ≡ place_in (view value.now) }
+{
+    let place = whole_in(value, u64::from(u8::MAX))?;
+    Some(place as u8)
+}
+
+fn is_within(low: usize, high: usize, number: usize) -> bool
     ensures { result ≡ is_within low high number }
 {
     low <= number && number <= high
 }
 
-fn whole_in(value: &Value, low: u64, high: u64) -> Option<u64>
-    ensures { result ≡ whole_in low high (view value.now) }
-{
-    let number = value.as_u64()?;
-    if is_within(low, high, number) {
-        Some(number)
-    } else {
-        None
-    }
-}
-
-pub(crate) fn cents_in(value: &Value) -> Option<u32>
-    ensures { result ≡ cents_in (view value.now) }
-{
-    let cents = whole_in(value, 0, 1_000_000)?;
-    Some(cents as u32)
-}
-
-pub(crate) fn rent_in(value: &Value) -> Option<u32>
-    ensures { result ≡ rent_in (view value.now) }
-{
-    let cents = whole_in(value, 1, 10_000_000)?;
-    Some(cents as u32)
-}
-
-pub(crate) fn limit_in(value: &Value) -> Option<u32>
-    ensures { result ≡ limit_in (view value.now) }
-{
-    let steps = whole_in(value, 1, 200_000)?;
-    Some(steps as u32)
-}
-
-// A value of a room in cents, or of a good in points.
-fn value_in(value: &Value) -> Option<u32>
-    ensures { result ≡ value_in (view value.now) }
-{
-    let amount = whole_in(value, 0, 4_294_967_295)?;
-    Some(amount as u32)
-}
-
-// The elements of a list that has so many.
+// The elements of a list that has at least and at most so many.
 fn elements(value: &Value, least: usize, most: usize) -> Option<&[Value]>
     ensures values { option_map (λ values. map view values.now) result ≡ elements least most (view value.now) }
     ensures few { IfSome result (λ values. length values.now ≤ most) }
 {
     let list = value.as_array()?.as_slice();
-    if is_within(least as u64, most as u64, list.len() as u64) {
+    if is_within(least, most, list.len()) {
         Some(list)
     } else {
         None
@@ -143,130 +135,81 @@ pub(crate) fn names_in<const N: usize>(
     each_name(elements(value, least, most)?)
 }
 
-fn each_leg(list: &[Value]) -> Option<ArrayVec<u32, 10>>
-    requires { length list.now ≤ 10 }
-    ensures { option_map (λ row. row.items) result ≡ each cents_in (map view list.now) }
+fn each_number<const N: usize>(list: &[Value]) -> Option<ArrayVec<u32, N>>
+    requires { length list.now ≤ N }
+    ensures { option_map (λ numbers. numbers.items) result ≡ each number_in (map view list.now) }
 {
-    let mut row = ArrayVec::new();
+    let mut numbers = ArrayVec::new();
     for item in list {
-        row.push(cents_in(item)?);
+        numbers.push(number_in(item)?);
     }
-    Some(row)
+    Some(numbers)
 }
 
-fn row_in(value: &Value, places: usize) -> Option<ArrayVec<u32, 10>>
-    requires { places ≤ 10 }
-    ensures { result ≡ row_in places (view value.now) }
+// A list of numbers, as many as there is room for.
+fn numbers_in<const N: usize>(value: &Value) -> Option<ArrayVec<u32, N>>
+    ensures { option_map (λ numbers. numbers.items) result ≡ numbers_in N (view value.now) }
 {
-    each_leg(elements(value, places, places)?)
+    each_number(elements(value, 0, N)?)
 }
 
-fn each_row(list: &[Value], places: usize) -> Option<ArrayVec<ArrayVec<u32, 10>, 11>>
-    requires few { length list.now ≤ 11 }
-    requires places { places ≤ 10 }
-    ensures { option_map (λ table. table.items) result ≡ each (row_in places) (map view list.now) }
+// The legs to each place.
+fn row_in(value: &Value) -> Option<LegRow>
+    ensures { result ≡ row_in (view value.now) }
 {
-    let mut rows = ArrayVec::new();
+    numbers_in(value)
+}
+
+fn each_row(list: &[Value]) -> Option<Legs>
+    requires { length list.now ≤ LEG_ROW_ROOM }
+    ensures { option_map (λ legs. legs.items) result ≡ each row_in (map view list.now) }
+{
+    let mut rows = Legs::new();
     for item in list {
-        rows.push(row_in(item, places)?);
+        rows.push(row_in(item)?);
     }
     Some(rows)
 }
 
-// Whether the leg of the place, counted from 0, to itself is 0.
-fn is_free(row: &ArrayVec<u32, 10>, place: usize) -> bool
-    ensures { result ≡ (slice_index row.now.items place == 0) }
+pub(crate) fn legs_in(value: &Value) -> Option<Legs>
+    ensures { option_map (λ legs. legs.items) result ≡ legs_in (view value.now) }
 {
-    if place < row.len() {
-        row.as_slice()[place] == 0
-    } else {
-        true
+    each_row(elements(value, 0, LEG_ROW_ROOM)?)
+}
+
+// A bid as it is written: numbers, or for fares the number of a place.
+fn written_bid(value: &Value, facts: &Facts) -> Option<Bid>
+    ensures { result ≡ written_bid facts.now (view value.now) }
+{
+    match facts {
+        Facts::Rent(_) | Facts::Goods(_) => Some(Bid::Values(numbers_in(value)?)),
+        Facts::Fares(_) => Some(Bid::Place(place_in(value)?)),
     }
 }
 
-// Whether each place's leg to itself is 0, in the rows of the places.
-fn stays_free(rows: &[ArrayVec<u32, 10>]) -> bool
-    ensures { result ≡ stays_free 0 rows.now }
+#[tactic(auto, unfolding(crate::specs::Rules::allowed_bid))]
+fn allowed_bid(bid: Bid, facts: &Facts) -> Option<Bid>
+    requires { IsCheckedFacts facts.now }
+    ensures { result ≡ allowed_bid facts.now bid }
 {
-    for (place, row) in rows.iter().enumerate() {
-        if !is_free(row, place) {
-            return false;
-        }
-    }
-    true
-}
-
-pub(crate) fn legs_in(value: &Value, places: usize) -> Option<ArrayVec<ArrayVec<u32, 10>, 11>>
-    requires { places ≤ 10 }
-    ensures { option_map (λ table. table.items) result ≡ legs_in places (view value.now) }
-{
-    let rows = each_row(elements(value, places + 1, places + 1)?, places)?;
-    let of_places = rows.as_slice().get(1..).unwrap_or(&[]);
-    if stays_free(of_places) {
-        Some(rows)
+    if check_bid(facts, &bid).is_ok() {
+        Some(bid)
     } else {
         None
     }
-}
-
-fn each_value(list: &[Value]) -> Option<ArrayVec<u32, 24>>
-    requires { length list.now ≤ 24 }
-    ensures { option_map (λ values. values.items) result ≡ each value_in (map view list.now) }
-{
-    let mut values = ArrayVec::new();
-    for item in list {
-        values.push(value_in(item)?);
-    }
-    Some(values)
-}
-
-fn sum_of(values: &[u32]) -> u64
-    requires { length values.now ≤ 24 }
-    ensures { result ≡ sum values.now }
-{
-    let mut total = 0;
-    for value in values {
-        total += u64::from(*value);
-    }
-    total
-}
-
-// A value per item, the whole in sum.
-fn values_in(value: &Value, items: u8, whole: u32) -> Option<Bid>
-    requires { items ≤ 24 }
-    ensures { result ≡ values_in items whole (view value.now) }
-{
-    let count = usize::from(items);
-    let values = each_value(elements(value, count, count)?)?;
-    if sum_of(values.as_slice()) == u64::from(whole) {
-        Some(Bid::Values(values))
-    } else {
-        None
-    }
-}
-
-fn place_in(value: &Value, fares: &Fares) -> Option<Bid>
-    ensures { result ≡ place_in fares.now (view value.now) }
-{
-    let place = whole_in(value, 1, u64::from(fares.places))?;
-    Some(Bid::Place(place as u8))
 }
 
 fn bid_in(value: &Value, facts: &Facts) -> Option<Bid>
-    requires { item_count facts.now ≤ 24 }
+    requires { IsCheckedFacts facts.now }
     ensures { result ≡ bid_in facts.now (view value.now) }
 {
-    match facts {
-        Facts::Rent(rent) => values_in(value, rent.members, rent.rent),
-        Facts::Goods(goods) => values_in(value, goods.goods, 1000),
-        Facts::Fares(fares) => place_in(value, fares),
-    }
+    allowed_bid(written_bid(value, facts)?, facts)
 }
 
 // An entry of the bids: null where the member hasn't bid.
 fn entry_in(value: &Value, facts: &Facts) -> Option<Option<Bid>>
-    requires { item_count facts.now ≤ 24 }
-    ensures { result ≡ entry_in (bid_in facts.now) (view value.now) }
+    requires { IsCheckedFacts facts.now }
+    ensures { result ≡ entry_in facts.now (view value.now) }
 {
     if value.is_null() {
         return Some(None);
@@ -274,10 +217,10 @@ fn entry_in(value: &Value, facts: &Facts) -> Option<Option<Bid>>
     Some(Some(bid_in(value, facts)?))
 }
 
-fn each_bid(list: &[Value], facts: &Facts) -> Option<ArrayVec<Option<Bid>, 12>>
-    requires list { length list.now ≤ 12 }
-    requires items { item_count facts.now ≤ 24 }
-    ensures { option_map (λ bids. bids.items) result ≡ each (entry_in (bid_in facts.now)) (map view list.now) }
+fn each_bid(list: &[Value], facts: &Facts) -> Option<ArrayVec<Option<Bid>, MEMBER_ROOM>>
+    requires list { length list.now ≤ MEMBER_ROOM }
+    requires facts { IsCheckedFacts facts.now }
+    ensures { option_map (λ bids. bids.items) result ≡ each (entry_in facts.now) (map view list.now) }
 {
     let mut bids = ArrayVec::new();
     for item in list {
@@ -287,7 +230,9 @@ fn each_bid(list: &[Value], facts: &Facts) -> Option<ArrayVec<Option<Bid>, 12>>
 }
 
 fn member_count(facts: &Facts) -> usize
-    ensures { result ≡ member_count facts.now }
+    requires { IsCheckedFacts facts.now }
+    ensures count { result ≡ member_count facts.now }
+    ensures few { result ≤ MEMBER_ROOM }
 {
     match facts {
         Facts::Rent(rent) => usize::from(rent.members),
@@ -296,9 +241,8 @@ fn member_count(facts: &Facts) -> usize
     }
 }
 
-pub(crate) fn bids_in(value: &Value, facts: &Facts) -> Option<ArrayVec<Option<Bid>, 12>>
-    requires members { member_count facts.now ≤ 12 }
-    requires items { item_count facts.now ≤ 24 }
+pub(crate) fn bids_in(value: &Value, facts: &Facts) -> Option<ArrayVec<Option<Bid>, MEMBER_ROOM>>
+    requires { IsCheckedFacts facts.now }
     ensures { option_map (λ bids. bids.items) result ≡ bids_in facts.now (view value.now) }
 {
     let members = member_count(facts);

@@ -1,6 +1,7 @@
 use super::*;
 use arrayvec::ArrayVec;
 use bid_rules::{Bid, Facts, Goods, Rent};
+use sealed_core::{BodyFault, FieldName, Name};
 use std::alloc::Global;
 use std::process::Abort;
 use std::test::Fail;
@@ -87,7 +88,7 @@ fn reads_goods(rt: HostRuntime) -> Result<(), Fail> {
 }
 
 #[test]
-fn reads_a_ride(rt: HostRuntime) -> Result<(), Fail> {
+fn reads_fares(rt: HostRuntime) -> Result<(), Fail> {
     let input = case_of(
         rt.alloc(),
         r#"{"kind":"fares","title":"Taxi","members":["Ann","Ben"],"places":["Station"],"flag":300,
@@ -95,7 +96,7 @@ fn reads_a_ride(rt: HostRuntime) -> Result<(), Fail> {
     )?;
     assert!(rt; are_named(input.items.as_slice(), &["Station"]));
     let Facts::Fares(facts) = &input.facts else {
-        return Err(Fail::from("no ride"));
+        return Err(Fail::from("no fares"));
     };
     assert!(rt; facts.members == 2 && facts.places == 1 && facts.flag == 300);
     let from_origin = facts.legs.as_slice().first();
@@ -105,10 +106,35 @@ fn reads_a_ride(rt: HostRuntime) -> Result<(), Fail> {
 }
 
 #[test]
+fn reads_the_most_members_and_places(rt: HostRuntime) -> Result<(), Fail> {
+    let input = case_of(
+        rt.alloc(),
+        r#"{"kind":"fares","title":"T","members":["A","B","C","D","E","F","G","H","I","J"],
+            "places":["a","b","c","d","e","f","g","h","i","j","k","l"],"flag":1000000,
+            "legs":[[0,0,0,0,0,0,0,0,0,0,0,1000000],[0,0,0,0,0,0,0,0,0,0,0,0],[0,0,0,0,0,0,0,0,0,0,0,0],
+                [0,0,0,0,0,0,0,0,0,0,0,0],[0,0,0,0,0,0,0,0,0,0,0,0],[0,0,0,0,0,0,0,0,0,0,0,0],
+                [0,0,0,0,0,0,0,0,0,0,0,0],[0,0,0,0,0,0,0,0,0,0,0,0],[0,0,0,0,0,0,0,0,0,0,0,0],
+                [0,0,0,0,0,0,0,0,0,0,0,0],[0,0,0,0,0,0,0,0,0,0,0,0],[0,0,0,0,0,0,0,0,0,0,0,0],
+                [0,0,0,0,0,0,0,0,0,0,0,0]],
+            "bids":[null,null,null,null,null,null,null,null,null,12]}"#,
+    )?;
+    let Facts::Fares(facts) = &input.facts else {
+        return Err(Fail::from("no fares"));
+    };
+    assert!(rt; facts.members == 10 && facts.places == 12 && facts.legs.len() == 13);
+    assert!(rt; input.bids.len() == 10);
+    Ok(())
+}
+
+#[test]
 fn names_the_first_broken_field(rt: HostRuntime) -> Result<(), Fail> {
     let rows = [
         (r#"[]"#, FieldName::Kind),
         (r#"{"kind":"rent","title":""}"#, FieldName::Title),
+        (
+            r#"{"kind":"rent","title":"F","title":"\u007f"}"#,
+            FieldName::Title,
+        ),
         (
             r#"{"kind":"rent","title":"F","members":["A"],"rooms":[]}"#,
             FieldName::Members,
@@ -142,6 +168,15 @@ fn names_the_first_broken_field(rt: HostRuntime) -> Result<(), Fail> {
             FieldName::Bids,
         ),
         (
+            r#"{"kind":"fares","title":"T","members":["A","B","C","D","E","F","G","H","I","J","K"],"places":[]}"#,
+            FieldName::Members,
+        ),
+        (
+            r#"{"kind":"fares","title":"T","members":["A","B"],
+                "places":["a","b","c","d","e","f","g","h","i","j","k","l","m"],"flag":-1}"#,
+            FieldName::Places,
+        ),
+        (
             r#"{"kind":"fares","title":"T","members":["A","B"],"places":[]}"#,
             FieldName::Places,
         ),
@@ -150,8 +185,16 @@ fn names_the_first_broken_field(rt: HostRuntime) -> Result<(), Fail> {
             FieldName::Flag,
         ),
         (
+            r#"{"kind":"fares","title":"T","members":["A","B"],"places":["P"],"flag":1000001,"legs":0}"#,
+            FieldName::Flag,
+        ),
+        (
             r#"{"kind":"fares","title":"T","members":["A","B"],"places":["P"],"flag":0,"legs":[[1],[1]]}"#,
             FieldName::Legs,
+        ),
+        (
+            r#"{"kind":"fares","title":"T","members":["A","B"],"places":["P"],"flag":0,"legs":[[1],[0]],"bids":[[1],null]}"#,
+            FieldName::Bids,
         ),
     ];
     for (body, name) in rows {

@@ -2,5 +2,5 @@ pub mod HeldGoods
 pub mod Lines
 pub mod LoneRiders
 pub mod RentFigures
-pub mod RideReports
+pub mod FareReports
 pub mod UniqueReports

@@ -23,8 +23,8 @@ lone_set rider n low high =
     let grows : 2 ^ suc (rider - 1) ≤ 2 ^ n = pow_mono (omega arith) in
     omega (arith, pow_pos (rider - 1))
 
-pub lone_bit : (rider n : ℕ) → 1 ≤ rider → rider ≤ 8 → rider ≤ n → 1 * 2 ^ (rider - 1) % 65536 ≡ 2 ^ (rider - 1)
+pub lone_bit : (rider n : ℕ) → 1 ≤ rider → rider ≤ 16 → rider ≤ n → 1 * 2 ^ (rider - 1) % 65536 ≡ 2 ^ (rider - 1)
 lone_bit rider n low few high =
-    let small : 2 ^ (rider - 1) < 2 ^ 8 = lone_set rider 8 low few in
+    let small : 2 ^ (rider - 1) < 2 ^ 16 = lone_set rider 16 low few in
     let one : 1 * 2 ^ (rider - 1) ≡ 2 ^ (rider - 1) = omega arith in
     ap (λ x. x % 65536) one ∙ mod-eq_of_lt (omega arith)

@@ -1,21 +1,16 @@
 -- What the lines of a rent ask of the division.
-use Rattle.std.proofs.Common.{◌≡◌, ℕ, ℤ, ◌+◌, ◌-◌, ◌*◌, ◌^◌, ◌<◌, ◌≤◌, List, [], ◌∷◌, ◌++◌, All, length, map, take, get_or, pos, arith, sym, ap, subst, ◌∙◌}
+use Rattle.std.proofs.Common.{◌≡◌, ℕ, ◌+◌, ◌-◌, ◌*◌, ◌^◌, ◌<◌, ◌≤◌, List, [], ◌∷◌, ◌++◌, All, length, map, take, get_or, pos, arith, sym, ap, subst, ◌∙◌}
 use Rattle.std.specs.Prelude.{unsigned_abs}
-use Rattle.std.specs.List.{range_with_len}
 use Rattle.std.proofs.lemmas.List.{get_or-map, get_or_default, length-map, map-append, map_more}
-use Rattle.std.proofs.lemmas.List.Elements.{All-head, All-tail, All-weaker}
+use Rattle.std.proofs.lemmas.List.Elements.{All-weaker}
 use Rattle.std.proofs.lemmas.List.FromFn.{length-map-range_with_len}
 use Rattle.split_frac.specs.declared.frac.Frac.{Frac}
 use Rattle.split_frac.specs.Frac.{IsWithin, pair_of}
 use Rattle.bid_rules.specs.declared.rents.RentCase.{RentCase}
 use Rattle.bid_rules.specs.Cents.{amount_at, prices_by_member}
-use Rattle.bid_rules.specs.Fractions.{Fraction, IsQuotient, sum_of_fractions}
-use Rattle.bid_rules.specs.Rent.{HasParts, IsValidRentCase, RentBest, price_of, room_count}
-use Rattle.bid_rules.proofs.EnvyFreeWelfare.{prices_total}
-use Rattle.bid_rules.proofs.PartLaws.{whole_sum}
-use Rattle.bid_rules.proofs.RoomPlaces.{room_range, rooms_length}
-use Rattle.bid_rules.proofs.SignedSums.{total-map, total-permutation}
-use Rattle.bid_rules.proofs.Zipped.{AllZip-get_or}
+use Rattle.bid_rules.specs.Fractions.{Fraction}
+use Rattle.bid_rules.specs.Rent.{IsValidRentCase, RentBest, room_count}
+use Rattle.split_lemmas.proofs.RoomPlaces.{room_range, rooms_length}
 use Rattle.envy_check.specs.Envy.{ArePrices, IsAmount}
 use Rattle.rent_maximin.specs.Division.{IsRentDivision}
 use Rattle.rent_maximin.specs.declared.division.RentDivision.{RentDivision}
@@ -26,28 +21,11 @@ use Rattle.split_reports.specs.Rent.{AreFigures, AreFiguresOf, RentTold}
 abbrev IsRoom : ℕ → ℕ → Type 0
 IsRoom n room = (1 ≤ room) × (room ≤ n)
 
--- the prices by member are whole in the parts in which the prices are
-parts_of_members : (prices : List Fraction) (k : ℕ) (parts : List ℤ) (rooms : List ℕ) → HasParts prices k parts → All (IsRoom (length prices)) rooms → HasParts (prices_by_member rooms prices) k (map (price_of parts) rooms)
-parts_of_members prices k parts [] h all = tt
-parts_of_members prices k parts (room ∷ rooms) h all =
-    let here = All-head (IsRoom (length prices)) room rooms all in
-    let within : room - 1 < length prices = omega (arith, here.0, here.1) in
-    (AllZip-get_or (λ price part. IsQuotient price part k) prices parts (room - 1) (pos 0, 1) (pos 0) within h, parts_of_members prices k parts rooms h (All-tail (IsRoom (length prices)) room rooms all))
-
 -- the rooms of the best division are numbers of rooms
 pub best_rooms : (case : RentCase) (rooms : List ℕ) (prices : List Fraction) → RentBest case rooms prices → All (IsRoom (room_count case)) rooms
 best_rooms case rooms prices best = λ i d l.
     let long = rooms_length (room_count case) rooms best.priced.assignment in
     subst (IsRoom (room_count case)) (get_or_default rooms i 0 d l) (room_range (room_count case) rooms i best.priced.assignment (omega (arith, l, long)))
-
--- the prices by member sum to the rent
-pub member_prices_sum : (case : RentCase) (rooms : List ℕ) (prices : List Fraction) → length prices ≡ room_count case → RentBest case rooms prices → IsQuotient (sum_of_fractions (prices_by_member rooms prices)) (pos case.facts.rent) 1
-member_prices_sum case rooms prices count best =
-    let n = room_count case in
-    let all : All (IsRoom (length prices)) rooms = subst (λ m. All (IsRoom m) rooms) (sym count) (best_rooms case rooms prices best) in
-    let by_member = parts_of_members prices best.k best.parts rooms best.in_parts all in
-    let whole = total-map (λ part. part) (price_of best.parts) rooms ∙ total-permutation (price_of best.parts) (range_with_len 1 n) rooms best.priced.assignment ∙ prices_total best.parts n best.priced.each ∙ best.priced.whole in
-    whole_sum best.k case.facts.rent (prices_by_member rooms prices) (map (price_of best.parts) rooms) best.priced.parts by_member whole
 
 -- how many prices there are
 pub price_count : (case : RentCase) (division : RentDivision) → IsRentDivision case division → length division.prices.items ≡ room_count case

@@ -1,7 +1,6 @@
 -- A case has one report.
-use Rattle.std.proofs.Common.{◌≡◌, ℕ, ℤ, suc, ◌+◌, ◌-◌, ◌<◌, ◌≤◌, ◌≤ℤ◌, pos, ◌*ℤ◌, List, [], ◌∷◌, All, length, map, get_or, arith, refl, sym, ap, ◌∙◌, subst}
+use Rattle.std.proofs.Common.{◌≡◌, ℕ, ℤ, suc, ◌+◌, ◌-◌, ◌<◌, ◌≤◌, pos, ◌*ℤ◌, List, [], ◌∷◌, All, length, map, get_or, arith, refl, sym, ap, ◌∙◌, subst}
 use Rattle.std.specs.List.{AllZip}
-use Rattle.std.proofs.lemmas.Int.{ints}
 use Rattle.std.proofs.lemmas.List.{ext_get_or, get_or-map, length-map}
 use Rattle.std.proofs.lemmas.List.Elements.{All-head, All-tail}
 use Rattle.arrayvec.specs.declared.array_vec.ArrayVec.{ArrayVec}
@@ -12,15 +11,14 @@ use Rattle.bid_rules.specs.declared.cases.Case.TheVariants as case
 use Rattle.bid_rules.specs.declared.cases.FareCase.{FareCase}
 use Rattle.bid_rules.specs.declared.goods.GoodsCase.{GoodsCase}
 use Rattle.bid_rules.specs.declared.rents.RentCase.{RentCase}
+use Rattle.bid_rules.specs.declared.limits.TheConstants.{MEMBER_ROOM}
 use Rattle.bid_rules.specs.Cents.{amount_at, cent_plan, prices_by_member}
 use Rattle.bid_rules.specs.Fares.{FareBest}
 use Rattle.bid_rules.specs.Fractions.{Fraction, HasSameValue, IsQuotient}
 use Rattle.bid_rules.specs.Goods.{player_count}
-use Rattle.bid_rules.specs.Maximin.{least_in_parts, value_step}
-use Rattle.bid_rules.specs.Rent.{IsValidRentCase, RentBest, room_count, utility}
+use Rattle.bid_rules.specs.Rent.{IsValidRentCase, room_count, utility}
 use Rattle.bid_rules.specs.Facts.{IsValidCase}
-use Rattle.bid_rules.specs.Walks.{AreGreatestWeights, weight_at}
-use Rattle.bid_rules.proofs.FractionLaws.{same_value}
+use Rattle.split_lemmas.proofs.FractionLaws.{same_value}
 use Rattle.certificates.specs.Division.{IsDivisionOf}
 use Rattle.certificates.specs.declared.division.Division.{Division}
 use Rattle.certificates.specs.declared.division.Division.TheVariants.{Rent, Goods, Fares}
@@ -69,16 +67,6 @@ same_tables one n (x ∷ xs) (y ∷ ys) l a b h =
     ap (λ (r : List Frac). r ∷ xs) (same_listed one x y (long_x ∙ sym long_y) (λ j k. h 0 j (omega arith) (omega (arith, k, long_x))))
     ∙ ap (λ (rs : List (List Frac)). y ∷ rs) (same_tables one n xs ys (omega arith) (All-tail Row (map pair_of x) (map (map pair_of) xs) a) (All-tail Row (map pair_of y) (map (map pair_of) ys) b) (λ i j k m. h (suc i) j (omega arith) m))
 
--- the greatest weights of walks are one list
-same_weights : (n : ℕ) (step : ℕ → ℕ → ℤ) (xs ys : List ℤ) → AreGreatestWeights n step xs → AreGreatestWeights n step ys → xs ≡ ys
-same_weights n step xs ys a b = ext_get_or (pos 0) xs ys (a.count ∙ sym b.count) (λ i l.
-    let at = a.each i (omega (arith, l, a.count)) in
-    let bt = b.each i (omega (arith, l, a.count)) in
-    let up : weight_at xs i ≤ℤ weight_at ys i = subst (λ z. z ≤ℤ weight_at ys i) at.attained.2 (bt.greatest at.attained.0 at.attained.1) in
-    let down : weight_at ys i ≤ℤ weight_at xs i = subst (λ z. z ≤ℤ weight_at xs i) bt.attained.2 (at.greatest bt.attained.0 bt.attained.1) in
-    let same : weight_at xs i ≡ weight_at ys i = omega (arith, ints) in
-    same)
-
 -- what is told, from its parts
 abbrev told_of : List ℕ → List Frac → List ℤ → List Frac → Frac → List (List Frac) → RentTold
 told_of rooms prices pays utilities least envy = record { rooms = rooms; prices = prices; pays = pays; utilities = utilities; least = least; envy = envy }
@@ -87,12 +75,11 @@ module _
     (one : OneFrac)
     (one_fares : (case : FareCase) (fares others : List Fraction) (route other : List ℕ) → FareBest case fares route → FareBest case others other → AllZip HasSameValue fares others)
     (one_route : (case : FareCase) (fares others : List Fraction) (route other : List ℕ) → FareBest case fares route → FareBest case others other → route ≡ other)
-    (one_rooms : (case : RentCase) (rooms others : List ℕ) (prices other : List Fraction) → RentBest case rooms prices → RentBest case others other → others ≡ rooms)
-    (one_prices : (case : RentCase) (rooms others : List ℕ) (prices other : List Fraction) → RentBest case rooms prices → RentBest case others other → AllZip HasSameValue prices other)
+    (one_rent : (case : RentCase) (division other : RentDivision) → IsValidRentCase case → IsRentDivision case division → IsRentDivision case other → division ≡ other)
     (one_goods : (case : GoodsCase) (division other : GoodsDivision) → IsGoodsDivision case division → IsGoodsDivision case other → division ≡ other)
   where
-    same_ride : (given : CaseData) (case : FareCase) (d e : FareDivision) (text other : List ℕ) → IsFareDivision case d → IsFareDivision case e → IsFaresReport given case d text → IsFaresReport given case e other → text ≡ other
-    same_ride given case d e text other a b ta tb =
+    same_fares : (given : CaseData) (case : FareCase) (d e : FareDivision) (text other : List ℕ) → IsFareDivision case d → IsFareDivision case e → IsFaresReport given case d text → IsFaresReport given case e other → text ≡ other
+    same_fares given case d e text other a b ta tb =
         let total : d.total ≡ e.total = a.total ∙ sym b.total in
         let route = one_route case (map pair_of d.fares.items) (map pair_of e.fares.items) d.route.items e.route.items a.best b.best in
         let fares = same_zipped one d.fares.items e.fares.items (one_fares case (map pair_of d.fares.items) (map pair_of e.fares.items) d.route.items e.route.items a.best b.best) in
@@ -100,10 +87,10 @@ module _
         ∙ ap (λ r. fares_report given case e.total r d.fares.items (cent_plan (map pair_of d.fares.items) (pos e.total))) route
         ∙ ap (λ fs. fares_report given case e.total e.route.items fs (cent_plan (map pair_of fs) (pos e.total))) fares ∙ sym tb
 
-    same_points : (case : GoodsCase) (owners : List ℕ) (xs ys : List (ArrayVec ℤ 12 (Unit {0}))) → IsPointsTable case owners xs → IsPointsTable case owners ys → map (λ row. row.items) xs ≡ map (λ row. row.items) ys
+    same_points : (case : GoodsCase) (owners : List ℕ) (xs ys : List (ArrayVec ℤ MEMBER_ROOM (Unit {0}))) → IsPointsTable case owners xs → IsPointsTable case owners ys → map (λ row. row.items) xs ≡ map (λ row. row.items) ys
     same_points case owners xs ys a b =
-        let none : ArrayVec ℤ 12 (Unit {0}) = record { items = [] } in
-        let items : ArrayVec ℤ 12 (Unit {0}) → List ℤ = λ row. row.items in
+        let none : ArrayVec ℤ MEMBER_ROOM (Unit {0}) = record { items = [] } in
+        let items : ArrayVec ℤ MEMBER_ROOM (Unit {0}) → List ℤ = λ row. row.items in
         ext_get_or [] (map items xs) (map items ys) (length-map xs items ∙ a.players ∙ sym b.players ∙ sym (length-map ys items)) (λ i l.
         let inside : i < length xs = omega (arith, l, length-map xs items) in
         let few : i < player_count case = omega (arith, inside, a.players) in
@@ -128,54 +115,48 @@ module _
     same_rent : (given : CaseData) (case : RentCase) (d e : RentDivision) (text other : List ℕ) → IsValidRentCase case → IsRentDivision case d → IsRentDivision case e → IsRentReport given case d text → IsRentReport given case e other → text ≡ other
     same_rent given case d e text other valid a b ta tb =
         let n = room_count case in
-        let s = ta.0 in
+        let same = one_rent case d e valid a b in
+        let moved = subst (λ (x : RentDivision). IsRentReport given case x text) same ta in
+        let s = moved.0 in
         let t = tb.0 in
-        let best_rooms : d.best.rooms.items ≡ e.best.rooms.items = sym (one_rooms case d.best.rooms.items e.best.rooms.items (map pair_of d.prices.items) (map pair_of e.prices.items) a.best b.best) in
-        let best_prices : d.prices.items ≡ e.prices.items = same_zipped one d.prices.items e.prices.items (one_prices case d.best.rooms.items e.best.rooms.items (map pair_of d.prices.items) (map pair_of e.prices.items) a.best b.best) in
-        let rooms : s.rooms ≡ t.rooms = ta.1.rooms ∙ best_rooms ∙ sym tb.1.rooms in
-        let prices : s.prices ≡ t.prices = ta.1.prices ∙ best_prices ∙ sym tb.1.prices in
-        let e_walks = subst (λ (xs : List ℕ). AreGreatestWeights n (value_step case xs) e.walks.weights.items) (sym best_rooms) b.walks in
-        let walks : d.walks.weights.items ≡ e.walks.weights.items = same_weights n (value_step case d.best.rooms.items) d.walks.weights.items e.walks.weights.items a.walks e_walks in
-        let parts : least_in_parts case e.best.rooms.items e.walks.weights.items ≡ least_in_parts case d.best.rooms.items d.walks.weights.items =
-        ap (λ xs. least_in_parts case xs e.walks.weights.items) (sym best_rooms) ∙ ap (least_in_parts case d.best.rooms.items) (sym walks) in
-        let least_e = subst (λ z. IsQuotient (pair_of e.least) z n) parts b.least_formula in
-        let best_least : d.least ≡ e.least = one d.least e.least (same_value (pair_of d.least) (pair_of e.least) (least_in_parts case d.best.rooms.items d.walks.weights.items) n (omega (arith, valid.facts.0.0)) a.least_formula least_e) in
-        let least : s.least ≡ t.least = ta.1.least ∙ best_least ∙ sym tb.1.least in
-        let pays : s.pays ≡ t.pays = ta.1.pays ∙ ap (λ xs. cent_plan (prices_by_member xs (map pair_of s.prices)) (pos case.facts.rent)) rooms
+        let rooms : s.rooms ≡ t.rooms = moved.1.rooms ∙ sym tb.1.rooms in
+        let prices : s.prices ≡ t.prices = moved.1.prices ∙ sym tb.1.prices in
+        let least : s.least ≡ t.least = moved.1.least ∙ sym tb.1.least in
+        let pays : s.pays ≡ t.pays = moved.1.pays ∙ ap (λ xs. cent_plan (prices_by_member xs (map pair_of s.prices)) (pos case.facts.rent)) rooms
         ∙ ap (λ (xs : List Frac). cent_plan (prices_by_member t.rooms (map pair_of xs)) (pos case.facts.rent)) prices ∙ sym tb.1.pays in
         let k = b.best.k in
         let in_parts = subst (λ (xs : List Frac). AllZip (λ price part. IsQuotient price part k) (map pair_of xs) b.best.parts) (sym tb.1.prices) b.best.in_parts in
         let some = b.best.priced.parts in
-        let us = subst (λ (xs : List Frac). AreUtilities case t.rooms (map pair_of xs) (map pair_of s.utilities)) prices (subst (λ (xs : List ℕ). AreUtilities case xs (map pair_of s.prices) (map pair_of s.utilities)) rooms ta.1.utilities) in
+        let us = subst (λ (xs : List Frac). AreUtilities case t.rooms (map pair_of xs) (map pair_of s.utilities)) prices (subst (λ (xs : List ℕ). AreUtilities case xs (map pair_of s.prices) (map pair_of s.utilities)) rooms moved.1.utilities) in
         let ut = tb.1.utilities in
         let utilities : s.utilities ≡ t.utilities = same_listed one s.utilities t.utilities (sym (length-map s.utilities pair_of) ∙ us.count ∙ sym ut.count ∙ length-map t.utilities pair_of) (λ i l.
         let within : i < n = omega (arith, l, length-map s.utilities pair_of, us.count) in
         same_value (amount_at (map pair_of s.utilities) i) (amount_at (map pair_of t.utilities) i) (utility case k t.rooms b.best.parts i) k (omega (arith, some)) (us.each i within k b.best.parts some in_parts) (ut.each i within k b.best.parts some in_parts)) in
-        let es = subst (λ (xs : List Frac). IsEnvyTable case t.rooms (map pair_of xs) (map (map pair_of) s.envy)) prices (subst (λ (xs : List ℕ). IsEnvyTable case xs (map pair_of s.prices) (map (map pair_of) s.envy)) rooms ta.1.envy) in
+        let es = subst (λ (xs : List Frac). IsEnvyTable case t.rooms (map pair_of xs) (map (map pair_of) s.envy)) prices (subst (λ (xs : List ℕ). IsEnvyTable case xs (map pair_of s.prices) (map (map pair_of) s.envy)) rooms moved.1.envy) in
         let et = tb.1.envy in
         let row : List Frac → List Fraction = map pair_of in
         let table : s.envy ≡ t.envy = same_tables one n s.envy t.envy (sym (length-map s.envy row) ∙ es.members ∙ sym et.members ∙ length-map t.envy row) es.others et.others (λ i j l m.
         let within : i < n = omega (arith, l, length-map s.envy row, es.members) in
         same_value (entry_at (map row s.envy) i j) (entry_at (map row t.envy) i j) (envy case k t.rooms b.best.parts i j) k (omega (arith, some)) (es.entries i j within m k b.best.parts some in_parts) (et.entries i j within m k b.best.parts some in_parts)) in
         let rent = case.facts.rent in
-        ta.2 ∙ ap (λ x. rent_report given rent (told_of x s.prices s.pays s.utilities s.least s.envy)) rooms ∙ ap (λ x. rent_report given rent (told_of t.rooms x s.pays s.utilities s.least s.envy)) prices
+        moved.2 ∙ ap (λ x. rent_report given rent (told_of x s.prices s.pays s.utilities s.least s.envy)) rooms ∙ ap (λ x. rent_report given rent (told_of t.rooms x s.pays s.utilities s.least s.envy)) prices
         ∙ ap (λ x. rent_report given rent (told_of t.rooms t.prices x s.utilities s.least s.envy)) pays ∙ ap (λ x. rent_report given rent (told_of t.rooms t.prices t.pays x s.least s.envy)) utilities
         ∙ ap (λ x. rent_report given rent (told_of t.rooms t.prices t.pays t.utilities x s.envy)) least ∙ ap (λ x. rent_report given rent (told_of t.rooms t.prices t.pays t.utilities t.least x)) table ∙ sym tb.2
 
     pub same_report : (given : CaseData) (made : Case) (division others : Division) (text other : List ℕ) → IsValidCase made → IsDivisionOf made division → IsDivisionOf made others
         → IsReport given made division text → IsReport given made others other → text ≡ other
-    same_report given (case.Rent home) (Rent d) (Rent e) text other valid a b ta tb = same_rent given home d e text other valid a b ta tb
-    same_report given (case.Rent home) (Rent d) (Goods e) text other valid a b ta tb = absurd b
-    same_report given (case.Rent home) (Rent d) (Fares e) text other valid a b ta tb = absurd b
-    same_report given (case.Rent home) (Goods d) e text other valid a b ta tb = absurd a
-    same_report given (case.Rent home) (Fares d) e text other valid a b ta tb = absurd a
+    same_report given (case.Rent rent) (Rent d) (Rent e) text other valid a b ta tb = same_rent given rent d e text other valid a b ta tb
+    same_report given (case.Rent rent) (Rent d) (Goods e) text other valid a b ta tb = absurd b
+    same_report given (case.Rent rent) (Rent d) (Fares e) text other valid a b ta tb = absurd b
+    same_report given (case.Rent rent) (Goods d) e text other valid a b ta tb = absurd a
+    same_report given (case.Rent rent) (Fares d) e text other valid a b ta tb = absurd a
     same_report given (case.Goods goods) (Goods d) (Goods e) text other valid a b ta tb = same_goods given goods d e text other a b ta tb
     same_report given (case.Goods goods) (Goods d) (Rent e) text other valid a b ta tb = absurd b
     same_report given (case.Goods goods) (Goods d) (Fares e) text other valid a b ta tb = absurd b
     same_report given (case.Goods goods) (Rent d) e text other valid a b ta tb = absurd a
     same_report given (case.Goods goods) (Fares d) e text other valid a b ta tb = absurd a
-    same_report given (case.Fares ride) (Fares d) (Fares e) text other valid a b ta tb = same_ride given ride d e text other a b ta tb
-    same_report given (case.Fares ride) (Fares d) (Rent e) text other valid a b ta tb = absurd b
-    same_report given (case.Fares ride) (Fares d) (Goods e) text other valid a b ta tb = absurd b
-    same_report given (case.Fares ride) (Rent d) e text other valid a b ta tb = absurd a
-    same_report given (case.Fares ride) (Goods d) e text other valid a b ta tb = absurd a
+    same_report given (case.Fares fares) (Fares d) (Fares e) text other valid a b ta tb = same_fares given fares d e text other a b ta tb
+    same_report given (case.Fares fares) (Fares d) (Rent e) text other valid a b ta tb = absurd b
+    same_report given (case.Fares fares) (Fares d) (Goods e) text other valid a b ta tb = absurd b
+    same_report given (case.Fares fares) (Rent d) e text other valid a b ta tb = absurd a
+    same_report given (case.Fares fares) (Goods d) e text other valid a b ta tb = absurd a

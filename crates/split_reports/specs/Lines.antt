@@ -1,7 +1,8 @@
 -- The parts of lines that reports of several kinds share.
 use Rattle.std.specs.Prelude.{ℕ, ◌-◌, List, [], ◌∷◌, flat_map, slice_index, slice_index_or, codes}
-use Rattle.std.specs.List.{concat, range_with_len}
+use Rattle.std.specs.List.{range_with_len}
 use Rattle.std.specs.Fmt.{decimal}
+use Rattle.split_text.specs.Texts.{line_of, named, spaced}
 
 -- the number in a list with a place, counted from 1
 abbrev pub number_at : List ℕ → ℕ → ℕ
@@ -11,14 +12,18 @@ number_at numbers place = slice_index numbers (place - 1)
 abbrev pub text_at : List (List ℕ) → ℕ → List ℕ
 text_at texts place = slice_index_or texts (place - 1) []
 
--- each text after a space
-abbrev pub spaced : List (List ℕ) → List ℕ
-spaced texts = flat_map (λ text. 32 ∷ text) texts
+-- the number of a person or a thing, counted from 1, and the name
+abbrev pub named_at : List (List ℕ) → ℕ → List ℕ
+named_at names number = named number (text_at names number)
 
 -- the lines of 1 to n, one after another
 abbrev pub lines_to : ℕ → (ℕ → List ℕ) → List ℕ
-lines_to n line = flat_map line (range_with_len 1 n)
+lines_to n text = flat_map text (range_with_len 1 n)
 
--- a line of a table: whose it is, and the entries
+-- the line that says how many of the members take part
+abbrev pub count_line : List ℕ → ℕ → ℕ → List ℕ
+count_line word part members = line_of (word ∷ decimal part ∷ codes " of " ∷ decimal members ∷ [])
+
+-- a line of a table: whose it is, by the number of the member, and the entries
 abbrev pub envy_line : ℕ → List (List ℕ) → List ℕ
-envy_line member entries = concat (codes "envy " ∷ decimal member ∷ codes ":" ∷ spaced entries ∷ codes "\n" ∷ [])
+envy_line member entries = line_of (codes "envy " ∷ decimal member ∷ codes ":" ∷ spaced entries ∷ [])

@@ -1,6 +1,5 @@
 -- The report of a rent: the text, and what it tells.
 use Rattle.std.specs.Prelude.{◌≡◌, ◌<◌, ◌≤◌, ◌-◌, pos, ℕ, ℤ, List, [], ◌∷◌, ◌++◌, All, length, codes, map, slice_index_or}
-use Rattle.std.specs.List.{concat}
 use Rattle.std.specs.Fmt.{decimal, signed_decimal}
 use Rattle.split_frac.specs.declared.frac.Frac.{Frac}
 use Rattle.split_frac.specs.Frac.{frac_text, pair_of}
@@ -11,8 +10,9 @@ use Rattle.bid_rules.specs.Rent.{HasParts, room_count, utility}
 use Rattle.envy_check.specs.Envy.{IsEnvyTable}
 use Rattle.rent_maximin.specs.declared.division.RentDivision.{RentDivision}
 use Rattle.split_json.specs.Reading.{CaseData}
-use Rattle.split_reports.specs.Lines.{envy_line, lines_to, number_at, text_at}
+use Rattle.split_reports.specs.Lines.{envy_line, lines_to, named_at, number_at, text_at}
 use Rattle.split_reports.specs.declared.rent.RentFigures.{RentFigures}
+use Rattle.split_text.specs.Texts.{line_of}
 
 -- what the report of a rent tells beside the names and the rent: by member, but for the prices, which are by room
 pub record RentTold : Type 0 where
@@ -45,33 +45,31 @@ pub record AreFigures (given : CaseData) (told : RentTold) : Type 0 where
   pub envy : length told.envy ≡ length given.members
 
 -- the title, the number of members and the rent
-abbrev pub home_head : List ℕ → ℕ → ℕ → List ℕ
-home_head title members rent =
-    concat (codes "rent " ∷ title ∷ codes "\nmembers " ∷ decimal members ∷ codes "\ntotal " ∷ decimal rent ∷ codes "\n" ∷ [])
+abbrev pub rent_head : List ℕ → ℕ → ℕ → List ℕ
+rent_head title members rent = line_of (codes "rent " ∷ title ∷ []) ++ line_of (codes "members " ∷ decimal members ∷ []) ++ line_of (codes "total " ∷ decimal rent ∷ [])
 
--- the line of a member: the room and its name, the exact price, what the member pays, and the exact utility
-abbrev pub home_line : CaseData → RentTold → ℕ → List ℕ
-home_line given told member =
+-- the line of a member: the room, the exact price, what the member pays, and the exact utility
+abbrev pub member_line : CaseData → RentTold → ℕ → List ℕ
+member_line given told member =
     let room = number_at told.rooms member in
-    concat (decimal member ∷ codes " " ∷ text_at given.members member ∷ codes ": room " ∷ decimal room ∷ codes " " ∷ text_at given.items room
-    ∷ codes ", price " ∷ text_at (map frac_text told.prices) room ∷ codes ", pays " ∷ text_at (map signed_decimal told.pays) member
-    ∷ codes ", utility " ∷ text_at (map frac_text told.utilities) member ∷ codes "\n" ∷ [])
+    line_of (named_at given.members member ∷ codes ": room " ∷ named_at given.items room ∷ codes ", price " ∷ text_at (map frac_text told.prices) room
+    ∷ codes ", pays " ∷ text_at (map signed_decimal told.pays) member ∷ codes ", utility " ∷ text_at (map frac_text told.utilities) member ∷ [])
 
 -- the line of the least utility
-abbrev pub home_least : Frac → List ℕ
-home_least least = concat (codes "least utility " ∷ frac_text least ∷ codes "\n" ∷ [])
+abbrev pub least_line : Frac → List ℕ
+least_line least = line_of (codes "least utility " ∷ frac_text least ∷ [])
 
 -- the line of a member in the envy table
-abbrev pub home_envy : RentTold → ℕ → List ℕ
-home_envy told member = envy_line member (map frac_text (slice_index_or told.envy (member - 1) []))
+abbrev pub member_envy : RentTold → ℕ → List ℕ
+member_envy told member = envy_line member (map frac_text (slice_index_or told.envy (member - 1) []))
 
 -- the report
 abbrev pub rent_report : CaseData → ℕ → RentTold → List ℕ
 rent_report given rent told =
     let members = length given.members in
-    home_head given.title members rent ++ lines_to members (home_line given told) ++ home_least told.least ++ lines_to members (home_envy told)
+    rent_head given.title members rent ++ lines_to members (member_line given told) ++ least_line told.least ++ lines_to members (member_envy told)
 
--- each member's utility with the room of its own, whatever the parts in which the prices are whole
+-- each member's utility with their own room, whatever the parts in which the prices are whole
 pub record AreUtilities (case : RentCase) (rooms : List ℕ) (prices utilities : List Fraction) : Type 0 where
   pub count : length utilities ≡ room_count case
   pub each : (member : ℕ) → member < room_count case → (k : ℕ) (parts : List ℤ) → 1 ≤ k → HasParts prices k parts → IsQuotient (amount_at utilities member) (utility case k rooms parts member) k

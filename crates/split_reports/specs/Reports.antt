@@ -11,7 +11,7 @@ use Rattle.split_reports.specs.Rent.{IsRentReport}
 
 -- the text is the report of the case and its division
 abbrev pub IsReport : CaseData → Case → Division → List ℕ → Type 0
-IsReport given (case.Rent home) (Rent division) text = IsRentReport given home division text
+IsReport given (case.Rent rent) (Rent division) text = IsRentReport given rent division text
 IsReport given (case.Goods goods) (Goods division) text = IsGoodsReport given goods division text
-IsReport given (case.Fares ride) (Fares division) text = IsFaresReport given ride division text
+IsReport given (case.Fares fares) (Fares division) text = IsFaresReport given fares division text
 IsReport given case division text = ⊥

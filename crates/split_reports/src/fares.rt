@@ -1,124 +1,118 @@
-// The report of a shared ride.
+// The report of shared fares.
 ghost use Rattle.std.specs.Prelude.{◌≡◌, ◌≤◌, ◌++◌, ◌∷◌, [], length, map, All, IfOk, OnOk, string_bytes};
-ghost use Rattle.std.specs.Fmt.{decimal};
+ghost use Rattle.std.proofs.Props.{props};
 ghost use Rattle.bid_rules.specs.Facts.{IsValidFareCase};
 ghost use Rattle.bid_rules.specs.Fares.{coalition_cost};
+ghost use Rattle.bid_rules.specs.declared.limits.TheConstants.{MOST_RIDERS, RIDER_ROOM};
 ghost use Rattle.shapley_core.specs.Division.{IsFareDivision};
 ghost use Rattle.split_json.specs.Reading.{shown};
-ghost use Rattle.split_reports.specs.Lines.{lines_to, number_at, spaced};
-ghost use Rattle.split_reports.specs.Fares.{AreRiders, IsFaresReport, fares_report, ride_head, ride_line, ride_total};
+ghost use Rattle.split_reports.specs.Lines.{lines_to};
+ghost use Rattle.split_reports.specs.Fares.{AreRiders, IsFaresReport, fares_head, fares_report, member_of, rider_line, total_line};
 
-use crate::text::{amount_text, name_at, number_text, push, push_all, share_text};
-use bid_rules::{FareCase, orders_law};
+use crate::text::{amount_at, fraction_at, named};
+use arrayvec::ArrayVec;
+use bid_rules::FareCase;
+use bid_rules::limits::RIDER_ROOM;
 use envy_check::cent_plan;
-use fare_routes::{Costs, coalition_law};
+use fare_laws::{coalition_law, orders_law};
+use fare_routes::Costs;
 use shapley_core::FareDivision;
 use split_base::NoMemory;
 use split_frac::Frac;
 use split_json::CaseInput;
+use split_text::{Numbers, push_line};
 use std::alloc::Global;
 
-/// Appends the member's number of each rider of a route.
-fn push_route(alloc: Global, lines: &mut String, who: &[u8], route: &[u8]) -> Result<(), NoMemory>
-    requires { All (λ rider. (1 ≤ rider) × (rider ≤ length who.now)) route.now }
-    ensures { OnOk result (string_bytes lines.new ≡ string_bytes lines.old ++ spaced (map (λ rider. decimal (number_at who.now rider)) route.now)) }
+/// Appends the title and the numbers of riders and members.
+fn push_head(lines: &mut String, input: &CaseInput, case: &FareCase) -> Result<(), NoMemory>
+    ensures { OnOk result (string_bytes lines.new ≡ string_bytes lines.old ++ fares_head (shown input.now) case.now) }
 {
-    for rider in route {
-        let member = number_text(alloc, u64::from(who[*rider as usize - 1]))?;
-        push_all(lines, &[" ", &member])?;
-    }
+    let title = input.title.as_str();
+    let (riders, members) = (case.who.len(), input.members.len());
+    push_line(lines, format_args!("fares {title}"))?;
+    push_line(lines, format_args!("riders {riders} of {members}"))?;
     Ok(())
 }
 
-/// Appends the title and the numbers of riders and members.
-fn push_head(
-    alloc: Global,
-    lines: &mut String,
-    input: &CaseInput,
-    case: &FareCase,
-) -> Result<(), NoMemory>
-    ensures { OnOk result (string_bytes lines.new ≡ string_bytes lines.old ++ ride_head (shown input.now) case.now) }
+/// The numbers of members of the riders of a route, in its order.
+fn members_along(case: &FareCase, route: &[u8]) -> ArrayVec<u8, RIDER_ROOM>
+    requires few { length route.now ≤ RIDER_ROOM }
+    requires riders { All (λ rider. (1 ≤ rider) × (rider ≤ length case.now.who.items)) route.now }
+    ensures { result.items ≡ map (member_of case.now) route.now }
 {
-    let riders = number_text(alloc, case.who.len() as u64)?;
-    let members = number_text(alloc, input.members.len() as u64)?;
-    push_all(
-        lines,
-        &[
-            "fares ",
-            input.title.as_str(),
-            "\nriders ",
-            &riders,
-            " of ",
-            &members,
-            "\n",
-        ],
-    )
+    let mut members = ArrayVec::new();
+    for rider in route {
+        members.push(case.who[*rider as usize - 1]);
+    }
+    members
 }
 
 /// Appends the cost of all and the route, in the numbers of members.
-fn push_total(
-    alloc: Global,
-    lines: &mut String,
-    case: &FareCase,
-    total: u32,
-    route: &[u8],
-) -> Result<(), NoMemory>
-    requires { All (λ rider. (1 ≤ rider) × (rider ≤ length case.now.who.items)) route.now }
-    ensures { OnOk result (string_bytes lines.new ≡ string_bytes lines.old ++ ride_total case.now total route.now) }
+fn push_total(lines: &mut String, case: &FareCase, total: u32, route: &[u8]) -> Result<(), NoMemory>
+    requires few { length route.now ≤ RIDER_ROOM }
+    requires riders { All (λ rider. (1 ≤ rider) × (rider ≤ length case.now.who.items)) route.now }
+    ensures { OnOk result (string_bytes lines.new ≡ string_bytes lines.old ++ total_line case.now total route.now) }
 {
-    let total = number_text(alloc, u64::from(total))?;
-    push_all(lines, &["total ", &total, ", route"])?;
-    push_route(alloc, lines, case.who.as_slice(), route)?;
-    push(lines, "\n")
+    let members = members_along(case, route);
+    let route = Numbers(members.as_slice());
+    push_line(lines, format_args!("total {total}, route{route}"))
 }
 
-/// What a shared ride costs its riders: the exact fares, and whole cents.
+/// What the lines of riders tell. Each rider is a member who has a name, has a place that has one, and has a fare and cents to pay.
 #[derive(Drop)]
-pub(crate) struct RideShares<'a> {
+pub(crate) struct RiderLines<'a> {
+    pub(crate) input: &'a CaseInput,
+    pub(crate) case: &'a FareCase,
+    /// The exact fares.
     pub(crate) fares: &'a [Frac],
+    /// Whole cents.
     pub(crate) pays: &'a [i64],
+    ghost riders: { AreRiders (shown input.now) case.now } by { Prim.hlevel props },
+    ghost each_fare: { length fares.now ≡ length case.now.who.items },
+    ghost each_pays: { length pays.now ≡ length case.now.who.items },
 }
 
-/// Appends the line of a rider, whose cost alone is given.
-fn push_rider(
-    alloc: Global,
-    lines: &mut String,
-    input: &CaseInput,
-    case: &FareCase,
-    shares: &RideShares<'_>,
-    alone: u32,
-    rider: u8,
-) -> Result<(), NoMemory>
-    requires low { 1 ≤ rider }
-    requires high { rider ≤ length case.now.who.items }
-    requires riders { AreRiders (shown input.now) case.now }
-    requires fares { length shares.now.fares.now ≡ length case.now.who.items }
-    requires pays { length shares.now.pays.now ≡ length case.now.who.items }
-    requires alone { alone ≡ coalition_cost case.now (rider ∷ []) }
-    ensures { OnOk result (string_bytes lines.new ≡ string_bytes lines.old ++ ride_line (shown input.now) case.now shares.now.fares.now shares.now.pays.now rider) }
-{
-    let member = case.who[rider as usize - 1];
-    let place = case.at[rider as usize - 1];
-    let fare = share_text(alloc, shares.fares, rider)?;
-    let pays = amount_text(alloc, shares.pays, rider)?;
-    let alone = number_text(alloc, u64::from(alone))?;
-    let name = name_at(input.members.as_slice(), member);
-    let place_name = name_at(input.items.as_slice(), place);
-    let member = number_text(alloc, u64::from(member))?;
-    let place = number_text(alloc, u64::from(place))?;
-    push_all(
-        lines,
-        &[
-            &member, " ", name, ": place ", &place, " ", place_name, ", fare ", &fare, ", pays ",
-            &pays, ", alone ", &alone, "\n",
-        ],
-    )
+impl RiderLines<'_> {
+    /// Appends the line of a rider, whose cost alone is given.
+    fn push_rider(&self, lines: &mut String, alone: u32, rider: u8) -> Result<(), NoMemory>
+        requires low { 1 ≤ rider }
+        requires high { rider ≤ length self.now.case.now.who.items }
+        requires alone { alone ≡ coalition_cost self.now.case.now (rider ∷ []) }
+        ensures { OnOk result (string_bytes lines.new ≡ string_bytes lines.old ++ rider_line (shown self.now.input.now) self.now.case.now self.now.fares.now self.now.pays.now rider) }
+    {
+        let person = named(
+            self.input.members.as_slice(),
+            self.case.who[rider as usize - 1],
+        );
+        let place = named(
+            self.input.items.as_slice(),
+            self.case.at[rider as usize - 1],
+        );
+        let fare = fraction_at(self.fares, rider);
+        let pays = amount_at(self.pays, rider);
+        push_line(
+            lines,
+            format_args!("{person}: place {place}, fare {fare}, pays {pays}, alone {alone}"),
+        )
+    }
+
+    /// Appends the lines of the riders.
+    fn push_riders(&self, lines: &mut String, costs: &Costs) -> Result<(), NoMemory>
+        requires costs { costs.now ≡ self.now.case.now }
+        ensures { OnOk result (string_bytes lines.new ≡ string_bytes lines.old ++ lines_to (length self.now.case.now.who.items) (rider_line (shown self.now.input.now) self.now.case.now self.now.fares.now self.now.pays.now)) }
+    {
+        for k in 0..self.case.who.len() as u8 {
+            let rider = k + 1;
+            self.push_rider(lines, cost_alone(costs, rider), rider)?;
+        }
+        Ok(())
+    }
 }
 
-/// What the ride would cost a rider alone.
+/// What a rider would cost alone.
 fn cost_alone(costs: &Costs, rider: u8) -> u32
     requires low { 1 ≤ rider }
-    requires few { rider ≤ 8 }
+    requires few { rider ≤ MOST_RIDERS }
     requires high { rider ≤ length costs.now.at.items }
     ensures { result ≡ coalition_cost costs.now (rider ∷ []) }
 {
@@ -126,65 +120,29 @@ fn cost_alone(costs: &Costs, rider: u8) -> u32
     costs.cost_of(1 << (rider - 1))
 }
 
-/// Appends the lines of the riders.
-fn push_riders(
-    alloc: Global,
-    lines: &mut String,
-    input: &CaseInput,
-    case: &FareCase,
-    shares: &RideShares<'_>,
-    costs: &Costs,
-) -> Result<(), NoMemory>
-    requires riders { AreRiders (shown input.now) case.now }
-    requires fares { length shares.now.fares.now ≡ length case.now.who.items }
-    requires pays { length shares.now.pays.now ≡ length case.now.who.items }
-    requires costs { costs.now ≡ case.now }
-    ensures { OnOk result (string_bytes lines.new ≡ string_bytes lines.old ++ lines_to (length case.now.who.items) (ride_line (shown input.now) case.now shares.now.fares.now shares.now.pays.now)) }
-{
-    for k in 0..case.who.len() as u8 {
-        let rider = k + 1;
-        push_rider(
-            alloc,
-            lines,
-            input,
-            case,
-            shares,
-            cost_alone(costs, rider),
-            rider,
-        )?;
-    }
-    Ok(())
-}
-
-/// The report of a shared ride, in which the riders pay these shares.
+/// The report of shared fares, in which the riders pay this.
 fn fares_text(
     alloc: Global,
-    input: &CaseInput,
-    case: &FareCase,
+    riders: &RiderLines<'_>,
     division: &FareDivision,
-    shares: &RideShares<'_>,
 ) -> Result<Vec<u8>, NoMemory>
-    requires riders { AreRiders (shown input.now) case.now }
-    requires route { All (λ rider. (1 ≤ rider) × (rider ≤ length case.now.who.items)) division.now.route.items }
-    requires fares { length shares.now.fares.now ≡ length case.now.who.items }
-    requires pays { length shares.now.pays.now ≡ length case.now.who.items }
-    requires costs { division.now.costs ≡ case.now }
-    ensures { IfOk result (λ text. text.items ≡ fares_report (shown input.now) case.now division.now.total division.now.route.items shares.now.fares.now shares.now.pays.now) }
+    requires route { All (λ rider. (1 ≤ rider) × (rider ≤ length riders.now.case.now.who.items)) division.now.route.items }
+    requires costs { division.now.costs ≡ riders.now.case.now }
+    ensures { IfOk result (λ text. text.items ≡ fares_report (shown riders.now.input.now) riders.now.case.now division.now.total division.now.route.items riders.now.fares.now riders.now.pays.now) }
 {
     let mut lines = String::new(alloc);
-    push_head(alloc, &mut lines, input, case)?;
+    push_head(&mut lines, riders.input, riders.case)?;
     push_total(
-        alloc,
         &mut lines,
-        case,
+        riders.case,
         division.total,
         division.route.as_slice(),
     )?;
-    push_riders(alloc, &mut lines, input, case, shares, &division.costs)?;
+    riders.push_riders(&mut lines, &division.costs)?;
     Ok(lines.into_bytes())
 }
 
-/// The report of a shared ride, from the division that the solver gives for the case.
+/// The report of shared fares, from the division that the solver gives for the case.
 pub(crate) fn fares_report(
     alloc: Global,
     input: &CaseInput,
@@ -199,9 +157,11 @@ pub(crate) fn fares_report(
 {
     orders_law();
     let pays = cent_plan(division.fares.as_slice(), i64::from(division.total));
-    let shares = RideShares {
+    let riders = RiderLines {
+        input,
+        case,
         fares: division.fares.as_slice(),
         pays: pays.as_slice(),
     };
-    fares_text(alloc, input, case, division, &shares)
+    fares_text(alloc, &riders, division)
 }

@@ -1,94 +1,69 @@
 // The report of goods.
-ghost use Rattle.std.specs.Prelude.{◌≡◌, ◌≤◌, ◌++◌, ◌∷◌, ◌==◌, [], length, map, All, IfOk, OnOk, string_bytes};
-ghost use Rattle.std.specs.Fmt.{decimal};
+ghost use Rattle.std.specs.Prelude.{◌≡◌, ◌≤◌, ◌++◌, ◌∷◌, ◌==◌, [], length, map, Some, IfOk, OnOk, string_bytes};
+ghost use Rattle.std.proofs.Props.{props};
 ghost use Rattle.bid_rules.specs.Goods.{IsValidGoodsCase, player_count};
-ghost use Rattle.envy_check.specs.Goods.{goods_of, points_for};
+ghost use Rattle.bid_rules.specs.declared.limits.TheConstants.{ITEM_ROOM};
+ghost use Rattle.envy_check.specs.Goods.{goods_of};
 ghost use Rattle.nash_search.specs.Division.{IsGoodsDivision};
 ghost use Rattle.split_json.specs.Reading.{shown};
-ghost use Rattle.split_reports.specs.Lines.{lines_to, number_at, spaced};
-ghost use Rattle.split_reports.specs.Goods.{IsGoodsReport, goods_report, goods_text, heir_envy, heir_head, heir_line, heir_pair};
+ghost use Rattle.split_reports.specs.Lines.{lines_to};
+ghost use Rattle.split_reports.specs.Goods.{IsGoodsReport, goods_head, goods_list, goods_report, pair_line, player_envy, player_line};
 
-use crate::text::{name_at, number_text, push, push_all, push_numbers, push_points};
+use crate::text::named;
 use arrayvec::ArrayVec;
+use bid_rules::limits::{ITEM_ROOM, MEMBER_ROOM};
 use bid_rules::{GoodsCase, Pair};
-use envy_check::points_table;
+use envy_check::{points_of, points_table};
 use nash_search::GoodsDivision;
 use split_base::NoMemory;
 use split_json::CaseInput;
-use std::alloc::{AllocError, Global};
+use split_text::{Numbers, push_line};
+use std::alloc::Global;
+use std::fmt;
 
-/// Appends the title and the numbers of players and members.
-fn push_head(
-    alloc: Global,
-    lines: &mut String,
-    input: &CaseInput,
-    case: &GoodsCase,
-) -> Result<(), NoMemory>
-    ensures { OnOk result (string_bytes lines.new ≡ string_bytes lines.old ++ heir_head (shown input.now) case.now) }
-{
-    let players = number_text(alloc, case.who.len() as u64)?;
-    let members = number_text(alloc, input.members.len() as u64)?;
-    push_all(
-        lines,
-        &[
-            "goods ",
-            input.title.as_str(),
-            "\nplayers ",
-            &players,
-            " of ",
-            &members,
-            "\n",
-        ],
-    )
+/// The numbers of some goods, each after a space, or that there is none.
+#[derive(Clone, Copy)]
+struct GoodsList<'a>(&'a [u8]);
+
+impl fmt::Display for GoodsList<'_> {
+    ghost output = { λ goods. Some (goods_list goods.0.now) };
+
+    fn fmt<W: fmt::Write>(&self, f: &mut fmt::Formatter<W>) -> fmt::Result {
+        let numbers = Numbers(self.0);
+        if self.0.is_empty() {
+            write!(f, " none")
+        } else {
+            write!(f, "{numbers}")
+        }
+    }
 }
 
-/// The product in decimal.
-fn product_text(alloc: Global, product: u128) -> Result<String, NoMemory>
-    ensures { IfOk result (λ text. string_bytes text ≡ decimal product) }
+/// Appends the title and the numbers of players and members.
+fn push_head(lines: &mut String, input: &CaseInput, case: &GoodsCase) -> Result<(), NoMemory>
+    ensures { OnOk result (string_bytes lines.new ≡ string_bytes lines.old ++ goods_head (shown input.now) case.now) }
 {
-    match product.to_string(alloc) {
-        Ok(text) => Ok(text),
-        Err(AllocError) => Err(NoMemory),
-    }
+    let title = input.title.as_str();
+    let (players, members) = (case.who.len(), input.members.len());
+    push_line(lines, format_args!("goods {title}"))?;
+    push_line(lines, format_args!("players {players} of {members}"))?;
+    Ok(())
 }
 
 /// Appends the pair of the allocation and the number of steps.
-fn push_pair(alloc: Global, lines: &mut String, pair: &Pair, steps: u32) -> Result<(), NoMemory>
-    ensures { OnOk result (string_bytes lines.new ≡ string_bytes lines.old ++ heir_pair pair.now steps) }
+fn push_pair(lines: &mut String, pair: &Pair, steps: u32) -> Result<(), NoMemory>
+    ensures { OnOk result (string_bytes lines.new ≡ string_bytes lines.old ++ pair_line pair.now steps) }
 {
-    let count = number_text(alloc, u64::from(pair.count))?;
-    let product = product_text(alloc, pair.product)?;
-    let steps = number_text(alloc, u64::from(steps))?;
-    push_all(
+    let (count, product) = (pair.count, pair.product);
+    push_line(
         lines,
-        &[
-            "positive ",
-            &count,
-            ", product ",
-            &product,
-            ", steps ",
-            &steps,
-            "\n",
-        ],
+        format_args!("positive {count}, product {product}, steps {steps}"),
     )
 }
 
-/// Appends the goods after a space each, or that there is none.
-fn push_goods(alloc: Global, lines: &mut String, goods: &[u8]) -> Result<(), NoMemory>
-    ensures { OnOk result (string_bytes lines.new ≡ string_bytes lines.old ++ goods_text goods.now) }
-{
-    if goods.is_empty() {
-        return push(lines, " none");
-    }
-    push_numbers(alloc, lines, goods)
-}
-
 /// The goods, by number, that a player has.
-fn goods_of(owners: &[u8], player: u8) -> ArrayVec<u8, 24>
-    requires { length owners.now ≤ 24 }
-    ensures value { result.items ≡ goods_of owners.now player }
-    ensures few { length result.items ≤ 24 }
-    ensures within { All (λ good. (1 ≤ good) × (good ≤ length owners.now)) result.items }
+fn goods_of(owners: &[u8], player: u8) -> ArrayVec<u8, ITEM_ROOM>
+    requires { length owners.now ≤ ITEM_ROOM }
+    ensures { result.items ≡ goods_of owners.now player }
 {
     let mut goods = ArrayVec::new();
     for (k, owner) in owners.iter().enumerate() {
@@ -99,123 +74,96 @@ fn goods_of(owners: &[u8], player: u8) -> ArrayVec<u8, 24>
     goods
 }
 
-/// The points that a player gives some goods together.
-fn points_of(case: &GoodsCase, player: u8, goods: &[u8]) -> u32
-    requires case { IsValidGoodsCase case.now }
-    requires low { 1 ≤ player }
-    requires high { player ≤ player_count case.now }
-    requires few { length goods.now ≤ 24 }
-    requires goods { All (λ good. (1 ≤ good) × (good ≤ case.now.facts.goods)) goods.now }
-    ensures { result ≡ points_for case.now player goods.now }
-{
-    let mut sum = 0;
-    for good in goods {
-        sum += case.points(player, *good);
-    }
-    sum
+/// What the lines of players tell: names, the case, and the owner of each good.
+#[derive(Drop)]
+pub(crate) struct PlayerLines<'a> {
+    pub(crate) input: &'a CaseInput,
+    pub(crate) case: &'a GoodsCase,
+    pub(crate) owners: &'a [u8],
+    ghost valid: { IsValidGoodsCase case.now } by { Prim.hlevel props },
+    ghost names: { length input.now.members.items ≡ case.now.facts.members },
+    ghost each: { length owners.now ≡ case.now.facts.goods },
 }
 
-/// Appends the line of a player.
-fn push_player(
-    alloc: Global,
-    lines: &mut String,
-    input: &CaseInput,
-    case: &GoodsCase,
-    owners: &[u8],
-    player: u8,
-) -> Result<(), NoMemory>
-    requires case { IsValidGoodsCase case.now }
-    requires members { length input.now.members.items ≡ case.now.facts.members }
-    requires low { 1 ≤ player }
-    requires high { player ≤ player_count case.now }
-    requires owners { length owners.now ≡ case.now.facts.goods }
-    ensures { OnOk result (string_bytes lines.new ≡ string_bytes lines.old ++ heir_line (shown input.now) case.now owners.now player) }
-{
-    let goods = goods_of(owners, player);
-    let points = points_of(case, player, goods.as_slice());
-    let member = case.who[player as usize - 1];
-    let name = name_at(input.members.as_slice(), member);
-    let member = number_text(alloc, u64::from(member))?;
-    let points = number_text(alloc, u64::from(points))?;
-    push_all(lines, &[&member, " ", name, ": goods"])?;
-    push_goods(alloc, lines, goods.as_slice())?;
-    push_all(lines, &[", points ", &points, "\n"])
+impl PlayerLines<'_> {
+    /// Appends the line of a player.
+    fn push_player(&self, lines: &mut String, player: u8) -> Result<(), NoMemory>
+        requires low { 1 ≤ player }
+        requires high { player ≤ player_count self.now.case.now }
+        ensures { OnOk result (string_bytes lines.new ≡ string_bytes lines.old ++ player_line (shown self.now.input.now) self.now.case.now self.now.owners.now player) }
+    {
+        let person = named(
+            self.input.members.as_slice(),
+            self.case.who[player as usize - 1],
+        );
+        let held = goods_of(self.owners, player);
+        let goods = GoodsList(held.as_slice());
+        let points = points_of(self.case, self.owners, player, player);
+        push_line(
+            lines,
+            format_args!("{person}: goods{goods}, points {points}"),
+        )
+    }
+
+    /// Appends the lines of the players.
+    fn push_players(&self, lines: &mut String) -> Result<(), NoMemory>
+        ensures { OnOk result (string_bytes lines.new ≡ string_bytes lines.old ++ lines_to (player_count self.now.case.now) (player_line (shown self.now.input.now) self.now.case.now self.now.owners.now)) }
+    {
+        for k in 0..self.case.values.len() as u8 {
+            self.push_player(lines, k + 1)?;
+        }
+        Ok(())
+    }
 }
 
 /// Appends the line of a player in the table of points.
 fn push_envy(
-    alloc: Global,
     lines: &mut String,
     case: &GoodsCase,
-    table: &ArrayVec<ArrayVec<i32, 12>, 12>,
+    table: &[ArrayVec<i32, MEMBER_ROOM>],
     player: u8,
 ) -> Result<(), NoMemory>
     requires low { 1 ≤ player }
     requires who { player ≤ length case.now.who.items }
-    requires high { player ≤ length table.now.items }
-    ensures { OnOk result (string_bytes lines.new ≡ string_bytes lines.old ++ heir_envy case.now (map (λ row. row.items) table.now.items) player) }
+    requires high { player ≤ length table.now }
+    ensures { OnOk result (string_bytes lines.new ≡ string_bytes lines.old ++ player_envy case.now (map (λ row. row.items) table.now) player) }
 {
-    let member = number_text(alloc, u64::from(case.who[player as usize - 1]))?;
-    push_all(lines, &["envy ", &member, ":"])?;
-    push_points(alloc, lines, table[player as usize - 1].as_slice())?;
-    push(lines, "\n")
-}
-
-/// Appends the lines of the players.
-fn push_players(
-    alloc: Global,
-    lines: &mut String,
-    input: &CaseInput,
-    case: &GoodsCase,
-    owners: &[u8],
-) -> Result<(), NoMemory>
-    requires case { IsValidGoodsCase case.now }
-    requires members { length input.now.members.items ≡ case.now.facts.members }
-    requires owners { length owners.now ≡ case.now.facts.goods }
-    ensures { OnOk result (string_bytes lines.new ≡ string_bytes lines.old ++ lines_to (player_count case.now) (heir_line (shown input.now) case.now owners.now)) }
-{
-    for k in 0..case.values.len() as u8 {
-        push_player(alloc, lines, input, case, owners, k + 1)?;
-    }
-    Ok(())
+    let member = case.who[player as usize - 1];
+    let row = Numbers(table[player as usize - 1].as_slice());
+    push_line(lines, format_args!("envy {member}:{row}"))
 }
 
 /// Appends the table of points.
 fn push_table(
-    alloc: Global,
     lines: &mut String,
     case: &GoodsCase,
-    table: &ArrayVec<ArrayVec<i32, 12>, 12>,
+    table: &[ArrayVec<i32, MEMBER_ROOM>],
 ) -> Result<(), NoMemory>
     requires case { IsValidGoodsCase case.now }
-    requires rows { length table.now.items ≡ player_count case.now }
-    ensures { OnOk result (string_bytes lines.new ≡ string_bytes lines.old ++ lines_to (player_count case.now) (heir_envy case.now (map (λ row. row.items) table.now.items))) }
+    requires rows { length table.now ≡ player_count case.now }
+    ensures { OnOk result (string_bytes lines.new ≡ string_bytes lines.old ++ lines_to (player_count case.now) (player_envy case.now (map (λ row. row.items) table.now))) }
 {
     for k in 0..case.values.len() as u8 {
-        push_envy(alloc, lines, case, table, k + 1)?;
+        push_envy(lines, case, table, k + 1)?;
     }
     Ok(())
 }
 
-/// The report of goods, with a table of points.
-fn text_of(
+/// The report of goods, with the lines of the players and a table of points.
+fn goods_text(
     alloc: Global,
-    input: &CaseInput,
-    case: &GoodsCase,
+    players: &PlayerLines<'_>,
     division: &GoodsDivision,
-    table: &ArrayVec<ArrayVec<i32, 12>, 12>,
+    table: &[ArrayVec<i32, MEMBER_ROOM>],
 ) -> Result<Vec<u8>, NoMemory>
-    requires case { IsValidGoodsCase case.now }
-    requires members { length input.now.members.items ≡ case.now.facts.members }
-    requires owners { length division.now.owners.items ≡ case.now.facts.goods }
-    requires rows { length table.now.items ≡ player_count case.now }
-    ensures { IfOk result (λ text. text.items ≡ goods_report (shown input.now) case.now division.now.owners.items division.now.pair division.now.steps (map (λ row. row.items) table.now.items)) }
+    requires rows { length table.now ≡ player_count players.now.case.now }
+    ensures { IfOk result (λ text. text.items ≡ goods_report (shown players.now.input.now) players.now.case.now players.now.owners.now division.now.pair division.now.steps (map (λ row. row.items) table.now)) }
 {
     let mut lines = String::new(alloc);
-    push_head(alloc, &mut lines, input, case)?;
-    push_players(alloc, &mut lines, input, case, division.owners.as_slice())?;
-    push_pair(alloc, &mut lines, &division.pair, division.steps)?;
-    push_table(alloc, &mut lines, case, table)?;
+    push_head(&mut lines, players.input, players.case)?;
+    players.push_players(&mut lines)?;
+    push_pair(&mut lines, &division.pair, division.steps)?;
+    push_table(&mut lines, players.case, table)?;
     Ok(lines.into_bytes())
 }
 
@@ -231,6 +179,11 @@ pub(crate) fn goods_report(
     requires division { IsGoodsDivision case.now division.now }
     ensures { IfOk result (λ text. IsGoodsReport (shown input.now) case.now division.now text.items) }
 {
-    let table = points_table(case, division.owners.as_slice());
-    text_of(alloc, input, case, division, &table)
+    let players = PlayerLines {
+        input,
+        case,
+        owners: division.owners.as_slice(),
+    };
+    let table = points_table(case, players.owners);
+    goods_text(alloc, &players, division, table.as_slice())
 }

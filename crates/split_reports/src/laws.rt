@@ -7,8 +7,10 @@ ghost use Rattle.certificates.specs.Division.{IsDivisionOf};
 ghost use Rattle.split_json.specs.Reading.{CaseData, IsReady};
 ghost use Rattle.split_reports.specs.Reports.{IsReport};
 
-use bid_rules::{best_fares_law, best_rent_law, case_law};
+use bid_rules::case_law;
+use fare_laws::best_fares_law;
 use nash_search::step_count_law;
+use rent_maximin::one_rent_division_law;
 use split_frac::value_law;
 
 /// What is given fixes the report: a case has one division by the solver, and a division has one text.
@@ -17,8 +19,8 @@ pub fn report_law()
         → IsDivisionOf case division → IsDivisionOf case others → IsReport given case division text → IsReport given case others other → text ≡ other }
 {
     best_fares_law();
-    best_rent_law();
     case_law();
     step_count_law();
+    one_rent_division_law();
     value_law();
 }

@@ -2,23 +2,25 @@
 ghost use Rattle.std.specs.Prelude.{◌≡◌, ◌≤◌, ◌++◌, ◌∷◌, length, map, slice_index, All, IfOk, OnOk, string_bytes};
 ghost use Rattle.bid_rules.specs.Cents.{prices_by_member};
 ghost use Rattle.bid_rules.specs.Rent.{IsValidRentCase, room_count};
+ghost use Rattle.bid_rules.specs.declared.limits.TheConstants.{MEMBER_ROOM};
 ghost use Rattle.envy_check.specs.Envy.{ArePrices, IsAmount};
 ghost use Rattle.rent_maximin.specs.Division.{IsRentDivision};
 ghost use Rattle.split_frac.specs.Frac.{pair_of};
 ghost use Rattle.split_json.specs.Reading.{shown};
 ghost use Rattle.split_reports.specs.Lines.{lines_to};
-ghost use Rattle.split_reports.specs.Rent.{AreFigures, AreFiguresOf, AreUtilities, IsRentReport, figures_shown, home_envy, home_head, home_least, home_line, rent_report};
+ghost use Rattle.split_reports.specs.Rent.{AreFigures, AreFiguresOf, AreUtilities, IsRentReport, figures_shown, least_line, member_envy, member_line, rent_head, rent_report};
 
-use crate::text::{
-    amount_text, fraction_text, name_at, number_text, push, push_all, push_fractions, share_text,
-};
+use crate::text::{amount_at, fraction_at, named};
 use arrayvec::ArrayVec;
 use bid_rules::RentCase;
+use bid_rules::limits::MEMBER_ROOM;
 use envy_check::{cent_plan, envy_table, utility_at};
+use rent_laws::best_rent_law;
 use rent_maximin::{RentDivision, division_range_law};
 use split_base::NoMemory;
 use split_frac::Frac;
 use split_json::CaseInput;
+use split_text::{Numbers, push_line};
 use std::alloc::Global;
 
 /// What the report of a rent tells beside the names and the rent.
@@ -27,42 +29,25 @@ pub(crate) struct RentFigures<'a> {
     /// The rooms by member, the prices by room and the least utility.
     pub(crate) division: &'a RentDivision,
     /// What each member pays in whole cents.
-    pub(crate) pays: ArrayVec<i64, 12>,
+    pub(crate) pays: ArrayVec<i64, MEMBER_ROOM>,
     /// The utility of each member.
-    pub(crate) utilities: ArrayVec<Frac, 12>,
+    pub(crate) utilities: ArrayVec<Frac, MEMBER_ROOM>,
     /// The envy table, by member.
-    pub(crate) envy: ArrayVec<ArrayVec<Frac, 12>, 12>,
+    pub(crate) envy: ArrayVec<ArrayVec<Frac, MEMBER_ROOM>, MEMBER_ROOM>,
 }
 
 /// Appends the title, the number of members and the rent.
-fn push_head(
-    alloc: Global,
-    lines: &mut String,
-    input: &CaseInput,
-    members: u8,
-    rent: u32,
-) -> Result<(), NoMemory>
-    ensures { OnOk result (string_bytes lines.new ≡ string_bytes lines.old ++ home_head input.now.title.bytes members rent) }
+fn push_head(lines: &mut String, title: &str, members: u8, rent: u32) -> Result<(), NoMemory>
+    ensures { OnOk result (string_bytes lines.new ≡ string_bytes lines.old ++ rent_head title.now members rent) }
 {
-    let members = number_text(alloc, u64::from(members))?;
-    let rent = number_text(alloc, u64::from(rent))?;
-    push_all(
-        lines,
-        &[
-            "rent ",
-            input.title.as_str(),
-            "\nmembers ",
-            &members,
-            "\ntotal ",
-            &rent,
-            "\n",
-        ],
-    )
+    push_line(lines, format_args!("rent {title}"))?;
+    push_line(lines, format_args!("members {members}"))?;
+    push_line(lines, format_args!("total {rent}"))?;
+    Ok(())
 }
 
 /// Appends the line of a member.
 fn push_member(
-    alloc: Global,
     lines: &mut String,
     input: &CaseInput,
     figures: &RentFigures<'_>,
@@ -71,85 +56,59 @@ fn push_member(
     requires low { 1 ≤ member }
     requires high { member ≤ length input.now.members.items }
     requires figures { AreFigures (shown input.now) (figures_shown figures.now) }
-    ensures { OnOk result (string_bytes lines.new ≡ string_bytes lines.old ++ home_line (shown input.now) (figures_shown figures.now) member) }
+    ensures { OnOk result (string_bytes lines.new ≡ string_bytes lines.old ++ member_line (shown input.now) (figures_shown figures.now) member) }
 {
     let division = figures.division;
-    let room = division.best.rooms[member as usize - 1];
-    let price = share_text(alloc, division.prices.as_slice(), room)?;
-    let pays = amount_text(alloc, figures.pays.as_slice(), member)?;
-    let utility = share_text(alloc, figures.utilities.as_slice(), member)?;
-    let name = name_at(input.members.as_slice(), member);
-    let room_name = name_at(input.items.as_slice(), room);
-    let member = number_text(alloc, u64::from(member))?;
-    let room = number_text(alloc, u64::from(room))?;
-    push_all(
+    let number = division.best.rooms[member as usize - 1];
+    let person = named(input.members.as_slice(), member);
+    let room = named(input.items.as_slice(), number);
+    let price = fraction_at(division.prices.as_slice(), number);
+    let pays = amount_at(figures.pays.as_slice(), member);
+    let utility = fraction_at(figures.utilities.as_slice(), member);
+    push_line(
         lines,
-        &[
-            &member,
-            " ",
-            name,
-            ": room ",
-            &room,
-            " ",
-            room_name,
-            ", price ",
-            &price,
-            ", pays ",
-            &pays,
-            ", utility ",
-            &utility,
-            "\n",
-        ],
+        format_args!("{person}: room {room}, price {price}, pays {pays}, utility {utility}"),
     )
 }
 
 /// Appends the lines of the members.
 fn push_members(
-    alloc: Global,
     lines: &mut String,
     input: &CaseInput,
     figures: &RentFigures<'_>,
 ) -> Result<(), NoMemory>
     requires figures { AreFigures (shown input.now) (figures_shown figures.now) }
-    ensures { OnOk result (string_bytes lines.new ≡ string_bytes lines.old ++ lines_to (length input.now.members.items) (home_line (shown input.now) (figures_shown figures.now))) }
+    ensures { OnOk result (string_bytes lines.new ≡ string_bytes lines.old ++ lines_to (length input.now.members.items) (member_line (shown input.now) (figures_shown figures.now))) }
 {
     for k in 0..input.members.len() as u8 {
-        push_member(alloc, lines, input, figures, k + 1)?;
+        push_member(lines, input, figures, k + 1)?;
     }
     Ok(())
 }
 
 /// Appends the line of the least utility.
-fn push_least(alloc: Global, lines: &mut String, least: &Frac) -> Result<(), NoMemory>
-    ensures { OnOk result (string_bytes lines.new ≡ string_bytes lines.old ++ home_least least.now) }
+fn push_least(lines: &mut String, least: &Frac) -> Result<(), NoMemory>
+    ensures { OnOk result (string_bytes lines.new ≡ string_bytes lines.old ++ least_line least.now) }
 {
-    let least = fraction_text(alloc, least)?;
-    push_all(lines, &["least utility ", &least, "\n"])
+    push_line(lines, format_args!("least utility {least}"))
 }
 
 /// Appends the line of a member in the envy table.
-fn push_envy(
-    alloc: Global,
-    lines: &mut String,
-    figures: &RentFigures<'_>,
-    member: u8,
-) -> Result<(), NoMemory>
+fn push_envy(lines: &mut String, figures: &RentFigures<'_>, member: u8) -> Result<(), NoMemory>
     requires low { 1 ≤ member }
     requires high { member ≤ length figures.now.envy.items }
-    ensures { OnOk result (string_bytes lines.new ≡ string_bytes lines.old ++ home_envy (figures_shown figures.now) member) }
+    ensures { OnOk result (string_bytes lines.new ≡ string_bytes lines.old ++ member_envy (figures_shown figures.now) member) }
 {
-    let name = number_text(alloc, u64::from(member))?;
-    push_all(lines, &["envy ", &name, ":"])?;
-    push_fractions(alloc, lines, figures.envy[member as usize - 1].as_slice())?;
-    push(lines, "\n")
+    let row = Numbers(figures.envy[member as usize - 1].as_slice());
+    push_line(lines, format_args!("envy {member}:{row}"))
 }
 
 /// Appends the envy table.
-fn push_table(alloc: Global, lines: &mut String, figures: &RentFigures<'_>) -> Result<(), NoMemory>
-    ensures { OnOk result (string_bytes lines.new ≡ string_bytes lines.old ++ lines_to (length figures.now.envy.items) (home_envy (figures_shown figures.now))) }
+fn push_table(lines: &mut String, figures: &RentFigures<'_>) -> Result<(), NoMemory>
+    ensures { OnOk result (string_bytes lines.new ≡ string_bytes lines.old ++ lines_to (length figures.now.envy.items) (member_envy (figures_shown figures.now))) }
 {
     for k in 0..figures.envy.len() as u8 {
-        push_envy(alloc, lines, figures, k + 1)?;
+        push_envy(lines, figures, k + 1)?;
     }
     Ok(())
 }
@@ -165,16 +124,21 @@ fn rent_text(
     ensures { IfOk result (λ text. text.items ≡ rent_report (shown input.now) rent (figures_shown figures.now)) }
 {
     let mut lines = String::new(alloc);
-    push_head(alloc, &mut lines, input, input.members.len() as u8, rent)?;
-    push_members(alloc, &mut lines, input, figures)?;
-    push_least(alloc, &mut lines, &figures.division.least)?;
-    push_table(alloc, &mut lines, figures)?;
+    push_head(
+        &mut lines,
+        input.title.as_str(),
+        input.members.len() as u8,
+        rent,
+    )?;
+    push_members(&mut lines, input, figures)?;
+    push_least(&mut lines, &figures.division.least)?;
+    push_table(&mut lines, figures)?;
     Ok(lines.into_bytes())
 }
 
 /// The price of each member's room, in the order of the members.
-fn prices_of_members(rooms: &[u8], prices: &[Frac]) -> ArrayVec<Frac, 12>
-    requires few { length rooms.now ≤ 12 }
+fn prices_of_members(rooms: &[u8], prices: &[Frac]) -> ArrayVec<Frac, MEMBER_ROOM>
+    requires few { length rooms.now ≤ MEMBER_ROOM }
     requires rooms { All (λ room. (1 ≤ room) × (room ≤ length prices.now)) rooms.now }
     requires amounts { All IsAmount prices.now }
     ensures prices { map pair_of result.items ≡ prices_by_member rooms.now (map pair_of prices.now) }
@@ -187,8 +151,8 @@ fn prices_of_members(rooms: &[u8], prices: &[Frac]) -> ArrayVec<Frac, 12>
     amounts
 }
 
-/// The utility of each member with the room of its own.
-fn utilities_of(case: &RentCase, rooms: &[u8], prices: &[Frac]) -> ArrayVec<Frac, 12>
+/// The utility of each member with their own room.
+fn utilities_of(case: &RentCase, rooms: &[u8], prices: &[Frac]) -> ArrayVec<Frac, MEMBER_ROOM>
     requires case { IsValidRentCase case.now }
     requires count { length rooms.now ≡ room_count case.now }
     requires rooms { All (λ room. (1 ≤ room) × (room ≤ room_count case.now)) rooms.now }
@@ -208,6 +172,7 @@ fn figures_of<'a>(case: &RentCase, division: &'a RentDivision) -> RentFigures<'a
     requires division { IsRentDivision case.now division.now }
     ensures { AreFiguresOf case.now division.now (figures_shown result) }
 {
+    best_rent_law();
     division_range_law();
     let rooms = division.best.rooms.as_slice();
     let prices = division.prices.as_slice();

@@ -30,12 +30,12 @@ fn division_of(alloc: Global, case: &Case) -> Result<Division, Fail>
     ensures { IfOk result (IsDivisionOf case.now) }
 {
     match case {
-        Case::Rent(home) => Ok(Division::Rent(solve_rent(home))),
+        Case::Rent(rent) => Ok(Division::Rent(solve_rent(rent))),
         Case::Goods(goods) => match search_alone(goods) {
             Ok(division) => Ok(Division::Goods(division)),
             Err(_) => Err(Fail::from("over the limit")),
         },
-        Case::Fares(ride) => match solve_fares(alloc, ride) {
+        Case::Fares(fares) => match solve_fares(alloc, fares) {
             Ok(division) => Ok(Division::Fares(division)),
             Err(_) => Err(Fail::from("no memory")),
         },
@@ -146,7 +146,7 @@ total 2000, route 1 2
 }
 
 #[test]
-fn ride_of_the_later_members(rt: HostRuntime) -> Result<(), Fail> {
+fn fares_of_the_later_members(rt: HostRuntime) -> Result<(), Fail> {
     let text = report_of(
         rt.alloc(),
         r#"{"kind":"fares","title":"Taxi","members":["Ann","Ben","Cy"],"places":["Station","Harbour"],"flag":300,
@@ -166,7 +166,7 @@ total 2000, route 3 2
 }
 
 #[test]
-fn two_heirs(rt: HostRuntime) -> Result<(), Fail> {
+fn two_players(rt: HostRuntime) -> Result<(), Fail> {
     let text = report_of(
         rt.alloc(),
         r#"{"kind":"goods","title":"Attic","members":["Ann","Ben"],"goods":["Clock","Desk"],
@@ -188,7 +188,7 @@ envy 2: -200 0
 }
 
 #[test]
-fn heirs_without_a_bid_or_goods(rt: HostRuntime) -> Result<(), Fail> {
+fn players_without_a_bid_or_goods(rt: HostRuntime) -> Result<(), Fail> {
     let text = report_of(
         rt.alloc(),
         r#"{"kind":"goods","title":"Attic","members":["Ann","Ben","Cy","Dee"],"goods":["Clock","Desk"],

@@ -1,24 +1,137 @@
--- What each status shows, and where each must come, from the ending and the text that goes with it.
-use Rattle.std.proofs.Common.{◌≡◌, ◌⊎◌, ◌<◌, ◌≤◌, ℕ, List, [], ◌∷◌, ◌++◌, Contains, None, Some, IfSome, Result, Ok, Err, length, arith, inl, inr, sym, ap, ◌∙◌, append-nil, ⊎_elim, length-append, subst}
+-- What each status shows, and where each ending must come, from the ending and the text that goes with it.
+use Rattle.std.proofs.Common.{◌≡◌, ◌⊎◌, ◌<◌, ◌≤◌, ℕ, List, [], ◌∷◌, ◌++◌, Contains, None, Some, IfSome, Result, Ok, Err, length, arith, inl, inr, refl, sym, ap, ◌∙◌, append-nil, ⊎_elim, length-append, subst}
 use Rattle.std.specs.Prelude.{Option}
 use Rattle.std.specs.Io.KnownBytes.{Consumes, IsAtEnd}
-use Rattle.split_base.specs.Faults.{HasRisen}
 use Rattle.bid_rules.specs.declared.cases.Case.{Case}
 use Rattle.bid_rules.specs.declared.cases.Case.TheVariants as case
 use Rattle.bid_rules.specs.declared.cases.Missing.{Missing}
-use Rattle.bid_rules.specs.Facts.{case_of}
 use Rattle.bid_rules.specs.declared.goods.GoodsCase.{GoodsCase}
+use Rattle.bid_rules.specs.Facts.{case_of}
 use Rattle.nash_search.specs.Division.{HasSteps}
 use Rattle.certificates.specs.Division.{IsDivisionOf}
 use Rattle.certificates.specs.declared.division.Division.{Division}
 use Rattle.certificates.specs.declared.division.Division.TheVariants as division
-use Rattle.split_top.specs.declared.command.Command.{Command}
-use Rattle.split_json.specs.declared.input.BodyFault.{BodyFault}
+use Rattle.sealed_core.specs.declared.fields.BodyFault.{BodyFault}
+use Rattle.split_json.specs.Reading.{CaseData, case_in}
+use Rattle.split_top.specs.declared.limits.TheConstants.{LONGEST_INPUT}
 use Rattle.split_top.specs.declared.stop.Stop.{Stop}
 use Rattle.split_top.specs.declared.stop.Stop.TheVariants.{Void, OverLimit, BadWords, TooLong, BadCase, ReadFault, NoMemory}
-use Rattle.split_top.specs.Causes.{HasCauses, HasWritten, IfShort, IsComplete, IsSound}
-use Rattle.split_top.specs.Outcome.{Ends, IsAbove, IsEnding, IsNoRow, IsOutput, IsOverLimit, IsTooLong, IsVoid, IsWhole, ReadsCase, Told, status_of, text_of}
-use Rattle.split_json.specs.Reading.{CaseData, case_in}
+use Rattle.split_top.specs.Told.{Ends, HasWritten, IsShort, IsSound, IsTooLong, IsWhole, Told}
+use Rattle.split_top.specs.Texts.{Holds, IsBestText, IsOverLimit, IsVoid, MakesCase}
+use Rattle.split_top.specs.Endings.{IsNoRow, ReadsCase, owed}
+use Rattle.split_top.specs.Causes.{HasCauses, IsComplete, IsDue}
+
+-- an ending that came licenses its status
+came : (words : List (List ℕ)) (input output : Told) (ending : Result (List ℕ) Stop) → (owed ending).cause words input → HasWritten output (owed ending).text
+    → HasCauses words input output (owed ending).status
+came words input output (Ok text) cause wrote = (text, (cause, wrote))
+came words input output (Err (Void missing)) cause wrote = inl (missing, (cause, wrote))
+came words input output (Err (OverLimit limit)) cause wrote = inr (limit, (cause, wrote))
+came words input output (Err BadWords) cause wrote = (cause, wrote)
+came words input output (Err TooLong) cause wrote = inl (cause, wrote)
+came words input output (Err (BadCase fault)) cause wrote = inr (fault, (cause, wrote))
+came words input output (Err ReadFault) cause wrote = (cause, wrote)
+came words input output (Err NoMemory) cause wrote = (cause, wrote)
+
+-- each status comes only by its cause
+pub has_causes : (words : List (List ℕ)) (input output : Told) (ending : Result (List ℕ) Stop) (status : ℕ)
+    → (owed ending).cause words input → Ends output (owed ending).text (owed ending).status status → HasCauses words input output status
+has_causes words input output ending status cause ends = ⊎_elim
+    (λ w. subst (HasCauses words input output) (sym w.0) (came words input output ending cause w.1))
+    (λ w. subst (HasCauses words input output) (sym w.0) w.1)
+    ends
+
+-- a row of the table is no bad words
+is_row : (words : List (List ℕ)) → ReadsCase words → IsNoRow words → ⊥
+is_row words row none = none row.0 row.1
+
+-- words that are no row end with status 2
+no_row_due : (words : List (List ℕ)) (input : Told) (ending : Result (List ℕ) Stop) → IsNoRow words → (owed ending).cause words input → (owed ending).status ≡ 2
+no_row_due words input (Ok text) none h = absurd (none h.0 h.1)
+no_row_due words input (Err (Void missing)) none h = absurd (none h.0 h.1)
+no_row_due words input (Err (OverLimit limit)) none h = absurd (none h.0 h.1)
+no_row_due words input (Err BadWords) none h = refl
+no_row_due words input (Err TooLong) none h = absurd (is_row words h.0 none)
+no_row_due words input (Err (BadCase fault)) none h = absurd (none h.0 h.1)
+no_row_due words input (Err ReadFault) none h = absurd (is_row words h.0 none)
+no_row_due words input (Err NoMemory) none h = absurd (is_row words h.0 none)
+
+-- a row of the table ends with one of four statuses
+row_due : (words : List (List ℕ)) (input : Told) (ending : Result (List ℕ) Stop) → IsSound input → ReadsCase words → (owed ending).cause words input
+    → Contains (0 ∷ 1 ∷ 3 ∷ 9 ∷ []) (owed ending).status
+row_due words input (Ok text) sound row h = (0, omega arith, refl)
+row_due words input (Err (Void missing)) sound row h = (1, omega arith, refl)
+row_due words input (Err (OverLimit limit)) sound row h = (1, omega arith, refl)
+row_due words input (Err BadWords) sound row h = absurd (is_row words row h.0)
+row_due words input (Err TooLong) sound row h = (2, omega arith, refl)
+row_due words input (Err (BadCase fault)) sound row h = (2, omega arith, refl)
+row_due words input (Err ReadFault) sound row h = absurd (sound h.1)
+row_due words input (Err NoMemory) sound row h = (3, omega arith, refl)
+
+-- what facts and bids come to: a case, or the status that refuses them
+abbrev of_case : Result Case Missing → Result Case ℕ
+of_case (Ok case) = Ok case
+of_case (Err missing) = Err 1
+
+-- what a body comes to: a case, or the status that refuses it
+abbrev of_body : Result CaseData BodyFault → Result Case ℕ
+of_body (Ok given) = of_case (case_of given.facts given.bids)
+of_body (Err fault) = Err 3
+
+-- the status by what the body comes to: of a case 1 where its step count is above its limit, and else 0
+abbrev Settles : Result Case ℕ → ℕ → Type 0
+Settles found status =
+    (found ≡ Err status)
+    ⊎ ((case : Case) × (found ≡ Ok case) × (((limit : ℕ) × IsOverLimit case limit × (status ≡ 1)) ⊎ (((limit : ℕ) → IsOverLimit case limit → ⊥) × (status ≡ 0))))
+
+-- a body settles one status
+one_settled : (found : Result Case ℕ) (status other : ℕ) → Settles found status → Settles found other → status ≡ other
+one_settled found status other (inl a) (inl b) = cc (a, b)
+one_settled found status other (inl a) (inr b) = let case = b.1 in cc (a, case)
+one_settled found status other (inr a) (inl b) = let case = a.1 in cc (b, case)
+one_settled found status other (inr a) (inr b) = let same : a.0 ≡ b.0 = cc (a.1, b.1) in ⊎_elim
+    (λ over. ⊎_elim (λ too. over.2 ∙ sym too.2) (λ within. absurd (within.0 over.0 (subst (λ c. IsOverLimit c over.0) same over.1))) b.2)
+    (λ within. ⊎_elim (λ over. absurd (within.0 over.0 (subst (λ c. IsOverLimit c over.0) (sym same) over.1))) (λ too. within.1 ∙ sym too.1) b.2)
+    a.2
+
+-- the status by the bytes: 3 where they are too long, and else by what the body comes to
+abbrev IsSettled : List ℕ → ℕ → Type 0
+IsSettled bytes status = ((LONGEST_INPUT < length bytes) × (status ≡ 3)) ⊎ (IsShort bytes × Settles (of_body (case_in bytes)) status)
+
+-- bytes settle one status
+one_status : (bytes : List ℕ) (status other : ℕ) → IsSettled bytes status → IsSettled bytes other → status ≡ other
+one_status bytes status other (inl a) (inl b) = a.1 ∙ sym b.1
+one_status bytes status other (inl a) (inr b) = let long = a.0 in let short = b.0 in absurd (omega (arith, long, short))
+one_status bytes status other (inr a) (inl b) = let short = a.0 in let long = b.0 in absurd (omega (arith, long, short))
+one_status bytes status other (inr a) (inr b) = one_settled (of_body (case_in bytes)) status other a.1 b.1
+
+-- bytes that hold no case, by their fault or for want of bids
+refused : (bytes : List ℕ) (fault : BodyFault) → case_in bytes ≡ Err fault → Settles (of_body (case_in bytes)) 3
+refused bytes fault is = inl (ap of_body is)
+
+void : (bytes : List ℕ) (missing : Missing) → Holds bytes (IsVoid missing) → Settles (of_body (case_in bytes)) 1
+void bytes missing h = inl (ap of_body h.1 ∙ ap of_case h.2)
+
+-- the case that bytes hold
+held : (bytes : List ℕ) (so : Case → Type 0) (h : Holds bytes (λ given. MakesCase given so)) → of_body (case_in bytes) ≡ Ok h.2.0
+held bytes so h = ap of_body h.1 ∙ ap of_case h.2.1
+
+over : (bytes : List ℕ) (limit : ℕ) → Holds bytes (λ given. MakesCase given (λ case. IsOverLimit case limit)) → Settles (of_body (case_in bytes)) 1
+over bytes limit h = inr (h.2.0, held bytes (λ case. IsOverLimit case limit) h, inl (limit, h.2.2, refl))
+
+within : (bytes : List ℕ) → Holds bytes (λ given. MakesCase given (λ case. (limit : ℕ) → IsOverLimit case limit → ⊥)) → Settles (of_body (case_in bytes)) 0
+within bytes h = inr (h.2.0, held bytes (λ case. (limit : ℕ) → IsOverLimit case limit → ⊥) h, inr (h.2.2, refl))
+
+-- the ending for which bytes call has the status that they settle
+due_settled : (bytes : List ℕ) (ending : Result (List ℕ) Stop) → IsDue bytes ending → IsSettled bytes (owed ending).status
+due_settled bytes (Ok text) due = inr (due.0, within bytes due.1)
+due_settled bytes (Err (Void missing)) due = inr (due.0, void bytes missing due.1)
+due_settled bytes (Err (OverLimit limit)) due = inr (due.0, over bytes limit due.1)
+due_settled bytes (Err BadWords) due = absurd due
+due_settled bytes (Err TooLong) due = inl (due, refl)
+due_settled bytes (Err (BadCase fault)) due = inr (due.0, refused bytes fault due.1)
+due_settled bytes (Err ReadFault) due = absurd due
+due_settled bytes (Err NoMemory) due = absurd due
 
 -- a fact of whatever bytes are known
 known_all : {P : List ℕ → Type 0} (known : Option (List ℕ)) → ((bytes : List ℕ) → P bytes) → IfSome known P
@@ -42,273 +155,62 @@ given_is None after bytes p = tt
 given_is (Some x) None bytes p = absurd p
 given_is (Some x) (Some y) bytes p = let e = ap length p in omega (arith, e, length-append bytes y)
 
--- a fact of the bytes that were given whole is one of those that were known
-of_whole : (P : List ℕ → Type 0) (input : Told) (bytes : List ℕ) → IsWhole input bytes → P bytes → IfSome input.bytes_before P
-of_whole P input bytes whole p =
-    known_from input.bytes_before (λ known is. subst P (sym is) p) (whole_is input.bytes_before input.bytes_after bytes whole.1 whole.2)
+-- the known bytes settle the status, or it is that of want of memory
+abbrev IsKnown : Told → ℕ → Type 0
+IsKnown input status = IfSome input.bytes_before (λ bytes. IsSettled bytes status ⊎ (status ≡ 9))
 
--- and one of whatever bytes were known, where those are too long
-of_long : (P : List ℕ → Type 0) (input : Told) → IsTooLong input → IfShort input P
-of_long P input h =
-    known_from input.bytes_before (λ known low short. (let long = h.1 in absurd (omega (arith, long, low, short))))
+-- the bytes that were given whole settle the status
+of_whole : (input : Told) (bytes : List ℕ) (status : ℕ) → IsWhole input bytes → Settles (of_body (case_in bytes)) status → IsKnown input status
+of_whole input bytes status whole settles =
+    known_from input.bytes_before (λ known is. inl (subst (λ b. IsSettled b status) (sym is) (inr (whole.0, settles)))) (whole_is input.bytes_before input.bytes_after bytes whole.1 whole.2)
+
+-- and so do those that were too long
+of_long : (input : Told) → IsTooLong input → IsKnown input 3
+of_long input h =
+    known_from input.bytes_before (λ known low. (let long = h.1 in inl (inl (omega (arith, long, low), refl))))
     (given_is input.bytes_before input.bytes_after h.0 h.2)
-
--- the status of a failed write shows the output's fault
-failed : (words : List (List ℕ)) (input output : Told) (status : ℕ) → status ≡ 6 → HasRisen output.faults_before output.faults_after → HasCauses words input output status
-failed words input output status e rose = record {
-  done = λ is. absurd (omega arith);
-  no_division = λ is. absurd (omega arith);
-  bad_words = λ is. absurd (omega arith);
-  bad_input = λ is. absurd (omega arith);
-  read_fault = λ is. absurd (omega arith);
-  write_fault = λ is. rose;
-  no_memory = λ is. absurd (omega arith);
-  no_other = (5, omega arith, sym e);
-}
-
--- the status that goes with an ending shows its cause
-written : (words : List (List ℕ)) (input output : Told) (ending : Result (List ℕ) Stop) (status : ℕ) → IsEnding words input ending → status ≡ status_of ending → HasWritten output (text_of ending)
-    → HasCauses words input output status
-written words input output (Ok text) status h e wrote = record {
-  done = λ is. (h.0, h.1, (h.2.0, text, h.2.1, h.2.2, wrote));
-  no_division = λ is. absurd (omega arith);
-  bad_words = λ is. absurd (omega arith);
-  bad_input = λ is. absurd (omega arith);
-  read_fault = λ is. absurd (omega arith);
-  write_fault = λ is. absurd (omega arith);
-  no_memory = λ is. absurd (omega arith);
-  no_other = (0, omega arith, sym e);
-}
-written words input output (Err (Void missing)) status h e wrote = record {
-  done = λ is. absurd (omega arith);
-  no_division = λ is. (h.0, (h.1.0, h.1.1, inl (missing, h.1.2, wrote)));
-  bad_words = λ is. absurd (omega arith);
-  bad_input = λ is. absurd (omega arith);
-  read_fault = λ is. absurd (omega arith);
-  write_fault = λ is. absurd (omega arith);
-  no_memory = λ is. absurd (omega arith);
-  no_other = (1, omega arith, sym e);
-}
-written words input output (Err (OverLimit limit)) status h e wrote = record {
-  done = λ is. absurd (omega arith);
-  no_division = λ is. (h.0, (h.1.0, h.1.1, inr (limit, h.1.2, wrote)));
-  bad_words = λ is. absurd (omega arith);
-  bad_input = λ is. absurd (omega arith);
-  read_fault = λ is. absurd (omega arith);
-  write_fault = λ is. absurd (omega arith);
-  no_memory = λ is. absurd (omega arith);
-  no_other = (1, omega arith, sym e);
-}
-written words input output (Err BadWords) status h e wrote = record {
-  done = λ is. absurd (omega arith);
-  no_division = λ is. absurd (omega arith);
-  bad_words = λ is. (h.0, h.1, wrote);
-  bad_input = λ is. absurd (omega arith);
-  read_fault = λ is. absurd (omega arith);
-  write_fault = λ is. absurd (omega arith);
-  no_memory = λ is. absurd (omega arith);
-  no_other = (2, omega arith, sym e);
-}
-written words input output (Err TooLong) status h e wrote = record {
-  done = λ is. absurd (omega arith);
-  no_division = λ is. absurd (omega arith);
-  bad_words = λ is. absurd (omega arith);
-  bad_input = λ is. (h.0, inl (h.1, wrote));
-  read_fault = λ is. absurd (omega arith);
-  write_fault = λ is. absurd (omega arith);
-  no_memory = λ is. absurd (omega arith);
-  no_other = (3, omega arith, sym e);
-}
-written words input output (Err (BadCase fault)) status h e wrote = record {
-  done = λ is. absurd (omega arith);
-  no_division = λ is. absurd (omega arith);
-  bad_words = λ is. absurd (omega arith);
-  bad_input = λ is. (h.0, inr (h.1.0, fault, h.1.1, h.1.2, wrote));
-  read_fault = λ is. absurd (omega arith);
-  write_fault = λ is. absurd (omega arith);
-  no_memory = λ is. absurd (omega arith);
-  no_other = (3, omega arith, sym e);
-}
-written words input output (Err ReadFault) status h e wrote = record {
-  done = λ is. absurd (omega arith);
-  no_division = λ is. absurd (omega arith);
-  bad_words = λ is. absurd (omega arith);
-  bad_input = λ is. absurd (omega arith);
-  read_fault = λ is. (h.0, h.1, wrote);
-  write_fault = λ is. absurd (omega arith);
-  no_memory = λ is. absurd (omega arith);
-  no_other = (4, omega arith, sym e);
-}
-written words input output (Err NoMemory) status h e wrote = record {
-  done = λ is. absurd (omega arith);
-  no_division = λ is. absurd (omega arith);
-  bad_words = λ is. absurd (omega arith);
-  bad_input = λ is. absurd (omega arith);
-  read_fault = λ is. absurd (omega arith);
-  write_fault = λ is. absurd (omega arith);
-  no_memory = λ is. (h.0, wrote);
-  no_other = (6, omega arith, sym e);
-}
-
--- each status comes only by its cause
-pub has_causes : (words : List (List ℕ)) (input output : Told) (ending : Result (List ℕ) Stop) (status : ℕ)
-    → IsEnding words input ending → Ends output (text_of ending) (status_of ending) status → HasCauses words input output status
-has_causes words input output ending status h ends = ⊎_elim
-    (λ w. written words input output ending status h w.0 w.1)
-    (λ w. failed words input output status w.0 w.1)
-    ends
-
--- a row of the table is no bad words
-is_row : (words : List (List ℕ)) → ReadsCase words → IsNoRow words → ⊥
-is_row words row none = none row.0 row.1
-
--- words that are no row end with status 2
-no_row_due : (words : List (List ℕ)) (input : Told) (ending : Result (List ℕ) Stop) (status : ℕ) → IsNoRow words → IsEnding words input ending → status ≡ status_of ending → status ≡ 2
-no_row_due words input (Ok text) status none h e = absurd (none h.0 h.1)
-no_row_due words input (Err (Void missing)) status none h e = absurd (is_row words h.0 none)
-no_row_due words input (Err (OverLimit limit)) status none h e = absurd (is_row words h.0 none)
-no_row_due words input (Err BadWords) status none h e = e
-no_row_due words input (Err TooLong) status none h e = absurd (is_row words h.0 none)
-no_row_due words input (Err (BadCase fault)) status none h e = absurd (is_row words h.0 none)
-no_row_due words input (Err ReadFault) status none h e = absurd (is_row words h.0 none)
-no_row_due words input (Err NoMemory) status none h e = absurd (is_row words h.0 none)
-
--- a row of the table ends with one of four statuses
-row_due : (words : List (List ℕ)) (input : Told) (ending : Result (List ℕ) Stop) (status : ℕ) → IsSound input → ReadsCase words → IsEnding words input ending → status ≡ status_of ending
-    → Contains (0 ∷ 1 ∷ 3 ∷ 9 ∷ []) status
-row_due words input (Ok text) status sound row h e = (0, omega arith, sym e)
-row_due words input (Err (Void missing)) status sound row h e = (1, omega arith, sym e)
-row_due words input (Err (OverLimit limit)) status sound row h e = (1, omega arith, sym e)
-row_due words input (Err BadWords) status sound row h e = absurd (is_row words row h.0)
-row_due words input (Err TooLong) status sound row h e = (2, omega arith, sym e)
-row_due words input (Err (BadCase fault)) status sound row h e = (2, omega arith, sym e)
-row_due words input (Err ReadFault) status sound row h e = absurd (sound h.1)
-row_due words input (Err NoMemory) status sound row h e = (3, omega arith, sym e)
-
--- an input that is too long ends with status 3, up to want of memory
-too_long_due : (words : List (List ℕ)) (input : Told) (ending : Result (List ℕ) Stop) (status : ℕ) → IsSound input → ReadsCase words → IsEnding words input ending → status ≡ status_of ending
-    → IfSome input.bytes_before (λ bytes. 65536 < length bytes → (status ≡ 3) ⊎ (status ≡ 9))
-too_long_due words input (Ok text) status sound row h e = of_whole _ input h.2.0 h.2.1 (λ long. (let short = h.2.1.0 in absurd (omega (arith, short, long))))
-too_long_due words input (Err (Void missing)) status sound row h e = of_whole _ input h.1.0 h.1.1 (λ long. (let short = h.1.1.0 in absurd (omega (arith, short, long))))
-too_long_due words input (Err (OverLimit limit)) status sound row h e = of_whole _ input h.1.0 h.1.1 (λ long. (let short = h.1.1.0 in absurd (omega (arith, short, long))))
-too_long_due words input (Err BadWords) status sound row h e = absurd (is_row words row h.0)
-too_long_due words input (Err TooLong) status sound row h e = known_all input.bytes_before (λ known long. inl e)
-too_long_due words input (Err (BadCase fault)) status sound row h e = known_all input.bytes_before (λ known long. inl e)
-too_long_due words input (Err ReadFault) status sound row h e = absurd (sound h.1)
-too_long_due words input (Err NoMemory) status sound row h e = known_all input.bytes_before (λ known long. inr e)
-
--- an input that is no case ends with status 3, up to want of memory
-bad_case_due : (words : List (List ℕ)) (input : Told) (ending : Result (List ℕ) Stop) (status : ℕ) → IsSound input → ReadsCase words → IsEnding words input ending → status ≡ status_of ending
-    → IfShort input (λ bytes. (fault : BodyFault) → case_in bytes ≡ Err fault → (status ≡ 3) ⊎ (status ≡ 9))
-bad_case_due words input (Ok text) status sound row h e = of_whole _ input h.2.0 h.2.1 (λ short fault bad. (let good = h.2.2.1 in cc (good, bad)))
-bad_case_due words input (Err (Void missing)) status sound row h e = of_whole _ input h.1.0 h.1.1 (λ short fault bad. (let good = h.1.2.1 in cc (good, bad)))
-bad_case_due words input (Err (OverLimit limit)) status sound row h e = of_whole _ input h.1.0 h.1.1 (λ short fault bad. (let good = h.1.2.1 in cc (good, bad)))
-bad_case_due words input (Err BadWords) status sound row h e = absurd (is_row words row h.0)
-bad_case_due words input (Err TooLong) status sound row h e = known_all input.bytes_before (λ known short fault bad. inl e)
-bad_case_due words input (Err (BadCase fault)) status sound row h e = known_all input.bytes_before (λ known short others bad. inl e)
-bad_case_due words input (Err ReadFault) status sound row h e = absurd (sound h.1)
-bad_case_due words input (Err NoMemory) status sound row h e = known_all input.bytes_before (λ known short fault bad. inr e)
-
--- the bytes hold a case
-abbrev IsCase : List ℕ → Type 0
-IsCase bytes = (given : CaseData) × (case : Case) × (case_in bytes ≡ Ok given) × (case_of given.facts given.bids ≡ Ok case)
-
--- bytes that hold a case do not lack bids
-no_void : (bytes : List ℕ) (missing : Missing) → IsCase bytes → IsVoid bytes missing → ⊥
-no_void bytes missing made void =
-    let same : made.0 ≡ void.0 = cc (made.2, void.1) in
-    let moved : case_of made.0.facts made.0.bids ≡ case_of void.0.facts void.0.bids = ap (λ (d : CaseData). case_of d.facts d.bids) same in
-    cc (moved, made.3, void.2)
-
--- what was solved is a case
-solved_case : (command : Command) (bytes text : List ℕ) → IsOutput command bytes text → IsCase bytes
-solved_case command bytes text out = (out.0, out.2.0, out.1, out.2.2)
-
--- what is above its limit is a case
-over_case : (bytes : List ℕ) (limit : ℕ) → IsOverLimit bytes limit → IsCase bytes
-over_case bytes limit over = (over.0, over.2.0, over.1, over.2.1)
-
--- an input that lacks bids ends with status 1, up to want of memory
-void_due : (words : List (List ℕ)) (input : Told) (ending : Result (List ℕ) Stop) (status : ℕ) → IsSound input → ReadsCase words → IsEnding words input ending → status ≡ status_of ending
-    → IfShort input (λ bytes. (missing : Missing) → IsVoid bytes missing → (status ≡ 1) ⊎ (status ≡ 9))
-void_due words input (Ok text) status sound row h e =
-    of_whole _ input h.2.0 h.2.1 (λ short missing void. absurd (no_void h.2.0 missing (solved_case h.0 h.2.0 text h.2.2) void))
-void_due words input (Err (Void missing)) status sound row h e = known_all input.bytes_before (λ known short others void. inl e)
-void_due words input (Err (OverLimit limit)) status sound row h e = known_all input.bytes_before (λ known short missing void. inl e)
-void_due words input (Err BadWords) status sound row h e = absurd (is_row words row h.0)
-void_due words input (Err TooLong) status sound row h e = of_long _ input h.1
-void_due words input (Err (BadCase fault)) status sound row h e = of_whole _ input h.1.0 h.1.1 (λ short missing void. (let bad = h.1.2 in cc (void.1, bad)))
-void_due words input (Err ReadFault) status sound row h e = absurd (sound h.1)
-void_due words input (Err NoMemory) status sound row h e = known_all input.bytes_before (λ known short missing void. inr e)
-
--- another case ends with status 0, up to want of memory
-done_due : (words : List (List ℕ)) (input : Told) (ending : Result (List ℕ) Stop) (status : ℕ) → IsSound input → ReadsCase words → IsEnding words input ending → status ≡ status_of ending
-    → IfShort input (λ bytes. (given : CaseData) (case : Case) → case_in bytes ≡ Ok given → case_of given.facts given.bids ≡ Ok case
-    → ((limit : ℕ) → IsOverLimit bytes limit → ⊥) → (status ≡ 0) ⊎ (status ≡ 9))
-done_due words input (Ok text) status sound row h e = known_all input.bytes_before (λ known short given case good made within. inl e)
-done_due words input (Err (Void missing)) status sound row h e =
-    of_whole _ input h.1.0 h.1.1 (λ short given case good made within. absurd (no_void h.1.0 missing (given, case, good, made) h.1.2))
-done_due words input (Err (OverLimit limit)) status sound row h e =
-    of_whole _ input h.1.0 h.1.1 (λ short given case good made within. absurd (within limit h.1.2))
-done_due words input (Err BadWords) status sound row h e = absurd (is_row words row h.0)
-done_due words input (Err TooLong) status sound row h e = of_long _ input h.1
-done_due words input (Err (BadCase fault)) status sound row h e =
-    of_whole _ input h.1.0 h.1.1 (λ short given case good made within. (let bad = h.1.2 in cc (good, bad)))
-done_due words input (Err ReadFault) status sound row h e = absurd (sound h.1)
-done_due words input (Err NoMemory) status sound row h e = known_all input.bytes_before (λ known short given case good made within. inr e)
-
--- where no write failed, the status is the one that goes with the ending
-no_failure : (output : Told) (text : List ℕ) (due status : ℕ) → IsSound output → Ends output text due status → status ≡ due
-no_failure output text due status sound ends = ⊎_elim (λ w. w.0) (λ w. absurd (sound w.1)) ends
 
 module _ (one_count : (case : GoodsCase) (steps other : ℕ) → HasSteps case steps → HasSteps case other → steps ≡ other) where
   -- a case above its limit has no division
-  allowed : (case : Case) (division : Division) (limit : ℕ) → IsDivisionOf case division → IsAbove case limit → ⊥
-  allowed (case.Goods goods) (division.Goods found) limit is above =
+  allowed : (case : Case) (division : Division) → IsDivisionOf case division → (limit : ℕ) → IsOverLimit case limit → ⊥
+  allowed (case.Goods goods) (division.Goods found) is limit above =
       let same = one_count goods found.steps above.above.0 is.steps above.above.1 in
       let low = is.allowed in
       let high = above.above.2 in
       omega (arith, same, low, high)
-  allowed (case.Goods goods) (division.Rent home) limit is above = absurd is
-  allowed (case.Goods goods) (division.Fares ride) limit is above = absurd is
-  allowed (case.Rent home) division limit is above = absurd above
-  allowed (case.Fares ride) division limit is above = absurd above
+  allowed (case.Goods goods) (division.Rent rent) is limit above = absurd is
+  allowed (case.Goods goods) (division.Fares fares) is limit above = absurd is
+  allowed (case.Rent rent) division is limit above = absurd above
+  allowed (case.Fares fares) division is limit above = absurd above
 
-  -- what was solved is not above its limit
-  within_limit : (command : Command) (bytes text : List ℕ) (limit : ℕ) → IsOutput command bytes text → IsOverLimit bytes limit → ⊥
-  within_limit command bytes text limit out over =
-      let same : out.0 ≡ over.0 = cc (out.1, over.1) in
-      let moved : case_of out.0.facts out.0.bids ≡ case_of over.0.facts over.0.bids = ap (λ (d : CaseData). case_of d.facts d.bids) same in
-      let one : out.2.0 ≡ over.2.0 = cc (moved, out.2.2, over.2.1) in
-      allowed over.2.0 out.2.1 limit (subst (λ (c : Case). IsDivisionOf c out.2.1) one out.2.3) over.2.2
+  -- an ending whose cause holds has the status that the known bytes settle, up to want of memory
+  cause_settled : (words : List (List ℕ)) (input : Told) (ending : Result (List ℕ) Stop) → IsSound input → ReadsCase words → (owed ending).cause words input → IsKnown input (owed ending).status
+  cause_settled words input (Ok text) sound row h =
+      let found = h.2.2 in
+      of_whole input h.2.0 0 h.2.1 (within h.2.0 (found.0, found.1, (found.2.0, found.2.1, allowed found.2.0 found.2.2.0 found.2.2.1)))
+  cause_settled words input (Err (Void missing)) sound row h = of_whole input h.2.0 1 h.2.1 (void h.2.0 missing h.2.2)
+  cause_settled words input (Err (OverLimit limit)) sound row h = of_whole input h.2.0 1 h.2.1 (over h.2.0 limit h.2.2)
+  cause_settled words input (Err BadWords) sound row h = absurd (is_row words row h.0)
+  cause_settled words input (Err TooLong) sound row h = of_long input h.1
+  cause_settled words input (Err (BadCase fault)) sound row h = of_whole input h.2.0 3 h.2.1 (refused h.2.0 fault h.2.2)
+  cause_settled words input (Err ReadFault) sound row h = absurd (sound h.1)
+  cause_settled words input (Err NoMemory) sound row h = known_all input.bytes_before (λ known. inr refl)
 
-  -- a case above its limit ends with status 1, up to want of memory
-  over_due : (words : List (List ℕ)) (input : Told) (ending : Result (List ℕ) Stop) (status : ℕ) → IsSound input → ReadsCase words → IsEnding words input ending → status ≡ status_of ending
-      → IfShort input (λ bytes. (limit : ℕ) → IsOverLimit bytes limit → (status ≡ 1) ⊎ (status ≡ 9))
-  over_due words input (Ok text) status sound row h e =
-      of_whole _ input h.2.0 h.2.1 (λ short limit over. absurd (within_limit h.0 h.2.0 text limit h.2.2 over))
-  over_due words input (Err (Void missing)) status sound row h e = known_all input.bytes_before (λ known short limit over. inl e)
-  over_due words input (Err (OverLimit limit)) status sound row h e = known_all input.bytes_before (λ known short other over. inl e)
-  over_due words input (Err BadWords) status sound row h e = absurd (is_row words row h.0)
-  over_due words input (Err TooLong) status sound row h e = of_long _ input h.1
-  over_due words input (Err (BadCase fault)) status sound row h e = of_whole _ input h.1.0 h.1.1 (λ short limit over. (let bad = h.1.2 in cc (over.1, bad)))
-  over_due words input (Err ReadFault) status sound row h e = absurd (sound h.1)
-  over_due words input (Err NoMemory) status sound row h e = known_all input.bytes_before (λ known short limit over. inr e)
+  -- where no write failed, the status is the one that goes with the ending
+  no_failure : (output : Told) (text : List ℕ) (due status : ℕ) → IsSound output → Ends output text due status → status ≡ due
+  no_failure output text due status sound ends = ⊎_elim (λ w. w.0) (λ w. absurd (sound w.1)) ends
 
-  -- each status comes wherever its cause holds
+  -- each ending comes wherever it is called for
   pub is_complete : (words : List (List ℕ)) (input output : Told) (ending : Result (List ℕ) Stop) (status : ℕ)
-      → IsEnding words input ending → Ends output (text_of ending) (status_of ending) status → IsComplete words input output status
-  is_complete words input output ending status h ends = record {
-    bad_words = λ sound none. no_row_due words input ending status none h (no_failure output (text_of ending) (status_of ending) status sound ends);
-    row = λ read wrote row. row_due words input ending status read row h (no_failure output (text_of ending) (status_of ending) status wrote ends);
-    too_long = λ read wrote row. too_long_due words input ending status read row h (no_failure output (text_of ending) (status_of ending) status wrote ends);
-    bad_case = λ read wrote row. bad_case_due words input ending status read row h (no_failure output (text_of ending) (status_of ending) status wrote ends);
-    void = λ read wrote row. void_due words input ending status read row h (no_failure output (text_of ending) (status_of ending) status wrote ends);
-    over_limit = λ read wrote row. over_due words input ending status read row h (no_failure output (text_of ending) (status_of ending) status wrote ends);
-    done = λ read wrote row. done_due words input ending status read row h (no_failure output (text_of ending) (status_of ending) status wrote ends);
-  }
-
--- the same text and status under other names
-pub ends_same : (output : Told) (text same_text : List ℕ) (due same_due status : ℕ) → text ≡ same_text → due ≡ same_due → Ends output text due status → Ends output same_text same_due status
-ends_same output text same_text due same_due status e f h =
-    subst (λ d. Ends output same_text d status) f (subst (λ t. Ends output t due status) e h)
+      → (owed ending).cause words input → Ends output (owed ending).text (owed ending).status status → IsComplete words input output status
+  is_complete words input output ending status cause ends =
+      let is : IsSound output → status ≡ (owed ending).status = λ wrote. no_failure output (owed ending).text (owed ending).status status wrote ends in record {
+        bad_words = λ wrote none. is wrote ∙ no_row_due words input ending none cause;
+        row = λ read wrote row. subst (Contains (0 ∷ 1 ∷ 3 ∷ 9 ∷ [])) (sym (is wrote)) (row_due words input ending read row cause);
+        due = λ read wrote row. known_from input.bytes_before
+            (λ bytes settled other due. ⊎_elim
+            (λ known. inl (is wrote ∙ one_status bytes (owed ending).status (owed other).status known (due_settled bytes other due)))
+            (λ none. inr (is wrote ∙ none))
+            settled)
+            (cause_settled words input ending read row cause);
+      }

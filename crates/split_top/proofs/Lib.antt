@@ -1,4 +1,2 @@
-pub mod CauseLaws
-pub mod Pieces
-pub mod SameFares
-pub mod SameTexts
+mod CauseLaws
+mod OneOutput

@@ -1,2 +1,5 @@
 pub mod Causes
-pub mod Outcome
+pub mod Endings
+pub mod Steps
+pub mod Texts
+pub mod Told

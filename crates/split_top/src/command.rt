@@ -1,5 +1,5 @@
 ghost use Rattle.std.specs.Prelude.{MatchOption, map, string_bytes};
-ghost use Rattle.split_top.specs.Outcome.{IsNoRow, IsRow};
+ghost use Rattle.split_top.specs.Endings.{IsNoRow, IsRow};
 
 /// A row of the command table.
 #[derive(Clone, Copy, Debug, PartialEq, Eq)]

@@ -1,12 +1,12 @@
 // What holds of the commands' definitions, for all inputs.
 ghost use Rattle.std.specs.Prelude.{◌≡◌, ℕ, List};
 ghost use Rattle.split_top.specs.declared.command.Command.{Command};
-ghost use Rattle.split_top.specs.Outcome.{IsOutput};
+ghost use Rattle.split_top.specs.Texts.{IsOutput};
 
-use bid_rules::best_rent_law;
+use bid_rules::case_law;
 use nash_search::step_count_law;
+use rent_maximin::one_rent_division_law;
 use shapley_core::division_law;
-use split_frac::value_law;
 use split_json::case_in_law;
 use split_reports::report_law;
 
@@ -15,9 +15,9 @@ pub fn output_law()
     ensures { (command : Command) (bytes text other : List ℕ) → IsOutput command bytes text → IsOutput command bytes other → text ≡ other }
 {
     division_law();
-    best_rent_law();
+    one_rent_division_law();
     step_count_law();
-    value_law();
+    case_law();
     case_in_law();
     report_law();
 }

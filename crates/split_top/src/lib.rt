@@ -3,6 +3,7 @@
 
 mod command;
 mod laws;
+mod limits;
 mod lines;
 mod program;
 mod stop;
@@ -11,5 +12,6 @@ mod tests;
 
 pub use command::Command;
 pub use laws::output_law;
+pub use limits::LONGEST_INPUT;
 pub use program::{Status, run};
 pub use stop::Stop;

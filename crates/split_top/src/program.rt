@@ -3,11 +3,15 @@ ghost use Rattle.std.specs.Result.{result_map_both};
 ghost use Rattle.bid_rules.specs.Facts.{IsValidCase, case_of};
 ghost use Rattle.split_top.specs.declared.stop.Stop.{Stop};
 ghost use Rattle.split_top.specs.Causes.{HasCauses, IsComplete};
-ghost use Rattle.split_top.specs.Outcome.{Ends, IsBodyEnding, IsCaseEnding, IsEnding, IsSolved, IsTextOf, status_of, text_of, told};
+ghost use Rattle.split_top.specs.Endings.{owed};
+ghost use Rattle.split_top.specs.Steps.{IsBodyEnding, IsCaseEnding, IsSolved};
+ghost use Rattle.split_top.specs.Texts.{IsTextOf};
+ghost use Rattle.split_top.specs.Told.{Ends, told};
 ghost use Rattle.split_json.specs.Reading.{IsReady, shown};
 ghost use Rattle.certificates.specs.Division.{IsDivisionOf};
 
 use crate::command::{Command, command_of};
+use crate::limits::LONGEST_INPUT;
 use crate::lines::division_lines;
 use crate::stop::Stop;
 use bid_rules::{Case, make_case};
@@ -20,9 +24,6 @@ use split_json::{CaseInput, read_case};
 use split_reports::report;
 use std::alloc::Global;
 
-/// The most bytes that an input may have.
-const LONGEST_INPUT: usize = 65_536;
-
 /// The status with which the program ends.
 #[derive(Clone, Copy, Debug, PartialEq, Eq)]
 pub struct Status {
@@ -32,7 +33,7 @@ pub struct Status {
 
 /// Does what the words ask for: reads the input, and writes what the command owes.
 ///
-/// Both commands read a case of at most 65,536 bytes as JSON and find its best division. `solve 1` writes two lines: of a rent
+/// Both commands read a case of at most `LONGEST_INPUT` bytes as JSON and find its best division. `solve 1` writes two lines: of a rent
 /// `rooms` and `prices`, of goods `owners` and `steps`, of fares `route` and `fares`. `report 1` writes the report, which tells
 /// each member what the division means for them.
 ///
@@ -47,7 +48,7 @@ pub struct Status {
 /// | 9 | want of memory | `no memory` |
 ///
 /// The tests come in the order of the work: words, reading, solving, writing. 6 stands in place of the status whose text could
-/// not be written, and 9 may come in place of any but 2. With status 2 the input is untouched, and else at most 65,537 bytes of it were read.
+/// not be written, and 9 may come in place of any but 2. With status 2 the input is untouched, and else at most one byte more than `LONGEST_INPUT` was read.
 pub fn run<I: Source, O: Sink>(
     alloc: Global,
     words: &[String],
@@ -56,28 +57,38 @@ pub fn run<I: Source, O: Sink>(
 ) -> Status
     // The command came to one of its endings, and wrote that ending's text with its status.
     ensures ending { (ending : Result (List ℕ) Stop)
-        × IsEnding (map string_bytes words.now) (told (I.left input.old) (I.left input.new) (I.faults input.old) (I.faults input.new)) ending
-        × Ends (told (O.written output.old) (O.written output.new) (O.faults output.old) (O.faults output.new)) (text_of ending) (status_of ending) result.code }
+        × (owed ending).cause (map string_bytes words.now) (told I.left I.faults input.old input.new)
+        × Ends (told O.written O.faults output.old output.new) (owed ending).text (owed ending).status result.code }
 
     // The same, cause by cause: each status only by its cause, and each cause with its status.
-    ensures causes { HasCauses (map string_bytes words.now)
-        (told (I.left input.old) (I.left input.new) (I.faults input.old) (I.faults input.new))
-        (told (O.written output.old) (O.written output.new) (O.faults output.old) (O.faults output.new)) result.code }
-    ensures complete { IsComplete (map string_bytes words.now)
-        (told (I.left input.old) (I.left input.new) (I.faults input.old) (I.faults input.new))
-        (told (O.written output.old) (O.written output.new) (O.faults output.old) (O.faults output.new)) result.code }
+    ensures causes { HasCauses (map string_bytes words.now) (told I.left I.faults input.old input.new) (told O.written O.faults output.old output.new) result.code }
+    ensures complete { IsComplete (map string_bytes words.now) (told I.left I.faults input.old input.new) (told O.written O.faults output.old output.new) result.code }
     ensures counts { (I.faults input.old ≤ I.faults input.new) × (O.faults output.old ≤ O.faults output.new) }
 {
     step_count_law();
-    match decide(alloc, words, input) {
-        Ok(text) => write_out(output, &text, 0),
-        Err(stop) => write_out(output, &stop.line(), stop.status()),
+    let ending = decide(alloc, words, input);
+    write_ending(output, &ending)
+}
+
+/// Writes the ending's text, and answers its status, or 6 where a write failed.
+fn write_ending<O: Sink>(output: &mut O, ending: &Result<Vec<u8>, Stop>) -> Status
+    ensures ends { Ends (told O.written O.faults output.old output.new)
+        (owed (result_map_both (λ text. text.items) (λ stop. stop) ending.now)).text
+        (owed (result_map_both (λ text. text.items) (λ stop. stop) ending.now)).status result.code }
+    ensures count { O.faults output.old ≤ O.faults output.new }
+{
+    match ending {
+        Ok(text) => write_text(output, text, 0),
+        Err(stop) => {
+            let owed = stop.owed();
+            write_text(output, &owed.line, owed.status)
+        }
     }
 }
 
-/// Writes a text. The status is the one that goes with it, or 6 where a write failed.
-fn write_out<O: Sink>(output: &mut O, text: &[u8], code: u8) -> Status
-    ensures ends { Ends (told (O.written output.old) (O.written output.new) (O.faults output.old) (O.faults output.new)) text.now code result.code }
+/// Writes the text, and answers this status, or 6 where a write failed.
+fn write_text<O: Sink>(output: &mut O, text: &[u8], code: u8) -> Status
+    ensures ends { Ends (told O.written O.faults output.old output.new) text.now code result.code }
     ensures count { O.faults output.old ≤ O.faults output.new }
 {
     match write_all(output, text) {
@@ -88,8 +99,8 @@ fn write_out<O: Sink>(output: &mut O, text: &[u8], code: u8) -> Status
 
 /// How the command ends, before anything is written.
 fn decide<I: Source>(alloc: Global, words: &[String], input: &mut I) -> Result<Vec<u8>, Stop>
-    ensures ending { IsEnding (map string_bytes words.now) (told (I.left input.old) (I.left input.new) (I.faults input.old) (I.faults input.new))
-        (result_map_both (λ text. text.items) (λ stop. stop) result) }
+    ensures ending { (owed (result_map_both (λ text. text.items) (λ stop. stop) result)).cause
+        (map string_bytes words.now) (told I.left I.faults input.old input.new) }
     ensures count { I.faults input.old ≤ I.faults input.new }
 {
     let Some(command) = command_of(words) else {
@@ -133,7 +144,7 @@ fn case_output(alloc: Global, command: Command, input: &CaseInput) -> Result<Vec
 /// The best division of a case.
 fn best_division(alloc: Global, case: &Case) -> Result<Division, Stop>
     requires { IsValidCase case.now }
-    ensures { IsSolved case.now result }
+    ensures { IsSolved (IsDivisionOf case.now) case.now result }
 {
     match case {
         Case::Rent(case) => Ok(Division::Rent(solve_rent(case))),

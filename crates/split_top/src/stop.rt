@@ -1,12 +1,16 @@
-ghost use Rattle.std.specs.Prelude.{◌≡◌, ◌+◌, ◌≤◌, ◌++◌, [], ◌∷◌, codes, length, map};
+ghost use Rattle.std.specs.Prelude.{◌≡◌, ◌+◌, ◌≤◌, ◌++◌, [], ◌∷◌, Err, codes, length, map};
 ghost use Rattle.arrayvec.specs.ArrayVec.{array_vec_len};
 ghost use Rattle.std.specs.Fmt.{decimal};
-ghost use Rattle.split_top.specs.Outcome.{fault_line, line, stop_line, stop_status};
+ghost use Rattle.split_top.specs.Endings.{fault_line, owed};
+ghost use Rattle.split_text.specs.Texts.{line, word_line};
+ghost use Rattle.split_top.specs.declared.limits.TheConstants.{LINE_ROOM};
 
+use crate::limits::LINE_ROOM;
 use arrayvec::ArrayVec;
 use bid_rules::Missing;
+use bid_rules::limits::MemberList;
 use itoa::Buffer;
-use split_json::BodyFault;
+use sealed_core::BodyFault;
 
 /// Why a command ends without its text, but for a failure to write.
 #[derive(Debug, Drop, PartialEq, Eq)]
@@ -17,7 +21,7 @@ pub enum Stop {
     OverLimit { limit: u32 },
     /// The words are no row of the command table.
     BadWords,
-    /// The input has more than 65,536 bytes.
+    /// The input has more than `LONGEST_INPUT` bytes.
     TooLong,
     /// The input is no case.
     BadCase { fault: BodyFault },
@@ -27,46 +31,56 @@ pub enum Stop {
     NoMemory,
 }
 
-/// A line of at most 64 bytes, which takes no memory.
-pub(crate) type Line = ArrayVec<u8, 64>;
+/// A line, which takes no memory.
+pub(crate) type Line = ArrayVec<u8, LINE_ROOM>;
+
+/// What an ending without a text owes.
+#[derive(Drop)]
+pub(crate) struct Owed {
+    pub(crate) status: u8,
+    pub(crate) line: Line,
+}
 
 impl Stop {
     /// The status with which the program ends.
     pub fn status(&self) -> u8
-        ensures { result ≡ stop_status self.now }
+        ensures { result ≡ (owed (Err self.now)).status }
     {
-        match self {
-            Stop::Void { .. } | Stop::OverLimit { .. } => 1,
-            Stop::BadWords => 2,
-            Stop::TooLong | Stop::BadCase { .. } => 3,
-            Stop::ReadFault => 5,
-            Stop::NoMemory => 9,
-        }
+        self.owed().status
     }
 
-    /// The line that the program writes.
-    pub(crate) fn line(&self) -> Line
-        ensures { result.items ≡ stop_line self.now }
+    /// The status, and the line that the program writes.
+    pub(crate) fn owed(&self) -> Owed
+        ensures status { result.status ≡ (owed (Err self.now)).status }
+        ensures line { result.line.items ≡ (owed (Err self.now)).text }
     {
         match self {
-            Stop::Void { missing } => void_line(missing.members.as_slice()),
-            Stop::OverLimit { limit } => limit_line(*limit),
-            Stop::BadWords => line_of(b"refused: words\n"),
-            Stop::TooLong => line_of(b"refused: too long\n"),
-            Stop::BadCase { fault } => fault_line(*fault),
-            Stop::ReadFault => line_of(b"read fault\n"),
-            Stop::NoMemory => line_of(b"no memory\n"),
+            Stop::Void { missing } => Owed::new(1, void_line(&missing.members)),
+            Stop::OverLimit { limit } => Owed::new(1, limit_line(*limit)),
+            Stop::BadWords => Owed::new(2, line_of(b"refused: words\n")),
+            Stop::TooLong => Owed::new(3, line_of(b"refused: too long\n")),
+            Stop::BadCase { fault } => Owed::new(3, fault_line(*fault)),
+            Stop::ReadFault => Owed::new(5, line_of(b"read fault\n")),
+            Stop::NoMemory => Owed::new(9, line_of(b"no memory\n")),
         }
     }
 }
 
+impl Owed {
+    fn new(status: u8, line: Line) -> Self
+        ensures { result ≡ record { status = status; line = line } }
+    {
+        Owed { status, line }
+    }
+}
+
 /// The line that names the members who lack a bid, each after a space.
-fn void_line(members: &[u8]) -> Line
-    requires { length members.now ≤ 12 }
-    ensures { result.items ≡ line (codes "void:") (map decimal members.now) }
+#[tactic(auto, unfolding(split_text::specs::Texts::line))]
+fn void_line(members: &MemberList) -> Line
+    ensures { result.items ≡ word_line (codes "void:") (map decimal members.now.items) }
 {
     let mut line = line_of(b"void:");
-    for member in members {
+    for member in members.as_slice() {
         append(&mut line, b" ");
         append_number(&mut line, *member);
     }
@@ -75,8 +89,9 @@ fn void_line(members: &[u8]) -> Line
 }
 
 /// The line that names the limit.
+#[tactic(auto, unfolding(split_text::specs::Texts::line))]
 fn limit_line(limit: u32) -> Line
-    ensures { result.items ≡ line (codes "step limit") (decimal limit ∷ []) }
+    ensures { result.items ≡ word_line (codes "step limit") (decimal limit ∷ []) }
 {
     let mut line = line_of(b"step limit ");
     let mut buffer = Buffer::new();
@@ -87,7 +102,7 @@ fn limit_line(limit: u32) -> Line
 
 /// Appends a number, for which there is room.
 fn append_number(line: &mut Line, number: u8)
-    requires { array_vec_len line.old + 3 ≤ 64 }
+    requires { array_vec_len line.old + 3 ≤ LINE_ROOM }
     ensures text { line.new.items ≡ line.old.items ++ decimal number }
     ensures room { array_vec_len line.new ≤ array_vec_len line.old + 3 }
 {
@@ -96,6 +111,7 @@ fn append_number(line: &mut Line, number: u8)
 }
 
 /// The line that refuses a body.
+#[tactic(auto, unfolding(split_text::specs::Texts::line))]
 fn fault_line(fault: BodyFault) -> Line
     ensures { result.items ≡ fault_line fault }
 {
@@ -111,7 +127,7 @@ fn fault_line(fault: BodyFault) -> Line
 }
 
 fn line_of(bytes: &[u8]) -> Line
-    requires { length bytes.now ≤ 64 }
+    requires { length bytes.now ≤ LINE_ROOM }
     ensures { result.items ≡ bytes.now }
 {
     let mut line = Line::new();
@@ -121,7 +137,7 @@ fn line_of(bytes: &[u8]) -> Line
 
 /// Appends bytes for which there is room.
 fn append(line: &mut Line, bytes: &[u8])
-    requires { array_vec_len line.old + length bytes.now ≤ 64 }
+    requires { array_vec_len line.old + length bytes.now ≤ LINE_ROOM }
     ensures { line.new.items ≡ line.old.items ++ bytes.now }
 {
     line.try_extend_from_slice(bytes).unwrap();

@@ -32,7 +32,7 @@ const FLAT: [(&str, &str); 6] = [
 ];
 
 /// The fields of shared goods, in the order in which they are tested.
-const HEIRS: [(&str, &str); 6] = [
+const CLOCK: [(&str, &str); 6] = [
     ("kind", "\"goods\""),
     ("title", "\"Attic\""),
     ("members", "[\"Ann\",\"Ben\"]"),

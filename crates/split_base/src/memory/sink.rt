@@ -1,6 +1,6 @@
 // A sink in memory.
 ghost use Rattle.std.specs.Prelude.{◌≡◌, ◌<◌, ◌↔◌, ◌⊎◌, ℕ, [], Contains, length, IfOk, MatchResult, IsErr, Some};
-ghost use Rattle.split_base.specs.Faults.{HasCause};
+ghost use Rattle.split_base.specs.Faults.{HasCause, IsCounted};
 ghost use Rattle.split_base.specs.Streams.{Writes};
 ghost use Rattle.split_base.specs.Memory.{counted, after_write, after_failed_write};
 
@@ -74,10 +74,11 @@ impl Sink for MemSink {
         ensures bytes { Writes (Some self.old.written) (Some self.new.written) result piece.now }
         ensures beside { Unit {0} }
         ensures cause { HasCause self.old.faults self.new.faults result }
+        ensures count { IsCounted self.old.faults self.new.faults result }
 
         // It fails exactly where its number is listed or the piece doesn't fit, and then has no effect but on the counts.
         ensures fails { IsErr result ↔ (Contains self.old.fails (counted self.old.calls) ⊎ (self.old.room < length piece.now)) }
-        ensures count { IfOk result (λ n. n ≡ length piece.now) }
+        ensures taken { IfOk result (λ n. n ≡ length piece.now) }
         ensures after { MatchResult result (λ _. self.new ≡ after_write self.old piece.now) (λ _. self.new ≡ after_failed_write self.old) }
     {
         if self.calls.begin() || self.room < piece.len() {

@@ -1,6 +1,6 @@
 // A source in memory.
 ghost use Rattle.std.specs.Prelude.{◌≡◌, ◌<◌, ◌≤◌, ◌↔◌, ℕ, All, Contains, length, min, take, drop, IfOk, MatchResult, IsErr, Some};
-ghost use Rattle.split_base.specs.Faults.{HasCause};
+ghost use Rattle.split_base.specs.Faults.{HasCause, IsCounted};
 ghost use Rattle.split_base.specs.Streams.{Reads};
 ghost use Rattle.split_base.specs.Memory.{counted, next_piece, after_read, after_failed_read};
 
@@ -74,10 +74,11 @@ impl Source for MemSource {
         ensures bytes { Reads (Some self.old.left) (Some self.new.left) result into.new }
         ensures beside { Unit {0} }
         ensures cause { HasCause self.old.faults self.new.faults result }
+        ensures count { IsCounted self.old.faults self.new.faults result }
 
         // It fails exactly where its number is listed, and then has no effect but on the counts.
         ensures fails { IsErr result ↔ Contains self.old.fails (counted self.old.calls) }
-        ensures count { IfOk result (λ n. n ≡ min (next_piece self.old.pieces) (min (length into.old) (length self.old.left))) }
+        ensures taken { IfOk result (λ n. n ≡ min (next_piece self.old.pieces) (min (length into.old) (length self.old.left))) }
         ensures after { MatchResult result (λ n. self.new ≡ after_read self.old n) (λ _. self.new ≡ after_failed_read self.old) }
     {
         if self.calls.begin() {

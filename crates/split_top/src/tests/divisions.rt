@@ -15,7 +15,7 @@ const EIGHT_GOODS: &str = "[\"1\",\"2\",\"3\",\"4\",\"5\",\"6\",\"7\",\"8\"]";
 const EIGHT_EQUAL: &str = "[[125,125,125,125,125,125,125,125],[125,125,125,125,125,125,125,125]]";
 
 #[test]
-fn solves_worked_rides(rt: HostRuntime) -> Result<(), Fail> {
+fn solves_worked_fares(rt: HostRuntime) -> Result<(), Fail> {
     let alloc = rt.alloc();
     let one_place = [
         ("places", "[\"Station\"]"),
@@ -29,12 +29,12 @@ fn solves_worked_rides(rt: HostRuntime) -> Result<(), Fail> {
         ("legs", "[[0],[0]]"),
         ("bids", "[1,1,1]"),
     ];
-    let rides: [(&[(&str, &str)], &str); 3] = [
+    let cases: [(&[(&str, &str)], &str); 3] = [
         (&[], TAXI_LINES),
         (&one_place, "route 1 2\nfares 650 650\n"),
         (&thirds, "route 1 2 3\nfares 100/3 100/3 100/3\n"),
     ];
-    for (changes, text) in rides {
+    for (changes, text) in cases {
         let body = taxi_with(alloc, changes)?;
         for sizes in [[1; 200].as_slice(), &[]] {
             let (status, written) = answer(
@@ -125,7 +125,7 @@ fn solves_worked_goods(rt: HostRuntime) -> Result<(), Fail> {
         (&twelve, "owners 1 2 3 4 5 6 7 8 9 10 11 12\nsteps 11\n"),
     ];
     for (changes, text) in rows {
-        let body = body_with(alloc, &HEIRS, changes)?;
+        let body = body_with(alloc, &CLOCK, changes)?;
         solves(&rt, alloc, body.as_bytes(), 0, text)?;
     }
     Ok(())
@@ -140,7 +140,7 @@ fn names_the_limit(rt: HostRuntime) -> Result<(), Fail> {
             ("limit", "40"),
             ("bids", EIGHT_EQUAL),
         ];
-        let body = body_with(alloc, &HEIRS, &changes)?;
+        let body = body_with(alloc, &CLOCK, &changes)?;
         gives(&rt, alloc, command, body.as_bytes(), 1, "step limit 40\n")?;
     }
     Ok(())
@@ -169,7 +169,7 @@ fn names_the_members_who_lack_a_bid(rt: HostRuntime) -> Result<(), Fail> {
         (&FLAT, &three, 1, "void: 1 3\n"),
         (&FLAT, &nobody, 1, "void: 1 2 3 4 5 6 7 8 9 10 11 12\n"),
         (&TAXI, &[("bids", "[null,null]")], 1, "void: 1 2\n"),
-        (&HEIRS, &[("bids", "[null,null]")], 1, "void: 1 2\n"),
+        (&CLOCK, &[("bids", "[null,null]")], 1, "void: 1 2\n"),
         (&TAXI, &[("bids", "[null,2]")], 0, "route 1\nfares 1800\n"),
         (&TAXI, &[("bids", "[1,null]")], 0, "route 1\nfares 1300\n"),
     ];

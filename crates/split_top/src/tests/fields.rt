@@ -3,7 +3,7 @@ use super::*;
 #[test]
 fn names_the_first_broken_field(rt: HostRuntime) -> Result<(), Fail> {
     let alloc = rt.alloc();
-    let kinds: [&[(&str, &str)]; 3] = [&TAXI, &FLAT, &HEIRS];
+    let kinds: [&[(&str, &str)]; 3] = [&TAXI, &FLAT, &CLOCK];
     for fields in kinds {
         for (first, (field, _)) in fields.iter().enumerate() {
             for others in [Some("7.5"), None] {
@@ -30,12 +30,15 @@ fn keeps_each_rule(rt: HostRuntime) -> Result<(), Fail> {
         ("title", "\"a\\u0001\""),
         ("title", "\"Taxi\",\"title\":\"\\u007f\""),
         ("members", "[\"Ann\"]"),
-        ("members", "[\"A\",\"B\",\"C\",\"D\",\"E\"]"),
+        (
+            "members",
+            "[\"1\",\"2\",\"3\",\"4\",\"5\",\"6\",\"7\",\"8\",\"9\",\"10\",\"11\"]",
+        ),
         ("members", "[\"Ann\",\"\"]"),
         ("places", "[]"),
         (
             "places",
-            "[\"1\",\"2\",\"3\",\"4\",\"5\",\"6\",\"7\",\"8\",\"9\",\"10\",\"11\"]",
+            "[\"1\",\"2\",\"3\",\"4\",\"5\",\"6\",\"7\",\"8\",\"9\",\"10\",\"11\",\"12\",\"13\"]",
         ),
         ("flag", "300.0"),
         ("flag", "-0"),
@@ -109,7 +112,7 @@ fn keeps_each_rule_of_goods(rt: HostRuntime) -> Result<(), Fail> {
         ("bids", "[[700,300],1]"),
     ];
     for (field, value) in rows {
-        let body = body_with(alloc, &HEIRS, &[(field, value)])?;
+        let body = body_with(alloc, &CLOCK, &[(field, value)])?;
         solves(&rt, alloc, body.as_bytes(), 3, &refusal_of(alloc, field)?)?;
     }
     Ok(())

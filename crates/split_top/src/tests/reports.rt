@@ -55,7 +55,7 @@ total 2000, route 1 3
 3 Cy: place 2 Harbour, fare 1250, pays 1250, alone 1800
 ";
 
-const HEIRS_REPORT: &str = "goods Attic
+const CLOCK_REPORT: &str = "goods Attic
 players 2 of 2
 1 Ann: goods 1, points 700
 2 Ben: goods 2, points 600
@@ -110,7 +110,7 @@ fn reports_worked_rents(rt: HostRuntime) -> Result<(), Fail> {
 }
 
 #[test]
-fn reports_worked_rides_and_goods(rt: HostRuntime) -> Result<(), Fail> {
+fn reports_worked_fares_and_goods(rt: HostRuntime) -> Result<(), Fail> {
     let alloc = rt.alloc();
     let two_of_three = [
         ("title", "\"\\\"Taxi\\\", again\""),
@@ -127,9 +127,9 @@ fn reports_worked_rides_and_goods(rt: HostRuntime) -> Result<(), Fail> {
     let rows: [(&[(&str, &str)], &[(&str, &str)], &str); 5] = [
         (&TAXI, &[], TAXI_REPORT),
         (&TAXI, &two_of_three, TWO_OF_THREE_REPORT),
-        (&HEIRS, &[], HEIRS_REPORT),
-        (&HEIRS, &contested, CONTESTED_REPORT),
-        (&HEIRS, &tie, TIE_REPORT),
+        (&CLOCK, &[], CLOCK_REPORT),
+        (&CLOCK, &contested, CONTESTED_REPORT),
+        (&CLOCK, &tie, TIE_REPORT),
     ];
     for (fields, changes, text) in rows {
         let body = body_with(alloc, fields, changes)?;

@@ -4,7 +4,7 @@ use Rattle.std.proofs.lemmas.Int.{ints}
 use Rattle.std.proofs.lemmas.List.{length-map}
 use Rattle.bid_rules.specs.Cents.{amount_at, floor_of}
 use Rattle.bid_rules.specs.Sums.{total}
-use Rattle.bid_rules.proofs.Totals.{total_more}
+use Rattle.split_lemmas.proofs.Totals.{total_more}
 use Rattle.split_frac.specs.Frac.{pair_of}
 use Rattle.envy_check.proofs.CentPlans.{amount_is}
 use Rattle.envy_check.proofs.CentSums.{places_total}

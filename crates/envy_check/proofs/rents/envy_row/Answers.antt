@@ -4,7 +4,7 @@ use Rattle.bid_rules.specs.Cents.{amount_at}
 use Rattle.split_frac.specs.declared.frac.Frac.{Frac}
 use Rattle.split_frac.specs.Frac.{pair_of}
 use Rattle.envy_check.specs.Envy.{IsEnvy}
-use Rattle.envy_check.proofs.EnvyParts.{push_at}
+use Rattle.split_lemmas.proofs.ListPlaces.{push_at}
 use Rattle.envy_check.proofs.rents.envy_row.Goals as goal
 
 pub loop-other-preserved : goal.loop-other-preserved

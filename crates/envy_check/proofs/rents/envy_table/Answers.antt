@@ -8,7 +8,8 @@ use Rattle.bid_rules.specs.Rent.{room_count}
 use Rattle.split_frac.specs.declared.frac.Frac.{Frac}
 use Rattle.split_frac.specs.Frac.{pair_of}
 use Rattle.envy_check.specs.Envy.{IsEnvy}
-use Rattle.envy_check.proofs.EnvyParts.{has_parts, parts_of, push_at}
+use Rattle.envy_check.proofs.EnvyParts.{has_parts, parts_of}
+use Rattle.split_lemmas.proofs.ListPlaces.{push_at}
 use Rattle.envy_check.proofs.rents.envy_table.Goals as goal
 
 -- a row as fractions

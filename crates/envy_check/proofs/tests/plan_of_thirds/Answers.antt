@@ -1,5 +1,5 @@
 use Rattle.std.proofs.Common.{pos, negsuc, map, [], ◌∷◌, refl, arith}
-use Rattle.bid_rules.proofs.PartLaws.{whole_sum}
+use Rattle.split_lemmas.proofs.PartLaws.{whole_sum}
 use Rattle.split_frac.specs.Frac.{pair_of}
 use Rattle.envy_check.proofs.tests.plan_of_thirds.Goals as goal
 

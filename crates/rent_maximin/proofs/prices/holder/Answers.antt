@@ -1,5 +1,5 @@
 use Rattle.std.proofs.Common.{arith, length}
-use Rattle.bid_rules.proofs.RoomPlaces.{room_place}
+use Rattle.split_lemmas.proofs.RoomPlaces.{room_place}
 use Rattle.rent_maximin.proofs.prices.holder.Goals as goal
 
 pub returns : goal.returns

@@ -17,15 +17,15 @@ same_part : (worth least walk worth' least' walk' : ℤ) → worth ≡ worth' �
 same_part worth least walk worth' least' walk' a b d = omega (arith, ints)
 
 pub overflow_sub-result : goal.overflow_sub-result
-overflow_sub-result c = let a = c.times.ensures.small in let b = c.times-2.ensures.small in let d = c.requires.least_small in omega (arith, ints)
+overflow_sub-result c = let a = c.times.ensures.small in let b = c.times-2.ensures.small in let d = c.requires.least.small in omega (arith, ints)
 
 pub returns-clause-small : goal.returns-clause-small
 returns-clause-small c =
     let fits_worth : FitsSigned w128 c.times.result = search rules in
     let fits_walk : FitsSigned w128 c.times-2.result = search rules in
     let fits_least = c.ranges.least in
-    let fits_sum = small_sum c.args.least c.times-2.result c.times-2.ensures.small c.requires.least_small in
-    let is = small c.times.result c.args.least c.times-2.result c.times.ensures.small c.times-2.ensures.small c.requires.least_small in
+    let fits_sum = small_sum c.args.least c.times-2.result c.times-2.ensures.small c.requires.least.small in
+    let is = small c.times.result c.args.least c.times-2.result c.times.ensures.small c.times-2.ensures.small c.requires.least.small in
     let fits : FitsSigned w128 (c.times.result -ℤ (c.args.least +ℤ c.times-2.result)) = omega (arith, ints, is) in
     simp to_z-of_z is
 
@@ -42,8 +42,8 @@ returns-clause-value c =
     let fits_worth : FitsSigned w128 c.times.result = search rules in
     let fits_walk : FitsSigned w128 c.times-2.result = search rules in
     let fits_least = c.ranges.least in
-    let fits_sum = small_sum c.args.least c.times-2.result c.times-2.ensures.small c.requires.least_small in
-    let short = small c.times.result c.args.least c.times-2.result c.times.ensures.small c.times-2.ensures.small c.requires.least_small in
+    let fits_sum = small_sum c.args.least c.times-2.result c.times-2.ensures.small c.requires.least.small in
+    let short = small c.times.result c.args.least c.times-2.result c.times.ensures.small c.times-2.ensures.small c.requires.least.small in
     let fits : FitsSigned w128 (c.times.result -ℤ (c.args.least +ℤ c.times-2.result)) = omega (arith, ints, short) in
-    let is = same_part c.times.result c.args.least c.times-2.result _ _ _ worth c.requires.least second in
-    (m, omega (arith, c.holder-member.ensures.within, c.requires.count), holds, simp to_z-of_z is)
+    let is = same_part c.times.result c.args.least c.times-2.result _ _ _ worth c.requires.least.is second in
+    (m, omega (arith, c.holder-member.ensures.within, c.requires.walks.rooms_count), holds, simp to_z-of_z is)

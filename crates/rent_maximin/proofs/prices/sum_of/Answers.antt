@@ -1,6 +1,6 @@
 use Rattle.std.proofs.Common.{arith, pos, get_or}
 use Rattle.std.proofs.lemmas.Int.{ints}
-use Rattle.bid_rules.proofs.Totals.{total_more}
+use Rattle.split_lemmas.proofs.Totals.{total_more}
 use Rattle.rent_maximin.proofs.prices.sum_of.Goals as goal
 
 pub loop-k-preserved : goal.loop-k-preserved

@@ -1,8 +1,8 @@
 use Rattle.std.proofs.Common.{arith, ◌≡◌, ◌∙◌, ap, get_or}
 use Rattle.std.proofs.lemmas.Int.{ints}
 use Rattle.bid_rules.specs.Rent.{room_count, value}
-use Rattle.bid_rules.proofs.RoomPlaces.{rooms_length, room_range}
-use Rattle.bid_rules.proofs.Totals.{total_more}
+use Rattle.split_lemmas.proofs.RoomPlaces.{rooms_length, room_range}
+use Rattle.split_lemmas.proofs.Totals.{total_more}
 use Rattle.rent_maximin.proofs.prices.welfare_of.Goals as goal
 
 pub bounds-rooms-member : goal.bounds-rooms-member

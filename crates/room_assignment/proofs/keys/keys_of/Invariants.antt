@@ -1,7 +1,7 @@
 use Rattle.std.proofs.Common.{◌≡◌, ◌+◌, ◌^◌, ◌<◌, ℕ, [], length, slice_index_or}
 use Rattle.bid_rules.specs.Rent.{room_count}
 use Rattle.bid_rules.specs.Keys.{key}
-use Rattle.room_assignment.specs.Matrix.{IsRowOf}
+use Rattle.room_assignment.specs.Entries.{IsRowOf}
 use Rattle.room_assignment.proofs.keys.keys_of.Given as goal
 
 abbrev pub invariant-loop-member : goal.invariant-loop-member

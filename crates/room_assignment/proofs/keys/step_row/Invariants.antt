@@ -1,6 +1,6 @@
 use Rattle.std.proofs.Common.{◌-ℤ◌, ◌^◌, slice_index}
 use Rattle.room_assignment.specs.Matrix.{entry}
-use Rattle.room_assignment.specs.Matrix.{IsRowOf}
+use Rattle.room_assignment.specs.Entries.{IsRowOf}
 use Rattle.room_assignment.proofs.keys.step_row.Given as goal
 
 abbrev pub invariant-loop-to : goal.invariant-loop-to

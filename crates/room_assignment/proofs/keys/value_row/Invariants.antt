@@ -1,6 +1,6 @@
 use Rattle.bid_rules.specs.Rent.{value}
 use Rattle.std.proofs.Common.{◌+◌, ◌^◌}
-use Rattle.room_assignment.specs.Matrix.{IsRowOf}
+use Rattle.room_assignment.specs.Entries.{IsRowOf}
 use Rattle.room_assignment.proofs.keys.value_row.Given as goal
 
 abbrev pub invariant-loop-room : goal.invariant-loop-room

@@ -1,6 +1,6 @@
 use Rattle.std.proofs.Common.{◌≡◌, ◌+◌, ◌^◌, ◌<◌, ℕ, [], length, slice_index_or}
 use Rattle.bid_rules.specs.Rent.{room_count, value}
-use Rattle.room_assignment.specs.Matrix.{IsRowOf}
+use Rattle.room_assignment.specs.Entries.{IsRowOf}
 use Rattle.room_assignment.proofs.keys.values_of.Given as goal
 
 abbrev pub invariant-loop-member : goal.invariant-loop-member

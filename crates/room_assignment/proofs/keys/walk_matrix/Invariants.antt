@@ -1,6 +1,6 @@
 use Rattle.std.proofs.Common.{◌≡◌, ◌-ℤ◌, ◌^◌, ◌<◌, ℕ, [], length, slice_index, slice_index_or}
 use Rattle.room_assignment.specs.Matrix.{entry}
-use Rattle.room_assignment.specs.Matrix.{IsRowOf}
+use Rattle.room_assignment.specs.Entries.{IsRowOf}
 use Rattle.room_assignment.proofs.keys.walk_matrix.Given as goal
 
 abbrev pub invariant-loop-from : goal.invariant-loop-from

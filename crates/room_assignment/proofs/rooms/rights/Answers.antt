@@ -4,7 +4,7 @@ use Rattle.std.proofs.lemmas.Int.{to_z-of_z}
 use Rattle.std.proofs.lemmas.List.{length_push}
 use Rattle.room_assignment.specs.Matrix.{entry}
 use Rattle.room_assignment.specs.Tree.{IsRight}
-use Rattle.bid_rules.proofs.ListPlaces.{push_place}
+use Rattle.split_lemmas.proofs.ListPlaces.{push_place}
 use Rattle.room_assignment.proofs.rooms.rights.Goals as goal
 
 pub loop-room-preserved : goal.loop-room-preserved

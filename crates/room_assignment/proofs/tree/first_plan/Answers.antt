@@ -5,9 +5,9 @@ use Rattle.std.specs.List.{range_with_len}
 use Rattle.std.proofs.lemmas.List.{length_push, replicate_more}
 use Rattle.std.proofs.lemmas.List.FromFn.{length-range_with_len}
 use Rattle.room_assignment.specs.Tree.{IsMost}
-use Rattle.room_assignment.proofs.TreeUse.{first_settled}
-use Rattle.bid_rules.proofs.ListPlaces.{push_place}
-use Rattle.bid_rules.proofs.Totals.{range_more}
+use Rattle.room_assignment.proofs.TreeLists.{first_matched}
+use Rattle.split_lemmas.proofs.ListPlaces.{push_place}
+use Rattle.split_lemmas.proofs.Totals.{range_more}
 use Rattle.room_assignment.proofs.tree.first_plan.Goals as goal
 
 pub push-requires : goal.push-requires
@@ -33,6 +33,6 @@ pub returns : goal.returns
 returns c =
     let end : c.loop-k.k ≡ length c.args.keys.now.items = omega arith in
     let d = c.loop-k.invariant in
-    first_settled c.args.keys.now (record { rooms = c.loop-k.rooms; left = c.loop-k.left; right = c.loop-k.right })
+    first_matched c.args.keys.now (record { rooms = c.loop-k.rooms; left = c.loop-k.left; right = c.loop-k.right })
     (d.rooms ∙ ap (range_with_len 0) end) (d.lefts ∙ end) (d.rights ∙ ap (λ n. replicate n (pos 0)) end)
     (λ i l. d.left i (omega arith))

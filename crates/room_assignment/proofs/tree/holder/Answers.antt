@@ -1,5 +1,5 @@
 use Rattle.std.proofs.Common.{arith, length}
-use Rattle.bid_rules.proofs.Permutations.{permutation_place}
+use Rattle.split_lemmas.proofs.Permutations.{permutation_place}
 use Rattle.room_assignment.proofs.tree.holder.Goals as goal
 
 pub returns : goal.returns

@@ -2,7 +2,7 @@ use Rattle.std.proofs.Common.{rules, ◌+◌, ap, ◌∙◌, pos, get_or, length
 use Rattle.std.specs.Int.{w128}
 use Rattle.std.proofs.lemmas.Int.{to_z-of_z}
 use Rattle.std.proofs.lemmas.List.{length_push}
-use Rattle.room_assignment.proofs.TreeUse.{lowered_more}
+use Rattle.room_assignment.proofs.TreeLists.{lowered_more}
 use Rattle.room_assignment.proofs.tree.lowered.Goals as goal
 
 pub loop-k-preserved : goal.loop-k-preserved

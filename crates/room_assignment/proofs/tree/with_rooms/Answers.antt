@@ -1,6 +1,6 @@
 use Rattle.std.proofs.Common.{arith}
 use Rattle.std.proofs.lemmas.Int.{ints}
-use Rattle.room_assignment.proofs.TreeUse.{rooms_more}
+use Rattle.room_assignment.proofs.TreeLists.{rooms_more}
 use Rattle.room_assignment.proofs.tree.with_rooms.Goals as goal
 
 pub loop-room-preserved : goal.loop-room-preserved

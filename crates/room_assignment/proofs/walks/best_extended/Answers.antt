@@ -2,7 +2,7 @@ use Rattle.std.proofs.Common.{rules, pos, ◌+ℤ◌, length, get_or, FitsSigned
 use Rattle.std.specs.Int.{w128}
 use Rattle.std.proofs.lemmas.Int.{to_z-of_z}
 use Rattle.room_assignment.specs.Matrix.{entry}
-use Rattle.room_assignment.proofs.WalkLaws.{more_best}
+use Rattle.room_assignment.proofs.LongestWalks.{more_best}
 use Rattle.room_assignment.proofs.walks.best_extended.Goals as goal
 
 pub loop-from-preserved : goal.loop-from-preserved

@@ -2,7 +2,7 @@ use Rattle.std.proofs.Common.{rules, arith, pos, ◌≤ℤ◌, ◌<ℤ◌, refl,
 use Rattle.std.specs.Int.{w128}
 use Rattle.std.proofs.lemmas.Int.{to_z-of_z, ints}
 use Rattle.room_assignment.specs.Matrix.{entry}
-use Rattle.room_assignment.proofs.WalkLaws.{longer_lists, longer_small}
+use Rattle.room_assignment.proofs.LongestWalks.{longer_lists, longer_small}
 use Rattle.room_assignment.proofs.walks.longer_walk.Goals as goal
 
 pub returns-then-best-weight-clause-longest : goal.returns-then-best-weight-clause-longest

@@ -4,7 +4,7 @@ use Rattle.std.proofs.lemmas.Int.{to_z-of_z}
 use Rattle.std.proofs.lemmas.List.{length_push}
 use Rattle.std.proofs.lemmas.List.Elements.{All-push}
 use Rattle.room_assignment.specs.Matrix.{entry}
-use Rattle.room_assignment.proofs.WalkLaws.{push_longest}
+use Rattle.room_assignment.proofs.LongestWalks.{push_longest}
 use Rattle.room_assignment.proofs.walks.longer_walks.Goals as goal
 
 pub loop-to-preserved : goal.loop-to-preserved

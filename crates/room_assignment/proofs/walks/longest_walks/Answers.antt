@@ -1,7 +1,7 @@
 use Rattle.std.proofs.Common.{arith, ◌≡◌, ◌+◌, ◌-◌, length, subst, pos, replicate, ap, ◌∙◌}
 use Rattle.room_assignment.specs.Matrix.{entry}
 use Rattle.room_assignment.specs.Rounds.{AreLongestWithin}
-use Rattle.room_assignment.proofs.WalkLaws.{none_within, all_greatest, all_ranks, all_small}
+use Rattle.room_assignment.proofs.LongestWalks.{none_within, all_greatest, all_ranks, all_small, ranks_below}
 use Rattle.room_assignment.proofs.walks.longest_walks.Goals as goal
 
 pub loop-limit-init : goal.loop-limit-init
@@ -10,6 +10,7 @@ loop-limit-init c =
     record {
       walks = none_within (length c.args.matrix.now.items) (entry c.args.matrix.now) _ _ (c.no_walks-walks.ensures.weights ∙ ap (λ n. replicate n (pos 0)) e) (c.no_walks-walks.ensures.ranks ∙ ap (λ n. replicate n 0) e);
       few = omega arith;
+      last = λ some. omega (arith, some);
     }
 
 pub loop-limit-preserved : goal.loop-limit-preserved
@@ -21,6 +22,7 @@ loop-limit-preserved c =
     record {
       walks = subst (λ k. AreLongestWithin k (length c.args.matrix.now.items) (entry c.args.matrix.now) c.longer_walks-walks.result.weights.items c.longer_walks-walks.result.ranks.items) same c.longer_walks-walks.ensures;
       few = omega arith;
+      last = λ some. omega (arith, test, end);
     }
 
 pub returns-clause-weights : goal.returns-clause-weights
@@ -31,3 +33,7 @@ returns-clause-ranks c = all_ranks (c.loop-limit.limit - 1) (length c.args.matri
 
 pub returns-clause-small : goal.returns-clause-small
 returns-clause-small c = all_small (c.loop-limit.limit - 1) (length c.args.matrix.now.items) (entry c.args.matrix.now) _ _ (omega arith) c.loop-limit.invariant.walks
+
+pub returns-clause-below : goal.returns-clause-below
+returns-clause-below c = ranks_below (c.loop-limit.limit - 1) (length c.args.matrix.now.items) (entry c.args.matrix.now) _ _
+    (λ some. let last = c.loop-limit.invariant.last some in omega (arith, last, some)) c.loop-limit.invariant.walks

@@ -1,43 +1,77 @@
-use Rattle.std.proofs.Common.{arith, ℕ, ◌+◌, ◌∙◌, [], ◌∷◌, All, ap, sym, subst, map, length, take}
-use Rattle.std.specs.List.{AllZip}
+use Rattle.std.proofs.Common.{arith, ◌≡◌, ◌≤◌, ◌-◌, ◌+◌, ◌^◌, ◌∙◌, ℕ, [], ◌∷◌, All, ap, sym, subst, map, length, take, get_or}
+use Rattle.std.specs.List.{AllZip, range_with_len}
+use Rattle.std.proofs.Math.Seq.{take-length}
 use Rattle.std.proofs.lemmas.List.{length-take, length-map, map-append}
 use Rattle.std.proofs.lemmas.List.Elements.{All-push}
+use Rattle.std.proofs.lemmas.Nat.{pow_pos}
 use Rattle.split_frac.specs.Frac.{pair_of}
 use Rattle.bid_rules.specs.declared.cases.FareCase.{FareCase}
+use Rattle.bid_rules.specs.Coalitions.{riders_in}
 use Rattle.bid_rules.specs.Fares.{sum_of_marginal_costs}
 use Rattle.bid_rules.specs.Fractions.{Fraction, IsQuotient}
 use Rattle.bid_rules.specs.Orders.{factorial}
-use Rattle.bid_rules.proofs.Zipped.{AllZip-more, length-AllZip}
-use Rattle.fare_routes.proofs.Riders.{length-riders_of}
+use Rattle.split_lemmas.proofs.Zipped.{AllZip-more, length-AllZip}
 use Rattle.shapley_core.specs.Division.{IsFareInRange}
+use Rattle.shapley_core.proofs.SetSums.{fits, ten_small}
 use Rattle.shapley_core.proofs.division.fares_of.Goals as goal
 
 -- the fare is the mean of the rider's marginal costs
-abbrev IsMean : FareCase → ℕ → Fraction → Type 0
-IsMean case rider fare = IsQuotient fare (sum_of_marginal_costs case rider) (factorial (length case.at.items))
+abbrev IsMean : FareCase → ℕ → ℕ → Fraction → Type 0
+IsMean case count rider fare = IsQuotient fare (sum_of_marginal_costs case rider) (factorial count)
+
+pub sum_over_orders-requires-clause-low : goal.sum_over_orders-requires-clause-low
+sum_over_orders-requires-clause-low c =
+    let n = c.args.count in
+    let P : ℕ → Type 0 = λ r. (1 ≤ r) × (r ≤ n) in
+    let power = pow_pos n in
+    let known = (c.coalition_law.ensures.within n (2 ^ n - 1)).0 (omega (arith, power)) in
+    let whole = c.as_slice-rider-items.ensures.value ∙ c.riders_of_set-riders.ensures ∙ ap riders_in c.all_riders-all.ensures in
+    let all : All P c.as_slice-rider-items.result.now = subst (All P) (sym whole) known in
+    (all c.loop-rider.rider-index 0 c.loop-rider-test.true).0
+
+pub sum_over_orders-requires-clause-high : goal.sum_over_orders-requires-clause-high
+sum_over_orders-requires-clause-high c =
+    let n = c.args.count in
+    let P : ℕ → Type 0 = λ r. (1 ≤ r) × (r ≤ n) in
+    let power = pow_pos n in
+    let known = (c.coalition_law.ensures.within n (2 ^ n - 1)).0 (omega (arith, power)) in
+    let whole = c.as_slice-rider-items.ensures.value ∙ c.riders_of_set-riders.ensures ∙ ap riders_in c.all_riders-all.ensures in
+    let all : All P c.as_slice-rider-items.result.now = subst (All P) (sym whole) known in
+    (all c.loop-rider.rider-index 0 c.loop-rider-test.true).1
+
+pub push-requires : goal.push-requires
+push-requires c =
+    let fares = c.loop-rider.fares.items in
+    let same = length-AllZip (IsMean c.args.costs.now c.args.count) (take c.loop-rider.rider-index c.as_slice-rider-items.result.now) (map pair_of fares) c.loop-rider.invariant.means in
+    let pairs = length-map fares pair_of in
+    let long = length-take c.loop-rider.rider-index c.as_slice-rider-items.result.now in
+    let test = c.loop-rider-test.true in
+    let few = c.as_slice-rider-items.ensures.fits in
+    (omega arith, omega (arith, same, pairs, long, test, few))
 
 pub loop-rider-preserved : goal.loop-rider-preserved
 loop-rider-preserved c =
     let case = c.args.costs.now in
-    let R : ℕ → Fraction → Type 0 = IsMean case in
-    let riders = c.args.riders.now in
+    let n = c.args.count in
+    let riders = c.as_slice-rider-items.result.now in
     let fares = c.loop-rider.fares.items in
-    let fare = c.fare_of.result in
+    let fare = c.mean.result in
     let i = c.loop-rider.rider-index in
+    let most = c.coalition_law.ensures.riders_count case c.requires.valid in
+    let told = fits c.in_ok-sum.sum (ten_small c.in_ok-sum.sum n c.in_ok-sum.ensures.small (omega (arith, most, c.requires.count))) in
+    let mean : IsMean case n (get_or riders i 0) (pair_of fare) = subst (λ z. IsQuotient (pair_of fare) z (factorial n)) (told ∙ c.in_ok-sum.ensures.value) c.mean.ensures.value in
     record {
-      means = subst (λ ys. AllZip R (take (i + 1) riders) ys) (sym (ap (map pair_of) c.push.ensures.items ∙ map-append pair_of fares (fare ∷ [])))
-          (AllZip-more R riders (map pair_of fares) i 0 (pair_of fare) c.loop-rider-test.true c.loop-rider.invariant.means c.fare_of.ensures.mean);
-      ranges = subst (λ fs. All (IsFareInRange (length case.at.items)) fs) (sym c.push.ensures.items) (All-push (IsFareInRange (length case.at.items)) fares fare c.loop-rider.invariant.ranges c.fare_of.ensures.range);
+      means = subst (λ ys. AllZip (IsMean case n) (take (i + 1) riders) ys) (sym (ap (map pair_of) c.push.ensures.items ∙ map-append pair_of fares (fare ∷ [])))
+          (AllZip-more (IsMean case n) riders (map pair_of fares) i 0 (pair_of fare) c.loop-rider-test.true c.loop-rider.invariant.means mean);
+      ranges = subst (λ fs. All (IsFareInRange n) fs) (sym c.push.ensures.items) (All-push (IsFareInRange n) fares fare c.loop-rider.invariant.ranges c.mean.ensures.range);
     }
 
-pub push-requires : goal.push-requires
-push-requires c =
+pub returns-clause-means : goal.returns-clause-means
+returns-clause-means c =
     let case = c.args.costs.now in
+    let n = c.args.count in
+    let riders = c.as_slice-rider-items.result.now in
     let fares = c.loop-rider.fares.items in
-    let same = length-AllZip (IsMean case) (take c.loop-rider.rider-index c.args.riders.now) (map pair_of fares) c.loop-rider.invariant.means in
-    let pairs = length-map fares pair_of in
-    let long = length-take c.loop-rider.rider-index c.args.riders.now in
-    let test = c.loop-rider-test.true in
-    let count = ap length c.requires.riders ∙ length-riders_of case in
-    let few = c.requires.few in
-    (omega arith, omega arith)
+    let end : length riders ≡ c.loop-rider.rider-index = (let high = c.loop-rider-test.false in let low = c.loop-rider.auto.rider-index-end in omega (arith, high, low)) in
+    let whole = c.as_slice-rider-items.ensures.value ∙ c.riders_of_set-riders.ensures ∙ ap riders_in c.all_riders-all.ensures ∙ c.coalition_law.ensures.all n ∙ ap (range_with_len 1) c.requires.count in
+    subst (λ xs. AllZip (IsMean case n) xs (map pair_of fares)) (ap (λ k. take k riders) (sym end) ∙ take-length riders ∙ whole) c.loop-rider.invariant.means

@@ -8,6 +8,6 @@ pub loop-done-preserved : goal.loop-done-preserved
 loop-done-preserved g c = record {
   within = (let fits = rw take_rest at c.in_ok-done.ensures.bytes.0 in omega (arith, fits, length-drop {A = ℕ}));
   so_far = Appends-take _ _ _ _ _ _ c.loop-done.invariant.so_far (rw take_rest at c.in_ok-done.ensures.bytes.1);
-  count = omega (arith, c.in_ok-done.ensures.cause);
+  count = search rules;
   beside = search rules;
 }

@@ -4,6 +4,7 @@ use Rattle.split_json.specs.Rules.{each, name_in}
 use Rattle.split_json.proofs.rules.each_name.Given as goal
 
 abbrev pub invariant-loop-item : goal.invariant-loop-item
-invariant-loop-item g l =
-    (each (name_in) (map view (take l.item-index l.list)) ≡ Some (map (λ s. s.bytes) l.names.items))
-    × (length l.names.items ≡ l.item-index)
+invariant-loop-item g l = record {
+  held : each name_in (map view (take l.item-index l.list)) ≡ Some (map (λ text. text.bytes) l.names.items);
+  count : length l.names.items ≡ l.item-index;
+}

@@ -4,6 +4,7 @@ use Rattle.split_json.specs.Rules.{each, row_in}
 use Rattle.split_json.proofs.rules.each_row.Given as goal
 
 abbrev pub invariant-loop-item : goal.invariant-loop-item
-invariant-loop-item l =
-    (each (row_in l.places) (map view (take l.item-index l.list)) ≡ Some (l.rows.items))
-    × (length l.rows.items ≡ l.item-index)
+invariant-loop-item l = record {
+  held : each row_in (map view (take l.item-index l.list)) ≡ Some l.rows.items;
+  count : length l.rows.items ≡ l.item-index;
+}

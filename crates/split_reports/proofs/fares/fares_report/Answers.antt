@@ -7,17 +7,17 @@ use Rattle.bid_rules.specs.Cents.{cent_plan}
 use Rattle.split_frac.specs.Frac.{pair_of}
 use Rattle.split_json.specs.Reading.{shown}
 use Rattle.split_reports.specs.Fares.{fares_report}
-use Rattle.split_reports.proofs.RideReports.{fare_count, route_riders}
+use Rattle.split_reports.proofs.FareReports.{fare_count, route_riders}
 use Rattle.split_reports.proofs.fares.fares_report.Goals as goal
 
 pub fares_text-requires-clause-route : goal.fares_text-requires-clause-route
 fares_text-requires-clause-route c = route_riders c.orders_law.ensures.listed c.args.case.now c.args.division.now c.requires.case c.requires.division
 
-pub fares_text-requires-clause-fares : goal.fares_text-requires-clause-fares
-fares_text-requires-clause-fares c = ap length c.as_slice-2.ensures.value ∙ fare_count c.args.case.now c.args.division.now c.requires.case c.requires.division
+pub invariant_of-riders-clause-each_fare : goal.invariant_of-riders-clause-each_fare
+invariant_of-riders-clause-each_fare c = ap length c.as_slice-2.ensures.value ∙ fare_count c.args.case.now c.args.division.now c.requires.case c.requires.division
 
-pub fares_text-requires-clause-pays : goal.fares_text-requires-clause-pays
-fares_text-requires-clause-pays c =
+pub invariant_of-riders-clause-each_pays : goal.invariant_of-riders-clause-each_pays
+invariant_of-riders-clause-each_pays c =
     ap length (c.as_slice-3.ensures.value ∙ c.cent_plan-pays.ensures.plan) ∙ length-map-range_with_len _ 0 _ ∙ length-map _ pair_of
     ∙ ap length c.as_slice.ensures.value ∙ fare_count c.args.case.now c.args.division.now c.requires.case c.requires.division
 

@@ -8,6 +8,3 @@ points_table-table-requires-clause-each c = ap length c.as_slice.ensures.value �
 pub points_table-table-requires-clause-owners : goal.points_table-table-requires-clause-owners
 points_table-table-requires-clause-owners c =
     subst (λ (xs : List ℕ). AreOwners c.args.case.now xs) (sym c.as_slice.ensures.value) c.requires.division.owned
-
-pub text_of-requires-clause-owners : goal.text_of-requires-clause-owners
-text_of-requires-clause-owners c = c.requires.division.each

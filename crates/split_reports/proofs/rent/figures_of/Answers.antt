@@ -4,12 +4,12 @@ use Rattle.std.proofs.lemmas.Simd.{map-map}
 use Rattle.bid_rules.specs.Cents.{cent_plan}
 use Rattle.bid_rules.specs.Fractions.{Fraction, IsQuotient, sum_of_fractions}
 use Rattle.bid_rules.specs.Rent.{room_count}
-use Rattle.bid_rules.proofs.RoomPlaces.{rooms_length}
+use Rattle.split_lemmas.proofs.RoomPlaces.{rooms_length}
 use Rattle.envy_check.specs.Envy.{ArePrices, IsAmount, IsEnvyTable, rows_of}
 use Rattle.split_frac.specs.declared.frac.Frac.{Frac}
 use Rattle.split_frac.specs.Frac.{pair_of}
 use Rattle.split_reports.specs.Rent.{AreUtilities}
-use Rattle.split_reports.proofs.RentFigures.{best_prices, best_rooms, member_prices_sum, price_amounts, prices_listed, rooms_within}
+use Rattle.split_reports.proofs.RentFigures.{best_prices, best_rooms, price_amounts, prices_listed, rooms_within}
 use Rattle.split_reports.proofs.rent.figures_of.Goals as goal
 
 pub prices_of_members-amounts-requires-clause-rooms : goal.prices_of_members-amounts-requires-clause-rooms
@@ -28,7 +28,7 @@ cent_plan-requires-clause-sum c =
     let whole : to_z w64 (of_z w64 c.from.result) ≡ pos case.facts.rent = omega (arith, ints) in
     let listed = ap (λ (xs : List Frac). map pair_of xs) c.as_slice.ensures.value
     ∙ prices_listed division c.as_slice-rooms.result.now c.as_slice-prices.result.now c.prices_of_members-amounts.result.items c.as_slice-rooms.ensures.value c.as_slice-prices.ensures.value c.prices_of_members-amounts.ensures.prices in
-    let sum = member_prices_sum case division.best.rooms.items (map pair_of division.prices.items) c.requires.division.prices.count c.requires.division.best in
+    let sum = c.best_rent_law.ensures.by_member case division.best.rooms.items (map pair_of division.prices.items) c.requires.division.best in
     subst (λ z. IsQuotient (sum_of_fractions (map pair_of c.as_slice.result.now)) z 1) (sym whole) (subst (λ fs. IsQuotient (sum_of_fractions fs) (pos case.facts.rent) 1) (sym listed) sum)
 
 pub utilities_of-requires-clause-count : goal.utilities_of-requires-clause-count

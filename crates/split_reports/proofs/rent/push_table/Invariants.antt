@@ -1,7 +1,7 @@
 use Rattle.std.proofs.Common.{◌≡◌, ◌++◌, string_bytes}
 use Rattle.split_reports.specs.Lines.{lines_to}
-use Rattle.split_reports.specs.Rent.{figures_shown, home_envy}
+use Rattle.split_reports.specs.Rent.{figures_shown, member_envy}
 use Rattle.split_reports.proofs.rent.push_table.Given as goal
 
 abbrev pub invariant-loop-k : goal.invariant-loop-k
-invariant-loop-k l = string_bytes l.lines ≡ string_bytes l.initial.lines ++ lines_to l.k (home_envy (figures_shown l.figures))
+invariant-loop-k l = string_bytes l.lines ≡ string_bytes l.initial.lines ++ lines_to l.k (member_envy (figures_shown l.figures))

@@ -5,7 +5,7 @@ use Rattle.bid_rules.specs.Fractions.{Fraction, IsQuotient}
 use Rattle.bid_rules.specs.Rent.{HasParts, utility}
 use Rattle.split_frac.specs.declared.frac.Frac.{Frac}
 use Rattle.split_frac.specs.Frac.{pair_of}
-use Rattle.envy_check.proofs.EnvyParts.{push_at}
+use Rattle.split_lemmas.proofs.ListPlaces.{push_at}
 use Rattle.split_reports.proofs.rent.utilities_of.Goals as goal
 
 pub loop-member-preserved : goal.loop-member-preserved

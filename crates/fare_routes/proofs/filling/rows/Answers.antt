@@ -1,0 +1,62 @@
+use Rattle.std.proofs.Common.{arith, ◌≡◌, ◌<◌, ◌*◌, ◌^◌, ◌%◌, ◌∙◌, refl, subst, sym, ap, length, map}
+use Rattle.std.proofs.lemmas.List.{length-append, length-map}
+use Rattle.std.proofs.lemmas.Nat.{one_shl, pow_pos}
+use Rattle.bid_rules.specs.Coalitions.{riders_in}
+use Rattle.fare_routes.specs.Table.{ListsCosts, route_costs}
+use Rattle.fare_routes.proofs.TableRows.{rows_more}
+use Rattle.fare_routes.proofs.filling.rows.Goals as goal
+
+pub loop-init : goal.loop-init
+loop-init c =
+    let case = c.args.case.now in
+    let none = c.in-Ok.ensures.items in
+    record {
+      count = ap length none;
+      lists = subst (λ rows. ListsCosts case (map (λ row. row.items) rows)) (sym none) (record {
+        valid = c.requires;
+        few = (let power = pow_pos (length case.at.items) in omega (arith, power));
+        table = refl;
+      });
+    }
+
+pub next_row-requires-clause-rows : goal.next_row-requires-clause-rows
+next_row-requires-clause-rows c = subst (λ rows. ListsCosts c.args.case.now (map (λ row. row.items) rows)) (sym c.deref.ensures.value) c.loop.invariant.lists
+
+pub next_row-requires-clause-more : goal.next_row-requires-clause-more
+next_row-requires-clause-more c =
+    let case = c.args.case.now in
+    let most = c.coalition_law.ensures.riders_count case c.requires in
+    let power : 1 * 2 ^ c.len-sets.result % 2 ^ 64 ≡ 2 ^ c.len-sets.result = one_shl c.len-sets.result 64 (omega (arith, most, c.len-sets.ensures.value)) in
+    let same = ap (λ n. 2 ^ n) c.len-sets.ensures.value in
+    let test = c.loop-test.true in
+    omega (arith, power, same, test, c.loop.invariant.count, ap length c.deref.ensures.value)
+
+pub loop-preserved : goal.loop-preserved
+loop-preserved c =
+    let case = c.args.case.now in
+    let old = c.loop.rows.items in
+    let new = c.push.new.self.items in
+    let items = c.in-Ok-push.ensures.items in
+    let most = c.coalition_law.ensures.riders_count case c.requires in
+    let power : 1 * 2 ^ c.len-sets.result % 2 ^ 64 ≡ 2 ^ c.len-sets.result = one_shl c.len-sets.result 64 (omega (arith, most, c.len-sets.ensures.value)) in
+    let same = ap (λ n. 2 ^ n) c.len-sets.ensures.value in
+    let test = c.loop-test.true in
+    let more : length old < 2 ^ length case.at.items = omega (arith, power, same, test, c.loop.invariant.count) in
+    record {
+      count = (let long = ap length items ∙ length-append old _ in let count = c.loop.invariant.count in omega (arith, long, count));
+      lists = rows_more (λ row. row.items) case old new c.next_row.result (c.next_row.ensures ∙ ap (λ rows. route_costs case (riders_in (length rows))) c.deref.ensures.value) items more c.loop.invariant.lists;
+    }
+
+pub returns : goal.returns
+returns c =
+    let case = c.args.case.now in
+    let most = c.coalition_law.ensures.riders_count case c.requires in
+    let power : 1 * 2 ^ c.len-sets.result % 2 ^ 64 ≡ 2 ^ c.len-sets.result = one_shl c.len-sets.result 64 (omega (arith, most, c.len-sets.ensures.value)) in
+    let same = ap (λ n. 2 ^ n) c.len-sets.ensures.value in
+    let test = c.loop-test.false in
+    let end = c.loop.auto.counter-end in
+    let rows = map (λ row. row.items) c.loop.rows.items in
+    record {
+      lists = c.loop.invariant.lists;
+      all = (let count = c.loop.invariant.count in omega (arith, power, same, test, end, count, length-map c.loop.rows.items (λ row. row.items)));
+    }

@@ -1,0 +1,9 @@
+use Rattle.std.proofs.Common.{◌≡◌, length, map}
+use Rattle.fare_routes.specs.Table.{ListsCosts}
+use Rattle.fare_routes.proofs.filling.rows.Given as goal
+
+abbrev pub invariant-loop : goal.invariant-loop
+invariant-loop l = record {
+  count : length l.rows.items ≡ l.counter;
+  lists : ListsCosts l.case (map (λ row. row.items) l.rows.items);
+}

@@ -1,0 +1,71 @@
+// The table of a case, filled in the order of the numbers of its sets, so that each set comes after its parts.
+ghost use Rattle.std.specs.Prelude.{◌≡◌, ◌<◌, ◌^◌, length, map, IfOk};
+ghost use Rattle.bid_rules.specs.Coalitions.{riders_in};
+ghost use Rattle.bid_rules.specs.Facts.{IsValidFareCase};
+ghost use Rattle.fare_routes.specs.Table.{HoldsCosts, ListsCosts, route_costs};
+
+use crate::recurrence::{cheapest, start};
+use crate::riders::copied;
+use crate::table::{Costs, Row};
+use bid_rules::FareCase;
+use fare_laws::coalition_law;
+use split_base::NoMemory;
+use std::alloc::Global;
+
+/// The row of the next set: what its route costs from each place of departure.
+fn next_row(case: &FareCase, rows: &[Row]) -> Row
+    requires rows { ListsCosts case.now (map (λ row. row.items) rows.now) }
+    requires more { length rows.now < 2 ^ length case.now.at.items }
+    ensures { result.items ≡ route_costs case.now (riders_in (length rows.now)) }
+{
+    coalition_law();
+    let set = rows.len() as u16;
+    let mut row = Row::new();
+    for at in 0..=case.at.len() as u8 {
+        row.push(cheapest(case, rows, start(case, at), set));
+    }
+    row
+}
+
+/// The rows of all sets of riders, by their numbers, in memory that is taken once.
+fn rows(alloc: Global, case: &FareCase) -> Result<Vec<Row>, NoMemory>
+    requires { IsValidFareCase case.now }
+    ensures { IfOk result (λ rows. HoldsCosts case.now (map (λ row. row.items) rows.items)) }
+{
+    coalition_law();
+    let sets = 1 << case.at.len();
+    let Ok(mut rows) = Vec::with_capacity(alloc, sets) else {
+        return Err(NoMemory);
+    };
+    for _ in 0..sets {
+        let Ok(()) = rows.push(next_row(case, &rows)) else {
+            return Err(NoMemory);
+        };
+    }
+    Ok(rows)
+}
+
+/// The same case once more, to be kept beside its costs.
+fn copied_case(case: &FareCase) -> FareCase
+    requires { IsValidFareCase case.now }
+    ensures { result ≡ case.now }
+{
+    FareCase {
+        facts: case.facts.copied(),
+        who: copied(case.who.as_slice()),
+        at: copied(case.at.as_slice()),
+    }
+}
+
+/// What each coalition of a valid case costs, for 1 to 10 riders.
+///
+/// It takes about `n^2 * 2^n` steps for n riders, and memory once. `NoMemory` comes for want of memory alone.
+pub fn costs(alloc: Global, case: &FareCase) -> Result<Costs, NoMemory>
+    requires { IsValidFareCase case.now }
+    ensures { IfOk result (λ costs. costs ≡ case.now) }
+{
+    Ok(Costs {
+        case: copied_case(case),
+        rows: rows(alloc, case)?,
+    })
+}

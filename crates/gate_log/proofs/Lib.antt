@@ -1,0 +1,4 @@
+mod Pieces
+mod Crash
+mod Reading
+mod Unique

@@ -1,0 +1,21 @@
+-- What stands at a gate.
+use Rattle.std.specs.Prelude.{◌≡◌, ◌≢◌, ◌⊎◌, ℕ, ◌+◌, ◌≤◌, List, [], ◌∷◌, length, take}
+use Rattle.std.specs.Int.{to_le_bytes, w32}
+use Rattle.gate_log.specs.Records.{IsLength}
+use Rattle.gate_log.specs.Faults.{IsShort, IsOutOfRange}
+use Rattle.gate_log.specs.declared.gate.AtGate.{AtGate}
+use Rattle.gate_log.specs.declared.gate.AtGate.TheVariants as gate
+
+-- bytes that end before the record at the gate and the next gate do
+abbrev pub EndsEarly : List ℕ → Type 0
+EndsEarly ahead = (ahead ≡ []) ⊎ ((gate : ℕ) × (more : List ℕ) × (gate ≢ 0) × (ahead ≡ gate ∷ more) × IsShort more)
+
+-- an open gate, this length in its range, and behind it as many bytes and one more for the next gate
+abbrev pub BeginsRecord : List ℕ → ℕ → Type 0
+BeginsRecord ahead n = (gate : ℕ) × (more : List ℕ) × (gate ≢ 0) × (ahead ≡ gate ∷ more) × IsLength n × (take 4 more ≡ to_le_bytes w32 n) × (5 + n ≤ length more)
+
+abbrev pub Shows : List ℕ → AtGate → Type 0
+Shows ahead gate.Closed = (more : List ℕ) × (ahead ≡ 0 ∷ more)
+Shows ahead (gate.Record n) = BeginsRecord ahead n
+Shows ahead gate.OutOfRange = (gate : ℕ) × (more : List ℕ) × (gate ≢ 0) × (ahead ≡ gate ∷ more) × IsOutOfRange more
+Shows ahead gate.Short = EndsEarly ahead

@@ -1,0 +1,5 @@
+pub mod Records
+pub mod Faults
+pub mod Gate
+pub mod Log
+pub mod Inside

@@ -1,0 +1,7 @@
+mod Appending
+mod Events
+mod Fields
+mod Fits
+mod Kept
+mod Loop
+mod Sizes

@@ -1,0 +1,7 @@
+-- The numbers so far stand behind what was there.
+use Rattle.std.proofs.Common.{◌≡◌, ◌++◌, take}
+use Rattle.host_journal.specs.Spelling.{numbers_bytes}
+use Rattle.host_journal.proofs.writing.put_numbers.Given as goal
+
+abbrev pub invariant-loop-number : goal.invariant-loop-number
+invariant-loop-number l = l.body.items ≡ l.initial.body.items ++ numbers_bytes (take l.number-index l.numbers)

@@ -1,0 +1,8 @@
+-- The rows so far stand behind what was there.
+use Rattle.std.proofs.Common.{◌≡◌, ◌++◌, take}
+use Rattle.std.specs.List.{flat_map}
+use Rattle.host_journal.specs.Spelling.{numbers_bytes}
+use Rattle.host_journal.proofs.writing.put_rows.Given as goal
+
+abbrev pub invariant-loop-row : goal.invariant-loop-row
+invariant-loop-row l = l.body.items ≡ l.initial.body.items ++ numbers_bytes (flat_map (λ row. row.items) (take l.row-index l.rows))

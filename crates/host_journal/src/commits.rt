@@ -1,0 +1,73 @@
+// Keeping an event.
+ghost use Rattle.std.specs.Prelude.{◌≡◌, ◌⊎◌, ◌↔◌, ◌≤◌, ◌++◌, [], ◌∷◌, List, ℕ, IfErr, OnOk, OnErr, IsTrue};
+ghost use Rattle.split_base.specs.Faults.{HasRisen};
+ghost use Rattle.split_base.specs.Disk.{Each, LeavesOnly};
+ghost use Rattle.sealed_core.specs.Host.{CanApply, EventView, apply, event_view};
+ghost use Rattle.host_journal.specs.Journal.{IsJournalOf, IsBeforeOrAfter};
+
+use crate::write_event;
+use gate_log::{Log, LogFault};
+use sealed_core::{Event, Host, apply, reserve};
+use split_base::Disk;
+use std::alloc::Global;
+
+/// Why an event wasn't kept, and the event.
+#[derive(Debug, Drop)]
+pub struct CommitFault {
+    pub fault: LogFault,
+    pub event: Event,
+}
+
+/// Keeps an event that may be applied, in a journal of version 2 at its end: first the memory for its
+/// body and in the host, then the record in the journal, and then the host's change. At `Ok` a crash
+/// leaves the event, and the log is at its end again.
+///
+/// - `Disk` comes only where the disk's count of faults has risen. The host is as before; the file
+///   holds the event or doesn't.
+/// - `NoMemory` comes for want of memory, before the first call of the disk, which is as before.
+///
+/// Each hands the event back; `NotALog` never comes.
+pub fn commit<D: Disk>(
+    alloc: Global,
+    host: &mut Host,
+    log: &mut Log,
+    disk: &mut D,
+    event: Event,
+) -> Result<(), CommitFault>
+    requires can { CanApply host.old.content (event_view event) }
+    requires at_end { IsTrue log.old.at_end }
+    requires version { log.old.version ≡ 2 }
+    ensures count { D.faults disk.old ≤ D.faults disk.new }
+    ensures disk { IfErr result (λ e. e.fault ≡ LogFault.Disk → HasRisen (D.faults disk.old) (D.faults disk.new)) }
+    ensures cause { IfErr result (λ e. (e.fault ≡ LogFault.Disk) ⊎ (e.fault ≡ LogFault.NoMemory)) }
+    ensures given_back { IfErr result (λ e. event_view e.event ≡ event_view event) }
+    ensures no_memory { IfErr result (λ e. e.fault ≡ LogFault.NoMemory → (disk.new ≡ disk.old) × (log.new ≡ log.old)) }
+    ensures applied { OnOk result (host.new.content ≡ apply host.old.content (event_view event)) }
+    ensures unchanged { OnErr result (host.new.content ≡ host.old.content) }
+    ensures at_end { OnOk result (IsTrue log.new.at_end) }
+    ensures honest { D.is_honest disk.old ↔ D.is_honest disk.new }
+    ensures acknowledged { D.is_honest disk.old → (secret : List ℕ) (events : List EventView) → IsJournalOf (D.images disk.old) log.old host.old.content secret events
+        → OnOk result (IsJournalOf (D.images disk.new) log.new host.new.content secret (events ++ event_view event ∷ [])) }
+    ensures any_moment { D.is_honest disk.old → (secret : List ℕ) (events : List EventView) → IsJournalOf (D.images disk.old) log.old host.old.content secret events
+        → LeavesOnly D.moment D.left_since disk.old disk.new (IsBeforeOrAfter log.old.version secret events (event_view event)) }
+    ensures after { D.is_honest disk.old → (secret : List ℕ) (events : List EventView) → IsJournalOf (D.images disk.old) log.old host.old.content secret events
+        → Each (D.images disk.new) (IsBeforeOrAfter log.old.version secret events (event_view event)) }
+{
+    let Ok(body) = write_event(alloc, &event) else {
+        return Err(CommitFault {
+            fault: LogFault::NoMemory,
+            event,
+        });
+    };
+    if reserve(host).is_err() {
+        return Err(CommitFault {
+            fault: LogFault::NoMemory,
+            event,
+        });
+    }
+    if let Err(fault) = log.append(disk, &body) {
+        return Err(CommitFault { fault, event });
+    }
+    apply(host, event);
+    Ok(())
+}

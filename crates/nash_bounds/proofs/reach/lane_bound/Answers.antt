@@ -1,0 +1,21 @@
+use Rattle.std.proofs.Common.{◌∙◌}
+use Rattle.nash_bounds.specs.Levels.{bound_of}
+use Rattle.nash_bounds.proofs.OneBound.{bound_of-is, same_bound}
+use Rattle.nash_bounds.proofs.LaneNumbers.{span_of_lanes, lanes_bound}
+use Rattle.nash_bounds.proofs.reach.lane_bound.Goals as goal
+
+pub bound_between-requires-clause-order : goal.bound_between-requires-clause-order
+bound_between-requires-clause-order c = (span_of_lanes c.args.case.now c.args.owners.now c.args.lanes.now c.requires.valid c.requires.few c.requires.lanes).in_order
+
+pub bound_between-requires-clause-small : goal.bound_between-requires-clause-small
+bound_between-requires-clause-small c = (span_of_lanes c.args.case.now c.args.owners.now c.args.lanes.now c.requires.valid c.requires.few c.requires.lanes).small
+
+pub bound_between-requires-clause-top : goal.bound_between-requires-clause-top
+bound_between-requires-clause-top c = (span_of_lanes c.args.case.now c.args.owners.now c.args.lanes.now c.requires.valid c.requires.few c.requires.lanes).within
+
+pub returns : goal.returns
+returns c =
+    let is = span_of_lanes c.args.case.now c.args.owners.now c.args.lanes.now c.requires.valid c.requires.few c.requires.lanes in
+    let lanes = c.args.lanes.now in
+    same_bound lanes.low lanes.high lanes.top c.bound_between.result (bound_of lanes.low lanes.high lanes.top) c.bound_between.ensures (bound_of-is lanes.low lanes.high lanes.top is.in_order is.small is.within)
+    ∙ lanes_bound c.args.case.now c.args.owners.now lanes c.requires.few c.requires.lanes

@@ -1,0 +1,215 @@
+ghost use Rattle.std.specs.Prelude.{◌≡◌, ℕ, List, ◌+◌, ◌-◌, ◌<◌, ◌≤◌, ◌^◌, [], ◌∷◌, ◌++◌, length, slice_index, slice_set};
+ghost use Rattle.bid_rules.specs.declared.goods.GoodsCase.{GoodsCase};
+ghost use Rattle.bid_rules.specs.Goods.{IsValidGoodsCase, player_count, points, order_of};
+ghost use Rattle.nash_bounds.specs.Lanes.{IsLaneRow, IsLaneTable, IsLanes, IsFork, IsOpen, next_good};
+ghost use Rattle.nash_bounds.specs.Prefixes.{IsPrefix};
+ghost use Rattle.nash_bounds.specs.Tables.{IsRow, IsTable};
+
+use crate::limits::MOST_TOP;
+use crate::prefix::Prefix;
+use crate::table::{PointRow, PointTable};
+use arrayvec::ArrayVec;
+use bid_rules::GoodsCase;
+use bid_rules::limits::{ITEM_ROOM, MEMBER_ROOM};
+
+/// What the players give one good, by lane.
+#[derive(Clone, Copy, Default)]
+pub struct LaneRow {
+    /// By lane the player's points for the good.
+    pub points: [u32; MEMBER_ROOM],
+    /// The greatest of these.
+    pub greatest: u32,
+}
+
+/// What the players give each good, by its place in the search order.
+#[derive(Drop)]
+pub struct LaneTable {
+    /// By place in the search order what the players give the good.
+    pub rows: ArrayVec<LaneRow, ITEM_ROOM>,
+}
+
+/// What each player has with the owners of the first few goods, and may have with the others.
+#[derive(Clone, Copy)]
+pub struct Lanes {
+    /// By lane the points that the player has so far.
+    pub low: [u32; MEMBER_ROOM],
+    /// By lane the points that the player would have with all free goods.
+    pub high: [u32; MEMBER_ROOM],
+    /// The sum of `low` and, for each free good, the greatest points that any player gives it.
+    pub top: u32,
+}
+
+/// Takes the points from the numbers, lane by lane.
+fn take_off(numbers: &mut [u32; MEMBER_ROOM], points: &[u32; MEMBER_ROOM])
+    requires { (k : ℕ) → k < MEMBER_ROOM → slice_index points.now k ≤ slice_index numbers.old k }
+    ensures each { (k : ℕ) → k < MEMBER_ROOM → slice_index numbers.new k ≡ slice_index numbers.old k - slice_index points.now k }
+    ensures long { length numbers.new ≡ MEMBER_ROOM }
+{
+    for k in 0..MEMBER_ROOM {
+        numbers[k] -= points[k];
+    }
+}
+
+/// Adds the points to the numbers, lane by lane.
+fn put_back(numbers: &mut [u32; MEMBER_ROOM], points: &[u32; MEMBER_ROOM])
+    requires { (k : ℕ) → k < MEMBER_ROOM → slice_index numbers.old k + slice_index points.now k < 2 ^ 32 }
+    ensures each { (k : ℕ) → k < MEMBER_ROOM → slice_index numbers.new k ≡ slice_index numbers.old k + slice_index points.now k }
+    ensures long { length numbers.new ≡ MEMBER_ROOM }
+{
+    for k in 0..MEMBER_ROOM {
+        numbers[k] += points[k];
+    }
+}
+
+/// Takes the next good from what the players may have.
+pub fn fork(case: &GoodsCase, table: &LaneTable, owners: &[u8], lanes: &mut Lanes)
+    requires table { IsLaneTable case.now table.now }
+    requires open { IsOpen case.now owners.now }
+    requires lanes { IsLanes case.now owners.now lanes.old }
+    ensures { IsFork case.now owners.now lanes.new }
+{
+    let row = &table.rows[owners.len()];
+    take_off(&mut lanes.high, &row.points);
+    lanes.top -= row.greatest;
+}
+
+/// Gives the next good back, as it was before `fork`.
+pub fn join(case: &GoodsCase, table: &LaneTable, owners: &[u8], lanes: &mut Lanes)
+    requires table { IsLaneTable case.now table.now }
+    requires open { IsOpen case.now owners.now }
+    requires lanes { IsFork case.now owners.now lanes.old }
+    ensures { IsLanes case.now owners.now lanes.new }
+{
+    let row = &table.rows[owners.len()];
+    put_back(&mut lanes.high, &row.points);
+    lanes.top = raised(lanes.top, row.greatest);
+}
+
+fn raised(top: u32, points: u32) -> u32
+    requires { top + points ≤ MOST_TOP }
+    ensures { result ≡ top + points }
+{
+    top + points
+}
+
+/// What the owner gives the next good.
+pub(crate) fn points_of(case: &GoodsCase, table: &LaneTable, owners: &[u8], owner: u8) -> u32
+    requires table { IsLaneTable case.now table.now }
+    requires open { IsOpen case.now owners.now }
+    requires owner_low { 1 ≤ owner }
+    requires owner_high { owner ≤ player_count case.now }
+    ensures value { result ≡ points case.now owner (next_good case.now owners.now) }
+{
+    table.rows[owners.len()].points[owner as usize - 1]
+}
+
+/// Adds the points to one lane.
+fn raise_lane(numbers: &mut [u32; MEMBER_ROOM], owner: u8, points: u32)
+    requires owner_low { 1 ≤ owner }
+    requires owner_high { owner ≤ MEMBER_ROOM }
+    requires fits { slice_index numbers.old (owner - 1) + points < 2 ^ 32 }
+    ensures { numbers.new ≡ slice_set numbers.old (owner - 1) (slice_index numbers.old (owner - 1) + points) }
+{
+    numbers[owner as usize - 1] += points;
+}
+
+/// Takes the points from one lane.
+fn lower_lane(numbers: &mut [u32; MEMBER_ROOM], owner: u8, points: u32)
+    requires owner_low { 1 ≤ owner }
+    requires owner_high { owner ≤ MEMBER_ROOM }
+    requires fits { points ≤ slice_index numbers.old (owner - 1) }
+    ensures { numbers.new ≡ slice_set numbers.old (owner - 1) (slice_index numbers.old (owner - 1) - points) }
+{
+    numbers[owner as usize - 1] -= points;
+}
+
+/// Gives the next good to the owner.
+pub fn give(case: &GoodsCase, table: &LaneTable, owners: &[u8], owner: u8, lanes: &mut Lanes)
+    requires table { IsLaneTable case.now table.now }
+    requires open { IsOpen case.now owners.now }
+    requires owner_low { 1 ≤ owner }
+    requires owner_high { owner ≤ player_count case.now }
+    requires lanes { IsFork case.now owners.now lanes.old }
+    ensures { IsLanes case.now (owners.now ++ owner ∷ []) lanes.new }
+{
+    let points = points_of(case, table, owners, owner);
+    raise_lane(&mut lanes.low, owner, points);
+    raise_lane(&mut lanes.high, owner, points);
+    lanes.top += points;
+}
+
+/// Takes the next good from the owner, as it was before `give`.
+pub fn take(case: &GoodsCase, table: &LaneTable, owners: &[u8], owner: u8, lanes: &mut Lanes)
+    requires table { IsLaneTable case.now table.now }
+    requires open { IsOpen case.now owners.now }
+    requires owner_low { 1 ≤ owner }
+    requires owner_high { owner ≤ player_count case.now }
+    requires lanes { IsLanes case.now (owners.now ++ owner ∷ []) lanes.old }
+    ensures { IsFork case.now owners.now lanes.new }
+{
+    let points = points_of(case, table, owners, owner);
+    lower_lane(&mut lanes.low, owner, points);
+    lower_lane(&mut lanes.high, owner, points);
+    lanes.top -= points;
+}
+
+/// The numbers, one a lane, and 0 in the other lanes.
+fn laned(numbers: &[u32]) -> [u32; MEMBER_ROOM]
+    requires { length numbers.now ≤ MEMBER_ROOM }
+    ensures each { (k : ℕ) → k < MEMBER_ROOM → slice_index result k ≡ slice_index numbers.now k }
+    ensures long { length result ≡ MEMBER_ROOM }
+{
+    let mut lanes = [0; MEMBER_ROOM];
+    for k in 0..numbers.len() {
+        lanes[k] = numbers[k];
+    }
+    lanes
+}
+
+/// The prefix by lanes.
+pub fn lanes_of(case: &GoodsCase, prefix: &Prefix) -> Lanes
+    requires case { IsValidGoodsCase case.now }
+    requires few { player_count case.now ≤ MEMBER_ROOM }
+    requires prefix { IsPrefix case.now prefix.now }
+    ensures { IsLanes case.now prefix.now.owners.items result }
+{
+    Lanes {
+        low: laned(prefix.low.as_slice()),
+        high: laned(prefix.high.as_slice()),
+        top: prefix.top,
+    }
+}
+
+fn lane_row(case: &GoodsCase, row: &PointRow, good: u8) -> LaneRow
+    requires few { player_count case.now ≤ MEMBER_ROOM }
+    requires row { IsRow case.now good row.now }
+    ensures { IsLaneRow case.now good result }
+{
+    LaneRow {
+        points: laned(row.points.as_slice()),
+        greatest: row.greatest,
+    }
+}
+
+/// How many players there are.
+pub fn players(case: &GoodsCase) -> u8
+    ensures value { result ≡ player_count case.now }
+    ensures few { result ≤ MEMBER_ROOM }
+{
+    case.values.as_slice().len() as u8
+}
+
+/// What the players give each good by lane, from the case's search order and table.
+pub fn lane_table(case: &GoodsCase, order: &[u8], table: &PointTable) -> LaneTable
+    requires case { IsValidGoodsCase case.now }
+    requires few { player_count case.now ≤ MEMBER_ROOM }
+    requires order { order.now ≡ order_of case.now }
+    requires table { IsTable case.now table.now }
+    ensures { IsLaneTable case.now result }
+{
+    let mut rows = ArrayVec::new();
+    for k in 0..order.len() {
+        rows.push(lane_row(case, &table.rows[k], order[k]));
+    }
+    LaneTable { rows }
+}

@@ -1,0 +1,18 @@
+// The limits of bounds, tasks and blocks. Each number of them stands here and nowhere else; those of facts and bids stand in `bid_rules`.
+use bid_rules::limits::{MOST_GOODS, MOST_MEMBERS, WHOLE_POINTS};
+
+/// The most points that the players have in sum.
+pub const MOST_SUM: u32 = MOST_MEMBERS as u32 * WHOLE_POINTS;
+/// The most that the `top` of a prefix may be: the points that the players have, and those of a greatest one for each good.
+pub const MOST_TOP: u32 = MOST_SUM + MOST_GOODS as u32 * WHOLE_POINTS;
+/// The unit in which products are compared, so that they still fit after a factor.
+pub const UNIT: u128 = 1 << 24;
+
+/// Tasks begin with lists of owners of the least length of which there are so many, or else of the length of all goods.
+pub const FEWEST_LISTS: u32 = 64;
+/// The most tasks: at most so many owners go on with each of the fewer lists that are one shorter.
+pub const MOST_TASKS: u32 = (FEWEST_LISTS - 1) * MOST_MEMBERS as u32;
+/// The most lists of owners that are shorter than those of the tasks.
+pub const MOST_SHORTER: u32 = 2 * FEWEST_LISTS - 1;
+/// How many tasks make a block: their prefixes are counted by the best pair of the earlier blocks.
+pub const BLOCK_TASKS: u32 = 16;

@@ -1,0 +1,12 @@
+-- How a search of some tasks ends.
+use Rattle.std.specs.Prelude.{◌≡◌, ℕ, ◌+◌, ◌≤◌, List}
+use Rattle.bid_rules.specs.declared.goods.GoodsCase.{GoodsCase}
+use Rattle.nash_search.specs.Best.{IsFoundBest}
+use Rattle.nash_search.specs.declared.task.TaskEnd.{TaskEnd}
+use Rattle.nash_search.specs.declared.task.TaskEnd.TheVariants.{Done, Stopped}
+
+-- all counted prefixes are counted, as many as are allowed or fewer, and the best of the counted allocations is found; or they are more than
+-- are allowed, and one more than these is counted
+abbrev pub EndsTask : GoodsCase → ℕ → List (List ℕ) → ℕ → TaskEnd → Type 0
+EndsTask case count allocations allowance (Done nodes best) = (nodes ≤ allowance) × (nodes ≡ count) × IsFoundBest case allocations best
+EndsTask case count allocations allowance (Stopped nodes) = (nodes ≡ allowance + 1) × (nodes ≤ count)

@@ -1,0 +1,10 @@
+-- The tables of a case, made once for a whole search.
+use Rattle.bid_rules.specs.declared.goods.GoodsCase.{GoodsCase}
+use Rattle.nash_bounds.specs.Lanes.{IsLaneTable}
+use Rattle.nash_bounds.specs.Tables.{IsTable}
+use Rattle.nash_search.specs.declared.tables.Tables.{Tables}
+
+-- both tables are the case's
+pub record AreTables (case : GoodsCase) (tables : Tables) : Type 0 where
+  pub points : IsTable case tables.points
+  pub lanes : IsLaneTable case tables.lanes

@@ -1,0 +1,66 @@
+-- What a walk on a path has still to come.
+use Rattle.std.specs.Prelude.{◌≡◌, ℕ, ◌-◌, ◌+◌, ◌<◌, ◌⊎◌, List, [], ◌∷◌, ◌++◌, length, map, fold, reverse, All, Option, ◌&&◌, true, false}
+use Rattle.std.specs.List.{sum_by}
+use Rattle.bid_rules.specs.declared.goods.GoodsCase.{GoodsCase}
+use Rattle.bid_rules.specs.declared.pair.Pair.{Pair}
+use Rattle.bid_rules.specs.Pairs.{IsLess}
+use Rattle.bid_rules.specs.Goods.{AreOwners}
+use Rattle.bid_rules.specs.declared.limits.TheConstants.{MEMBER_ROOM}
+use Rattle.arrayvec.specs.declared.array_vec.ArrayVec.{ArrayVec}
+use Rattle.nash_bounds.specs.Lanes.{IsLaneTable, IsLanes}
+use Rattle.bid_rules.specs.Pairs.{is_at_most, is_above}
+use Rattle.nash_bounds.specs.Counted.{is_counted, count, best}
+use Rattle.nash_search.specs.Best.{list_of, IsKept}
+use Rattle.nash_search.specs.declared.walk.Walk.{Walk}
+
+-- the owners of each level
+abbrev pub Level : Type 0
+Level = ArrayVec ℕ MEMBER_ROOM (Unit {0})
+
+abbrev pub owners_of : Level → List ℕ
+owners_of level = level.items
+
+-- the prefixes that wait, in rising order: first those that extend the whole path, by the owners of the last level from its end, and last those
+-- that extend none of it
+abbrev pub waiting : List ℕ → List ℕ → List (List ℕ) → List (List ℕ)
+waiting above path [] = []
+waiting above [] (level ∷ levels) = map (λ owner. above ++ owner ∷ []) (reverse level)
+waiting above (owner ∷ path) (level ∷ levels) = waiting (above ++ owner ∷ []) path levels ++ map (λ owner. above ++ owner ∷ []) (reverse level)
+
+-- those of a walk
+abbrev pub to_come : Walk → List (List ℕ)
+to_come walk = waiting [] walk.path.items (map owners_of walk.levels.items)
+
+-- how many prefixes that begin with one of these are counted
+abbrev pub count_all : GoodsCase → Pair → Option Pair → List (List ℕ) → ℕ
+count_all case floor above prefixes = sum_by (λ owners. count case floor above (case.facts.goods - length owners) owners) prefixes
+
+-- the best of the counted allocations that begin with one of these, after an earlier best
+abbrev pub best_all : GoodsCase → Pair → Option Pair → List (List ℕ) → Option (List ℕ) → Option (List ℕ)
+best_all case floor above prefixes old = fold (λ kept owners. best case floor above (case.facts.goods - length owners) owners kept) old prefixes
+
+-- a pair below it is not counted
+abbrev pub IsReach : Pair → Option Pair → Pair → Type 0
+IsReach floor above reach = (pair : Pair) → IsLess pair reach → (is_at_most floor pair && is_above above pair) ≡ false
+
+-- owners of the first few goods with a level for each of these and one more, or no level; each prefix that waits is counted
+pub record IsWalk (case : GoodsCase) (walk : Walk) : Type 0 where
+  pub table : IsLaneTable case walk.table
+  pub lanes : IsLanes case walk.path.items walk.lanes
+  pub short : length walk.path.items < case.facts.goods
+  pub owned : AreOwners case walk.path.items
+  pub levelled : (walk.levels.items ≡ []) ⊎ (length walk.levels.items ≡ length walk.path.items + 1)
+  pub players : All (λ level. AreOwners case (owners_of level)) walk.levels.items
+  pub counted : All (λ owners. is_counted case walk.rules.floor walk.rules.above owners ≡ true) (to_come walk)
+  pub kept : IsKept case walk.best
+  pub reach : IsReach walk.rules.floor walk.rules.above walk.rules.reach
+
+-- nothing waits, or the last level has an owner
+abbrev pub IsSettled : Walk → Type 0
+IsSettled walk = (walk.levels.items ≡ []) ⊎ ((front : List Level) × (last : Level) × (walk.levels.items ≡ front ++ last ∷ []) × (0 < length last.items))
+
+-- what was counted and what is still to come is the same together
+pub record Goes (case : GoodsCase) (old new : Walk) : Type 0 where
+  pub rules : new.rules ≡ old.rules
+  pub nodes : old.nodes + count_all case old.rules.floor old.rules.above (to_come old) ≡ new.nodes + count_all case old.rules.floor old.rules.above (to_come new)
+  pub best : best_all case old.rules.floor old.rules.above (to_come old) (list_of old.best) ≡ best_all case old.rules.floor old.rules.above (to_come new) (list_of new.best)

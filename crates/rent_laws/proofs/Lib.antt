@@ -1,0 +1,12 @@
+pub mod DualNumbers
+pub mod EnvyFreeWelfare
+pub mod KeyOrder
+pub mod LeastUtilities
+pub mod MaximinLaws
+pub mod MemberPrices
+pub mod PriceRange
+pub mod ShownRents
+pub mod UniquePrices
+pub mod UniqueRents
+pub mod ValueCycles
+pub mod WalkWeights

@@ -1,0 +1,17 @@
+pub mod Applying
+pub mod Bidders
+pub mod Equality
+pub mod Fits
+pub mod Holders
+pub mod KeyDigits
+pub mod Machine
+pub mod Mapped
+pub mod Quiet
+pub mod Refusals
+pub mod Runs
+pub mod SameEvents
+pub mod Sealing
+pub mod Soundness
+pub mod Texts
+pub mod Veil
+pub mod Wholes

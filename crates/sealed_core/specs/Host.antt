@@ -1,0 +1,174 @@
+-- A host as contracts see it: texts are lists of bytes. What events may come, and what they do.
+use Rattle.std.specs.Prelude.{◌≡◌, ◌≢◌, ℕ, zero, suc, ◌+◌, ◌-◌, ◌<◌, ◌≤◌, ◌⊎◌, ◌==◌, Bool, true, false, List, [], ◌∷◌, ◌++◌, map, length, replicate, set, All, Option, Some, None, IfSome, IsSome, IsSomeAnd, slice_get, slice_index, slice_index_or, if◌then◌else◌}
+use Rattle.arrayvec.specs.ArrayString.{ArrayString}
+use Rattle.bid_rules.specs.declared.bids.Bid.{Bid}
+use Rattle.bid_rules.specs.declared.bids.Facts.{Facts}
+use Rattle.bid_rules.specs.declared.bids.Facts.TheVariants as facts
+use Rattle.bid_rules.specs.Facts.{IsCheckedBid, IsCheckedFacts, member_count}
+use Rattle.bid_rules.specs.declared.limits.TheConstants.{LONGEST_NAME}
+use Rattle.sealed_core.specs.declared.limits.TheConstants.{LAST_DEADLINE, LONGEST_TAG, MOST_INSTANCES, MOST_TURNS, SHORTEST_TAG}
+use Rattle.sealed_core.specs.declared.creations.Creation.{Creation}
+use Rattle.sealed_core.specs.declared.host.Instance.{Instance}
+use Rattle.sealed_core.specs.declared.events.Event.{Event}
+use Rattle.sealed_core.specs.declared.events.Event.TheVariants as event
+
+pub record CreationView : Type 0 where
+  pub title : List ℕ
+  pub members : List (List ℕ)
+  pub items : List (List ℕ)
+  pub facts : Facts
+  pub deadline : ℕ
+  pub tag : List ℕ
+
+-- an instance: by member the kept turn, 0 at first, and the kept bid or none
+pub record InstanceView : Type 0 where
+  pub creation : CreationView
+  pub turns : List ℕ
+  pub bids : List (Option Bid)
+  pub closed : Bool
+
+-- a host: its secret, the greatest moment of a kept event, and the instances in order of id
+pub record HostView : Type 0 where
+  pub secret : List ℕ
+  pub moment : ℕ
+  pub instances : List InstanceView
+
+-- a host and its spare places, of which 'unchanged' never speaks
+pub record Holding : Type 0 where
+  pub content : HostView
+  pub spare : ℕ
+
+pub data EventView : Type 0 where
+  Created : (moment : ℕ) → CreationView → EventView
+  BidKept : (moment id member turn : ℕ) → Bid → EventView
+  Closed : (moment id : ℕ) → EventView
+  Withdrawn : (moment id member turn : ℕ) → EventView
+
+abbrev pub text : ArrayString → List ℕ
+text s = s.bytes
+
+abbrev pub creation_view : Creation → CreationView
+creation_view c = record { title = text c.title; members = map text c.members.items; items = map text c.items.items; facts = c.facts; deadline = c.deadline; tag = text c.tag }
+
+abbrev pub instance_view : Instance → InstanceView
+instance_view i = record { creation = creation_view i.creation; turns = i.turns.items; bids = i.bids.items; closed = i.closed }
+
+abbrev pub event_view : Event → EventView
+event_view (event.Create moment creation) = Created moment (creation_view creation)
+event_view (event.Bid moment id member turn bid) = BidKept moment id member turn bid
+event_view (event.Close moment id) = Closed moment id
+event_view (event.Withdraw moment id member turn) = Withdrawn moment id member turn
+
+-- a name: 1 to 40 bytes without control characters
+pub record IsName (name : List ℕ) : Type 0 where
+  pub some : 1 ≤ length name
+  pub most : length name ≤ LONGEST_NAME
+  pub plain : All (λ byte. (32 ≤ byte) × (byte ≢ 127)) name
+
+-- a byte of a tag: a digit, a lower-case letter or a hyphen
+abbrev pub IsTagByte : ℕ → Type 0
+IsTagByte byte = ((48 ≤ byte) × (byte ≤ 57)) ⊎ ((97 ≤ byte) × (byte ≤ 122)) ⊎ (byte ≡ 45)
+
+-- a tag: 16 to 64 of these
+pub record IsTag (tag : List ℕ) : Type 0 where
+  pub least : SHORTEST_TAG ≤ length tag
+  pub most : length tag ≤ LONGEST_TAG
+  pub plain : All IsTagByte tag
+
+-- how many rooms, goods or places the facts name
+abbrev pub item_count : Facts → ℕ
+item_count (facts.Rent rent) = rent.members
+item_count (facts.Goods goods) = goods.goods
+item_count (facts.Fares fares) = fares.places
+
+-- a creation whose facts are checked, with the counts of its lists, and whose fields keep their rules
+pub record IsCheckedCreation (c : CreationView) : Type 0 where
+  pub facts : IsCheckedFacts c.facts
+  pub member_names : length c.members ≡ member_count c.facts
+  pub item_names : length c.items ≡ item_count c.facts
+  pub title : IsName c.title
+  pub members : All IsName c.members
+  pub items : All IsName c.items
+  pub tag : IsTag c.tag
+  pub deadline : c.deadline ≤ LAST_DEADLINE
+
+-- what holds of each instance of a host
+pub record IsSound (i : InstanceView) : Type 0 where
+  pub creation : IsCheckedCreation i.creation
+  pub turns : length i.turns ≡ length i.creation.members
+  pub bids : length i.bids ≡ length i.creation.members
+  pub used : All (λ turn. turn ≤ MOST_TURNS) i.turns
+  pub checked : All (λ bid. IfSome bid (IsCheckedBid i.creation.facts)) i.bids
+
+-- what holds of all of them
+pub record AreSound (instances : List InstanceView) : Type 0 where
+  pub each : All IsSound instances
+  pub few : length instances ≤ MOST_INSTANCES
+
+-- the instance with this id: ids count from 1
+abbrev pub instance_at : HostView → ℕ → Option InstanceView
+instance_at h id = if id == 0 then None else slice_get h.instances (id - 1)
+
+-- the kept turn and bid of a member; the organiser, number 0, has none
+abbrev pub kept_turn : InstanceView → ℕ → ℕ
+kept_turn i m = if m == 0 then 0 else slice_index i.turns (m - 1)
+
+abbrev pub kept_bid : InstanceView → ℕ → Option Bid
+kept_bid i m = if m == 0 then None else slice_index_or i.bids (m - 1) None
+
+-- the greatest moment of a kept event after this one
+abbrev pub moment_of : EventView → ℕ
+moment_of (Created moment creation) = moment
+moment_of (BidKept moment id member turn bid) = moment
+moment_of (Closed moment id) = moment
+moment_of (Withdrawn moment id member turn) = moment
+
+-- it is open, before its deadline, and this is the member's next turn
+pub record IsNextTurn (now : ℕ) (i : InstanceView) (m turn : ℕ) : Type 0 where
+  pub open_ : i.closed ≡ false
+  pub early : now < i.creation.deadline
+  pub least : 1 ≤ m
+  pub most : m ≤ length i.creation.members
+  pub next : turn ≡ kept_turn i m + 1
+  pub used : turn ≤ MOST_TURNS
+
+abbrev pub IsDue : HostView → EventView → Type 0
+IsDue h (Created now c) = (length h.instances < MOST_INSTANCES) × IsCheckedCreation c × All (λ i. i.creation.tag ≢ c.tag) h.instances
+IsDue h (BidKept now id m turn bid) = IsSomeAnd (instance_at h id) (λ i. IsNextTurn now i m turn × IsCheckedBid i.creation.facts bid)
+IsDue h (Closed now id) = IsSomeAnd (instance_at h id) (λ i. (i.closed ≡ false) × ((i.creation.deadline ≤ now) ⊎ All (λ bid. IsSome bid) i.bids))
+IsDue h (Withdrawn now id m turn) = IsSomeAnd (instance_at h id) (λ i. IsNextTurn now i m turn × IsSome (kept_bid i m))
+
+-- the event may come: its moment isn't below the greatest kept one, and its own condition holds
+abbrev pub CanApply : HostView → EventView → Type 0
+CanApply h e = (h.moment ≤ moment_of e) × IsDue h e
+
+-- a new instance: nobody has bid
+abbrev pub fresh : CreationView → InstanceView
+fresh c = record { creation = c; turns = replicate (length c.members) 0; bids = replicate (length c.members) None; closed = false }
+
+-- the member's kept turn and bid are these
+abbrev pub with_turn : ℕ → ℕ → Option Bid → InstanceView → InstanceView
+with_turn m turn bid i = record { creation = i.creation; turns = set i.turns (m - 1) turn; bids = set i.bids (m - 1) bid; closed = i.closed }
+
+abbrev pub as_closed : InstanceView → InstanceView
+as_closed i = record { creation = i.creation; turns = i.turns; bids = i.bids; closed = true }
+
+-- the element at a place, from 0, is changed
+abbrev pub changed : {A : Type 0} → (A → A) → List A → ℕ → List A
+changed f [] place = []
+changed f (x ∷ xs) zero = f x ∷ xs
+changed f (x ∷ xs) (suc place) = x ∷ changed f xs place
+
+-- the instance with this id is changed
+abbrev pub change : (InstanceView → InstanceView) → List InstanceView → ℕ → List InstanceView
+change f instances id = changed f instances (id - 1)
+
+abbrev pub instances_after : List InstanceView → EventView → List InstanceView
+instances_after instances (Created now c) = instances ++ fresh c ∷ []
+instances_after instances (BidKept now id m turn bid) = change (with_turn m turn (Some bid)) instances id
+instances_after instances (Closed now id) = change as_closed instances id
+instances_after instances (Withdrawn now id m turn) = change (with_turn m turn None) instances id
+
+-- the host after an event
+abbrev pub apply : HostView → EventView → HostView
+apply h e = record { secret = h.secret; moment = moment_of e; instances = instances_after h.instances e }

@@ -1,0 +1,22 @@
+-- The keys of an instance, and who holds one.
+use Rattle.std.specs.Prelude.{◌≤◌, ◌⊎◌, ℕ, zero, suc, ◌+◌, List, ◌++◌, codes, decimal, if◌then◌else◌, Option, Some, None, nat_eq}
+use Rattle.std.specs.Cmp.Lexicographic.{pointwise}
+use Rattle.sha2.specs.Sha256.{sha256}
+use Rattle.hex.specs.Hex.{encode_lower}
+
+-- the text `ID/MEMBER` in plain decimal
+abbrev pub member_text : ℕ → ℕ → List ℕ
+member_text id member = decimal id ++ codes "/" ++ decimal member
+
+-- the lower-case hexadecimal digits of the SHA-256 (FIPS 180-4) of the secret and that text
+unfoldable pub key_text : List ℕ → ℕ → ℕ → List ℕ
+key_text secret id member = encode_lower (sha256 (secret ++ member_text id member))
+
+-- a lower-case hexadecimal digit
+abbrev pub IsKeyDigit : ℕ → Type 0
+IsKeyDigit digit = ((48 ≤ digit) × (digit ≤ 57)) ⊎ ((97 ≤ digit) × (digit ≤ 102))
+
+-- the least of so many numbers, from the given one on, whose key this is
+abbrev pub first_holder : List ℕ → ℕ → List ℕ → ℕ → ℕ → Option ℕ
+first_holder secret id key zero from = None
+first_holder secret id key (suc left) from = if pointwise nat_eq (key_text secret id from) key then Some from else first_holder secret id key left (from + 1)

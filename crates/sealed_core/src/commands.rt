@@ -1,0 +1,77 @@
+use crate::{BodyFault, Creation, Key};
+use bid_rules::limits::Values;
+
+/// The body of a bid or of a withdrawal. A field is `None` where it is absent or of another form.
+#[derive(Debug, Drop, PartialEq, Eq)]
+pub struct BidBody {
+    /// Which turn of the member this is, from 1.
+    pub turn: Option<u32>,
+    /// By room in cents, or by good in points; a withdrawal doesn't look at it.
+    pub values: Option<Values>,
+    /// The place, from 1; a withdrawal doesn't look at it.
+    pub place: Option<u8>,
+}
+
+/// What is published once an instance is closed.
+#[derive(Clone, Copy, Debug, PartialEq, Eq)]
+pub enum What {
+    /// Who gets what, and who pays what.
+    Division,
+    /// The text from which anyone can check that the division is the best.
+    Certificate,
+    /// The text that explains the division.
+    Report,
+}
+
+/// What a caller asks of a host. The key is the one that they show, or `None` where they show none.
+#[derive(Debug, Drop, PartialEq, Eq)]
+pub enum Command {
+    /// A new instance.
+    Create {
+        body: Result<Creation, BodyFault>,
+    },
+    /// The public facts of an instance.
+    Status {
+        id: u32,
+        key: Option<Key>,
+    },
+    /// A member's bid.
+    Bid {
+        id: u32,
+        key: Option<Key>,
+        body: Result<BidBody, BodyFault>,
+    },
+    /// The member's own bid.
+    Own {
+        id: u32,
+        key: Option<Key>,
+    },
+    /// The organiser's close.
+    Close {
+        id: u32,
+        key: Option<Key>,
+    },
+    /// What a closed instance came to.
+    Publish {
+        id: u32,
+        key: Option<Key>,
+        what: What,
+    },
+    /// The withdrawal of a member's bid.
+    Withdraw {
+        id: u32,
+        key: Option<Key>,
+        body: Result<BidBody, BodyFault>,
+    },
+}
+
+/// What is asked of an instance.
+#[derive(Debug, Drop, PartialEq, Eq)]
+pub(crate) enum Ask {
+    Status,
+    Bid(Result<BidBody, BodyFault>),
+    Own,
+    Close,
+    Publish(What),
+    Withdraw(Result<BidBody, BodyFault>),
+}

@@ -1,0 +1,213 @@
+ghost use Rattle.std.specs.Prelude.{◌≡◌, ◌≤◌, [], length, map, OnErr, OnOk, All};
+ghost use Rattle.std.specs.Prelude.{◌+◌, ◌-◌, IfSome, IsSome, IsSomeAnd, replicate, false, ◌<◌, ◌⊎◌};
+ghost use Rattle.bid_rules.specs.Facts.{IsCheckedBid};
+ghost use Rattle.sealed_core.specs.declared.limits.TheConstants.{MOST_INSTANCES};
+ghost use Rattle.bid_rules.specs.declared.limits.TheConstants.{MEMBER_ROOM};
+ghost use Rattle.sealed_core.specs.Host.{CanApply, Created, IsCheckedCreation, IsNextTurn, IsSound, apply, as_closed, change, creation_view, event_view, fresh, instance_at, instance_view, with_turn};
+
+use crate::{Creation, Event};
+use arrayvec::ArrayVec;
+use bid_rules::Bid;
+use bid_rules::limits::MEMBER_ROOM;
+use split_base::NoMemory;
+use std::alloc::Global;
+use std::marker::Model;
+
+/// An instance: what was created, what the members have bid, and whether bidding is over.
+#[derive(Debug, Drop, PartialEq, Eq)]
+pub struct Instance {
+    pub creation: Creation,
+    /// The kept turn of each member, 0 before the first.
+    pub turns: ArrayVec<u8, MEMBER_ROOM>,
+    /// The kept bid of each member, or none.
+    pub bids: ArrayVec<Option<Bid>, MEMBER_ROOM>,
+    pub closed: bool,
+}
+
+/// The instances that kept events have made.
+#[derive(Drop)]
+pub struct Host {
+    secret: [u8; 32],
+    moment: u64,
+    instances: Vec<Instance>,
+}
+
+impl Model for Host {
+    ghost use Rattle.std.specs.Prelude.{◌≤◌, ◌-◌, map, length, All, vec_capacity, vec_len};
+    ghost use Rattle.sealed_core.specs.Host.{HostView, Holding, AreSound, instance_view, IsSound};
+
+    ghost Value = { Holding };
+
+    ghost view = { λ h. record {
+      content = record { secret = h.secret; moment = h.moment; instances = map instance_view h.instances.items };
+      spare = vec_capacity h.instances - vec_len h.instances;
+    } };
+
+    ghost invariant = { λ h. AreSound (map instance_view h.instances.items) };
+}
+
+impl Host {
+    /// The empty host with this secret.
+    pub fn new(alloc: Global, secret: [u8; 32]) -> Host
+        ensures { result.content ≡ record { secret = secret; moment = 0; instances = [] } }
+    {
+        Host {
+            secret,
+            moment: 0,
+            instances: Vec::new(alloc),
+        }
+    }
+
+    /// The secret of which the keys are made.
+    pub fn secret(&self) -> &[u8; 32]
+        ensures { result.now ≡ self.now.content.secret }
+    {
+        &self.secret
+    }
+
+    /// The greatest moment of a kept event, 0 before the first.
+    pub fn moment(&self) -> u64
+        ensures { result ≡ self.now.content.moment }
+    {
+        self.moment
+    }
+
+    /// The instances in order of id.
+    pub fn instances(&self) -> &[Instance]
+        ensures views { map instance_view result.now ≡ self.now.content.instances }
+        ensures each { All (λ i. IsSound (instance_view i)) result.now }
+        ensures sound { All IsSound self.now.content.instances }
+        ensures few { length self.now.content.instances ≤ MOST_INSTANCES }
+    {
+        &self.instances
+    }
+
+    fn reserve_one(&mut self) -> Result<(), NoMemory>
+        ensures content { self.new.content ≡ self.old.content }
+        ensures room { OnOk result (1 ≤ self.new.spare) }
+        ensures kept { self.old.spare ≤ self.new.spare }
+        ensures full { OnErr result (self.old.spare ≡ 0) }
+    {
+        match self.instances.reserve(1) {
+            Ok(()) => Ok(()),
+            Err(_) => Err(NoMemory),
+        }
+    }
+
+    /// Adds an instance in which nobody has bid.
+    fn create(&mut self, moment: u64, creation: Creation)
+        requires few { length self.old.content.instances < MOST_INSTANCES }
+        requires creation { IsCheckedCreation (creation_view creation) }
+        requires room { 1 ≤ self.old.spare }
+        ensures content { self.new.content ≡ apply self.old.content (Created moment (creation_view creation)) }
+        ensures spare { self.new.spare + 1 ≡ self.old.spare }
+    {
+        self.moment = moment;
+        self.instances.push_reserved(fresh(creation));
+    }
+
+    /// Keeps a member's turn, and the bid that they now have or none.
+    fn keep_turn(&mut self, moment: u64, id: u32, member: u8, turn: u8, bid: Option<Bid>)
+        requires { IsSomeAnd (instance_at self.old.content id) (λ i. IsNextTurn moment i member turn × IfSome bid (IsCheckedBid i.creation.facts)) }
+        ensures content { self.new.content ≡ record { secret = self.old.content.secret; moment = moment; instances = change (with_turn member turn bid) self.old.content.instances id } }
+        ensures spare { self.new.spare ≡ self.old.spare }
+    {
+        self.moment = moment;
+        let instance = &mut self.instances[id as usize - 1];
+        set_turn(instance, member, turn, bid);
+    }
+
+    /// Closes an instance.
+    fn close(&mut self, moment: u64, id: u32)
+        requires { IsSome (instance_at self.old.content id) }
+        ensures content { self.new.content ≡ record { secret = self.old.content.secret; moment = moment; instances = change as_closed self.old.content.instances id } }
+        ensures spare { self.new.spare ≡ self.old.spare }
+    {
+        self.moment = moment;
+        self.instances[id as usize - 1].closed = true;
+    }
+}
+
+fn no_turns(members: usize) -> ArrayVec<u8, MEMBER_ROOM>
+    requires { members ≤ MEMBER_ROOM }
+    ensures { result.items ≡ replicate members 0 }
+{
+    let mut turns = ArrayVec::new();
+    for _member in 0..members {
+        turns.push(0);
+    }
+    turns
+}
+
+fn no_bids(members: usize) -> ArrayVec<Option<Bid>, MEMBER_ROOM>
+    requires { members ≤ MEMBER_ROOM }
+    ensures { result.items ≡ replicate members None }
+{
+    let mut bids = ArrayVec::new();
+    for _member in 0..members {
+        bids.push(None);
+    }
+    bids
+}
+
+/// An instance in which nobody has bid.
+fn fresh(creation: Creation) -> Instance
+    ensures { instance_view result ≡ fresh (creation_view creation) }
+{
+    let turns = no_turns(creation.members.len());
+    let bids = no_bids(creation.members.len());
+    Instance {
+        creation,
+        turns,
+        bids,
+        closed: false,
+    }
+}
+
+/// Sets a member's turn and bid.
+fn set_turn(instance: &mut Instance, member: u8, turn: u8, bid: Option<Bid>)
+    requires least { 1 ≤ member }
+    requires turns { member ≤ length instance.old.turns.items }
+    requires bids { member ≤ length instance.old.bids.items }
+    ensures { instance_view instance.new ≡ with_turn member turn bid (instance_view instance.old) }
+{
+    let place = usize::from(member) - 1;
+    instance.turns[place] = turn;
+    instance.bids[place] = bid;
+}
+
+/// Makes one spare place, so that `apply` can take it.
+pub fn reserve(host: &mut Host) -> Result<(), NoMemory>
+    ensures content { host.new.content ≡ host.old.content }
+    ensures room { OnOk result (1 ≤ host.new.spare) }
+    ensures kept { host.old.spare ≤ host.new.spare }
+    ensures full { OnErr result (host.old.spare ≡ 0) }
+{
+    host.reserve_one()
+}
+
+/// Applies an event that may be applied, in memory that `reserve` took.
+pub fn apply(host: &mut Host, event: Event)
+    requires can { CanApply host.old.content (event_view event) }
+    requires room { 1 ≤ host.old.spare }
+    ensures content { host.new.content ≡ apply host.old.content (event_view event) }
+    ensures spare { host.old.spare ≤ host.new.spare + 1 }
+{
+    match event {
+        Event::Create { moment, creation } => host.create(moment, creation),
+        Event::Bid {
+            moment,
+            id,
+            member,
+            turn,
+            bid,
+        } => host.keep_turn(moment, id, member, turn, Some(bid)),
+        Event::Close { moment, id } => host.close(moment, id),
+        Event::Withdraw {
+            moment,
+            id,
+            member,
+            turn,
+        } => host.keep_turn(moment, id, member, turn, None),
+    }
+}

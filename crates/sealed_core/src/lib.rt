@@ -1,0 +1,31 @@
+//! The host of sealed bids: a machine of accepted commands.
+//!
+//! `answer` says what a host replies to a command at a moment, and which event goes before the reply; `apply` makes the event's change.
+//! Until an instance is closed, what a caller hears of it follows from their own bid and the public facts alone.
+#![tactic(auto)]
+
+mod answers;
+mod commands;
+mod creations;
+mod equals;
+mod events;
+mod fields;
+mod host;
+mod keys;
+mod laws;
+pub mod limits;
+mod lookups;
+mod replies;
+
+pub use answers::answer;
+pub use commands::{BidBody, Command, What};
+pub use creations::{Creation, Name, Tag};
+pub use events::{Event, can_apply};
+pub use fields::{BodyFault, FieldName};
+pub use host::{Host, Instance, apply, reserve};
+pub use keys::{Key, key_of};
+pub use laws::{key_law, machine_law, sameness_law, sealing_law};
+pub use replies::{Answered, Refusal, Reply};
+
+#[cfg(test)]
+mod tests;

@@ -1,0 +1,62 @@
+use crate::{Event, FieldName, What};
+
+/// Why a command is refused. Of several causes the first is told, in the order `NoInstance` to `TurnsUsed`, `NoBid`, `NotAll`,
+/// `NotClosed`.
+#[derive(Clone, Copy, Debug, PartialEq, Eq)]
+pub enum Refusal {
+    /// No instance has the id.
+    NoInstance,
+    /// No key is shown.
+    NoKey,
+    /// The key is that of nobody in this instance.
+    WrongKey,
+    /// The organiser bids, withdraws or asks for a bid of their own, or a member closes.
+    Role,
+    /// The body of a creation, bid or withdrawal is no JSON.
+    BadJson,
+    /// The first field of the body that breaks its rule.
+    BadField { name: FieldName },
+    /// The tag stands with another creation.
+    TagTaken,
+    /// The creation is new and the host holds as many instances as it may.
+    HostFull,
+    /// A bid, a withdrawal or a close on a closed instance.
+    Closed,
+    /// The turn of a bid is neither the next one nor that of an equal kept bid, or the turn of a withdrawal is neither the next one nor
+    /// one with which the member withdrew. With the member's kept turn.
+    Turn { kept: u8 },
+    /// The turn is the next one, and the member has used all turns.
+    TurnsUsed,
+    /// A close before the deadline while a member has no bid.
+    NotAll,
+    /// A division, certificate or report of an instance that isn't closed.
+    NotClosed,
+    /// The withdrawal, with the next turn, of a member without a bid.
+    NoBid,
+}
+
+/// The reply to a command.
+#[derive(Clone, Copy, Debug, PartialEq, Eq)]
+pub enum Reply {
+    /// The instance that stands for the creation: a new one, or that of an equal creation before.
+    Created { id: u32 },
+    /// The public facts of the instance, and who asks: a member from 1, or 0 for the organiser.
+    Status { id: u32, you: u8 },
+    /// The member's kept turn after a bid or a withdrawal.
+    Kept { turn: u8 },
+    /// This member's own bid and kept turn.
+    Own { id: u32, member: u8 },
+    /// The instance is closed.
+    Closed,
+    /// What the closed instance came to.
+    Publish { id: u32, what: What },
+    /// The command is refused.
+    Refused(Refusal),
+}
+
+/// What a host answers: the reply, and the event that is to be applied before it is sent, if there is one.
+#[derive(Debug, Drop, PartialEq, Eq)]
+pub struct Answered {
+    pub event: Option<Event>,
+    pub reply: Reply,
+}

@@ -1,0 +1,65 @@
+-- What the calls of a disk do to its file, and what a crash between two syncs may do to it.
+use Rattle.std.specs.Prelude.{◌≡◌, ◌⊎◌, ℕ, ◌+◌, ◌-◌, ◌≤◌, List, [], ◌∷◌, ◌++◌, length, take, drop}
+
+-- new holds these bytes at this place and is old elsewhere; what lies between old's end and the place isn't told
+pub record IsOver (old : List ℕ) (place : ℕ) (bytes new : List ℕ) : Type 0 where
+  pub gap : List ℕ
+  pub gap_size : length gap ≡ place - length old
+  pub is : new ≡ take place old ++ gap ++ bytes ++ drop (place + length bytes) old
+
+-- after a whole write; one of no bytes changes nothing
+abbrev pub IsWritten : (old : List ℕ) (place : ℕ) (bytes new : List ℕ) → Type 0
+IsWritten old place [] new = new ≡ old
+IsWritten old place (b ∷ bytes) new = IsOver old place (b ∷ bytes) new
+
+-- after a write of n bytes that a crash cuts short: any bytes in the range and past the old end, the same elsewhere
+pub record IsTorn (place n : ℕ) (old new : List ℕ) : Type 0 where
+  pub no_shorter : length old ≤ length new
+  pub before : take place (take (length old) new) ≡ take place old
+  pub after : drop (place + n) (take (length old) new) ≡ drop (place + n) old
+
+-- each image after a step is an image of before, changed by that step
+abbrev pub Follows : (List ℕ → List ℕ → Type 0) → (List ℕ → Type 0) → (List ℕ → Type 0) → Type 0
+Follows step old new = (c : List ℕ) → new c → (d : List ℕ) × old d × step d c
+
+-- each image after is one of before
+abbrev pub AddsNone : (List ℕ → Type 0) → (List ℕ → Type 0) → Type 0
+AddsNone old new = (c : List ℕ) → new c → old c
+
+-- there is one image
+abbrev pub Only : List ℕ → (List ℕ → Type 0) → Type 0
+Only file images = (c : List ℕ) → images c → c ≡ file
+
+-- each image has P
+abbrev pub Each : (List ℕ → Type 0) → (List ℕ → Type 0) → Type 0
+Each images P = (c : List ℕ) → images c → P c
+
+-- an image of before, torn by a write of n bytes at the place or not
+abbrev pub Tears : (List ℕ → Type 0) → ℕ → ℕ → List ℕ → Type 0
+Tears old place n c = (d : List ℕ) × old d × IsTorn place n d c
+
+-- time goes on: a crash since t might have left what it might have left before, or one of these images
+pub record Elapses (before now : ℕ) (past since : ℕ → List ℕ → Type 0) (images : List ℕ → Type 0) : Type 0 where
+  pub later : before ≤ now
+  pub nothing_else : (t : ℕ) (c : List ℕ) → t ≤ before → since t c → past t c ⊎ images c
+  pub keeps : (t : ℕ) (c : List ℕ) → t ≤ before → past t c → since t c
+
+-- a crash at any moment since old leaves a file that has P
+pub record LeavesOnly {D : Type 0} (moment : D → ℕ) (left_since : D → ℕ → List ℕ → Type 0) (old new : D) (P : List ℕ → Type 0) : Type 0 where
+  pub later : moment old ≤ moment new
+  pub each : (c : List ℕ) → left_since new (moment old) c → P c
+  -- for a run that began earlier
+  pub before : (t : ℕ) (c : List ℕ) → t ≤ moment old → left_since new t c → left_since old t c ⊎ P c
+  -- and what might have been left then still counts
+  pub keeps : (t : ℕ) (c : List ℕ) → t ≤ moment old → left_since old t c → left_since new t c
+
+-- a call that changes no byte, or several of them: a read gives the same, and a crash since leaves what it might have left before
+pub record Rests {D : Type 0} (seen : D → List ℕ) (images : D → List ℕ → Type 0) (moment : D → ℕ) (left_since : D → ℕ → List ℕ → Type 0) (old new : D) : Type 0 where
+  pub same : seen new ≡ seen old
+  pub adds_none : AddsNone (images old) (images new)
+  pub time : Elapses (moment old) (moment new) (left_since old) (left_since new) (images old)
+
+-- a write of n bytes at the place, done or failed: each image after it is one of before, torn or not
+pub record MayTear {D : Type 0} (images : D → List ℕ → Type 0) (moment : D → ℕ) (left_since : D → ℕ → List ℕ → Type 0) (place n : ℕ) (old new : D) : Type 0 where
+  pub crash : Each (images new) (Tears (images old) place n)
+  pub time : Elapses (moment old) (moment new) (left_since old) (left_since new) (images new)

@@ -1,0 +1,12 @@
+-- What reading to the end makes of the source's count of faults.
+use Rattle.std.specs.Prelude.{ℕ, Result, Ok, Err}
+use Rattle.split_base.specs.Faults.{counted}
+use Rattle.split_base.specs.declared.whole.ReadStop.{ReadStop}
+use Rattle.split_base.specs.declared.whole.ReadStop.TheVariants.{Fault, TooLong, NoMemory}
+
+-- one more after a failed read, and else the same: no failed read is tried again
+abbrev pub faults_after : {T : Type 0} → ℕ → Result T ReadStop → ℕ
+faults_after before (Ok bytes) = before
+faults_after before (Err Fault) = counted before
+faults_after before (Err TooLong) = before
+faults_after before (Err NoMemory) = before

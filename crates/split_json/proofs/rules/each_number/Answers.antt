@@ -1,0 +1,15 @@
+use Rattle.std.proofs.Common.{refl, arith}
+use Rattle.serde_json.specs.View.{view}
+use Rattle.split_json.specs.Rules.{number_in}
+use Rattle.split_json.proofs.Lists.{each-goes_on, each-stops}
+use Rattle.split_json.proofs.rules.each_number.Goals as goal
+
+pub returns-in_err-number_in : goal.returns-in_err-number_in
+returns-in_err-number_in g c =
+    let none = each-stops number_in view c.args.list.now c.loop-item.item-index c.item-item.result c.loop-item-test.true c.item-item.is c.in_err-number_in.ensures in
+    rw (c.from_residual.ensures, none) refl
+
+pub loop-item-preserved : goal.loop-item-preserved
+loop-item-preserved g c =
+    let held = each-goes_on number_in view c.args.list.now c.loop-item.item-index c.item-item.result _ _ c.loop-item-test.true c.item-item.is c.loop-item.invariant.held c.in_ok-number_in.ensures in
+    record { held = rw c.push.ensures.items (held); count = omega (arith, c.push.ensures.len, c.loop-item.invariant.count) }

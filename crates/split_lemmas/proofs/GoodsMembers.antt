@@ -1,0 +1,77 @@
+-- How many members there are takes no part in what is said of players and goods, and players are no more than members can be.
+use Rattle.std.proofs.Common.{◌≡◌, ℕ, zero, suc, ◌+◌, ◌<◌, ◌≤◌, get_or, List, [], ◌∷◌, length, map, cond, nat_le, ◌==◌, All, arith, refl, sym, ap, ◌∙◌, subst}
+use Rattle.std.specs.List.{range_with_len}
+use Rattle.std.specs.List.Sorted.{IsStrictlyIncreasing}
+use Rattle.bid_rules.specs.declared.goods.GoodsCase.{GoodsCase}
+use Rattle.bid_rules.specs.declared.pair.Pair.{Pair}
+use Rattle.bid_rules.specs.Goods.{GoodsBest, IsValidGoodsCase, greatest_points, order_of, pair_of, IsBehind, player_count, points, put_in, sorted_goods, utilities, utility, with_members}
+use Rattle.bid_rules.specs.Pairs.{IsLess, nash_welfare}
+
+-- a good is put in at the same place
+put_in_same : (case : GoodsCase) (m n good : ℕ) (goods : List ℕ) → put_in (with_members case m) good goods ≡ put_in (with_members case n) good goods
+put_in_same case m n good [] = refl
+put_in_same case m n good (other ∷ others) =
+    ap (λ xs. cond (nat_le (greatest_points (with_members case m) other) (greatest_points (with_members case m) good)) (good ∷ other ∷ others) (other ∷ xs)) (put_in_same case m n good others)
+
+sorted_same : (case : GoodsCase) (m n : ℕ) (goods : List ℕ) → sorted_goods (with_members case m) goods ≡ sorted_goods (with_members case n) goods
+sorted_same case m n [] = refl
+sorted_same case m n (good ∷ goods) = put_in_same case m n good (sorted_goods (with_members case m) goods) ∙ ap (put_in (with_members case n) good) (sorted_same case m n goods)
+
+-- the search order is the same
+pub order_same : (case : GoodsCase) (m n : ℕ) → order_of (with_members case m) ≡ order_of (with_members case n)
+order_same case m n = sorted_same case m n (range_with_len 1 case.facts.goods)
+
+utility_same : (case : GoodsCase) (m n player : ℕ) (goods owners : List ℕ) → utility (with_members case m) player goods owners ≡ utility (with_members case n) player goods owners
+utility_same case m n player [] owners = refl
+utility_same case m n player (good ∷ goods) [] = refl
+utility_same case m n player (good ∷ goods) (owner ∷ owners) =
+    ap (λ u. cond (owner == player) (points (with_members case m) player good) 0 + u) (utility_same case m n player goods owners)
+
+-- functions with the same values map a list to the same
+pub map_same : (f g : ℕ → ℕ) (xs : List ℕ) → ((x : ℕ) → f x ≡ g x) → map f xs ≡ map g xs
+map_same f g [] h = refl
+map_same f g (x ∷ xs) h = ap (λ y. y ∷ map f xs) (h x) ∙ ap (λ ys. g x ∷ ys) (map_same f g xs h)
+
+-- so is a player's utility
+pub own_utility : (case : GoodsCase) (m n : ℕ) (owners : List ℕ) (player : ℕ)
+    → utility (with_members case m) player (order_of (with_members case m)) owners ≡ utility (with_members case n) player (order_of (with_members case n)) owners
+own_utility case m n owners player =
+    ap (λ goods. utility (with_members case m) player goods owners) (order_same case m n) ∙ utility_same case m n player (order_of (with_members case n)) owners
+
+-- all utilities
+pub utilities_same : (case : GoodsCase) (m n : ℕ) (owners : List ℕ) → utilities (with_members case m) owners ≡ utilities (with_members case n) owners
+utilities_same case m n owners = map_same _ _ (range_with_len 1 (length case.values.items)) (own_utility case m n owners)
+
+-- the pair
+pub pair_same : (case : GoodsCase) (m n : ℕ) (owners : List ℕ) → pair_of (with_members case m) owners ≡ pair_of (with_members case n) owners
+pair_same case m n owners = ap nash_welfare (utilities_same case m n owners)
+
+-- and the best allocation
+pub best_same : (case : GoodsCase) (m n : ℕ) (answer : List ℕ) → GoodsBest (with_members case m) answer → GoodsBest (with_members case n) answer
+best_same case m n answer best = record {
+  allocation = record { each = best.allocation.each; owned = best.allocation.owned };
+  best = λ others h. behind others (best.best others (record { each = h.each; owned = h.owned }));
+}
+  where
+    behind : (others : List ℕ) → IsBehind (with_members case m) others answer → IsBehind (with_members case n) others answer
+    behind others h = rw (pair_same case n m others, pair_same case n m answer) h
+
+rises_by_one : (xs : List ℕ) → IsStrictlyIncreasing xs → All (λ x. 1 ≤ x) xs → (k : ℕ) → k < length xs → k + 1 ≤ get_or xs k 0
+rises_by_one xs rising low zero l = low 0 0 l
+rises_by_one xs rising low (suc k) l =
+    let before = rises_by_one xs rising low k (omega arith) in
+    let next = rising k (omega arith) in
+    let e : suc k ≡ k + 1 = omega arith in
+    let here : get_or xs k 0 < get_or xs (k + 1) 0 = next in
+    subst (λ j. j + 1 ≤ get_or xs j 0) (sym e) (omega (arith, before, here))
+
+-- there are no more players than members
+pub players_few : (case : GoodsCase) → IsValidGoodsCase case → player_count case ≤ case.facts.members
+players_few case valid = at (length case.who.items) refl
+  where
+    at : (n : ℕ) → n ≡ length case.who.items → player_count case ≤ case.facts.members
+    at zero e = omega (arith, e, valid.each)
+    at (suc n) e =
+        let last = rises_by_one case.who.items valid.rising (λ k d l. (valid.members k d l).0) n (omega (arith, e)) in
+        let most = (valid.members n 0 (omega (arith, e))).1 in
+        omega (arith, e, last, most, valid.each)

@@ -1,8 +1,0 @@
-use Rattle.std.proofs.Common.{◌≡◌, ◌++◌, string_bytes}
-use Rattle.split_json.specs.Reading.{shown}
-use Rattle.split_reports.specs.Lines.{lines_to}
-use Rattle.split_reports.specs.Fares.{ride_line}
-use Rattle.split_reports.proofs.fares.push_riders.Given as goal
-
-abbrev pub invariant-loop-k : goal.invariant-loop-k
-invariant-loop-k l = string_bytes l.lines ≡ string_bytes l.initial.lines ++ lines_to l.k (ride_line (shown l.input) l.case l.shares.fares.now l.shares.pays.now)

@@ -1,0 +1,34 @@
+-- Lines and their parts, as those who write them and those who read them know them.
+use Rattle.std.specs.Prelude.{ℕ, ℤ, List, [], ◌∷◌, ◌++◌, flat_map}
+use Rattle.std.specs.Fmt.{decimal}
+use Rattle.split_frac.specs.Frac.{pair_text}
+
+-- texts one after another, a space, which is 32, before each
+abbrev pub spaced : List (List ℕ) → List ℕ
+spaced texts = flat_map (λ text. 32 ∷ text) texts
+
+-- numbers one after another, a space before each: each is given as a numerator and a denominator, and a whole number has the denominator 1
+abbrev pub numbers_text : List (ℤ × ℕ) → List ℕ
+numbers_text numbers = flat_map (λ number. 32 ∷ pair_text number) numbers
+
+-- a name after its number
+unfoldable pub named : ℕ → List ℕ → List ℕ
+named number name = decimal number ++ 32 ∷ name
+
+-- a line: what it reads, and LF, which is 10
+unfoldable pub line : List ℕ → List ℕ
+line content = content ++ 10 ∷ []
+
+-- pieces one after another
+abbrev pub joined : List (List ℕ) → List ℕ
+joined [] = []
+joined (piece ∷ []) = piece
+joined (piece ∷ next ∷ more) = piece ++ joined (next ∷ more)
+
+-- a line of pieces, as one format writes it
+abbrev pub line_of : List (List ℕ) → List ℕ
+line_of pieces = line (joined pieces)
+
+-- a line of a word and numbers, whose texts are given
+abbrev pub word_line : List ℕ → List (List ℕ) → List ℕ
+word_line word numbers = line (word ++ spaced numbers)

@@ -1,0 +1,84 @@
+-- The endings of a command: each with its status, its text and the cause without which it doesn't come.
+use Rattle.std.specs.Prelude.{◌≡◌, ℕ, List, [], ◌∷◌, ◌++◌, Result, Ok, Err, map, codes}
+use Rattle.std.specs.Fmt.{decimal}
+use Rattle.sealed_core.specs.declared.fields.BodyFault.{BodyFault}
+use Rattle.sealed_core.specs.declared.fields.BodyFault.TheVariants.{Json, Field}
+use Rattle.split_json.specs.Reading.{case_in, field_text}
+use Rattle.split_top.specs.declared.command.Command.{Command}
+use Rattle.split_top.specs.declared.command.Command.TheVariants.{Solve, Report}
+use Rattle.split_top.specs.declared.stop.Stop.{Stop}
+use Rattle.split_top.specs.declared.stop.Stop.TheVariants.{Void, OverLimit, BadWords, TooLong, BadCase, ReadFault, NoMemory}
+use Rattle.split_text.specs.Texts.{line, word_line}
+use Rattle.split_top.specs.Told.{HasFault, IsPartRead, IsTooLong, IsUntouched, IsWhole, Told}
+use Rattle.split_top.specs.Texts.{Holds, IsOutput, IsOverLimit, IsVoid, MakesCase}
+
+-- the command table: the words of each row
+abbrev pub IsRow : List (List ℕ) → Command → Type 0
+IsRow words Solve = words ≡ codes "solve" ∷ codes "1" ∷ []
+IsRow words Report = words ≡ codes "report" ∷ codes "1" ∷ []
+
+-- the words are a row of a command that reads a case, as all of them do
+abbrev pub ReadsCase : List (List ℕ) → Type 0
+ReadsCase words = (command : Command) × IsRow words command
+
+-- the words are no row of the command table
+abbrev pub IsNoRow : List (List ℕ) → Type 0
+IsNoRow words = (command : Command) → IsRow words command → ⊥
+
+-- the command read its input whole, and this is so of the bytes
+abbrev pub HasRead : List (List ℕ) → Told → (Command → List ℕ → Type 0) → Type 0
+HasRead words input so = (command : Command) × IsRow words command × ((bytes : List ℕ) × IsWhole input bytes × so command bytes)
+
+-- the line that refuses a body
+abbrev pub fault_line : BodyFault → List ℕ
+fault_line Json = codes "refused: json\n"
+fault_line (Field name) = line (codes "refused: field " ++ field_text name)
+
+-- what an ending owes: its status and its text, and its cause in the words and in what the input tells
+pub record Owed : Type 1 where
+  pub status : ℕ
+  pub text : List ℕ
+  pub cause : List (List ℕ) → Told → Type 0
+
+-- each ending of a command, in the order of the statuses: the tests come in the order words, reading, solving
+abbrev pub owed : Result (List ℕ) Stop → Owed
+owed (Ok text) = record {
+  status = 0;
+  text = text;
+  cause = λ words input. HasRead words input (λ command bytes. IsOutput command bytes text);
+}
+owed (Err (Void missing)) = record {
+  status = 1;
+  text = word_line (codes "void:") (map decimal missing.members.items);
+  cause = λ words input. HasRead words input (λ command bytes. Holds bytes (IsVoid missing));
+}
+owed (Err (OverLimit limit)) = record {
+  status = 1;
+  text = word_line (codes "step limit") (decimal limit ∷ []);
+  cause = λ words input. HasRead words input (λ command bytes. Holds bytes (λ given. MakesCase given (λ case. IsOverLimit case limit)));
+}
+owed (Err BadWords) = record {
+  status = 2;
+  text = codes "refused: words\n";
+  cause = λ words input. IsNoRow words × IsUntouched input;
+}
+owed (Err TooLong) = record {
+  status = 3;
+  text = codes "refused: too long\n";
+  cause = λ words input. ReadsCase words × IsTooLong input;
+}
+owed (Err (BadCase fault)) = record {
+  status = 3;
+  text = fault_line fault;
+  cause = λ words input. HasRead words input (λ command bytes. case_in bytes ≡ Err fault);
+}
+owed (Err ReadFault) = record {
+  status = 5;
+  text = codes "read fault\n";
+  cause = λ words input. ReadsCase words × HasFault input × IsPartRead input;
+}
+owed (Err NoMemory) = record {
+  status = 9;
+  text = codes "no memory\n";
+  cause = λ words input. ReadsCase words × IsPartRead input;
+}

@@ -1,0 +1,58 @@
+-- What a source and a sink tell before and after a command.
+use Rattle.std.specs.Prelude.{◌≡◌, ◌⊎◌, ℕ, ◌+◌, ◌≤◌, List, Option, length, take}
+use Rattle.std.specs.Io.KnownBytes.{Appends, Consumes, IsAtEnd}
+use Rattle.split_base.specs.Faults.{HasRisen}
+use Rattle.split_top.specs.declared.limits.TheConstants.{LONGEST_INPUT}
+
+-- the bytes that an object has left or holds, where it knows them, and its count of faults
+pub record Told : Type 0 where
+  pub bytes_before : Option (List ℕ)
+  pub bytes_after : Option (List ℕ)
+  pub faults_before : ℕ
+  pub faults_after : ℕ
+
+-- what an object tells, by what its trait says of its bytes and faults
+abbrev pub told : {S : Type 0} → (S → Option (List ℕ)) → (S → ℕ) → S → S → Told
+told bytes faults before after = record { bytes_before = bytes before; bytes_after = bytes after; faults_before = faults before; faults_after = faults after }
+
+-- the object's count of faults rose, or stands at its greatest value
+abbrev pub HasFault : Told → Type 0
+HasFault object = HasRisen object.faults_before object.faults_after
+
+-- the object's count of faults did not rise
+abbrev pub IsSound : Told → Type 0
+IsSound object = HasFault object → ⊥
+
+-- the bytes are as many as an input may have
+abbrev pub IsShort : List ℕ → Type 0
+IsShort bytes = length bytes ≤ LONGEST_INPUT
+
+-- the most bytes of an input that are read: one more than it may have
+abbrev pub most_read : ℕ
+most_read = LONGEST_INPUT + 1
+
+-- the input gave these bytes, no more than it may have, and then no more were left
+abbrev pub IsWhole : Told → List ℕ → Type 0
+IsWhole input bytes = IsShort bytes × Consumes input.bytes_before input.bytes_after bytes × IsAtEnd input.bytes_after
+
+-- nothing was read, and no read failed
+abbrev pub IsUntouched : Told → Type 0
+IsUntouched input = (input.bytes_after ≡ input.bytes_before) × (input.faults_after ≡ input.faults_before)
+
+-- the input gave some bytes, at most one more than it may have
+abbrev pub IsPartRead : Told → Type 0
+IsPartRead input = (bytes : List ℕ) × (length bytes ≤ most_read) × Consumes input.bytes_before input.bytes_after bytes
+
+-- the input gave one byte more than it may have, and no more of it was read
+abbrev pub IsTooLong : Told → Type 0
+IsTooLong input = (bytes : List ℕ) × (length bytes ≡ most_read) × Consumes input.bytes_before input.bytes_after bytes
+
+-- the text was written
+abbrev pub HasWritten : Told → List ℕ → Type 0
+HasWritten output text = Appends output.bytes_before output.bytes_after text
+
+-- the text was written and the status is the one that goes with it; or a write failed after a prefix of the text, which shows in the output's count, and the status is 6
+abbrev pub Ends : Told → List ℕ → ℕ → ℕ → Type 0
+Ends output text due status =
+    ((status ≡ due) × HasWritten output text)
+    ⊎ ((status ≡ 6) × HasFault output × ((n : ℕ) × (n ≤ length text) × HasWritten output (take n text)))
