@@ -100,9 +100,9 @@ some_member n (None ∷ bids) h = some_member (n + 1) bids h
 some_member n (Some given ∷ bids) h = omega arith
 
 -- checked facts and checked bids, not all missing, make a valid case
-pub valid_case : (fares : Fares) (bids : List (Option Bid)) → IsCheckedFares fares → length bids ≡ fares.members → All (HasCheckedBid fares) bids
+pub valid_fares : (fares : Fares) (bids : List (Option Bid)) → IsCheckedFares fares → length bids ≡ fares.members → All (HasCheckedBid fares) bids
     → list_all is_none bids ≡ false → IsValidFareCase (fare_case fares bids)
-valid_case fares bids checked count given some =
+valid_fares fares bids checked count given some =
     let places = places_checked fares 1 bids given in
     record {
       facts = checked;

@@ -1,4 +1,4 @@
--- The first number above a million, in a list of parts.
+-- The first number above the limit of cents, in a list of parts.
 use Rattle.std.proofs.Common.{◌≡◌, ℕ, ◌+◌, ◌-◌, ◌<◌, ◌≤◌, List, ◌++◌, [], ◌∷◌, length, take, drop, get_or, All, flat_map, arith, sym, ap, ◌∙◌, subst, suc, ⊎_elim}
 use Rattle.std.proofs.Math.Seq.{split_at, take-suc}
 use Rattle.std.proofs.lemmas.Bool.{cases_lt}

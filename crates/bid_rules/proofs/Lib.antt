@@ -1,8 +1,8 @@
 pub mod Bidders
-pub mod Housemates
+pub mod GivenValues
+pub mod LegLimits
 pub mod LegPlaces
 pub mod Legs
 pub mod Players
 pub mod RentValues
-pub mod Small
 pub mod ValidCases

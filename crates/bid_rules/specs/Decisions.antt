@@ -99,7 +99,7 @@ has_shape fares =
 
 is_checked_fares : (fares : Fares) → Decision (IsCheckedFares fares)
 is_checked_fares fares =
-    same (λ p. record { shape = p.0; million = p.1.0; own_legs = p.1.1 }) (λ c. (c.shape, (c.million, c.own_legs)))
+    same (λ p. record { shape = p.0; cents = p.1.0; own_legs = p.1.1 }) (λ c. (c.shape, (c.cents, c.own_legs)))
     (both (has_shape fares)
     (both (each (λ cents. cents ≤ MOST_FARE_CENTS) (λ cents. at_most cents MOST_FARE_CENTS) (fares.flag ∷ legs_in_order fares))
     (up_to (λ place. leg fares place place ≡ 0) (λ place. equal (leg fares place place) 0) fares.places)))

@@ -43,7 +43,7 @@ legs_in_order facts = flat_map (λ row. row.items) facts.legs.items
 abbrev pub leg : Fares → ℕ → ℕ → ℕ
 leg facts from to = slice_index (slice_index_or facts.legs.items from (record { items = [] })).items (to - 1)
 
--- the number at the place is the first above a million
+-- the number at the place is the first above the limit of cents
 pub record IsFirstAboveLimit (numbers : List ℕ) (place : ℕ) : Type 0 where
   pub stands : place < length numbers
   pub above : MOST_FARE_CENTS < slice_index numbers place
@@ -56,14 +56,14 @@ pub record IsFirstOwnLeg (facts : Fares) (place : ℕ) : Type 0 where
   pub counts : 0 < leg facts place place
   pub first : (p : ℕ) → 1 ≤ p → p < place → leg facts p p ≡ 0
 
--- the flag fall and the legs are at most a million cents
+-- the flag fall and the legs are at most the limit of cents
 abbrev pub AreWithinLimit : Fares → Type 0
 AreWithinLimit facts = All (λ cents. cents ≤ MOST_FARE_CENTS) (facts.flag ∷ legs_in_order facts)
 
 -- facts on fares without a fault
 pub record IsCheckedFares (facts : Fares) : Type 0 where
   pub shape : HasShape facts
-  pub million : AreWithinLimit facts
+  pub cents : AreWithinLimit facts
   pub own_legs : (p : ℕ) → 1 ≤ p → p ≤ facts.places → leg facts p p ≡ 0
 
 -- the first fault of facts on fares, in the order of the cases; the flag fall stands at place 0, and the legs after it, row by row

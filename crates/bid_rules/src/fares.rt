@@ -81,7 +81,7 @@ fn has_table(facts: &Fares) -> bool
     facts.legs.len() == places + 1 && facts.legs.iter().all(|row| row.len() == places)
 }
 
-/// The index of the first number above a million.
+/// The index of the first number above the limit of cents.
 fn first_above(row: &[u32]) -> Option<usize>
     ensures cases { MatchOption result (All (λ cents. cents ≤ MOST_FARE_CENTS) row.now) (IsFirstAboveLimit row.now) }
     ensures within { IfSome result (λ place. place < length row.now) }
@@ -89,7 +89,7 @@ fn first_above(row: &[u32]) -> Option<usize>
     row.iter().position(|cents| *cents > MOST_FARE_CENTS)
 }
 
-/// The number of legs before the first one above a million.
+/// The number of legs before the first one above the limit of cents.
 fn first_leg_above(facts: &Fares) -> Option<u32>
     ensures cases { MatchOption result (All (λ cents. cents ≤ MOST_FARE_CENTS) (legs_in_order facts.now)) (IsFirstAboveLimit (legs_in_order facts.now)) }
     ensures small { IfSome result (λ place. place < LEG_ROW_ROOM * PLACE_ROOM) }

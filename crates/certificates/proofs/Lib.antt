@@ -1,0 +1,7 @@
+pub mod Rows
+pub mod Starts
+pub mod Tables
+pub mod Fits
+pub mod Sizes
+pub mod RentTexts
+pub mod FareTexts

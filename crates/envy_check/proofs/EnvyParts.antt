@@ -5,15 +5,15 @@ use Rattle.std.proofs.lemmas.Int.{ints, unsigned_abs-mul}
 use Rattle.std.proofs.lemmas.List.{get_or-map}
 use Rattle.std.proofs.lemmas.List.Elements.{All-head, All-tail}
 use Rattle.std.proofs.lemmas.Nat.Gcd.{le_of_dvd}
-use Rattle.std.proofs.Math.IntN.{*ℤ_comm}
+use Rattle.std.proofs.Math.IntN.{*ℤ_comm, zero-*ℤ}
 use Rattle.std.proofs.Math.Nat.{div-mul_cancel, mul-le-mul_right, le_trans}
 use Rattle.bid_rules.specs.declared.rents.RentCase.{RentCase}
 use Rattle.bid_rules.specs.Fractions.{Fraction, IsQuotient}
 use Rattle.bid_rules.specs.Rent.{HasParts, IsValidRentCase, price_of, room_count, utility_with, value}
 use Rattle.split_lemmas.proofs.SignedProducts.{times_one, times_swap, times_times}
-use Rattle.split_lemmas.proofs.Totals.{times_le, times_zero}
+use Rattle.split_lemmas.proofs.Multiples.{multiple_le}
 use Rattle.split_frac.specs.declared.frac.Frac.{Frac}
-use Rattle.split_frac.specs.Frac.{HasValue, IsDifference, IsWithin, pair_of}
+use Rattle.split_frac.specs.Frac.{HasValue, IsDifference, IsWithin, fraction_of}
 use Rattle.envy_check.proofs.CentEnvy.{price_parts}
 use Rattle.envy_check.specs.Envy.{ArePrices}
 
@@ -26,7 +26,7 @@ pub parts_of : ℕ → List Frac → List ℤ
 parts_of whole prices = map (part_of whole) prices
 
 -- they are the prices
-pub has_parts : (whole : ℕ) (prices : List Frac) → All (λ price. price.den ∣ whole) prices → HasParts (map pair_of prices) whole (parts_of whole prices)
+pub has_parts : (whole : ℕ) (prices : List Frac) → All (λ price. price.den ∣ whole) prices → HasParts (map fraction_of prices) whole (parts_of whole prices)
 unfolding part_of parts_of
 has_parts whole [] h = tt
 has_parts whole (p ∷ prices) h =
@@ -63,10 +63,10 @@ utility_small case prices h member room valid l low high within =
     let is : price_of (map (part_of w) prices) room ≡ part_of w first = get_or-map (part_of w) prices (room - 1) (record_of prices (room - 1) place) (pos 0) place in
     let part = part_small w first (h.common.divides (room - 1) (record_of prices (room - 1) place) place) (h.within (room - 1) (record_of prices (room - 1) place) place) in
     let same = ap unsigned_abs is in
-    let up = times_le w (value case member room) (pos 10000000) (let rent = valid.facts.1 in let most = (within member room valid l).1 in omega (arith, ints, rent, most)) in
-    let down = times_le w (pos 0) (value case member room) (within member room valid l).0 in
+    let up = multiple_le w (value case member room) (pos 10000000) (let rent = valid.facts.1 in let most = (within member room valid l).1 in omega (arith, ints, rent, most)) in
+    let down = multiple_le w (pos 0) (value case member room) (within member room valid l).0 in
     let none = *ℤ_comm (pos w) (pos 0) in
-    let zero = times_zero (pos w) in
+    let zero = zero-*ℤ (pos w) in
     small (pos w *ℤ value case member room) (price_of (map (part_of w) prices) room) w up (omega (arith, ints, down, none, zero)) (omega (arith, same, part))
   where
     record_of : (xs : List Frac) (i : ℕ) → i < length xs → Frac
@@ -103,10 +103,10 @@ price_within case prices place price h l is =
     (omega (arith, low, small, within), omega (arith, low, small))
 
 -- a price at a place in parts
-pub quotient_at : (prices : List Frac) (k : ℕ) (parts : List ℤ) (place : ℕ) (price : Frac) → HasParts (map pair_of prices) k parts → place < length prices → price ≡ get_or prices place price → HasValue price (get_or parts place (pos 0)) k
+pub quotient_at : (prices : List Frac) (k : ℕ) (parts : List ℤ) (place : ℕ) (price : Frac) → HasParts (map fraction_of prices) k parts → place < length prices → price ≡ get_or prices place price → HasValue price (get_or parts place (pos 0)) k
 quotient_at prices k parts place price h l is =
-    let quotient = price_parts (map pair_of prices) k parts h place in
-    let same : get_or (map pair_of prices) place (pos 0, 1) ≡ pair_of price = get_or-map pair_of prices place price (pos 0, 1) l ∙ ap pair_of (sym is) in
+    let quotient = price_parts (map fraction_of prices) k parts h place in
+    let same : get_or (map fraction_of prices) place (pos 0, 1) ≡ fraction_of price = get_or-map fraction_of prices place price (pos 0, 1) l ∙ ap fraction_of (sym is) in
     (subst (λ (a : Fraction). IsQuotient a (get_or parts place (pos 0)) k) same quotient).1
 
 -- a difference of what a member would have with two rooms is small

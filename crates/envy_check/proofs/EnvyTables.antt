@@ -11,7 +11,7 @@ use Rattle.bid_rules.specs.Fractions.{Fraction, IsQuotient}
 use Rattle.bid_rules.specs.Rent.{HasParts, IsAssignment, IsEnvyFree, room_count, utility, utility_with}
 use Rattle.split_lemmas.proofs.RoomPlaces.{room_place, room_range}
 use Rattle.split_frac.specs.declared.frac.Frac.{Frac}
-use Rattle.split_frac.specs.Frac.{pair_of}
+use Rattle.split_frac.specs.Frac.{fraction_of}
 use Rattle.envy_check.specs.Envy.{IsEnvyTable, entry_at, envy, rows_of}
 use Rattle.envy_check.proofs.Products.{le_cancel}
 use Rattle.split_lemmas.proofs.SignedProducts.{le_times}
@@ -44,7 +44,7 @@ Table = ArrayVec (ArrayVec Frac 12 (Unit {0})) 12 (Unit {0})
 
 -- its rows as fractions
 abbrev row_of : ArrayVec Frac 12 (Unit {0}) → List Fraction
-row_of row = map pair_of row.items
+row_of row = map fraction_of row.items
 
 -- no entry is above 0
 abbrev pub HasNoneAbove : ArrayVec (ArrayVec Frac 12 (Unit {0})) 12 (Unit {0}) → Type 0
@@ -60,7 +60,7 @@ module _ (table : Table) (case : RentCase) (rooms : List ℕ) (prices : List Fra
       let m = there.1 in
       let members = is.members in
       let rows : All (λ row. All (λ (a : Fraction). a.0 ≤ℤ pos 0) row) (rows_of table) =
-      All-map (λ (row : List Fraction). All (λ (a : Fraction). a.0 ≤ℤ pos 0) row) row_of table.items (λ i d x. All-map (λ (a : Fraction). a.0 ≤ℤ pos 0) pair_of (get_or table.items i d).items (none i d x)) in
+      All-map (λ (row : List Fraction). All (λ (a : Fraction). a.0 ≤ℤ pos 0) row) row_of table.items (λ i d x. All-map (λ (a : Fraction). a.0 ≤ℤ pos 0) fraction_of (get_or table.items i d).items (none i d x)) in
       let within : member < length (rows_of table) = omega arith in
       let row = is.others member [] within in
       let entry = rows member [] within other (pos 0, 1) (omega (arith, row, m)) in
@@ -73,13 +73,13 @@ module _ (table : Table) (case : RentCase) (rooms : List ℕ) (prices : List Fra
       let n = room_count case in
       let members : length table.items ≡ n = sym (length-map table.items row_of) ∙ is.members in
       let row : get_or (rows_of table) i [] ≡ row_of (get_or table.items i d) = get_or-map row_of table.items i d [] x in
-      let long : length (row_of (get_or table.items i d)) ≡ length (get_or table.items i d).items = length-map (get_or table.items i d).items pair_of in
+      let long : length (row_of (get_or table.items i d)) ≡ length (get_or table.items i d).items = length-map (get_or table.items i d).items fraction_of in
       let all = is.others i [] (let e = length-map table.items row_of in omega (arith, e)) in
       let same : length (get_or (rows_of table) i []) ≡ length (row_of (get_or table.items i d)) = ap length row in
       let l : i < n = omega (arith, members, x) in
       let m : j < n = omega (arith, all, same, long, y) in
-      let entry : entry_at (rows_of table) i j ≡ pair_of (get_or (get_or table.items i d).items j e) =
-      ap (λ (r : List Fraction). amount_at r j) row ∙ get_or-map pair_of (get_or table.items i d).items j e (pos 0, 1) y in
+      let entry : entry_at (rows_of table) i j ≡ fraction_of (get_or (get_or table.items i d).items j e) =
+      ap (λ (r : List Fraction). amount_at r j) row ∙ get_or-map fraction_of (get_or table.items i d).items j e (pos 0, 1) y in
       let range = room_range n rooms j h m in
       let kept = less_from (utility_with case k parts i (get_or rooms j 0)) (utility case k rooms parts i) (free i (get_or rooms j 0) l range.0 range.1) in
       let low = sign_from (entry_at (rows_of table) i j) (envy case k rooms parts i j) k some (is.entries i j l m k parts some in_parts) kept in

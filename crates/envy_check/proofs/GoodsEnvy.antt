@@ -3,23 +3,19 @@ use Rattle.std.proofs.Common.{◌≡◌, ℕ, ◌+◌, ◌-◌, ◌*◌, ◌<◌
 use Rattle.std.specs.List.{range_with_len}
 use Rattle.std.proofs.lemmas.Bool.{cases_lt}
 use Rattle.std.proofs.lemmas.Bool.Decides.{nat_tests}
-use Rattle.std.proofs.lemmas.List.{append-nil, get_or_append_left, get_or_push, map-id}
+use Rattle.std.proofs.lemmas.List.{append-nil, get_or_append_left, get_or_push}
 use Rattle.std.proofs.lemmas.List.Elements.{All-cons, All-nil, All-push, All-contains, Contains-append_left, Contains-push, filter-append}
-use Rattle.std.proofs.lemmas.List.FromFn.{map-range_with_len_more}
 use Rattle.std.proofs.lemmas.List.Sums.{sum_by-append, sum_by-cons, get_or-le-sum_by}
 use Rattle.bid_rules.specs.declared.goods.GoodsCase.{GoodsCase}
 use Rattle.bid_rules.specs.Goods.{points}
 use Rattle.split_lemmas.proofs.Counts.{mark, mark_same, no_repeat-range}
+use Rattle.split_lemmas.proofs.RangeSteps.{range_next}
 use Rattle.envy_check.specs.BestGoods.{IsBetter}
-use Rattle.envy_check.specs.Goods.{EndsEnvy, IsMostValued, goods_of, is_owner, points_for, without}
-
--- the numbers from 1, and one more
-range_more : (k : ℕ) → range_with_len 1 (k + 1) ≡ range_with_len 1 k ++ (k + 1) ∷ []
-range_more k = sym (map-id (range_with_len 1 (k + 1))) ∙ map-range_with_len_more (λ x. x) 1 k (k + 1) (omega arith) ∙ ap (λ xs. xs ++ (k + 1) ∷ []) (map-id (range_with_len 1 k))
+use Rattle.envy_check.specs.Goods.{EndsEnvy, IsMostValued, goods_of, goods_without, is_owner, points_for}
 
 -- those that pass a test, and the next where it passes
 pub filter_next : (p : ℕ → Bool) (k : ℕ) → filter p (range_with_len 1 (k + 1)) ≡ filter p (range_with_len 1 k) ++ cond (p (k + 1)) ((k + 1) ∷ []) []
-filter_next p k = ap (filter p) (range_more k) ∙ filter-append p (range_with_len 1 k) ((k + 1) ∷ [])
+filter_next p k = ap (filter p) (range_next 1 k (k + 1) (omega arith)) ∙ filter-append p (range_with_len 1 k) ((k + 1) ∷ [])
 
 -- a sum over one or none
 sum_one : (f : ℕ → ℕ) (x : ℕ) (b : Bool) → sum_by f (cond b (x ∷ []) []) ≡ cond b (f x) 0
@@ -149,11 +145,11 @@ without_step f g x w s m rest false e is h =
     omega (arith, is, h, cons, none)
 
 -- the sum over a list is that over the list without a good, and what the good adds each time it stands there
-without_all : (f : ℕ → ℕ) (g : ℕ) (xs : List ℕ) → sum_by f xs ≡ sum_by f (without xs g) + sum_by (mark g) xs * f g
+without_all : (f : ℕ → ℕ) (g : ℕ) (xs : List ℕ) → sum_by f xs ≡ sum_by f (goods_without xs g) + sum_by (mark g) xs * f g
 without_all f g [] = let none : 0 * f g ≡ 0 = omega arith in omega (arith, none)
 without_all f g (x ∷ xs) =
     let h = without_all f g xs in
-    let step = without_step f g x (sum_by f (without xs g)) (sum_by f xs) (sum_by (mark g) xs) (without xs g) (x == g) refl refl h in
+    let step = without_step f g x (sum_by f (goods_without xs g)) (sum_by f xs) (sum_by (mark g) xs) (goods_without xs g) (x == g) refl refl h in
     let ours = sum_by-cons f x xs in
     let marks = sum_by-cons (mark g) x xs in
     let times = ap (λ n. n * f g) marks in
@@ -180,7 +176,7 @@ good_once owners owner good there =
 
 -- the points for an owner's goods are those without one of them and its own
 pub points_without : (case : GoodsCase) (owners : List ℕ) (player owner good : ℕ) → Contains (goods_of owners owner) good
-    → points_for case player (goods_of owners owner) ≡ points_for case player (without (goods_of owners owner) good) + points case player good
+    → points_for case player (goods_of owners owner) ≡ points_for case player (goods_without (goods_of owners owner) good) + points case player good
 points_without case owners player owner good there =
     let all = without_all (points case player) good (goods_of owners owner) in
     let once = ap (λ n. n * points case player good) (good_once owners owner good there) in

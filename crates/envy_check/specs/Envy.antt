@@ -1,5 +1,5 @@
 -- What the members of a shared rent would have with the rooms of others, as a table.
-use Rattle.std.specs.Prelude.{◌≡◌, ℕ, ℤ, ◌*◌, ◌^◌, ◌<◌, ◌≤◌, ◌-ℤ◌, List, [], length, map, All, slice_index, slice_index_or, unsigned_abs}
+use Rattle.std.specs.Prelude.{◌≡◌, ℕ, ℤ, ◌*◌, ◌<◌, ◌≤◌, ◌-ℤ◌, List, [], length, map, All, slice_index, slice_index_or, unsigned_abs}
 use Rattle.std.specs.Int.{◌∣◌}
 use Rattle.arrayvec.specs.declared.array_vec.ArrayVec.{ArrayVec}
 use Rattle.bid_rules.specs.declared.limits.TheConstants.{MEMBER_ROOM}
@@ -8,23 +8,25 @@ use Rattle.bid_rules.specs.Cents.{amount_at}
 use Rattle.bid_rules.specs.Fractions.{Fraction, IsQuotient}
 use Rattle.bid_rules.specs.Rent.{HasParts, room_count, utility, utility_with}
 use Rattle.split_frac.specs.declared.frac.Frac.{Frac}
-use Rattle.split_frac.specs.Frac.{pair_of}
+use Rattle.split_frac.specs.declared.limits.TheConstants.{MOST_DENOMINATOR}
+use Rattle.split_frac.specs.Frac.{fraction_of}
+use Rattle.envy_check.specs.declared.limits.TheConstants.{MOST_AMOUNT}
 
 -- an exact amount of cents from -10^12 to 10^12, with a denominator of at most 4,000,000
 abbrev pub IsAmount : Frac → Type 0
-IsAmount amount = (unsigned_abs amount.num ≤ 10 ^ 12 * amount.den) × (amount.den ≤ 4000000)
+IsAmount amount = (unsigned_abs amount.num ≤ MOST_AMOUNT * amount.den) × (amount.den ≤ MOST_DENOMINATOR)
 
 -- the denominators all divide one whole number from 1 to 4,000,000
 pub record HasCommonDenominator (amounts : List Frac) : Type 0 where
   pub whole : ℕ
   pub some : 1 ≤ whole
-  pub small : whole ≤ 4000000
+  pub small : whole ≤ MOST_DENOMINATOR
   pub divides : All (λ amount. amount.den ∣ whole) amounts
 
 -- a price for each room, from -10^12 to 10^12, with a common denominator
 pub record ArePrices (case : RentCase) (prices : List Frac) : Type 0 where
   pub each : length prices ≡ room_count case
-  pub within : All (λ price. unsigned_abs price.num ≤ 10 ^ 12 * price.den) prices
+  pub within : All (λ price. unsigned_abs price.num ≤ MOST_AMOUNT * price.den) prices
   pub common : HasCommonDenominator prices
 
 -- what a member would have with another member's room at its price, less its own utility, in k-ths
@@ -33,7 +35,7 @@ envy case k rooms prices member other = utility_with case k prices member (slice
 
 -- a table of fractions, by row and column
 abbrev pub rows_of : ArrayVec (ArrayVec Frac MEMBER_ROOM (Unit {0})) MEMBER_ROOM (Unit {0}) → List (List Fraction)
-rows_of table = map (λ row. map pair_of row.items) table.items
+rows_of table = map (λ row. map fraction_of row.items) table.items
 
 -- the entry in a row and a column
 abbrev pub entry_at : List (List Fraction) → ℕ → ℕ → Fraction

@@ -4,8 +4,9 @@ ghost use Rattle.bid_rules.specs.Cents.{AddsAtMostOneMore, IsCentPlan, IsWithinO
 ghost use Rattle.bid_rules.specs.Fractions.{IsQuotient, sum_of_fractions};
 ghost use Rattle.bid_rules.specs.Sums.{total as total_of};
 ghost use Rattle.envy_check.specs.Envy.{IsAmount};
-ghost use Rattle.split_frac.specs.Frac.{IsWithin, pair_of};
+ghost use Rattle.split_frac.specs.Frac.{IsWithin, fraction_of};
 
+use crate::limits::MOST_AMOUNT;
 use arrayvec::ArrayVec;
 use bid_rules::limits::MEMBER_ROOM;
 use split_frac::{Frac, compare, floor, floor_law, rem};
@@ -20,12 +21,12 @@ use split_frac::{Frac, compare, floor, floor_law, rem};
 pub fn cent_plan(amounts: &[Frac], total: i64) -> ArrayVec<i64, MEMBER_ROOM>
     requires few { length amounts.now ≤ MEMBER_ROOM }
     requires amounts { All IsAmount amounts.now }
-    requires sum { IsQuotient (sum_of_fractions (map pair_of amounts.now)) total 1 }
-    ensures plan { IsCentPlan (map pair_of amounts.now) total result.items }
+    requires sum { IsQuotient (sum_of_fractions (map fraction_of amounts.now)) total 1 }
+    ensures plan { IsCentPlan (map fraction_of amounts.now) total result.items }
     ensures sum { total_of (λ cents. cents) result.items ≡ total }
-    ensures near { AllZip (λ amount cents. IsWithinOneCent (pair_of amount) cents) amounts.now result.items }
+    ensures near { AllZip (λ amount cents. IsWithinOneCent (fraction_of amount) cents) amounts.now result.items }
     ensures even { (i j : ℕ) → i < length amounts.now → j < length amounts.now
-        → AddsAtMostOneMore (amount_at (map pair_of amounts.now) i) (slice_index_or result.items i (pos 0)) (amount_at (map pair_of amounts.now) j) (slice_index_or result.items j (pos 0)) }
+        → AddsAtMostOneMore (amount_at (map fraction_of amounts.now) i) (slice_index_or result.items i (pos 0)) (amount_at (map fraction_of amounts.now) j) (slice_index_or result.items j (pos 0)) }
 {
     let left = left_over(amounts, total);
     let mut plan = ArrayVec::new();
@@ -39,7 +40,7 @@ pub fn cent_plan(amounts: &[Frac], total: i64) -> ArrayVec<i64, MEMBER_ROOM>
 fn left_over(amounts: &[Frac], total: i64) -> i128
     requires few { length amounts.now ≤ MEMBER_ROOM }
     requires amounts { All IsAmount amounts.now }
-    ensures { result ≡ cents_left (map pair_of amounts.now) total }
+    ensures { result ≡ cents_left (map fraction_of amounts.now) total }
 {
     i128::from(total) - sum_of_floors(amounts)
 }
@@ -47,8 +48,8 @@ fn left_over(amounts: &[Frac], total: i64) -> i128
 /// The whole cents of an amount, rounded down.
 fn whole_cents(amount: &Frac) -> i128
     requires { IsAmount amount.now }
-    ensures value { result ≡ floor_of (pair_of amount.now) }
-    ensures small { unsigned_abs result ≤ 10 ^ 12 }
+    ensures value { result ≡ floor_of (fraction_of amount.now) }
+    ensures small { unsigned_abs result ≤ MOST_AMOUNT }
 {
     floor_law();
     floor(amount)
@@ -57,8 +58,8 @@ fn whole_cents(amount: &Frac) -> i128
 fn sum_of_floors(amounts: &[Frac]) -> i128
     requires few { length amounts.now ≤ MEMBER_ROOM }
     requires amounts { All IsAmount amounts.now }
-    ensures value { result ≡ total_of floor_of (map pair_of amounts.now) }
-    ensures small { unsigned_abs result ≤ MEMBER_ROOM * 10 ^ 12 }
+    ensures value { result ≡ total_of floor_of (map fraction_of amounts.now) }
+    ensures small { unsigned_abs result ≤ MEMBER_ROOM * MOST_AMOUNT }
 {
     let mut sum = 0;
     for place in 0..amounts.len() {
@@ -71,7 +72,7 @@ fn sum_of_floors(amounts: &[Frac]) -> i128
 fn rest_at(amounts: &[Frac], place: usize) -> Frac
     requires amounts { All IsAmount amounts.now }
     requires place { place < length amounts.now }
-    ensures value { pair_of result ≡ remainder_of (amount_at (map pair_of amounts.now) place) }
+    ensures value { fraction_of result ≡ remainder_of (amount_at (map fraction_of amounts.now) place) }
     ensures within { IsWithin result }
 {
     rem(&amounts[place])
@@ -82,7 +83,7 @@ fn is_before(amounts: &[Frac], place: usize, other: usize) -> bool
     requires amounts { All IsAmount amounts.now }
     requires place { place < length amounts.now }
     requires other { other < length amounts.now }
-    ensures { result ≡ comes_before (map pair_of amounts.now) place other }
+    ensures { result ≡ comes_before (map fraction_of amounts.now) place other }
 {
     compare(&rest_at(amounts, other), &rest_at(amounts, place))
         .then(place.cmp(&other))
@@ -94,7 +95,7 @@ fn count_before(amounts: &[Frac], place: usize) -> usize
     requires few { length amounts.now ≤ MEMBER_ROOM }
     requires amounts { All IsAmount amounts.now }
     requires place { place < length amounts.now }
-    ensures value { result ≡ places_before (map pair_of amounts.now) place }
+    ensures value { result ≡ places_before (map fraction_of amounts.now) place }
     ensures small { result ≤ MEMBER_ROOM }
 {
     let mut count = 0;
@@ -120,7 +121,7 @@ fn cents_of(amounts: &[Frac], left: i128, place: usize) -> i64
     requires few { length amounts.now ≤ MEMBER_ROOM }
     requires amounts { All IsAmount amounts.now }
     requires place { place < length amounts.now }
-    ensures { (whole : ℤ) → left ≡ cents_left (map pair_of amounts.now) whole → result ≡ cents_at (map pair_of amounts.now) whole place }
+    ensures { (whole : ℤ) → left ≡ cents_left (map fraction_of amounts.now) whole → result ≡ cents_at (map fraction_of amounts.now) whole place }
 {
     (whole_cents(&amounts[place]) + extra_cent(count_before(amounts, place), left)) as i64
 }

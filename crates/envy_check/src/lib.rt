@@ -4,6 +4,7 @@
 mod cents;
 mod goods;
 mod laws;
+pub mod limits;
 mod rents;
 
 pub use cents::cent_plan;

@@ -6,7 +6,7 @@ ghost use Rattle.bid_rules.specs.Cents.{amount_at};
 ghost use Rattle.bid_rules.specs.Fractions.{Fraction, IsQuotient};
 ghost use Rattle.bid_rules.specs.Rent.{HasParts, IsAssignment, IsEnvyFree, IsValidRentCase, room_count, utility_with, value};
 ghost use Rattle.envy_check.specs.Envy.{ArePrices, IsEnvy, IsEnvyTable, rows_of};
-ghost use Rattle.split_frac.specs.Frac.{HasValue, IsWithin, pair_of};
+ghost use Rattle.split_frac.specs.Frac.{HasValue, IsWithin, fraction_of};
 
 use arrayvec::ArrayVec;
 use bid_rules::limits::MEMBER_ROOM;
@@ -25,7 +25,7 @@ pub fn envy_table(
     requires case { IsValidRentCase case.now }
     requires rooms { IsAssignment case.now rooms.now }
     requires prices { ArePrices case.now prices.now }
-    ensures { IsEnvyTable case.now rooms.now (map pair_of prices.now) (rows_of result) }
+    ensures { IsEnvyTable case.now rooms.now (map fraction_of prices.now) (rows_of result) }
 {
     let mut table = ArrayVec::new();
     for member in 0..case.facts.members as usize {
@@ -67,7 +67,7 @@ fn envy_row(
     requires prices { ArePrices case.now prices.now }
     requires member { member < room_count case.now }
     ensures count { length result.items ≡ room_count case.now }
-    ensures entries { (other : ℕ) → other < room_count case.now → IsEnvy case.now rooms.now (map pair_of prices.now) member other (amount_at (map pair_of result.items) other) }
+    ensures entries { (other : ℕ) → other < room_count case.now → IsEnvy case.now rooms.now (map fraction_of prices.now) member other (amount_at (map fraction_of result.items) other) }
 {
     let mut row = ArrayVec::new();
     for other in 0..case.facts.members as usize {
@@ -83,7 +83,7 @@ fn envy_of(case: &RentCase, rooms: &[u8], prices: &[Frac], member: usize, other:
     requires prices { ArePrices case.now prices.now }
     requires member { member < room_count case.now }
     requires other { other < room_count case.now }
-    ensures { IsEnvy case.now rooms.now (map pair_of prices.now) member other (pair_of result) }
+    ensures { IsEnvy case.now rooms.now (map fraction_of prices.now) member other (fraction_of result) }
 {
     rent_value_law();
     parts_law();
@@ -105,30 +105,31 @@ fn room_of(rooms: &[u8], member: usize) -> u8
     rooms[member]
 }
 
-/// What a member, by place from 0, would have with a room, numbered from 1, at its price: the value less the price.
-pub fn utility_at(case: &RentCase, prices: &[Frac], member: usize, room: u8) -> Frac
+/// What the member at a place, from 0, would have with a room, numbered from 1, at its price: the value less the price, in cents.
+pub fn utility_at(case: &RentCase, prices: &[Frac], place: usize, room: u8) -> Frac
     requires case { IsValidRentCase case.now }
     requires prices { ArePrices case.now prices.now }
-    requires member { member < room_count case.now }
+    requires place { place < room_count case.now }
     requires room_low { 1 ≤ room }
     requires room_high { room ≤ room_count case.now }
-    ensures value { (k : ℕ) (parts : List ℤ) → 1 ≤ k → HasParts (map pair_of prices.now) k parts → IsQuotient (pair_of result) (utility_with case.now k parts member room) k }
+    ensures value { (k : ℕ) (parts : List ℤ) → 1 ≤ k → HasParts (map fraction_of prices.now) k parts → IsQuotient (fraction_of result) (utility_with case.now k parts place room) k }
     ensures within { IsWithin result }
 {
     rent_value_law();
     parts_law();
     value_law();
     let room = usize::from(room);
-    sub(value_of(case, member, room), prices[room - 1])
+    sub(value_of(case, place, room), prices[room - 1])
 }
 
-fn value_of(case: &RentCase, member: usize, room: usize) -> Frac
+/// The value of a room, numbered from 1, to the member at a place.
+fn value_of(case: &RentCase, place: usize, room: usize) -> Frac
     requires case { IsValidRentCase case.now }
-    requires member { member < room_count case.now }
+    requires place { place < room_count case.now }
     requires room_low { 1 ≤ room }
     requires room_high { room ≤ room_count case.now }
-    ensures value { HasValue result (value case.now member room) 1 }
+    ensures value { HasValue result (value case.now place room) 1 }
     ensures within { IsWithin result }
 {
-    make(i128::from(case.value(member as u8 + 1, room as u8)), 1)
+    make(i128::from(case.value(place as u8 + 1, room as u8)), 1)
 }

@@ -8,7 +8,7 @@ mod tests;
 mod words;
 
 use arguments::Started;
-use split_base::{NoMemory, write_all};
+use split_base::{NoMemory, Quiet, write_all};
 use split_top::run;
 use std::io;
 use std::process::ExitCode;
@@ -25,6 +25,6 @@ fn main(rt: HostRuntime) -> ExitCode {
         }
     };
     let mut input = Reading::new(rt.reader());
-    let status = run(rt.alloc(), &words, &mut input, &mut output);
+    let status = run(rt.alloc(), &rt, &words, &mut input, &mut output, &Quiet);
     ExitCode::from(status.code)
 }

@@ -9,12 +9,13 @@ use Rattle.bid_rules.specs.declared.cases.FareCase.{FareCase}
 use Rattle.bid_rules.specs.Coalitions.{riders_in, start_of}
 use Rattle.bid_rules.specs.Facts.{leg}
 use Rattle.bid_rules.specs.Fares.{least, place_of, route_cost}
-use Rattle.fare_laws.proofs.SetLaws.{riders_in-within}
-use Rattle.fare_laws.proofs.SetLaws.{some_riders}
-use Rattle.fare_laws.specs.Entries.{AreEntries, IsStart, cost_by, costs_from, entry_by}
+use Rattle.split_lemmas.proofs.RiderPlaces.{start_place}
+use Rattle.fare_laws.proofs.SetLaws.{riders_in-within, some_riders}
+use Rattle.fare_laws.specs.Entries.{AreEntries, IsDeparture, cost_by, costs_from, entry_by}
 use Rattle.fare_laws.proofs.Least.{least_is}
+use Rattle.fare_laws.proofs.Parts.{map_map}
 use Rattle.fare_laws.proofs.RouteRecurrence.{first_leg, route_of_parts}
-use Rattle.fare_laws.proofs.SetParts.{map_all, map_map, parts_of_set}
+use Rattle.fare_laws.proofs.SetParts.{map_all, parts_of_set}
 use Rattle.fare_laws.proofs.SetRiders.{not_without, without_permutes}
 
 -- the recurrence of route costs by set
@@ -36,11 +37,7 @@ are_riders n set small k d l =
     let range = (riders_in-within n set).0 small k d l in
     record { low = range.0; high = range.1; others = without_permutes set k d l }
 
--- where a rider's route goes on from
-pub start_place : (case : FareCase) (rider : ℕ) → 1 ≤ rider → start_of case rider ≡ place_of case rider
-start_place case zero low = absurd (omega arith)
-start_place case (suc rider) low = refl
-
+-- the empty set has no riders
 pub no_riders : riders_in 0 ≡ []
 unfolding riders_in
 no_riders = refl
@@ -73,7 +70,7 @@ first_is case from set rider there low =
 
 -- the entry behind a rider, where the smaller sets are known
 behind : (case : FareCase) (n : ℕ) (entry : ℕ → ℕ → ℕ) → AreEntries case n entry → (set rider : ℕ) → 0 < set → set < 2 ^ n → IsRider n set rider
-    → ((at smaller : ℕ) → smaller < set → IsStart n at smaller → entry at smaller ≡ route_cost case (start_of case at) (riders_in smaller))
+    → ((at smaller : ℕ) → smaller < set → IsDeparture n at smaller → entry at smaller ≡ route_cost case (start_of case at) (riders_in smaller))
     → entry rider (set - 2 ^ (rider - 1)) ≡ route_cost case (place_of case rider) (riders_in (set - 2 ^ (rider - 1)))
 behind case n entry h set rider some within is before =
     let left : ℕ = set - 2 ^ (rider - 1) in
@@ -87,7 +84,7 @@ behind case n entry h set rider some within is before =
     (cases_eq left 0)
 
 -- by the size of the number
-upto : (case : FareCase) (n : ℕ) (entry : ℕ → ℕ → ℕ) → AreEntries case n entry → (k at set : ℕ) → set < k → IsStart n at set → entry at set ≡ route_cost case (start_of case at) (riders_in set)
+upto : (case : FareCase) (n : ℕ) (entry : ℕ → ℕ → ℕ) → AreEntries case n entry → (k at set : ℕ) → set < k → IsDeparture n at set → entry at set ≡ route_cost case (start_of case at) (riders_in set)
 upto case n entry h zero at set l start = absurd (omega arith)
 upto case n entry h (suc k) at set l start =
     h.each at set start
@@ -97,7 +94,8 @@ upto case n entry h (suc k) at set l start =
     (behind case n entry h set rider start.some start.within is (λ at smaller below. upto case n entry h k at smaller (omega (arith, l, below))))))
     ∙ sym (route_of_set case (start_of case at) set start.some)
 
-pub entries_are : (case : FareCase) (n : ℕ) (entry : ℕ → ℕ → ℕ) → AreEntries case n entry → (at set : ℕ) → IsStart n at set → entry at set ≡ route_cost case (start_of case at) (riders_in set)
+-- a table that keeps the recurrence holds what the routes cost
+pub entries_are : (case : FareCase) (n : ℕ) (entry : ℕ → ℕ → ℕ) → AreEntries case n entry → (at set : ℕ) → IsDeparture n at set → entry at set ≡ route_cost case (start_of case at) (riders_in set)
 entries_are case n entry h at set start = upto case n entry h (suc set) at set (omega arith) start
 
 -- the entry behind a rider

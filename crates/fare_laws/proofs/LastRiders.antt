@@ -3,7 +3,7 @@ use Rattle.std.proofs.Common.{◌≡◌, ◌≢◌, ℕ, ℤ, pos, ◌+ℤ◌, �
 use Rattle.std.specs.List.Sorted.{IsPermutation}
 use Rattle.std.proofs.lemmas.Int.{ints}
 use Rattle.std.proofs.lemmas.List.{length-map, get_or-map, reverse-append, reverse-reverse}
-use Rattle.std.proofs.lemmas.List.Elements.{All-cons, All-head, All-tail, All-nil}
+use Rattle.std.proofs.lemmas.List.Elements.{All-cons, All-head, All-tail, All-nil, All-weaker}
 use Rattle.std.proofs.lemmas.List.Kept.{AllPairs-cons}
 use Rattle.std.proofs.lemmas.List.Sorted.{IsPermutation-refl, IsPermutation-cons, IsPermutation-middle, IsPermutation-reverse, IsPermutation-trans}
 use Rattle.std.proofs.lemmas.List.Sums.{sum_by-cons, get_or-le-sum_by}
@@ -18,6 +18,7 @@ use Rattle.split_lemmas.proofs.SignedSums.{total-map, total-permutation, total-s
 use Rattle.fare_laws.proofs.Parts.{parts}
 use Rattle.fare_laws.proofs.FirstRiders.{Sums, combined, firsts}
 
+-- addition puts signed numbers together
 pub plus : Sums ℤ
 plus = record { op = ◌+ℤ◌; unit = pos 0; assoc = λ a b c. omega (arith, ints); comm = λ a b. omega (arith, ints); left = λ a. omega (arith, ints) }
 
@@ -32,20 +33,18 @@ pub total_all : {X : Type 0} (P : X → Type 0) (f g : X → ℤ) (xs : List X) 
 total_all P f g [] h e = refl
 total_all P f g (x ∷ xs) h e = ap (λ z. z +ℤ total f xs) (e x (All-head P x xs h)) ∙ ap (λ z. g x +ℤ z) (total_all P f g xs (All-tail P x xs h) e)
 
--- each part is a permutation
+-- what holds of each image holds of all of the images
 all_mapped : {X Y : Type 0} (P : Y → Type 0) (f : X → Y) (xs : List X) → All (λ x. P (f x)) xs → All P (map f xs)
 all_mapped P f [] h = All-nil P
 all_mapped P f (x ∷ xs) h = All-cons P (f x) (map f xs) (All-head (λ y. P (f y)) x xs h) (all_mapped P f xs (All-tail (λ y. P (f y)) x xs h))
 
-all_weaker : {X : Type 0} (P Q : X → Type 0) (xs : List X) → ((x : X) → P x → Q x) → All P xs → All Q xs
-all_weaker P Q xs w h k d l = w _ (h k d l)
-
+-- each element with the others is a permutation of the list
 pub parts_permute : (xs : List ℕ) → All (λ p. IsPermutation xs (p.0 ∷ p.1)) (parts xs)
 parts_permute [] = All-nil (λ (p : ℕ × List ℕ). IsPermutation [] (p.0 ∷ p.1))
 parts_permute (x ∷ xs) = All-cons (λ (p : ℕ × List ℕ). IsPermutation (x ∷ xs) (p.0 ∷ p.1)) (x, xs) (map (λ p. (p.0, x ∷ p.1)) (parts xs)) (IsPermutation-refl (x ∷ xs))
     (all_mapped (λ (p : ℕ × List ℕ). IsPermutation (x ∷ xs) (p.0 ∷ p.1)) (λ (p : ℕ × List ℕ). (p.0, x ∷ p.1)) (parts xs)
-    (all_weaker (λ (p : ℕ × List ℕ). IsPermutation xs (p.0 ∷ p.1)) (λ (p : ℕ × List ℕ). IsPermutation (x ∷ xs) (p.0 ∷ x ∷ p.1)) (parts xs)
-    (λ p h. IsPermutation-trans (x ∷ xs) (x ∷ p.0 ∷ p.1) (p.0 ∷ x ∷ p.1) (IsPermutation-cons x xs (p.0 ∷ p.1) h) (IsPermutation-middle (x ∷ []) p.0 p.1)) (parts_permute xs)))
+    (All-weaker (λ (p : ℕ × List ℕ). IsPermutation xs (p.0 ∷ p.1)) (λ (p : ℕ × List ℕ). IsPermutation (x ∷ xs) (p.0 ∷ x ∷ p.1))
+    (λ p h. IsPermutation-trans (x ∷ xs) (x ∷ p.0 ∷ p.1) (p.0 ∷ x ∷ p.1) (IsPermutation-cons x xs (p.0 ∷ p.1) h) (IsPermutation-middle (x ∷ []) p.0 p.1)) (parts xs) (parts_permute xs)))
 
 -- without repeats the elements differ
 pub differ : (xs : List ℕ) → HasNoRepeat xs → AllPairs ◌≢◌ xs
@@ -70,6 +69,7 @@ backwards xs once = permutation_from_within (orders xs) (map reverse (orders xs)
           get_or-map reverse (orders xs) there.0 (reverse zs) zs there.1 ∙ ap reverse there.2 ∙ reverse-reverse zs,
         )
 
+-- a sum over all orders is one over all orders backwards
 pub total_backwards : (f : List ℕ → ℤ) (xs : List ℕ) → HasNoRepeat xs → total (λ zs. f (reverse zs)) (orders xs) ≡ total f (orders xs)
 total_backwards f xs once = sym (total-map f reverse (orders xs)) ∙ total-permutation f (orders xs) (map reverse (orders xs)) (backwards xs once)
 

@@ -21,7 +21,8 @@ use Rattle.split_lemmas.proofs.OrderLaws.{orders_permute}
 use Rattle.fare_laws.proofs.RouteLaws.{route_cost-least}
 use Rattle.fare_laws.proofs.SetNumbers.{riders_from, riders_in-are}
 use Rattle.fare_laws.specs.Entries.{AreEntries, IsLowestRoute, entry_by}
-use Rattle.fare_laws.proofs.CostEntries.{IsRider, are_riders, entries_are, entry_behind, has_some, no_riders, route_of_set, start_place}
+use Rattle.split_lemmas.proofs.RiderPlaces.{start_place}
+use Rattle.fare_laws.proofs.CostEntries.{IsRider, are_riders, entries_are, entry_behind, has_some, no_riders, route_of_set}
 use Rattle.split_lemmas.proofs.Counts.{found, mark, mark_same, HasNoRepeat, no_repeat-permutation}
 use Rattle.split_lemmas.proofs.RenamedOrders.{permutation_from_within}
 use Rattle.std.proofs.lemmas.List.Sums.{sum_by-cons, get_or-le-sum_by}
@@ -79,6 +80,7 @@ record IsLeastFrom (case : FareCase) (from set : ℕ) (route : List ℕ) : Type 
   cheapest : legs_along case from route ≡ route_cost case from (riders_in set)
   first : (other : List ℕ) → IsPermutation (riders_in set) other → legs_along case from other ≡ route_cost case from (riders_in set) → slice_cmp nat_cmp other route ≢ Less
 
+-- where no rider is left, it gives the empty route
 none_left : (case : FareCase) (from set : ℕ) → set ≡ 0 → IsLeastFrom case from set []
 none_left case from set e =
     let none : riders_in set ≡ [] = ap riders_in e ∙ no_riders in
@@ -92,6 +94,7 @@ none_left case from set e =
     only [] p = λ e. cc
     only (o ∷ os) p = absurd (let e = length_permutation [] (o ∷ os) p in omega (arith, e))
 
+-- the lowest riders that attain their entries give it, from each departure
 lowest_is : (case : FareCase) (n : ℕ) (entry : ℕ → ℕ → ℕ) → AreEntries case n entry → (at set : ℕ) (route : List ℕ) → set < 2 ^ n → at ≤ n → (Contains (riders_in set) at → ⊥)
     → IsLowestRoute case entry at set route → IsLeastFrom case (start_of case at) set route
 lowest_is case n entry h at set [] small known outside lowest = none_left case (start_of case at) set lowest
@@ -149,6 +152,7 @@ full_from (suc n) a s e =
     let half : s / 2 + 1 ≡ 2 ^ n = omega (arith, e, twice, power) in
     ap (λ p. cond (p == 1) (a ∷ riders_from n (a + 1) (s / 2)) (riders_from n (a + 1) (s / 2))) odd ∙ ap (λ xs. a ∷ xs) (full_from n (a + 1) (s / 2) half)
 
+-- all riders are the set of the highest number
 pub full_set : (n : ℕ) → riders_in (2 ^ n - 1) ≡ range_with_len 1 n
 full_set n = let power : 0 < 2 ^ n = pow_pos n in riders_in-are n (2 ^ n - 1) (omega (arith, power)) ∙ full_from n 1 (2 ^ n - 1) (omega (arith, power))
 

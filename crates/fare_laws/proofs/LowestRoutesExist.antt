@@ -25,6 +25,7 @@ rises_low a (x ∷ xs) other rises (suc k, l, e) = let later = rises_low (x + 1)
 abbrev IsLowest : (ℕ → ℕ) → ℕ → List ℕ → ℕ → Type 0
 IsLowest f m xs x = Contains xs x × (f x ≡ m) × ((other : ℕ) → Contains xs other → f other ≡ m → x ≤ other)
 
+-- in a rising list, a number that is attained has a lowest rider who attains it
 lowest_of : (f : ℕ → ℕ) (m a : ℕ) (xs : List ℕ) → RisesFrom a xs → Contains (map f xs) m → (x : ℕ) × IsLowest f m xs x
 lowest_of f m a [] rises (k, l, e) = absurd (omega arith)
 lowest_of f m a (x ∷ xs) rises (k, l, e) = ⊎_elim

@@ -31,6 +31,7 @@ before_in rider (one ∷ first) rest some =
         let other : one ≢ rider = eqb-false one rider e in
         ap (λ xs. one ∷ xs) (more (omega (arith, some, sum_by-cons (mark rider) one first, mark_other rider one other)))
 
+-- so neither does it for a marginal cost
 margin_in : (case : FareCase) (rider : ℕ) (first rest : List ℕ) → 0 < sum_by (mark rider) first → marginal_cost case rider (first ++ rest) ≡ marginal_cost case rider first
 unfolding marginal_cost
 margin_in case rider first rest some = ap (λ xs. pos (coalition_cost case (xs ++ rider ∷ [])) -ℤ pos (coalition_cost case xs)) (before_in rider first rest some)
@@ -39,6 +40,7 @@ margin_in case rider first rest some = ap (λ xs. pos (coalition_cost case (xs +
 abbrev pub part_sum : FareCase → ℕ → List ℕ → ℕ × List ℕ → ℤ
 part_sum case rider xs p = cond (p.0 == rider) ((pos (coalition_cost case xs) -ℤ pos (coalition_cost case p.1)) *ℤ pos (factorial (length p.1))) (marginal_sum case rider p.1)
 
+-- the orders in which one rider comes last give its part
 one_part : (case : FareCase) (rider : ℕ) (xs : List ℕ) (p : ℕ × List ℕ) → sum_by (mark rider) xs ≡ 1 → IsPermutation xs (p.0 ∷ p.1)
     → total (λ zs. marginal_cost case rider (zs ++ p.0 ∷ [])) (orders p.1) ≡ part_sum case rider xs p
 one_part case rider xs p one perm = by (p.0 == rider) refl

@@ -67,6 +67,7 @@ abbrev pub RisesFrom : ℕ → List ℕ → Type 0
 RisesFrom a [] = Unit {0}
 RisesFrom a (x ∷ xs) = (a ≤ x) × RisesFrom (x + 1) xs
 
+-- what rises from a number rises from a lower one
 rises_weaker : (a b : ℕ) (xs : List ℕ) → a ≤ b → RisesFrom b xs → RisesFrom a xs
 rises_weaker a b [] le h = tt
 rises_weaker a b (x ∷ xs) le h = (omega (arith, le, h.0), h.1)
@@ -97,11 +98,12 @@ riders_within (suc n) a s =
 abbrev pub number_from : ℕ → List ℕ → ℕ
 number_from a xs = sum_by (λ r. 2 ^ (r - a)) xs
 
+-- one more rider adds a bit
 number_from-cons : (a x : ℕ) (xs : List ℕ) → number_from a (x ∷ xs) ≡ 2 ^ (x - a) + number_from a xs
 number_from-cons a x xs = sum_by-cons (λ r. 2 ^ (r - a)) x xs
 
 -- a power of two is twice the one before
-twice_power : (x a : ℕ) → a + 1 ≤ x → 2 ^ (x - a) ≡ 2 ^ (x - (a + 1)) * 2
+pub twice_power : (x a : ℕ) → a + 1 ≤ x → 2 ^ (x - a) ≡ 2 ^ (x - (a + 1)) * 2
 twice_power x a le = let e : x - a ≡ suc (x - (a + 1)) = omega (arith, le) in ap (λ n. 2 ^ n) e ∙ pow-suc 2 (x - (a + 1))
 
 -- without the lowest rider the number is even

@@ -1,27 +1,26 @@
 -- The parts of a set: each rider with the set without it.
 use Rattle.std.proofs.Common.{◌≡◌, ℕ, zero, suc, ◌+◌, ◌-◌, ◌*◌, ◌/◌, ◌%◌, ◌^◌, ◌≤◌, ◌==◌, List, [], ◌∷◌, map, All, Bool, true, false, cond, arith, refl, sym, ap, ◌∙◌, subst}
-use Rattle.std.proofs.Math.Nat.{pow-suc}
 use Rattle.std.proofs.lemmas.Bool.{eqb-true}
 use Rattle.std.proofs.lemmas.Bool.Decides.{nat_tests}
 use Rattle.std.proofs.lemmas.List.Elements.{All-nil, All-cons, All-head, All-tail, All-weaker}
 use Rattle.bid_rules.specs.Coalitions.{riders_in}
-use Rattle.fare_laws.proofs.SetNumbers.{riders_from, riders_in-are, self_small}
-use Rattle.fare_laws.proofs.Parts.{parts}
+use Rattle.fare_laws.proofs.SetNumbers.{riders_from, riders_in-are, self_small, twice_power}
+use Rattle.fare_laws.proofs.Parts.{map_map, parts}
 
 -- each rider's bit is in the number
 abbrev IsIn : ℕ → ℕ → ℕ → Type 0
 IsIn a s rider = (a ≤ rider) × (2 ^ (rider - a) ≤ s)
 
-half_power : (a r : ℕ) → a + 1 ≤ r → 2 ^ (r - a) ≡ 2 ^ (r - (a + 1)) * 2
-half_power a r le = let e : r - a ≡ suc (r - (a + 1)) = omega arith in ap (λ n. 2 ^ n) e ∙ pow-suc 2 (r - (a + 1))
-
+-- the bit of a later rider is in the number where it is in the half
 later_in : (a s r : ℕ) → IsIn (a + 1) (s / 2) r → IsIn a s r
-later_in a s r h = (omega (arith, h.0), (let twice = half_power a r h.0 in omega (arith, h.1, twice)))
+later_in a s r h = (omega (arith, h.0), (let twice = twice_power r a h.0 in omega (arith, h.1, twice)))
 
+-- what holds of both lists, the first where the test passes, holds of the one that the test takes
 all_by : (P : ℕ → Type 0) (b : Bool) (xs ys : List ℕ) → (b ≡ true → All P xs) → All P ys → All P (cond b xs ys)
 all_by P true xs ys p q = p refl
 all_by P false xs ys p q = q
 
+-- the bits of all riders are in the number
 bits_in : (n a s : ℕ) → All (IsIn a s) (riders_from n a s)
 bits_in zero a s = All-nil (IsIn a s)
 bits_in (suc n) a s =
@@ -37,10 +36,6 @@ pub map_all : {Y : Type 0} (P : ℕ → Type 0) (f g : ℕ → Y) (xs : List ℕ
 map_all P f g [] h e = refl
 map_all P f g (x ∷ xs) h e = ap (λ y. y ∷ map f xs) (e x (All-head P x xs h)) ∙ ap (λ ys. g x ∷ ys) (map_all P f g xs (All-tail P x xs h) e)
 
-pub map_map : {X Y Z : Type 0} (f : Y → Z) (g : X → Y) (xs : List X) → map f (map g xs) ≡ map (λ x. f (g x)) xs
-map_map f g [] = refl
-map_map f g (x ∷ xs) = ap (λ ys. f (g x) ∷ ys) (map_map f g xs)
-
 -- each rider with the others, by numbers
 abbrev others : ℕ → ℕ → ℕ → ℕ → ℕ × List ℕ
 others n a s rider = (rider, riders_from n a (s - 2 ^ (rider - a)))
@@ -49,7 +44,7 @@ others n a s rider = (rider, riders_from n a (s - 2 ^ (rider - a)))
 left_out : (n a s r : ℕ) → IsIn (a + 1) (s / 2) r → riders_from (suc n) a (s - 2 ^ (r - a)) ≡ cond (s % 2 == 1) (a ∷ riders_from n (a + 1) (s / 2 - 2 ^ (r - (a + 1)))) (riders_from n (a + 1) (s / 2 - 2 ^ (r - (a + 1))))
 left_out n a s r h =
     let t : ℕ = 2 ^ (r - (a + 1)) in
-    let twice : 2 ^ (r - a) ≡ t * 2 = half_power a r h.0 in
+    let twice : 2 ^ (r - a) ≡ t * 2 = twice_power r a h.0 in
     let parity : (s - 2 ^ (r - a)) % 2 ≡ s % 2 = omega (arith, twice, h.1) in
     let half : (s - 2 ^ (r - a)) / 2 ≡ s / 2 - t = omega (arith, twice, h.1) in
     ap (λ p. cond (p == 1) (a ∷ riders_from n (a + 1) ((s - 2 ^ (r - a)) / 2)) (riders_from n (a + 1) ((s - 2 ^ (r - a)) / 2))) parity
@@ -65,6 +60,7 @@ lowest_out n a s odd =
     ap (λ p. cond (p == 1) (a ∷ riders_from n (a + 1) ((s - 2 ^ (a - a)) / 2)) (riders_from n (a + 1) ((s - 2 ^ (a - a)) / 2))) parity
     ∙ ap (riders_from n (a + 1)) half
 
+-- each rider with the others, bit by bit
 parts_from : (n a s : ℕ) → parts (riders_from n a s) ≡ map (others n a s) (riders_from n a s)
 parts_from zero a s = refl
 parts_from (suc n) a s = by (s % 2 == 1) refl (parts_from n (a + 1) (s / 2))

@@ -12,6 +12,7 @@ use Rattle.fare_laws.proofs.SetNumbers.{RisesFrom, riders_from, riders_in-are, r
 use Rattle.fare_laws.proofs.LastRiders.{parts_permute}
 use Rattle.fare_laws.proofs.SetParts.{parts_of_set}
 
+-- a number below those that rise is not among them
 rises_none : (a b : ℕ) (xs : List ℕ) → a < b → RisesFrom b xs → sum_by (mark a) xs ≡ 0
 rises_none a b [] l h = refl
 rises_none a b (x ∷ xs) l h =
@@ -19,6 +20,7 @@ rises_none a b (x ∷ xs) l h =
     let other : x ≢ a = λ e. omega (arith, e, low, l) in
     omega (arith, sum_by-cons (mark a) x xs, mark_other a x other, rises_none a (x + 1) xs (omega (arith, low, l)) h.1)
 
+-- rising numbers have no repeat
 rises_once : (b : ℕ) (xs : List ℕ) → RisesFrom b xs → HasNoRepeat xs
 rises_once b [] h a = omega arith
 rises_once b (x ∷ xs) h a = ⊎_elim

@@ -69,9 +69,9 @@ one_place_own zero low high = absurd (omega arith)
 one_place_own (suc zero) low high = refl
 one_place_own (suc (suc p)) low high = absurd (omega arith)
 
--- numbers that pass the test are within a million
-within_million : (facts : Fares) → list_all (λ cents. nat_le cents 1000000) (facts.flag ∷ legs_in_order facts) ≡ true → AreWithinLimit facts
-within_million facts h = All-weaker (λ cents. nat_le cents 1000000 ≡ true) (λ cents. cents ≤ 1000000) (λ cents e. grind (arith, nat_tests)) (facts.flag ∷ legs_in_order facts)
+-- numbers that pass the test are within the limit
+within_limit : (facts : Fares) → list_all (λ cents. nat_le cents 1000000) (facts.flag ∷ legs_in_order facts) ≡ true → AreWithinLimit facts
+within_limit facts h = All-weaker (λ cents. nat_le cents 1000000 ≡ true) (λ cents. cents ≤ 1000000) (λ cents e. grind (arith, nat_tests)) (facts.flag ∷ legs_in_order facts)
     (AllPass-from_list_all (λ cents. nat_le cents 1000000) (facts.flag ∷ legs_in_order facts) h)
 
 -- two riders in order
@@ -90,7 +90,7 @@ two_places_valid = record {
       places_high = omega arith;
       table = record { rows = refl; columns = search rules };
     };
-    million = within_million two_places.facts refl;
+    cents = within_limit two_places.facts refl;
     own_legs = two_places_own;
   };
   rising = rising;
@@ -111,7 +111,7 @@ one_place_valid = record {
       places_high = omega arith;
       table = record { rows = refl; columns = search rules };
     };
-    million = within_million one_place.facts refl;
+    cents = within_limit one_place.facts refl;
     own_legs = one_place_own;
   };
   rising = rising;

@@ -23,7 +23,7 @@ abbrev pub costs_from : FareCase → ℕ → ℕ → ℕ
 costs_from case at set = route_cost case (start_of case at) (riders_in set)
 
 -- a departure of a set of the first n riders: the origin, or a rider who is not in it
-pub record IsStart (n at set : ℕ) : Type 0 where
+pub record IsDeparture (n at set : ℕ) : Type 0 where
   pub some : 0 < set
   pub within : set < 2 ^ n
   pub known : at ≤ n
@@ -32,7 +32,7 @@ pub record IsStart (n at set : ℕ) : Type 0 where
 -- each entry is the least, over the riders of the set, of the leg and the entry behind it, and 0 for the empty set
 pub record AreEntries (case : FareCase) (n : ℕ) (entry : ℕ → ℕ → ℕ) : Type 0 where
   pub none : (at : ℕ) → entry at 0 ≡ 0
-  pub each : (at set : ℕ) → IsStart n at set → entry at set ≡ least (map (entry_by case entry at set) (riders_in set))
+  pub each : (at set : ℕ) → IsDeparture n at set → entry at set ≡ least (map (entry_by case entry at set) (riders_in set))
 
 -- each rider of the route is the lowest rider of the set left that attains its entry
 abbrev pub IsLowestRoute : FareCase → (ℕ → ℕ → ℕ) → ℕ → ℕ → List ℕ → Type 0

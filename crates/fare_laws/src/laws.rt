@@ -11,7 +11,7 @@ ghost use Rattle.bid_rules.specs.Fractions.{Fraction, HasSameValue, IsQuotient, 
 ghost use Rattle.bid_rules.specs.Orders.{factorial, orders as all_orders};
 ghost use Rattle.bid_rules.specs.Sums.{total};
 ghost use Rattle.bid_rules.specs.declared.limits.TheConstants.{MOST_FARE_CENTS, MOST_RIDERS};
-ghost use Rattle.fare_laws.specs.Entries.{AreEntries, IsLowestRoute, IsStart, cost_by, costs_from, without};
+ghost use Rattle.fare_laws.specs.Entries.{AreEntries, IsLowestRoute, IsDeparture, cost_by, costs_from, without};
 ghost use Rattle.fare_laws.specs.MarginalSums.{marginal_sum, part_by_last};
 ghost use Rattle.fare_laws.specs.Worked.{one_place, two_places};
 
@@ -71,7 +71,7 @@ pub fn route_set_law()
     ensures recurrence { (case : FareCase) (from set : ℕ) → 0 < set → route_cost case from (riders_in set) ≡ least (map (cost_by case from set) (riders_in set)) }
     ensures first { (case : FareCase) (from set rider : ℕ) → Contains (riders_in set) rider
         → ((other : ℕ) → Contains (riders_in set) other → cost_by case from set rider ≤ cost_by case from set other) → route_cost case from (riders_in set) ≡ cost_by case from set rider }
-    ensures entries { (case : FareCase) (n : ℕ) (entry : ℕ → ℕ → ℕ) → AreEntries case n entry → (at set : ℕ) → IsStart n at set → entry at set ≡ costs_from case at set }
+    ensures entries { (case : FareCase) (n : ℕ) (entry : ℕ → ℕ → ℕ) → AreEntries case n entry → (at set : ℕ) → IsDeparture n at set → entry at set ≡ costs_from case at set }
     ensures costs { (case : FareCase) (n : ℕ) → AreEntries case n (costs_from case) }
 {}
 

@@ -1,4 +1,0 @@
-pub mod FirstRiders
-pub mod LeastRoutes
-pub mod SetBits
-pub mod TableRows

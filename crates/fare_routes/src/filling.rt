@@ -1,31 +1,15 @@
 // The table of a case, filled in the order of the numbers of its sets, so that each set comes after its parts.
-ghost use Rattle.std.specs.Prelude.{◌≡◌, ◌<◌, ◌^◌, length, map, IfOk};
-ghost use Rattle.bid_rules.specs.Coalitions.{riders_in};
+ghost use Rattle.std.specs.Prelude.{◌≡◌, map, IfOk};
 ghost use Rattle.bid_rules.specs.Facts.{IsValidFareCase};
-ghost use Rattle.fare_routes.specs.Table.{HoldsCosts, ListsCosts, route_costs};
+ghost use Rattle.set_costs.specs.Table.{HoldsCosts};
 
-use crate::recurrence::{cheapest, start};
 use crate::riders::copied;
-use crate::table::{Costs, Row};
+use crate::table::Costs;
 use bid_rules::FareCase;
 use fare_laws::coalition_law;
+use set_costs::{Row, next_row, rows_law};
 use split_base::NoMemory;
 use std::alloc::Global;
-
-/// The row of the next set: what its route costs from each place of departure.
-fn next_row(case: &FareCase, rows: &[Row]) -> Row
-    requires rows { ListsCosts case.now (map (λ row. row.items) rows.now) }
-    requires more { length rows.now < 2 ^ length case.now.at.items }
-    ensures { result.items ≡ route_costs case.now (riders_in (length rows.now)) }
-{
-    coalition_law();
-    let set = rows.len() as u16;
-    let mut row = Row::new();
-    for at in 0..=case.at.len() as u8 {
-        row.push(cheapest(case, rows, start(case, at), set));
-    }
-    row
-}
 
 /// The rows of all sets of riders, by their numbers, in memory that is taken once.
 fn rows(alloc: Global, case: &FareCase) -> Result<Vec<Row>, NoMemory>
@@ -33,6 +17,7 @@ fn rows(alloc: Global, case: &FareCase) -> Result<Vec<Row>, NoMemory>
     ensures { IfOk result (λ rows. HoldsCosts case.now (map (λ row. row.items) rows.items)) }
 {
     coalition_law();
+    rows_law();
     let sets = 1 << case.at.len();
     let Ok(mut rows) = Vec::with_capacity(alloc, sets) else {
         return Err(NoMemory);

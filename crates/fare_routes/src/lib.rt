@@ -2,12 +2,10 @@
 #![tactic(auto)]
 
 mod filling;
-mod recurrence;
 mod riders;
 mod table;
 #[cfg(test)]
 mod tests;
 
 pub use filling::costs;
-pub use riders::{riders_of_set, without};
 pub use table::Costs;

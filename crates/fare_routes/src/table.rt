@@ -1,23 +1,13 @@
 // The costs of all coalitions of a case, as a table.
-ghost use Rattle.std.specs.Prelude.{◌≡◌, ◌+◌, ◌*◌, ◌<◌, ◌≤◌, ◌^◌, length, Contains};
+ghost use Rattle.std.specs.Prelude.{◌≡◌, ◌+◌, ◌*◌, ◌<◌, ◌≤◌, ◌^◌, length, Contains, unsigned_abs};
 ghost use Rattle.bid_rules.specs.Coalitions.{riders_in, start_of};
-ghost use Rattle.bid_rules.specs.Fares.{IsLeastRoute, coalition_cost, route_cost};
+ghost use Rattle.bid_rules.specs.Fares.{IsLeastRoute, coalition_cost, route_cost, sum_of_marginal_costs};
+ghost use Rattle.bid_rules.specs.Orders.{factorial};
 
-use crate::recurrence::{entry_in, first_rider, start};
-use crate::riders::without;
-use arrayvec::ArrayVec;
 use bid_rules::FareCase;
-use bid_rules::limits::{MOST_FARE_CENTS, MOST_RIDERS, RIDER_ROOM, RiderList};
-use fare_laws::{
-    coalition_law, lowest_route_law, route_cost_law, route_set_law, without_rider_law,
-};
+use bid_rules::limits::{MOST_FARE_CENTS, MOST_RIDERS, RiderList};
+use set_costs::{Row, SetCosts};
 use std::marker::Model;
-
-/// Room for an entry a place of departure: the origin, and the place of each rider.
-const DEPARTURE_ROOM: usize = RIDER_ROOM + 1;
-
-/// What the riders of a set cost from each place of departure: from the origin, then from each rider's place.
-pub(crate) type Row = ArrayVec<u32, DEPARTURE_ROOM>;
 
 /// What each coalition of a shared fare costs, and how all riders go. Contracts see it as the case whose costs it holds.
 ///
@@ -31,7 +21,7 @@ pub struct Costs {
 impl Model for Costs {
     ghost use Rattle.std.specs.Prelude.{map};
     ghost use Rattle.bid_rules.specs.declared.cases.FareCase.{FareCase};
-    ghost use Rattle.fare_routes.specs.Table.{HoldsCosts};
+    ghost use Rattle.set_costs.specs.Table.{HoldsCosts};
 
     ghost Value = { FareCase };
 
@@ -41,6 +31,13 @@ impl Model for Costs {
 }
 
 impl Costs {
+    /// The same costs, borrowed.
+    fn borrowed(&self) -> SetCosts<'_>
+        ensures { result ≡ self.now }
+    {
+        SetCosts::new(&self.case, &self.rows)
+    }
+
     /// The least sum of legs in cents that starts at the origin, for `at` 0, or at the place of rider `at`, and ends every rider
     /// of the set at their place, in some order. The rider `at` isn't in the set.
     pub fn entry(&self, at: u8, set: u16) -> u32
@@ -50,7 +47,7 @@ impl Costs {
         ensures value { result ≡ route_cost self.now (start_of self.now at) (riders_in set) }
         ensures small { result ≤ MOST_FARE_CENTS * MOST_RIDERS }
     {
-        entry_in(&self.case, &self.rows, at, set)
+        self.borrowed().entry(at, set)
     }
 
     /// The cost of a set in cents: nothing where it is empty, else the flag fall and the cheapest route of its riders.
@@ -59,31 +56,24 @@ impl Costs {
         ensures value { result ≡ coalition_cost self.now (riders_in set) }
         ensures small { result ≤ MOST_FARE_CENTS * (MOST_RIDERS + 1) }
     {
-        coalition_law();
-        route_cost_law();
-        if set == 0 {
-            return 0;
-        }
-        self.case.facts.flag + self.entry(0, set)
+        self.borrowed().cost_of(set)
     }
 
     /// Of the cheapest orders of all riders, the least as a list, in numbers of riders.
     pub fn route(&self) -> RiderList
         ensures { IsLeastRoute self.now result.items }
     {
-        coalition_law();
-        without_rider_law();
-        route_set_law();
-        lowest_route_law();
-        let mut route = RiderList::new();
-        let mut at = 0;
-        let mut set = (1 << self.case.at.len()) - 1;
-        while set != 0 {
-            let rider = first_rider(&self.case, &self.rows, start(&self.case, at), set);
-            route.push(rider);
-            set = without(set, rider);
-            at = rider;
-        }
-        route
+        self.borrowed().route()
+    }
+
+    /// The sum of a rider's marginal costs in cents over all orders of all riders.
+    pub fn sum_over_orders(&self, rider: u8) -> i128
+        requires low { 1 ≤ rider }
+        requires high { rider ≤ length self.now.at.items }
+        ensures value { result ≡ sum_of_marginal_costs self.now rider }
+        ensures small { unsigned_abs result ≤ MOST_FARE_CENTS * (MOST_RIDERS + 1) * factorial (length self.now.at.items) }
+        ensures fits { unsigned_abs result ≤ MOST_FARE_CENTS * (MOST_RIDERS + 1) * factorial MOST_RIDERS }
+    {
+        self.borrowed().sum_over_orders(rider)
     }
 }

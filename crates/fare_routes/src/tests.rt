@@ -1,71 +1,41 @@
-ghost use Rattle.std.specs.Prelude.{IfOk};
-ghost use Rattle.bid_rules.specs.Facts.{IsValidFareCase};
-
+use crate::costs;
 use crate::riders::copied;
-use crate::{costs, riders_of_set};
 use arrayvec::ArrayVec;
 use bid_rules::limits::RiderList;
-use bid_rules::{Bid, Case, Facts, FareCase, Fares, check_bid, check_fares, make_case};
+use bid_rules::{FareCase, Fares};
+use set_costs::riders_of_set;
 use std::process::Abort;
 use std::test::Fail;
 
-const TAXI: [&[u32]; 3] = [&[1000, 1500], &[0, 700], &[900, 0]];
-
-const ONE_PLACE: [&[u32]; 2] = [&[1000], &[0]];
-
 /// Legs that cost more one way than the other, with ties.
-const ROUNDABOUT: [&[u32]; 5] = [
-    &[400, 300, 300, 500],
-    &[0, 100, 200, 700],
-    &[600, 0, 100, 200],
-    &[200, 500, 0, 100],
-    &[100, 200, 600, 0],
+const ROUNDABOUT: [[u32; 4]; 5] = [
+    [400, 300, 300, 500],
+    [0, 100, 200, 700],
+    [600, 0, 100, 200],
+    [200, 500, 0, 100],
+    [100, 200, 600, 0],
 ];
 
-const LINE: [&[u32]; 5] = [
-    &[100, 200, 300, 400],
-    &[0, 100, 200, 300],
-    &[100, 0, 100, 200],
-    &[200, 100, 0, 100],
-    &[300, 200, 100, 0],
-];
+/// The flag fall.
+const FLAG: u32 = 300;
 
-/// Facts with these legs.
-fn fares(rt: &impl Abort, members: usize, flag: u32, rows: &[&[u32]]) -> Fares {
+/// Four riders, two of them to one place.
+fn four_riders(rt: &impl Abort) -> FareCase {
     let mut legs = ArrayVec::new();
-    for row in rows {
+    for row in &ROUNDABOUT {
         let mut cents = ArrayVec::new();
         assert!(rt; cents.try_extend_from_slice(row).is_ok());
         assert!(rt; legs.try_push(cents).is_ok());
     }
-    assert!(rt; members <= 10 && 1 <= rows.len() && rows.len() <= 13);
-    Fares {
-        members: members as u8,
-        places: rows.len() as u8 - 1,
-        flag,
-        legs,
-    }
-}
-
-/// The case of the members who name a place.
-fn case_with(rt: &impl Abort, fares: Fares, places: &[Option<u8>]) -> Result<FareCase, Fail>
-    ensures { IfOk result IsValidFareCase }
-{
-    assert!(rt; check_fares(&fares).is_ok() && places.len() == usize::from(fares.members));
-    let facts = Facts::Fares(fares);
-    let mut bids = ArrayVec::<Option<Bid>, 10>::new();
-    for place in places {
-        let mut bid = None;
-        if let Some(place) = place {
-            let named = Bid::Place(*place);
-            assert!(rt; check_bid(&facts, &named).is_ok());
-            bid = Some(named);
-        }
-        bids.push(bid);
-    }
-    match make_case(&facts, bids.as_slice()) {
-        Ok(Case::Fares(case)) => Ok(case),
-        _ => Err(Fail::from("nobody bids")),
+    FareCase {
+        facts: Fares {
+            members: 4,
+            places: 4,
+            flag: FLAG,
+            legs,
+        },
+        who: copied(&[1, 2, 3, 4]),
+        at: copied(&[3, 1, 4, 1]),
     }
 }
 
@@ -148,16 +118,11 @@ fn plain_route(rt: &impl Abort, case: &FareCase, riders: &[u8]) -> RiderList {
 
 #[test]
 fn four_riders_cost_what_all_orders_say(rt: HostRuntime) -> Result<(), Fail> {
-    let alloc = rt.alloc();
-    let case = case_with(
-        &rt,
-        fares(&rt, 4, 300, &ROUNDABOUT),
-        &[Some(3), Some(1), Some(4), Some(1)],
-    )?;
-    let Ok(costs) = costs(alloc, &case) else {
+    let case = four_riders(&rt);
+    assert!(rt; case.is_valid() && case.at.len() == 4);
+    let Ok(costs) = costs(rt.alloc(), &case) else {
         return Err(Fail::from("no memory"));
     };
-    assert!(rt; case.at.len() == 4);
     for set in 0..16 {
         let riders = riders_of_set(4, set);
         for at in 0..=4 {
@@ -169,53 +134,14 @@ fn four_riders_cost_what_all_orders_say(rt: HostRuntime) -> Result<(), Fail> {
             }
         }
     }
+    assert_eq!(rt; costs.cost_of(0), 0);
+    assert_eq!(rt;
+        costs.cost_of(15),
+        FLAG.saturating_add(plain_entry(&rt, &case, 0, &[1, 2, 3, 4]))
+    );
     assert_eq!(rt;
         costs.route().as_slice(),
         plain_route(&rt, &case, &[1, 2, 3, 4]).as_slice()
     );
-    Ok(())
-}
-
-#[test]
-fn sets_cost_the_flag_and_their_cheapest_route(rt: HostRuntime) -> Result<(), Fail> {
-    let alloc = rt.alloc();
-    let table: [(u32, &[&[u32]], &[Option<u8>], &[u32], &[u8]); 4] = [
-        (
-            300,
-            &TAXI,
-            &[Some(1), Some(2)],
-            &[0, 1300, 1800, 2000],
-            &[1, 2],
-        ),
-        (
-            300,
-            &ONE_PLACE,
-            &[Some(1), Some(1)],
-            &[0, 1300, 1300, 1300],
-            &[1, 2],
-        ),
-        (300, &TAXI, &[None, Some(2)], &[0, 1800], &[1]),
-        (
-            0,
-            &LINE,
-            &[Some(4), Some(2), Some(1), Some(3)],
-            &[
-                0, 400, 200, 400, 100, 400, 200, 400, 300, 400, 300, 400, 300, 400, 300, 400,
-            ],
-            &[3, 2, 4, 1],
-        ),
-    ];
-    for (flag, rows, places, want, route) in table {
-        let case = case_with(&rt, fares(&rt, places.len(), flag, rows), places)?;
-        let Ok(costs) = costs(alloc, &case) else {
-            return Err(Fail::from("no memory"));
-        };
-        let sets = 1 << case.at.len();
-        assert!(rt; want.len() == usize::from(sets));
-        for set in 0..sets {
-            assert_eq!(rt; costs.cost_of(set), want[usize::from(set)]);
-        }
-        assert_eq!(rt; costs.route().as_slice(), route);
-    }
     Ok(())
 }

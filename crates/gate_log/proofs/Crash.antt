@@ -9,25 +9,31 @@ use Rattle.split_base.specs.Disk.{IsWritten, IsTorn, Tears, Each, Only}
 use Rattle.gate_log.proofs.Pieces.{kept_front, written_at, OneTorn, torn_one}
 use Rattle.gate_log.specs.Records.{start_line, header, IsVersion, IsBody, entry, IsRun, Stands, Holds, place_after, IsBeforeOrAfter}
 
+-- the length of a body is written in 4 bytes
 pub length-le : (n : ℕ) → length (to_le_bytes w32 n) ≡ 4
 length-le n = refl
 
+-- the length of a record
 pub length-entry : (gate : ℕ) (body : List ℕ) → length (entry gate body) ≡ 5 + length body
 length-entry gate body = omega (arith, length-append (to_le_bytes w32 (length body)) body, length-le (length body))
 
+-- the length of a run of records
 pub length-run : (bodies : List (List ℕ)) (run : List ℕ) → IsRun bodies run → length run ≡ sum_by (λ body. 5 + length body) bodies
 length-run [] run is = ap length is
 length-run (body ∷ bodies) run (gate, more, opened, fits, is, rest) =
     omega (arith, ap length is, length-append (entry gate body) more, length-entry gate body, length-run bodies more rest, sum_by-cons (λ (b : List ℕ). 5 + length b) body bodies)
 
+-- a run of records with one more
 pub run_push : (bodies : List (List ℕ)) (run body : List ℕ) (gate : ℕ) → IsRun bodies run → gate ≢ 0 → IsBody body → IsRun (bodies ++ body ∷ []) (run ++ entry gate body)
 run_push [] run body gate is opened fits = (gate, [], opened, fits, ap (λ (l : List ℕ). l ++ entry gate body) is ∙ sym (append-nil (entry gate body)), refl)
 run_push (first ∷ bodies) run body gate (g, more, o, f, is, rest) opened fits =
     (g, more ++ entry gate body, o, f, ap (λ (l : List ℕ). l ++ entry gate body) is ∙ append_assoc (entry g first) more (entry gate body), run_push bodies more body gate rest opened fits)
 
+-- the place behind one record more
 pub place_push : (bodies : List (List ℕ)) (body : List ℕ) → place_after (bodies ++ body ∷ []) ≡ place_after bodies + 5 + length body
 place_push bodies body = omega (arith, sum_by-append (λ (b : List ℕ). 5 + length b) bodies (body ∷ []))
 
+-- the length of a header without the first gate
 pub length-header : (gate : ℕ) (secret : List ℕ) → length secret ≡ 32 → length (header gate secret) ≡ 49
 length-header gate secret size = omega (arith, length-append (start_line ++ secret) (gate ∷ []), length-append start_line secret)
 
@@ -199,6 +205,7 @@ fresh_bytes secret file piece new none is written =
     let empty : drop (length piece) file ≡ [] = nil_from_length (drop (length piece) file) (omega (arith, length-drop (length piece) file, none)) in
     written_at [] file piece new 0 refl written ∙ ap (λ (l : List ℕ). piece ++ l) empty ∙ append-nil piece ∙ is
 
+-- an empty journal stands for no bodies
 pub fresh_stands : (secret new : List ℕ) → length secret ≡ 32 → new ≡ header 1 secret ++ 0 ∷ [] → Stands 2 secret [] new
 fresh_stands secret new size is = record {
   gate = 1;

@@ -2,3 +2,5 @@ mod Pieces
 mod Crash
 mod Reading
 mod Unique
+mod Buffer
+mod Writes

@@ -3,6 +3,7 @@ use Rattle.std.proofs.Common.{◌≡◌, ℕ, ◌+◌, ◌≤◌, ◌<◌, List,
 use Rattle.std.proofs.lemmas.List.{take_at, drop_at, drop_more, take-take, append-nil, drop-drop}
 use Rattle.split_base.specs.Disk.{IsWritten, IsTorn}
 
+-- a list of no length is empty
 empty : (xs : List ℕ) → length xs ≡ 0 → xs ≡ []
 empty [] none = refl
 empty (x ∷ xs) none = absurd (omega arith)
@@ -35,6 +36,7 @@ pub record OneTorn (front rest c : List ℕ) : Type 0 where
   pub more : List ℕ
   pub is : c ≡ front ++ byte ∷ (rest ++ more)
 
+-- what a torn write of one byte leaves
 pub torn_one : (front rest c : List ℕ) (byte p : ℕ) → length front ≡ p → IsTorn p 1 (front ++ byte ∷ rest) c → OneTorn front rest c
 torn_one front rest c byte p size torn =
     let all = front ++ byte ∷ rest in

@@ -4,31 +4,31 @@ use Rattle.std.proofs.lemmas.Bool.{cases_lt}
 use Rattle.std.proofs.lemmas.List.{append-nil, get_or-take, drop_more, take_at, drop_at, take_all, take-append-le, take-take, drop-take}
 use Rattle.std.specs.Int.{to_le_bytes, from_le_bytes, w32}
 use Rattle.gate_log.specs.Records.{start_line, header, IsVersion, IsLength, IsBody, entry, IsRun, Stands, place_after}
-use Rattle.gate_log.specs.Faults.{IsHeaderFault, length_in, IsOutOfRange, IsFaultBehind}
+use Rattle.gate_log.specs.Faults.{IsHeaderFault, length_in, IsOutOfRange, IsFaultAfter}
 use Rattle.gate_log.specs.Log.{LogView, IsReading, IsAhead, with_ahead, past, IsHeaded, secret_in}
 use Rattle.gate_log.specs.Gate.{EndsEarly, BeginsRecord}
 use Rattle.gate_log.proofs.Crash.{length-header, run_push, place_push, size}
 
 module _ (file : List ℕ) (log : LogView) (secret : List ℕ) (bodies : List (List ℕ)) (r : IsReading file log secret bodies) where
-  front_size : length (header r.gate secret ++ r.run) ≡ log.place
-  front_size = size 0 secret bodies log.place r.place r.gate r.run r.secret_size r.is_run
+  front_size : length (header r.begins.gate secret ++ r.begins.run) ≡ log.place
+  front_size = size 0 secret bodies log.place r.place r.begins.gate r.begins.run r.begins.secret_size r.begins.is_run
 
-  pub behind : drop log.place file ≡ r.rest
-  behind = ap (λ (l : List ℕ). drop log.place l) r.is ∙ drop_at (header r.gate secret ++ r.run) r.rest log.place front_size
+  pub behind : drop log.place file ≡ r.begins.rest
+  behind = ap (λ (l : List ℕ). drop log.place l) r.begins.is ∙ drop_at (header r.begins.gate secret ++ r.begins.run) r.begins.rest log.place front_size
 
-  pub file_size : length file ≡ log.place + length r.rest
-  file_size = omega (arith, ap length r.is, length-append (header r.gate secret ++ r.run) r.rest, front_size)
+  pub file_size : length file ≡ log.place + length r.begins.rest
+  file_size = omega (arith, ap length r.begins.is, length-append (header r.begins.gate secret ++ r.begins.run) r.begins.rest, front_size)
 
   module _ (ahead : List ℕ) (is_ahead : IsAhead file log.place ahead) where
-    rest_is : r.rest ≡ ahead ++ drop (length ahead) r.rest
-    rest_is = sym (take-append-drop (length ahead) r.rest) ∙ ap (λ (l : List ℕ). l ++ drop (length ahead) r.rest) (sym (is_ahead ∙ ap (λ (l : List ℕ). take (length ahead) l) behind))
+    rest_is : r.begins.rest ≡ ahead ++ drop (length ahead) r.begins.rest
+    rest_is = sym (take-append-drop (length ahead) r.begins.rest) ∙ ap (λ (l : List ℕ). l ++ drop (length ahead) r.begins.rest) (sym (is_ahead ∙ ap (λ (l : List ℕ). take (length ahead) l) behind))
 
     -- a whole record
     pub record_read : (n : ℕ) → BeginsRecord ahead n → IsReading file (past (with_ahead log ahead) n) secret (bodies ++ take n (drop 5 ahead) ∷ [])
     record_read n (gate, more, opened, is, fits, written, long) =
         let body = take n (drop 4 more) in
         let left = drop (5 + n) ahead in
-        let after = left ++ drop (length ahead) r.rest in
+        let after = left ++ drop (length ahead) r.begins.rest in
         let body_size : length body ≡ n = omega (arith, length-take n (drop 4 more), length-drop 4 more, long) in
         let left_is : drop n (drop 4 more) ≡ left = drop-drop n 5 (gate ∷ more) ∙ ap (λ (l : List ℕ). drop (5 + n) l) (sym is) in
         let bytes : to_le_bytes w32 (length body) ≡ take 4 more = ap (λ (k : ℕ). to_le_bytes w32 k) body_size ∙ sym written in
@@ -40,31 +40,33 @@ module _ (file : List ℕ) (log : LogView) (secret : List ℕ) (bodies : List (L
         ∙ ap (λ (l : List ℕ). gate ∷ (to_le_bytes w32 (length body) ++ (body ++ l))) left_is
         ∙ ap (λ (l : List ℕ). gate ∷ l) (sym (append_assoc (to_le_bytes w32 (length body)) body left)) in
         let is_body : IsBody body = subst IsLength (sym body_size) fits in
-        let next_run : IsRun (bodies ++ body ∷ []) (r.run ++ entry gate body) = run_push bodies r.run body gate r.is_run opened is_body in
+        let next_run : IsRun (bodies ++ body ∷ []) (r.begins.run ++ entry gate body) = run_push bodies r.begins.run body gate r.begins.is_run opened is_body in
         let next_place : log.place + 5 + n ≡ place_after (bodies ++ body ∷ []) = omega (arith, r.place, place_push bodies body, body_size) in
-        let file_is : file ≡ header r.gate secret ++ (r.run ++ entry gate body) ++ after =
-        r.is
-        ∙ ap (λ (l : List ℕ). header r.gate secret ++ r.run ++ l) (rest_is ∙ ap (λ (l : List ℕ). l ++ drop (length ahead) r.rest) whole ∙ append_assoc (entry gate body) left (drop (length ahead) r.rest))
-        ∙ sym (append_assoc (header r.gate secret ++ r.run) (entry gate body) after)
-        ∙ ap (λ (l : List ℕ). l ++ after) (append_assoc (header r.gate secret) r.run (entry gate body)) in
+        let file_is : file ≡ header r.begins.gate secret ++ (r.begins.run ++ entry gate body) ++ after =
+        r.begins.is
+        ∙ ap (λ (l : List ℕ). header r.begins.gate secret ++ r.begins.run ++ l) (rest_is ∙ ap (λ (l : List ℕ). l ++ drop (length ahead) r.begins.rest) whole ∙ append_assoc (entry gate body) left (drop (length ahead) r.begins.rest))
+        ∙ sym (append_assoc (header r.begins.gate secret ++ r.begins.run) (entry gate body) after)
+        ∙ ap (λ (l : List ℕ). l ++ after) (append_assoc (header r.begins.gate secret) r.begins.run (entry gate body)) in
         let left_size : length left + 5 + n ≡ length ahead = omega (arith, length-drop (5 + n) ahead, ap length is, long) in
-        let front : length (header r.gate secret ++ (r.run ++ entry gate body)) ≡ log.place + 5 + n =
-        size 0 secret (bodies ++ body ∷ []) (log.place + 5 + n) next_place r.gate (r.run ++ entry gate body) r.secret_size next_run in
+        let front : length (header r.begins.gate secret ++ (r.begins.run ++ entry gate body)) ≡ log.place + 5 + n =
+        size 0 secret (bodies ++ body ∷ []) (log.place + 5 + n) next_place r.begins.gate (r.begins.run ++ entry gate body) r.begins.secret_size next_run in
         let next_behind : drop (log.place + 5 + n) file ≡ after =
-        ap (λ (l : List ℕ). drop (log.place + 5 + n) l) file_is ∙ drop_at (header r.gate secret ++ (r.run ++ entry gate body)) after (log.place + 5 + n) front in
+        ap (λ (l : List ℕ). drop (log.place + 5 + n) l) file_is ∙ drop_at (header r.begins.gate secret ++ (r.begins.run ++ entry gate body)) after (log.place + 5 + n) front in
         let result : IsReading file (past (with_ahead log ahead) n) secret (bodies ++ body ∷ []) = record {
-          gate = r.gate;
-          run = r.run ++ entry gate body;
-          rest = after;
-          is_version = r.is_version;
-          secret_size = r.secret_size;
-          is_run = next_run;
-          is = file_is;
-          has_gate = omega (arith, length-append left (drop (length ahead) r.rest), left_size, ap length is, long);
+          begins = record {
+            gate = r.begins.gate;
+            run = r.begins.run ++ entry gate body;
+            rest = after;
+            is_version = r.begins.is_version;
+            secret_size = r.begins.secret_size;
+            is_run = next_run;
+            is = file_is;
+            has_gate = omega (arith, length-append left (drop (length ahead) r.begins.rest), left_size, ap length is, long);
+          };
           place = next_place;
           unknown = r.unknown;
           size = r.size;
-          ahead = sym (ap (λ (l : List ℕ). take (length left) l) next_behind ∙ take_at left (drop (length ahead) r.rest) (length left) refl);
+          ahead = sym (ap (λ (l : List ℕ). take (length left) l) next_behind ∙ take_at left (drop (length ahead) r.begins.rest) (length left) refl);
         } in
         let body_is : body ≡ take n (drop 5 ahead) = ap (λ (l : List ℕ). take n (drop 5 l)) (sym is) in
         subst (λ (l : List ℕ). IsReading file (past (with_ahead log ahead) n) secret (bodies ++ l ∷ [])) body_is result
@@ -72,36 +74,35 @@ module _ (file : List ℕ) (log : LogView) (secret : List ℕ) (bodies : List (L
     -- a closed gate
     pub end_read : (more : List ℕ) → ahead ≡ 0 ∷ more → Stands log.version secret bodies file
     end_read more is = record {
-      gate = r.gate;
-      run = r.run;
-      tail = more ++ drop (length ahead) r.rest;
-      is_version = r.is_version;
-      secret_size = r.secret_size;
-      is_run = r.is_run;
-      is = r.is ∙ ap (λ (l : List ℕ). header r.gate secret ++ r.run ++ l) (rest_is ∙ ap (λ (l : List ℕ). l ++ drop (length ahead) r.rest) is);
+      gate = r.begins.gate;
+      run = r.begins.run;
+      tail = more ++ drop (length ahead) r.begins.rest;
+      is_version = r.begins.is_version;
+      secret_size = r.begins.secret_size;
+      is_run = r.begins.is_run;
+      is = r.begins.is ∙ ap (λ (l : List ℕ). header r.begins.gate secret ++ r.begins.run ++ l) (rest_is ∙ ap (λ (l : List ℕ). l ++ drop (length ahead) r.begins.rest) is);
     }
 
     -- a length out of its range
-    pub range_read : (gate : ℕ) (more : List ℕ) → gate ≢ 0 → ahead ≡ gate ∷ more → IsOutOfRange more → IsFaultBehind (log.place + 1) file
+    pub range_read : (gate : ℕ) (more : List ℕ) → gate ≢ 0 → ahead ≡ gate ∷ more → IsOutOfRange more → IsFaultAfter log.version secret bodies (log.place + 1) file
     range_read gate more opened is (long, wrong) =
-        let behind_gate = more ++ drop (length ahead) r.rest in
-        let same : length_in behind_gate ≡ length_in more = ap (λ (l : List ℕ). from_le_bytes w32 l) (take-append-le 4 more (drop (length ahead) r.rest) long) in
+        let behind_gate = more ++ drop (length ahead) r.begins.rest in
+        let same : length_in behind_gate ≡ length_in more = ap (λ (l : List ℕ). from_le_bytes w32 l) (take-append-le 4 more (drop (length ahead) r.begins.rest) long) in
         record {
-          version_gate = r.gate;
-          secret = secret;
-          bodies = bodies;
-          run = r.run;
+          version_gate = r.begins.gate;
+          run = r.begins.run;
           gate = gate;
           more = behind_gate;
-          secret_size = r.secret_size;
-          is_run = r.is_run;
+          is_version = r.begins.is_version;
+          secret_size = r.begins.secret_size;
+          is_run = r.begins.is_run;
           opened = opened;
-          is = r.is ∙ ap (λ (l : List ℕ). header r.gate secret ++ r.run ++ l) (rest_is ∙ ap (λ (l : List ℕ). l ++ drop (length ahead) r.rest) is);
-          fault = inr ((omega (arith, long, length-append more (drop (length ahead) r.rest)), λ fits. wrong (subst IsLength same fits)), ap (λ (k : ℕ). k + 1) r.place);
+          is = r.begins.is ∙ ap (λ (l : List ℕ). header r.begins.gate secret ++ r.begins.run ++ l) (rest_is ∙ ap (λ (l : List ℕ). l ++ drop (length ahead) r.begins.rest) is);
+          fault = inr ((omega (arith, long, length-append more (drop (length ahead) r.begins.rest)), λ fits. wrong (subst IsLength same fits)), ap (λ (k : ℕ). k + 1) r.place);
         }
 
     -- the file ends before the record and the next gate do
-    pub short_read : EndsEarly ahead → (4102 ≤ length ahead) ⊎ (length file ≤ log.place + length ahead) → IsFaultBehind log.size file
+    pub short_read : EndsEarly ahead → (4102 ≤ length ahead) ⊎ (length file ≤ log.place + length ahead) → IsFaultAfter log.version secret bodies log.size file
     short_read early far = by_cases early (all (short early) far)
       where
         short : EndsEarly ahead → length ahead < 4102
@@ -109,23 +110,22 @@ module _ (file : List ℕ) (log : LogView) (secret : List ℕ) (bodies : List (L
         short (inr (gate, more, opened, is, inl few)) = omega (arith, ap length is, few)
         short (inr (gate, more, opened, is, inr (some, fits, few))) = omega (arith, ap length is, few, fits.1)
 
-        all : length ahead < 4102 → (4102 ≤ length ahead) ⊎ (length file ≤ log.place + length ahead) → r.rest ≡ ahead
+        all : length ahead < 4102 → (4102 ≤ length ahead) ⊎ (length file ≤ log.place + length ahead) → r.begins.rest ≡ ahead
         all few (inl many) = absurd (omega (arith, few, many))
-        all few (inr end) = sym (take_all (length ahead) r.rest (omega (arith, end, file_size))) ∙ sym (is_ahead ∙ ap (λ (l : List ℕ). take (length ahead) l) behind)
+        all few (inr end) = sym (take_all (length ahead) r.begins.rest (omega (arith, end, file_size))) ∙ sym (is_ahead ∙ ap (λ (l : List ℕ). take (length ahead) l) behind)
 
-        by_cases : EndsEarly ahead → r.rest ≡ ahead → IsFaultBehind log.size file
-        by_cases (inl none) same = absurd (omega (arith, ap length none, ap length same, r.has_gate))
+        by_cases : EndsEarly ahead → r.begins.rest ≡ ahead → IsFaultAfter log.version secret bodies log.size file
+        by_cases (inl none) same = absurd (omega (arith, ap length none, ap length same, r.begins.has_gate))
         by_cases (inr (gate, more, opened, is, is_short)) same = record {
-          version_gate = r.gate;
-          secret = secret;
-          bodies = bodies;
-          run = r.run;
+          version_gate = r.begins.gate;
+          run = r.begins.run;
           gate = gate;
           more = more;
-          secret_size = r.secret_size;
-          is_run = r.is_run;
+          is_version = r.begins.is_version;
+          secret_size = r.begins.secret_size;
+          is_run = r.begins.is_run;
           opened = opened;
-          is = r.is ∙ ap (λ (l : List ℕ). header r.gate secret ++ r.run ++ l) (same ∙ is);
+          is = r.begins.is ∙ ap (λ (l : List ℕ). header r.begins.gate secret ++ r.begins.run ++ l) (same ∙ is);
           fault = inl (is_short, r.size);
         }
 
@@ -174,14 +174,16 @@ header_read file bytes n version front h log place version_is unknown size_is ah
     let behind : drop log.place file ≡ rest ++ drop n file =
     ap (λ (k : ℕ). drop k file) place ∙ ap (λ (l : List ℕ). drop 49 l) file_is ∙ drop_at (header gate secret ++ []) (rest ++ drop n file) 49 head_size in
     record {
-      gate = gate;
-      run = [];
-      rest = rest ++ drop n file;
-      is_version = subst (IsVersion gate) (sym version_is) h.is_version;
-      secret_size = secret_size;
-      is_run = refl;
-      is = file_is;
-      has_gate = omega (arith, length-append rest (drop n file), length-drop 49 bytes, h.long);
+      begins = record {
+        gate = gate;
+        run = [];
+        rest = rest ++ drop n file;
+        is_version = subst (IsVersion gate) (sym version_is) h.is_version;
+        secret_size = secret_size;
+        is_run = refl;
+        is = file_is;
+        has_gate = omega (arith, length-append rest (drop n file), length-drop 49 bytes, h.long);
+      };
       place = place;
       unknown = unknown;
       size = size_is;

@@ -1,19 +1,20 @@
 -- Where a file is no journal: the place of its first fault.
 use Rattle.std.specs.Prelude.{◌≡◌, ◌≢◌, ◌⊎◌, ℕ, ◌+◌, ◌≤◌, ◌<◌, List, ◌∷◌, ◌++◌, length, take, slice_index}
 use Rattle.std.specs.Int.{from_le_bytes, w32}
-use Rattle.gate_log.specs.Records.{start_line, header, IsLength, IsRun, place_after}
+use Rattle.gate_log.specs.Records.{start_line, header, IsVersion, IsLength, IsRun, place_after}
+use Rattle.gate_log.specs.declared.limits.TheConstants.{LINE_SIZE, SECRET_SIZE, EMPTY_SIZE}
 
 -- the first byte of the start line that differs or is missing
 pub record IsLineFault (place : ℕ) (file : List ℕ) : Type 0 where
-  pub within : place < 16
+  pub within : place < LINE_SIZE
   pub before : take place file ≡ take place start_line
   pub differs : (length file ≤ place) ⊎ (slice_index file place ≢ slice_index start_line place)
 
 -- the first byte behind the start line that is missing in the header or at the first gate
 pub record IsCutHeader (place : ℕ) (file : List ℕ) : Type 0 where
-  pub line : take 16 file ≡ start_line
+  pub line : take LINE_SIZE file ≡ start_line
   pub size : length file ≡ place
-  pub short : place < 50
+  pub short : place < EMPTY_SIZE
 
 abbrev pub IsHeaderFault : ℕ → List ℕ → Type 0
 IsHeaderFault place file = IsLineFault place file ⊎ IsCutHeader place file
@@ -34,19 +35,22 @@ IsOutOfRange more = (4 ≤ length more) × (¬ IsLength (length_in more))
 abbrev pub IsRecordFault : (p : ℕ) (more : List ℕ) (size place : ℕ) → Type 0
 IsRecordFault p more size place = (IsShort more × (place ≡ size)) ⊎ (IsOutOfRange more × (place ≡ p + 1))
 
--- a whole header and whole records, and then a record with an open gate that has a fault
-pub record IsFaultBehind (place : ℕ) (file : List ℕ) : Type 0 where
+-- a whole header and the whole records of these bodies, and then a record with an open gate that has a fault
+pub record IsFaultAfter (version : ℕ) (secret : List ℕ) (bodies : List (List ℕ)) (place : ℕ) (file : List ℕ) : Type 0 where
   pub version_gate : ℕ
-  pub secret : List ℕ
-  pub bodies : List (List ℕ)
   pub run : List ℕ
   pub gate : ℕ
   pub more : List ℕ
-  pub secret_size : length secret ≡ 32
+  pub is_version : IsVersion version_gate version
+  pub secret_size : length secret ≡ SECRET_SIZE
   pub is_run : IsRun bodies run
   pub opened : gate ≢ 0
   pub is : file ≡ header version_gate secret ++ run ++ gate ∷ more
   pub fault : IsRecordFault (place_after bodies) more (length file) place
+
+-- whatever the records before it are
+abbrev pub IsFaultBehind : ℕ → List ℕ → Type 0
+IsFaultBehind place file = (version : ℕ) × (secret : List ℕ) × (bodies : List (List ℕ)) × IsFaultAfter version secret bodies place file
 
 -- the first fault of the file
 abbrev pub IsFault : ℕ → List ℕ → Type 0

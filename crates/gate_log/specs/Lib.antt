@@ -2,4 +2,5 @@ pub mod Records
 pub mod Faults
 pub mod Gate
 pub mod Log
+pub mod Ahead
 pub mod Inside

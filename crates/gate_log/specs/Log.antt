@@ -1,7 +1,8 @@
 -- A log and the file to which it belongs.
-use Rattle.std.specs.Prelude.{◌≡◌, ℕ, ◌+◌, ◌≤◌, List, ◌++◌, length, take, drop, Bool, true, IsFalse, slice_index}
+use Rattle.std.specs.Prelude.{◌≡◌, ℕ, ◌+◌, ◌≤◌, List, length, take, drop, Bool, true, IsFalse, slice_index}
 use Rattle.split_base.specs.Disk.{Each}
-use Rattle.gate_log.specs.Records.{start_line, header, IsVersion, IsRun, Stands, place_after}
+use Rattle.gate_log.specs.declared.limits.TheConstants.{LINE_SIZE, SECRET_SIZE, VERSION_GATE, EMPTY_SIZE}
+use Rattle.gate_log.specs.Records.{start_line, IsVersion, Begins, Stands, place_after}
 
 -- A log as contracts see it: the place of its gate, the file's version, whether that gate is known to be closed, and
 -- while the file is read its size and the bytes from the place on that were read ahead.
@@ -23,14 +24,7 @@ IsAhead file place ahead = ahead ≡ take (length ahead) (drop place file)
 
 -- of this file the header and the records of these bodies were read, and the log is at the gate behind them
 pub record IsReading (file : List ℕ) (log : LogView) (secret : List ℕ) (bodies : List (List ℕ)) : Type 0 where
-  pub gate : ℕ
-  pub run : List ℕ
-  pub rest : List ℕ
-  pub is_version : IsVersion gate log.version
-  pub secret_size : length secret ≡ 32
-  pub is_run : IsRun bodies run
-  pub is : file ≡ header gate secret ++ run ++ rest
-  pub has_gate : 1 ≤ length rest
+  pub begins : Begins log.version secret bodies file
   pub place : log.place ≡ place_after bodies
   pub unknown : IsFalse log.at_end
   pub size : log.size ≡ length file
@@ -50,10 +44,10 @@ past log n = record { place = log.place + 5 + n; version = log.version; at_end =
 
 -- where the secret stands in a header
 abbrev pub secret_in : List ℕ → List ℕ
-secret_in bytes = take 32 (drop 16 bytes)
+secret_in bytes = take SECRET_SIZE (drop LINE_SIZE bytes)
 
 -- bytes that begin with a header of this version and the first gate
 pub record IsHeaded (bytes : List ℕ) (version : ℕ) : Type 0 where
-  pub line : take 16 bytes ≡ start_line
-  pub long : 50 ≤ length bytes
-  pub is_version : IsVersion (slice_index bytes 48) version
+  pub line : take LINE_SIZE bytes ≡ start_line
+  pub long : EMPTY_SIZE ≤ length bytes
+  pub is_version : IsVersion (slice_index bytes VERSION_GATE) version

@@ -2,7 +2,8 @@
 use Rattle.std.specs.Prelude.{◌≡◌, ◌≢◌, ◌⊎◌, ℕ, ◌+◌, ◌≤◌, List, [], ◌∷◌, ◌++◌, length, codes}
 use Rattle.std.specs.List.{sum_by}
 use Rattle.std.specs.Int.{to_le_bytes, w32}
-use Rattle.gate_log.specs.declared.limits.TheConstants.{BODY_LEAST, BODY_MOST}
+use Rattle.split_base.specs.Disk.{IsWritten, IsTorn, Tears}
+use Rattle.gate_log.specs.declared.limits.TheConstants.{SECRET_SIZE, FIRST_GATE, BODY_LEAST, BODY_MOST}
 
 -- the line that a journal begins with
 abbrev pub start_line : List ℕ
@@ -39,7 +40,7 @@ pub record Stands (version : ℕ) (secret : List ℕ) (bodies : List (List ℕ))
   pub run : List ℕ
   pub tail : List ℕ
   pub is_version : IsVersion gate version
-  pub secret_size : length secret ≡ 32
+  pub secret_size : length secret ≡ SECRET_SIZE
   pub is_run : IsRun bodies run
   pub is : file ≡ header gate secret ++ run ++ 0 ∷ tail
 
@@ -47,10 +48,44 @@ pub record Stands (version : ℕ) (secret : List ℕ) (bodies : List (List ℕ))
 abbrev pub Holds : List ℕ → List (List ℕ) → List ℕ → Type 0
 Holds secret bodies file = (version : ℕ) × Stands version secret bodies file
 
--- the place of the closed gate behind them
+-- The file begins with a header of this version and secret and with the whole records of these bodies, and there is a
+-- gate behind them, closed or open.
+pub record Begins (version : ℕ) (secret : List ℕ) (bodies : List (List ℕ)) (file : List ℕ) : Type 0 where
+  pub gate : ℕ
+  pub run : List ℕ
+  pub rest : List ℕ
+  pub is_version : IsVersion gate version
+  pub secret_size : length secret ≡ SECRET_SIZE
+  pub is_run : IsRun bodies run
+  pub is : file ≡ header gate secret ++ run ++ rest
+  pub has_gate : 1 ≤ length rest
+
+-- the place of the gate behind them
 abbrev pub place_after : List (List ℕ) → ℕ
-place_after bodies = 49 + sum_by (λ body. 5 + length body) bodies
+place_after bodies = FIRST_GATE + sum_by (λ body. 5 + length body) bodies
 
 -- the file stands for the bodies, with one more or without it
 abbrev pub IsBeforeOrAfter : ℕ → List ℕ → List (List ℕ) → List ℕ → List ℕ → Type 0
 IsBeforeOrAfter version secret bodies body file = Stands version secret bodies file ⊎ Stands version secret (bodies ++ body ∷ []) file
+
+-- what an append writes behind its gate: the length, the body, and the closed gate of the next record
+abbrev pub behind_gate : List ℕ → List ℕ
+behind_gate body = to_le_bytes w32 (length body) ++ body ++ 0 ∷ []
+
+-- the file after the first write of an append at the gate at the place
+abbrev pub IsStaged : (place : ℕ) (body old staged : List ℕ) → Type 0
+IsStaged place body old staged = IsWritten old (place + 1) (behind_gate body) staged
+
+-- the file after both: behind the gate, and then the open gate
+abbrev pub IsAppended : (place : ℕ) (body old new : List ℕ) → Type 0
+IsAppended place body old new = (staged : List ℕ) × IsStaged place body old staged × IsWritten staged place (1 ∷ []) new
+
+-- what a crash at some moment of an append may leave: an image of before, torn by the first write or not, or the file after
+-- that write, torn by the second or not
+abbrev pub MayBeAppending : (images : List ℕ → Type 0) (place : ℕ) (body old : List ℕ) → List ℕ → Type 0
+MayBeAppending images place body old file = Tears images (place + 1) (length (behind_gate body)) file
+    ⊎ ((staged : List ℕ) × IsStaged place body old staged × IsTorn place 1 staged file)
+
+-- these bodies begin with those
+abbrev pub BeginWith : List (List ℕ) → List (List ℕ) → Type 0
+BeginWith bodies others = (more : List (List ℕ)) × (bodies ≡ others ++ more)

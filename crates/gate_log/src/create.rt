@@ -1,32 +1,35 @@
 // Making an empty journal.
 ghost use Rattle.std.specs.Prelude.{◌≡◌, ◌≢◌, ◌<◌, ◌≤◌, ◌↔◌, ◌++◌, [], ◌∷◌, List, ℕ, length, OnOk, IsErr, Err};
 ghost use Rattle.split_base.specs.Faults.{HasCause, HasRisen};
-ghost use Rattle.split_base.specs.Disk.{Only};
+ghost use Rattle.split_base.specs.Disk.{Only, Rests};
 ghost use Rattle.gate_log.specs.Records.{Stands, header};
+ghost use Rattle.gate_log.specs.declared.limits.TheConstants.{EMPTY_SIZE};
 
 use crate::LogFault;
 use crate::header::header_of;
+use crate::limits::SECRET_SIZE;
 use split_base::{Disk, write_synced};
 
 /// Makes an empty journal of version 2 with this secret, in an empty file. It takes no memory.
 ///
 /// - `Disk` comes only where the disk's count of faults has risen.
-/// - `NotALog` comes exactly where the file isn't empty, with place 0.
+/// - `NotALog` comes exactly where the file isn't empty, with place 0; no byte of it changes.
 ///
 /// What a crash leaves before it has answered Ok isn't promised.
-pub fn create_log<D: Disk>(disk: &mut D, secret: &[u8; 32]) -> Result<(), LogFault>
+pub fn create_log<D: Disk>(disk: &mut D, secret: &[u8; SECRET_SIZE]) -> Result<(), LogFault>
     ensures count { D.faults disk.old ≤ D.faults disk.new }
     ensures disk { result ≡ Err LogFault.Disk → HasRisen (D.faults disk.old) (D.faults disk.new) }
     ensures no_memory { result ≢ Err LogFault.NoMemory }
     ensures place { (place : ℕ) → result ≡ Err (LogFault.NotALog place) → place ≡ 0 }
     ensures filled { D.is_honest disk.old → (place : ℕ) → result ≡ Err (LogFault.NotALog place) → 0 < length (D.seen disk.old) }
+    ensures kept { D.is_honest disk.old → (place : ℕ) → result ≡ Err (LogFault.NotALog place) → Rests D.seen D.images D.moment D.left_since disk.old disk.new }
     ensures empty { D.is_honest disk.old → OnOk result (length (D.seen disk.old) ≡ 0) }
     ensures honest { D.is_honest disk.old ↔ D.is_honest disk.new }
 
     // After Ok there is one image: 50 bytes, of version 2, with the secret and no bodies.
     ensures bytes { D.is_honest disk.old → OnOk result (D.seen disk.new ≡ header 1 secret.now ++ 0 ∷ []) }
     ensures stands { D.is_honest disk.old → OnOk result (Stands 2 secret.now [] (D.seen disk.new)) }
-    ensures size { D.is_honest disk.old → OnOk result (length (D.seen disk.new) ≡ 50) }
+    ensures size { D.is_honest disk.old → OnOk result (length (D.seen disk.new) ≡ EMPTY_SIZE) }
     ensures one { D.is_honest disk.old → OnOk result (Only (D.seen disk.new) (D.images disk.new)) }
 {
     if disk.size()? != 0 {

@@ -1,7 +1,7 @@
 // What holds of every file.
-ghost use Rattle.std.specs.Prelude.{◌≡◌, ℕ, List};
-ghost use Rattle.gate_log.specs.Records.{Stands};
-ghost use Rattle.gate_log.specs.Faults.{IsFault};
+ghost use Rattle.std.specs.Prelude.{◌≡◌, ◌⊎◌, ℕ, List};
+ghost use Rattle.gate_log.specs.Records.{Stands, Begins, BeginWith};
+ghost use Rattle.gate_log.specs.Faults.{IsFault, IsFaultAfter, IsHeaderFault};
 
 /// A file has at most one meaning: a journal of one version, one secret and one list of bodies, or
 /// no journal, with its first fault at one place.
@@ -11,4 +11,18 @@ pub fn journal_law()
     ensures no_fault { (v place : ℕ) (secret : List ℕ) (bodies : List (List ℕ)) (file : List ℕ)
         → Stands v secret bodies file → IsFault place file → ⊥ }
     ensures one_fault { (p q : ℕ) (file : List ℕ) → IsFault p file → IsFault q file → p ≡ q }
+{}
+
+/// What a file begins with goes together: a journal, and a file with a fault behind its records,
+/// begins with these and with no others, and a file that begins with records has a whole header.
+pub fn beginning_law()
+    ensures stands { (v : ℕ) (secret : List ℕ) (bodies : List (List ℕ)) (file : List ℕ) → Stands v secret bodies file → Begins v secret bodies file }
+    ensures fault { (v place : ℕ) (secret : List ℕ) (bodies : List (List ℕ)) (file : List ℕ) → IsFaultAfter v secret bodies place file → Begins v secret bodies file }
+    ensures one { (v w : ℕ) (secret word : List ℕ) (bodies others : List (List ℕ)) (file : List ℕ) → Begins v secret bodies file → Begins w word others file
+        → (v ≡ w) × (secret ≡ word) × (BeginWith bodies others ⊎ BeginWith others bodies) }
+    ensures stands_last { (v w : ℕ) (secret word : List ℕ) (bodies others : List (List ℕ)) (file : List ℕ)
+        → Stands v secret bodies file → Begins w word others file → BeginWith bodies others }
+    ensures fault_last { (v w place : ℕ) (secret word : List ℕ) (bodies others : List (List ℕ)) (file : List ℕ)
+        → IsFaultAfter v secret bodies place file → Begins w word others file → BeginWith bodies others }
+    ensures header { (v place : ℕ) (secret : List ℕ) (bodies : List (List ℕ)) (file : List ℕ) → Begins v secret bodies file → IsHeaderFault place file → ⊥ }
 {}

@@ -2,6 +2,7 @@
 //! moment leaves the records that were kept so far, with or without the one that is being appended.
 #![tactic(auto)]
 
+mod ahead;
 mod create;
 mod fault;
 mod gate;
@@ -14,6 +15,8 @@ mod tests;
 
 pub use create::create_log;
 pub use fault::LogFault;
-pub use laws::journal_law;
-pub use limits::{BODY_LEAST, BODY_MOST};
+pub use laws::{beginning_law, journal_law};
+pub use limits::{
+    BODY_LEAST, BODY_MOST, EMPTY_SIZE, FIRST_GATE, LINE_SIZE, SECRET_SIZE, VERSION_GATE,
+};
 pub use log::Log;

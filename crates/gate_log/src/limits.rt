@@ -1,4 +1,19 @@
-// Sizes of a journal's parts, in bytes.
+// Places and sizes of a journal's parts, in bytes.
+
+/// The length of the start line, and so the place of the secret.
+pub const LINE_SIZE: usize = 16;
+
+/// The length of the secret.
+pub const SECRET_SIZE: usize = 32;
+
+/// The place of the version gate.
+pub const VERSION_GATE: u64 = 48;
+
+/// The place of the first record's gate.
+pub const FIRST_GATE: u64 = 49;
+
+/// The size of an empty journal: the header and its first gate.
+pub const EMPTY_SIZE: usize = 50;
 
 /// The least length of a body.
 pub const BODY_LEAST: u32 = 1;

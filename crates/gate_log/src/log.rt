@@ -1,18 +1,18 @@
 // The log of a journal: reading its records in turn, and appending behind the last one.
-ghost use Rattle.std.specs.Prelude.{◌≡◌, ◌≢◌, ◌⊎◌, ◌<◌, ◌≤◌, ◌↔◌, ◌+◌, ◌-◌, ◌^◌, ◌++◌, [], ◌∷◌, List, ℕ, true, false, length, take, drop, IfOk, IfErr, OnOk, OnErr, IsTrue, IsFalse, Ok, Err};
-ghost use Rattle.std.specs.Int.{to_le_bytes, w32};
+ghost use Rattle.std.specs.Prelude.{◌≡◌, ◌≢◌, ◌⊎◌, ◌<◌, ◌≤◌, ◌↔◌, ◌+◌, ◌-◌, ◌^◌, ◌++◌, [], ◌∷◌, List, ℕ, true, false, length, take, drop, IfOk, IfErr, OnOk, OnErr, MatchResult, IsTrue, IsFalse, Ok, Err};
 ghost use Rattle.split_base.specs.Faults.{HasCause, HasRisen};
-ghost use Rattle.split_base.specs.Disk.{Each, Only, Rests, LeavesOnly};
-ghost use Rattle.gate_log.specs.Records.{Stands, Holds, IsBeforeOrAfter, IsBody};
-ghost use Rattle.gate_log.specs.Faults.{IsHeaderFault, IsFaultBehind};
+ghost use Rattle.split_base.specs.Disk.{Each, Only, Rests, LeavesOnly, IsWritten, Tears};
+ghost use Rattle.gate_log.specs.Records.{Stands, Holds, IsBeforeOrAfter, IsBody, IsAppended, MayBeAppending, behind_gate};
+ghost use Rattle.gate_log.specs.Faults.{IsHeaderFault, IsFaultAfter};
 ghost use Rattle.gate_log.specs.Log.{LogView, IsLogOf, IsReading, IsAhead, with_ahead, closed, past};
 ghost use Rattle.gate_log.specs.Gate.{Shows};
-ghost use Rattle.gate_log.specs.declared.limits.TheConstants.{RECORD_MOST};
+ghost use Rattle.gate_log.specs.declared.limits.TheConstants.{RECORD_MOST, FIRST_GATE, VERSION_GATE};
 
 use crate::LogFault;
+use crate::ahead::Ahead;
 use crate::gate::{AtGate, look};
 use crate::header::{read_secret, read_version};
-use crate::limits::{BEHIND_MOST, PIECE, RECORD_MOST};
+use crate::limits::{BEHIND_MOST, FIRST_GATE, RECORD_MOST, SECRET_SIZE, VERSION_GATE};
 use arrayvec::ArrayVec;
 use split_base::{Disk, Failed, NoMemory, write_synced};
 use std::marker::Model;
@@ -27,9 +27,7 @@ pub struct Log {
     version: u8,
     at_end: bool,
     size: u64,
-    piece: [u8; PIECE],
-    from: usize,
-    to: usize,
+    ahead: Ahead,
 }
 
 impl Model for Log {
@@ -51,7 +49,7 @@ impl Log {
     ///
     /// - `Disk` comes only where the disk's count of faults has risen.
     /// - `NotALog` comes exactly where the header has a fault, with the place of its first.
-    pub fn start<D: Disk>(disk: &mut D) -> Result<(Self, [u8; 32]), LogFault>
+    pub fn start<D: Disk>(disk: &mut D) -> Result<(Self, [u8; SECRET_SIZE]), LogFault>
         ensures count { D.faults disk.old ≤ D.faults disk.new }
         ensures disk { result ≡ Err LogFault.Disk → HasRisen (D.faults disk.old) (D.faults disk.new) }
         ensures no_memory { result ≢ Err LogFault.NoMemory }
@@ -63,19 +61,18 @@ impl Log {
     {
         disk.sync()?;
         let size = disk.size()?;
-        let mut piece = [0; PIECE];
-        let count = disk.read_at(0, &mut piece)?;
-        match read_version(&piece[..count]) {
+        let mut ahead = Ahead::new();
+        ahead.read_on(disk, 0)?;
+        match read_version(ahead.bytes()) {
             Ok(version) => {
-                let secret = read_secret(&piece[..count]);
+                let secret = read_secret(ahead.bytes());
+                ahead.pass(FIRST_GATE as usize);
                 let log = Log {
-                    place: 49,
+                    place: FIRST_GATE,
                     version,
                     at_end: false,
                     size,
-                    piece,
-                    from: 49,
-                    to: count,
+                    ahead,
                 };
                 Ok((log, secret))
             }
@@ -85,9 +82,18 @@ impl Log {
 
     /// The journal's version: 1 or 2.
     pub fn version(&self) -> u8
-        ensures { result ≡ self.now.version }
+        ensures version { result ≡ self.now.version }
+        ensures known { (result ≡ 1) ⊎ (result ≡ 2) }
     {
         self.version
+    }
+
+    /// The place of the log's gate, in bytes from 0.
+    pub fn place(&self) -> u64
+        ensures place { result ≡ self.now.place }
+        ensures most { result < 2 ^ 63 }
+    {
+        self.place
     }
 
     /// Gives the body of the record at the log's place in `body` and moves behind it, or answers
@@ -97,14 +103,18 @@ impl Log {
     /// - `NotALog` comes exactly where the record there has a fault, with the place of the fault.
     /// - `NoMemory` comes for want of memory for the body. `body` may hold anything then.
     ///
-    /// A refusal leaves the log's place.
+    /// A refusal leaves the log at its gate, so after `NoMemory` the call can be made again.
     pub fn next<D: Disk>(&mut self, disk: &mut D, body: &mut Vec<u8>) -> Result<bool, LogFault>
         ensures count { D.faults disk.old ≤ D.faults disk.new }
         ensures disk { result ≡ Err LogFault.Disk → HasRisen (D.faults disk.old) (D.faults disk.new) }
         ensures honest { D.is_honest disk.old ↔ D.is_honest disk.new }
         ensures rests { D.is_honest disk.old → Rests D.seen D.images D.moment D.left_since disk.old disk.new }
         ensures version { self.new.version ≡ self.old.version }
-        ensures refused { OnErr result (self.new.place ≡ self.old.place) }
+        ensures refused { OnErr result (self.new ≡ with_ahead self.old self.new.ahead) }
+        ensures again { D.is_honest disk.old → (secret : List ℕ) (bodies : List (List ℕ)) → IsReading (D.seen disk.old) self.old secret bodies
+            → OnErr result (IsReading (D.seen disk.new) self.new secret bodies) }
+        ensures moves { IfOk result (λ more. IsTrue more → (self.new.place ≡ self.old.place + 5 + length body.new.items) × (self.new.place < 2 ^ 63)) }
+        ensures goes_on { IfOk result (λ more. IsTrue more → self.new.at_end ≡ self.old.at_end) }
         ensures at_end { IfOk result (λ more. IsFalse more → IsTrue self.new.at_end) }
         ensures at_gate { IfOk result (λ more. IsFalse more → self.new.place ≡ self.old.place) }
         ensures stays { IsTrue self.old.at_end → (result ≡ Ok false) × (self.new ≡ self.old) }
@@ -114,13 +124,13 @@ impl Log {
         ensures end { D.is_honest disk.old → (secret : List ℕ) (bodies : List (List ℕ)) → IsReading (D.seen disk.old) self.old secret bodies
             → IfOk result (λ more. IsFalse more → Stands self.new.version secret bodies (D.seen disk.new)) }
         ensures not_a_log { D.is_honest disk.old → (secret : List ℕ) (bodies : List (List ℕ)) → IsReading (D.seen disk.old) self.old secret bodies
-            → (place : ℕ) → result ≡ Err (LogFault.NotALog place) → IsFaultBehind place (D.seen disk.new) }
+            → (place : ℕ) → result ≡ Err (LogFault.NotALog place) → IsFaultAfter self.old.version secret bodies place (D.seen disk.new) }
     {
         if self.at_end {
             return Ok(false);
         }
         self.fill(disk)?;
-        match look(self.ahead()) {
+        match look(self.ahead.bytes()) {
             AtGate::Closed => {
                 self.close();
                 Ok(false)
@@ -137,21 +147,27 @@ impl Log {
         }
     }
 
-    /// Appends a record with this body: four calls of the disk. At `Ok` it is acknowledged, and the
-    /// log is at its end again. It takes no memory.
+    /// Appends a record with this body: four calls of the disk, which write the length, the body and
+    /// a closed gate behind the log's gate, sync, open the gate, and sync. At `Ok` it is acknowledged,
+    /// and the log is at its end again. It takes no memory.
     ///
     /// `Disk` comes only where the disk's count of faults has risen. The file holds the body or
-    /// doesn't then.
+    /// doesn't then, and the log is not at its end: the file is opened anew.
     pub fn append<D: Disk>(&mut self, disk: &mut D, body: &[u8]) -> Result<(), LogFault>
         requires at_end { IsTrue self.old.at_end }
         requires body { IsBody body.now }
         ensures cause { HasCause (D.faults disk.old) (D.faults disk.new) result }
         ensures only_disk { IfErr result (λ e. e ≡ LogFault.Disk) }
-        ensures at_end { OnOk result (IsTrue self.new.at_end) }
+        ensures at_end { MatchResult result (λ _. IsTrue self.new.at_end) (λ _. IsFalse self.new.at_end) }
         ensures version { self.new.version ≡ self.old.version }
         ensures honest { D.is_honest disk.old ↔ D.is_honest disk.new }
         ensures acknowledged { D.is_honest disk.old → (secret : List ℕ) (bodies : List (List ℕ)) → IsLogOf (D.images disk.old) self.old secret bodies
             → OnOk result (IsLogOf (D.images disk.new) self.new secret (bodies ++ body.now ∷ [])) }
+
+        // It makes these two writes, the first stable before the second, and no other.
+        ensures written { D.is_honest disk.old → OnOk result (IsAppended self.old.place body.now (D.seen disk.old) (D.seen disk.new)) }
+        ensures one { D.is_honest disk.old → OnOk result (Only (D.seen disk.new) (D.images disk.new)) }
+        ensures writes { D.is_honest disk.old → LeavesOnly D.moment D.left_since disk.old disk.new (MayBeAppending (D.images disk.old) self.old.place body.now (D.seen disk.old)) }
 
         // At any moment of it each image stands for the bodies from before it, with the new one or without.
         ensures any_moment { D.is_honest disk.old → (secret : List ℕ) (bodies : List (List ℕ)) → IsLogOf (D.images disk.old) self.old secret bodies
@@ -160,10 +176,9 @@ impl Log {
             → Each (D.images disk.new) (IsBeforeOrAfter self.old.version secret bodies body.now) }
     {
         self.at_end = false;
-        self.from = 0;
-        self.to = 0;
+        self.ahead.clear();
         let gate = self.place;
-        let behind = behind_gate(body);
+        let behind = piece_of(body);
         write_synced(disk, gate + 1, &behind)?;
         write_synced(disk, gate, &[1])?;
         self.place = gate + behind.len() as u64;
@@ -172,29 +187,35 @@ impl Log {
     }
 
     /// Raises a journal of version 1 to version 2: two calls of the disk, which change byte 48 and
-    /// nothing else. It takes no memory.
+    /// nothing else. At `Ok` the log is of version 2, at its end as before. It takes no memory.
     ///
     /// `Disk` comes only where the disk's count of faults has risen. The file has either version
-    /// then.
+    /// then, and the log is not at its end: the file is opened anew.
     pub fn raise<D: Disk>(&mut self, disk: &mut D) -> Result<(), LogFault>
         requires at_end { IsTrue self.old.at_end }
         requires version { self.old.version ≡ 1 }
         ensures cause { HasCause (D.faults disk.old) (D.faults disk.new) result }
         ensures only_disk { IfErr result (λ e. e ≡ LogFault.Disk) }
-        ensures at_end { IsTrue self.new.at_end }
-        ensures version { OnOk result (self.new.version ≡ 2) }
+        ensures at_end { MatchResult result (λ _. IsTrue self.new.at_end) (λ _. IsFalse self.new.at_end) }
+        ensures version { MatchResult result (λ _. self.new.version ≡ 2) (λ _. self.new.version ≡ 1) }
         ensures place { self.new.place ≡ self.old.place }
         ensures honest { D.is_honest disk.old ↔ D.is_honest disk.new }
         ensures raised { D.is_honest disk.old → (secret : List ℕ) (bodies : List (List ℕ)) → IsLogOf (D.images disk.old) self.old secret bodies
             → OnOk result (IsLogOf (D.images disk.new) self.new secret bodies) }
         ensures one { D.is_honest disk.old → OnOk result (Only (D.seen disk.new) (D.images disk.new)) }
+
+        // It writes this byte, and no other.
+        ensures written { D.is_honest disk.old → OnOk result (IsWritten (D.seen disk.old) VERSION_GATE (1 ∷ []) (D.seen disk.new)) }
+        ensures writes { D.is_honest disk.old → LeavesOnly D.moment D.left_since disk.old disk.new (Tears (D.images disk.old) VERSION_GATE 1) }
         ensures any_moment { D.is_honest disk.old → (secret : List ℕ) (bodies : List (List ℕ)) → IsLogOf (D.images disk.old) self.old secret bodies
             → LeavesOnly D.moment D.left_since disk.old disk.new (Holds secret bodies) }
         ensures after { D.is_honest disk.old → (secret : List ℕ) (bodies : List (List ℕ)) → IsLogOf (D.images disk.old) self.old secret bodies
             → Each (D.images disk.new) (Holds secret bodies) }
     {
-        write_synced(disk, 48, &[1])?;
+        self.at_end = false;
+        write_synced(disk, VERSION_GATE, &[1])?;
         self.version = 2;
+        self.at_end = true;
         Ok(())
     }
 
@@ -205,39 +226,22 @@ impl Log {
         ensures rests { D.is_honest disk.old → Rests D.seen D.images D.moment D.left_since disk.old disk.new }
         ensures same { self.new ≡ with_ahead self.old self.new.ahead }
         ensures told { D.is_honest disk.old → self.old.size ≡ length (D.seen disk.old) → IsAhead (D.seen disk.old) self.old.place self.old.ahead
-            → OnOk result (IsAhead (D.seen disk.old) self.old.place self.new.ahead) }
+            → IsAhead (D.seen disk.old) self.old.place self.new.ahead }
         ensures far { D.is_honest disk.old → self.old.size ≡ length (D.seen disk.old) → IsAhead (D.seen disk.old) self.old.place self.old.ahead
             → OnOk result ((RECORD_MOST ≤ length self.new.ahead) ⊎ (length (D.seen disk.old) ≤ self.old.place + length self.new.ahead)) }
     {
-        let have = self.to - self.from;
+        let have = self.ahead.bytes().len();
         if have >= RECORD_MOST || self.place + have as u64 >= self.size {
             return Ok(());
         }
-        let count = disk.read_at(self.place, &mut self.piece)?;
-        self.from = 0;
-        self.to = count;
-        Ok(())
-    }
-
-    // The bytes that were read ahead.
-    fn ahead(&self) -> &[u8]
-        ensures { result.now ≡ self.now.ahead }
-    {
-        &self.piece[self.from..self.to]
+        self.ahead.read_on(disk, self.place)
     }
 
     fn body_ahead(&self, count: usize) -> &[u8]
         requires { 5 + count ≤ length self.now.ahead }
         ensures { result.now ≡ take count (drop 5 self.now.ahead) }
     {
-        &self.ahead()[5..5 + count]
-    }
-
-    fn place(&self) -> u64
-        ensures place { result ≡ self.now.place }
-        ensures most { result < 2 ^ 63 }
-    {
-        self.place
+        &self.ahead.bytes()[5..5 + count]
     }
 
     fn size(&self) -> u64
@@ -257,8 +261,7 @@ impl Log {
         requires { 6 + count ≤ length self.old.ahead }
         ensures { self.new ≡ past self.old count }
     {
-        self.from += 5;
-        self.from += count;
+        self.ahead.pass(5 + count);
         self.place += 5;
         self.place += count as u64;
     }
@@ -275,10 +278,10 @@ fn replace(body: &mut Vec<u8>, bytes: &[u8]) -> Result<(), NoMemory>
     }
 }
 
-// What is written behind a gate: the length, the body, and the closed gate behind it.
-fn behind_gate(body: &[u8]) -> ArrayVec<u8, BEHIND_MOST>
+// What is written behind a gate: the length, the body, and the closed gate of the next record.
+fn piece_of(body: &[u8]) -> ArrayVec<u8, BEHIND_MOST>
     requires { IsBody body.now }
-    ensures { result.items ≡ to_le_bytes w32 (length body.now) ++ body.now ++ 0 ∷ [] }
+    ensures { result.items ≡ behind_gate body.now }
 {
     let mut bytes = ArrayVec::new();
     let _ = bytes.try_extend_from_slice(&(body.len() as u32).to_le_bytes());

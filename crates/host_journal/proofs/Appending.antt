@@ -21,15 +21,18 @@ pub next_kept : (images : List ℕ → Type 0) (log : LogView) (h : HostView) (s
 next_kept images log h secret events e j two is can =
     kept_push log.version secret events e j.kept is (subst (λ (v : ℕ). IsOfVersion v e) (sym two) (of_two e)) (subst (λ (g : HostView). CanApply g e) j.is_host can)
 
-bodies_are : (events : List EventView) (e : EventView) (body : List ℕ) → body ≡ spelling e → map spelling events ++ body ∷ [] ≡ map spelling (events ++ e ∷ [])
+-- the bodies with one more are those of the events with one more
+pub bodies_are : (events : List EventView) (e : EventView) (body : List ℕ) → body ≡ spelling e → map spelling events ++ body ∷ [] ≡ map spelling (events ++ e ∷ [])
 bodies_are events e body is = ap (λ (b : List ℕ). map spelling events ++ b ∷ []) is ∙ sym (bodies_push events e)
 
+-- what an append may leave stands for the events, with the new one or without
 pub either_events : (images : List ℕ → Type 0) (log : LogView) (h : HostView) (secret : List ℕ) (events : List EventView) (e : EventView) (body : List ℕ) → IsJournalOf images log h secret events → log.version ≡ 2 → IsEvent e
     → CanApply h e → body ≡ spelling e → (c : List ℕ) → records.IsBeforeOrAfter log.version secret (map spelling events) body c → IsBeforeOrAfter log.version secret events e c
 either_events images log h secret events e body j two is can same c (inl before) = inl (record { stands = before; kept = j.kept })
 either_events images log h secret events e body j two is can same c (inr after) =
     inr (record { stands = subst (λ (bodies : List (List ℕ)). Stands log.version secret bodies c) (bodies_are events e body same) after; kept = next_kept images log h secret events e j two is can })
 
+-- after an append log, host and images go with the events and the new one
 pub next_journal : (images later : List ℕ → Type 0) (log after : LogView) (h g : HostView) (secret : List ℕ) (events : List EventView) (e : EventView) (body : List ℕ) → IsJournalOf images log h secret events → log.version ≡ 2 → IsEvent e
     → CanApply h e → body ≡ spelling e → after.version ≡ log.version → g ≡ apply h e → IsLogOf later after secret (map spelling events ++ body ∷ []) → IsJournalOf later after g secret (events ++ e ∷ [])
 next_journal images later log after h g secret events e body j two is can same version applied kept = record {

@@ -1,8 +1,8 @@
 -- An event that is read is the one that was written, and what was written is read again.
-use Rattle.std.proofs.Common.{◌≡◌, ℕ, zero, suc, ◌+◌, ◌^◌, ◌<◌, ◌≤◌, true, false, eqb, ltb, List, [], ◌∷◌, ◌++◌, length, Option, Some, None, refl, sym, ap, subst, ◌∙◌, append_assoc, arith, inl, inr}
+use Rattle.std.proofs.Common.{◌≡◌, ℕ, ◌+◌, ◌^◌, ◌<◌, ◌≤◌, true, false, eqb, ltb, List, [], ◌∷◌, ◌++◌, length, Option, Some, None, refl, sym, ap, subst, ◌∙◌, append_assoc, arith, inl, inr}
 use Rattle.std.specs.Prelude.{All, flat_map, IfSome, IfNone, IsSomeAnd}
 use Rattle.std.specs.Int.{w32, w64}
-use Rattle.std.specs.Str.{IsUtf8, IsAscii}
+use Rattle.std.specs.Str.{IsUtf8}
 use Rattle.std.proofs.lemmas.Str.{IsUtf8-from_ascii}
 use Rattle.std.proofs.lemmas.Option.{none-some}
 use Rattle.std.proofs.lemmas.Bool.{eqb-true, ltb-false, le-ltb}
@@ -18,22 +18,27 @@ use Rattle.bid_rules.specs.declared.limits.TheConstants.{ITEM_ROOM, LONGEST_NAME
 use Rattle.bid_rules.specs.Facts.{IsCheckedFacts, legs_in_order, member_count}
 use Rattle.sealed_core.specs.declared.limits.TheConstants.{LONGEST_TAG}
 use Rattle.sealed_core.specs.declared.events.Event.{Event}
-use Rattle.sealed_core.specs.Host.{event_view, CreationView, EventView, Created, BidKept, Closed, Withdrawn, IsName, IsTagByte, item_count}
+use Rattle.sealed_core.specs.Host.{event_view, CreationView, EventView, Created, BidKept, Closed, Withdrawn, IsName, item_count}
 use Rattle.host_journal.specs.Spelling.{text_bytes, texts_bytes, numbers_bytes, facts_bytes, bid_bytes, creation_bytes, kind_of, spelling, FitsBid, HasRules, IsEvent, Spells}
 use Rattle.host_journal.specs.Reading.{byte_at, number_at, text_at, many_at, names_at, row_at, fares_at, facts_at, creation_at, values_at, bid_at, created_at, bid_kept_at, closed_at, withdrawn_at, event_at, whole_at, KeepsRules}
+use Rattle.host_journal.proofs.Names.{name_most, tag_is_ascii, tag_most}
 use Rattle.host_journal.proofs.Fields.{IsBytes, Takes, Takes-then, Takes-cons, Reads, step, bind_some, guard_some, held_some, chosen, some_is, one_byte, IsByte, byte_reads, bytes32, bytes64, Is32, Is64, reads32, reads64, IsText, text_reads, AreTexts, names_read, AreMany, many_take, many_again}
 
 -- ---- bids
 
+-- so many numbers of 32 bits
 abbrev AreNumbers : ℕ → List ℕ → Type 0
 AreNumbers n numbers = AreMany Is32 n numbers
 
+-- numbers that were spelled are read again
 numbers_again : (n : ℕ) (numbers rest : List ℕ) → AreNumbers n numbers → many_at (number_at w32) n (numbers_bytes numbers ++ rest) ≡ Some (numbers, rest)
 numbers_again n numbers rest fits = subst (λ (k : ℕ). many_at (number_at w32) k (numbers_bytes numbers ++ rest) ≡ Some (numbers, rest)) fits.0 (many_again (number_at w32) bytes32 Is32 reads32 numbers rest fits.1)
 
+-- numbers are read as they are spelled
 numbers_read : (n : ℕ) → Reads (many_at (number_at w32) n) numbers_bytes (AreNumbers n)
 numbers_read n = record { takes = many_take (number_at w32) bytes32 Is32 reads32 n; again = numbers_again n }
 
+-- values that are read were spelled there
 values_take : (bytes : List ℕ) (x : Bid × List ℕ) → IsBytes bytes → values_at bytes ≡ Some x → Takes (1 ∷ bytes) (bid_bytes x.0) x.1 × FitsBid x.0
 unfolding values_at
 values_take bytes x fits e =
@@ -46,6 +51,7 @@ values_take bytes x fits e =
     let made : Bid × List ℕ = (bid.Values (record { items = b.x }), b.rest) in
     subst (λ (y : Bid × List ℕ). Takes (1 ∷ bytes) (bid_bytes y.0) y.1 × FitsBid y.0) (some_is made x b.more) (Takes-cons 1 bytes (length b.x ∷ numbers_bytes b.x) b.rest whole, (omega (arith, few, b.fits.0), b.fits.1))
 
+-- a bid that is read was spelled there
 bid_takes : (bytes : List ℕ) (x : Bid × List ℕ) → IsBytes bytes → bid_at bytes ≡ Some x → Takes bytes (bid_bytes x.0) x.1 × FitsBid x.0
 unfolding bid_at
 bid_takes bytes x fits e =
@@ -61,6 +67,7 @@ bid_takes bytes x fits e =
           (subst (λ (y : Bid × List ℕ). Takes (2 ∷ a.rest) (bid_bytes y.0) y.1 × FitsBid y.0) (some_is made x b.more) (Takes-cons 2 a.rest (one_byte b.x) b.rest b.takes, b.fits))
     ]
 
+-- a bid that was spelled is read again
 bid_again : (given : Bid) (rest : List ℕ) → FitsBid given → bid_at (bid_bytes given ++ rest) ≡ Some (given, rest)
 unfolding bid_at values_at
 bid_again (bid.Values values) rest fits =
@@ -68,20 +75,25 @@ bid_again (bid.Values values) rest fits =
     rw (few, numbers_again (length values.items) values.items rest (refl, fits.1)) refl
 bid_again (bid.Place place) rest fits = refl
 
+-- bids are read as they are spelled
 bid_reads : Reads bid_at bid_bytes FitsBid
 bid_reads = record { takes = bid_takes; again = bid_again }
 
 -- ---- facts
 
+-- a row of legs
 abbrev LegRow : Type 0
 LegRow = ArrayVec ℕ PLACE_ROOM (Unit {0})
 
+-- the spelling of a row of legs
 abbrev row_bytes : LegRow → List ℕ
 row_bytes row = numbers_bytes row.items
 
+-- a row with a leg to each place
 abbrev IsRow : ℕ → LegRow → Type 0
 IsRow places row = AreNumbers places row.items
 
+-- a row that is read was spelled there
 row_takes : (places : ℕ) (bytes : List ℕ) (x : LegRow × List ℕ) → IsBytes bytes → row_at places bytes ≡ Some x → Takes bytes (row_bytes x.0) x.1 × IsRow places x.0
 unfolding row_at
 row_takes places bytes x fits e =
@@ -89,10 +101,12 @@ row_takes places bytes x fits e =
     let made : LegRow × List ℕ = (record { items = a.x }, a.rest) in
     subst (λ (y : LegRow × List ℕ). Takes bytes (row_bytes y.0) y.1 × IsRow places y.0) (some_is made x a.more) (a.takes, a.fits)
 
+-- a row that was spelled is read again
 row_again : (places : ℕ) (row : LegRow) (rest : List ℕ) → IsRow places row → row_at places (row_bytes row ++ rest) ≡ Some (row, rest)
 unfolding row_at
 row_again places row rest fits = rw (numbers_again places row.items rest fits) refl
 
+-- rows are read as they are spelled
 row_reads : (places : ℕ) → Reads (row_at places) row_bytes (IsRow places)
 row_reads places = record { takes = row_takes places; again = row_again places }
 
@@ -103,9 +117,11 @@ rows_bytes (row ∷ rows) =
     ap numbers_bytes (flat_map-cons (λ (r : LegRow). r.items) row rows) ∙ flat_map-append bytes32 row.items (flat_map (λ row. row.items) rows)
     ∙ ap (λ (t : List ℕ). row_bytes row ++ t) (rows_bytes rows) ∙ sym (flat_map-cons row_bytes row rows)
 
+-- rows that were spelled are read again
 rows_again : (places : ℕ) (rows : List LegRow) (rest : List ℕ) → AreMany (IsRow places) (places + 1) rows → many_at (row_at places) (places + 1) (flat_map row_bytes rows ++ rest) ≡ Some (rows, rest)
 rows_again places rows rest fits = subst (λ (k : ℕ). many_at (row_at places) k (flat_map row_bytes rows ++ rest) ≡ Some (rows, rest)) fits.0 (many_again (row_at places) row_bytes (IsRow places) (row_reads places) rows rest fits.1)
 
+-- tables of rows are read as they are spelled
 rows_read : (places : ℕ) → Reads (many_at (row_at places) (places + 1)) (flat_map row_bytes) (AreMany (IsRow places) (places + 1))
 rows_read places = record { takes = many_take (row_at places) row_bytes (IsRow places) (row_reads places) (places + 1); again = rows_again places }
 
@@ -113,6 +129,7 @@ rows_read places = record { takes = many_take (row_at places) row_bytes (IsRow p
 abbrev AreOf : ℕ → ℕ → Facts → Type 0
 AreOf kind members f = (kind_of f ≡ kind) × (member_count f ≡ members)
 
+-- facts on fares that are read were spelled there
 fares_take : (members places : ℕ) (bytes : List ℕ) (x : Facts × List ℕ) → IsBytes bytes → fares_at members places bytes ≡ Some x → Takes bytes (facts_bytes x.0) x.1 × AreOf 3 members x.0
 unfolding fares_at
 fares_take members places bytes x fits e =
@@ -123,6 +140,7 @@ fares_take members places bytes x fits e =
     let made : Facts × List ℕ = (facts.Fares (record { members = members; places = places; flag = a.x; legs = record { items = rows.x } }), rows.rest) in
     subst (λ (y : Facts × List ℕ). Takes bytes (facts_bytes y.0) y.1 × AreOf 3 members y.0) (some_is made x rows.more) (spelled, (refl, refl))
 
+-- facts that are read were spelled there
 facts_take : (kind members items : ℕ) (bytes : List ℕ) (x : Facts × List ℕ) → IsBytes bytes → facts_at kind members items bytes ≡ Some x → Takes bytes (facts_bytes x.0) x.1 × AreOf kind members x.0
 unfolding facts_at
 facts_take kind members items bytes x fits e =
@@ -149,18 +167,21 @@ small : (numbers : List ℕ) (most : ℕ) → most < 2 ^ 32 → All (λ n. n ≤
 small [] most lt all = All-nil Is32
 small (n ∷ numbers) most lt all = All-cons Is32 n numbers (omega (arith, lt, All-head (λ n. n ≤ most) n numbers all)) (small numbers most lt (All-tail (λ n. n ≤ most) n numbers all))
 
+-- what holds of a joined list holds of both parts
 All-of_append : (P : ℕ → Type 0) (xs ys : List ℕ) → All P (xs ++ ys) → All P xs × All P ys
 All-of_append P [] ys all = (All-nil P, all)
 All-of_append P (x ∷ xs) ys all =
     let more = All-of_append P xs ys (All-tail P x (xs ++ ys) all) in
     (All-cons P x xs (All-head P x (xs ++ ys) all) more.0, more.1)
 
+-- the rows of a table whose legs are numbers of 32 bits
 rows_fit : (places : ℕ) (rows : List LegRow) → All (λ row. length row.items ≡ places) rows → All Is32 (flat_map (λ row. row.items) rows) → All (IsRow places) rows
 rows_fit places [] columns all = All-nil (IsRow places)
 rows_fit places (row ∷ rows) columns all =
     let parts = All-of_append Is32 row.items (flat_map (λ row. row.items) rows) (subst (All Is32) (flat_map-cons (λ (r : LegRow). r.items) row rows) all) in
     All-cons (IsRow places) row rows (All-head (λ row. length row.items ≡ places) row rows columns, parts.0) (rows_fit places rows (All-tail (λ row. length row.items ≡ places) row rows columns) parts.1)
 
+-- facts that were spelled are read again
 facts_again : (f : Facts) (rest : List ℕ) → IsCheckedFacts f → facts_at (kind_of f) (member_count f) (item_count f) (facts_bytes f ++ rest) ≡ Some (f, rest)
 unfolding facts_at fares_at
 facts_again (facts.Rent rent) rest checked = rw (reads32.again rent.rent rest (omega (arith, checked.1.1))) refl
@@ -168,7 +189,7 @@ facts_again (facts.Goods goods) rest checked = rw (reads32.again goods.limit res
 facts_again (facts.Fares fares) rest checked =
     let shape = checked.shape in
     let few : ltb PLACE_ROOM fares.places ≡ false = le-ltb _ _ (omega (arith, shape.places_high)) in
-    let cents = small (fares.flag ∷ legs_in_order fares) _ (omega arith) checked.million in
+    let cents = small (fares.flag ∷ legs_in_order fares) _ (omega arith) checked.cents in
     let legs = All-tail Is32 fares.flag (legs_in_order fares) cents in
     let rows = rows_fit fares.places fares.legs.items shape.table.columns legs in
     let regrouped : facts_bytes (facts.Fares fares) ++ rest ≡ bytes32 fares.flag ++ (flat_map row_bytes fares.legs.items ++ rest) =
@@ -185,6 +206,7 @@ record HasForm (c : CreationView) : Type 0 where
   pub items : All (IsText LONGEST_NAME) c.items
   pub deadline : Is64 c.deadline
 
+-- a creation that is read was spelled there
 creation_takes : (deadline : ℕ) (bytes : List ℕ) (x : CreationView × List ℕ) → IsBytes bytes → Is64 deadline → creation_at deadline bytes ≡ Some x → Takes bytes (creation_bytes x.0) x.1 × (x.0.deadline ≡ deadline) × HasForm x.0
 unfolding creation_at
 creation_takes deadline bytes x fits dated e =
@@ -205,17 +227,12 @@ creation_takes deadline bytes x fits dated e =
     subst (λ (y : CreationView × List ℕ). Takes bytes (creation_bytes y.0) y.1 × (y.0.deadline ≡ deadline) × HasForm y.0) (some_is made x facts.2)
     (whole, refl, record { title = title.fits.1; members = members.fits.1; items = items.fits.1; deadline = dated })
 
+-- names are texts
 names_are_texts : (names : List (List ℕ)) → All (λ name. IsName name × IsUtf8 name) names → All (IsText LONGEST_NAME) names
 names_are_texts [] all = All-nil (IsText LONGEST_NAME)
 names_are_texts (name ∷ names) all =
     let one = All-head (λ n. IsName n × IsUtf8 n) name names all in
-    All-cons (IsText LONGEST_NAME) name names (one.0.most, one.1) (names_are_texts names (All-tail (λ n. IsName n × IsUtf8 n) name names all))
-
--- a byte of a tag is below 128
-tag_is_ascii : (tag : List ℕ) → All IsTagByte tag → IsAscii tag
-tag_is_ascii [] all i = omega arith
-tag_is_ascii (b ∷ tag) all zero = omega (arith, All-head IsTagByte b tag all)
-tag_is_ascii (b ∷ tag) all (suc i) = tag_is_ascii tag (All-tail IsTagByte b tag all) i
+    All-cons (IsText LONGEST_NAME) name names (name_most name one.0, one.1) (names_are_texts names (All-tail (λ n. IsName n × IsUtf8 n) name names all))
 
 -- the lists of checked facts fit
 counts_fit : (f : Facts) → IsCheckedFacts f → (member_count f ≤ MEMBER_ROOM) × (item_count f ≤ ITEM_ROOM)
@@ -223,6 +240,7 @@ counts_fit (facts.Rent rent) checked = (omega (arith, checked.0.1), omega (arith
 counts_fit (facts.Goods goods) checked = (omega (arith, checked.counts.1), omega (arith, checked.counts.3))
 counts_fit (facts.Fares fares) checked = (omega (arith, checked.shape.members_high), omega (arith, checked.shape.places_high))
 
+-- a creation that was spelled is read again
 creation_again : (c : CreationView) (rest : List ℕ) → HasRules c → creation_at c.deadline (creation_bytes c ++ rest) ≡ Some (c, rest)
 unfolding creation_at
 creation_again c rest rules =
@@ -235,12 +253,12 @@ creation_again c rest rules =
     let regrouped : creation_bytes c ++ rest ≡ kind ∷ (tag ++ (title ++ (members ++ (items ++ (facts ++ rest))))) =
     append_assoc (kind ∷ tag ++ title ++ members ++ items) facts rest ∙ append_assoc (kind ∷ tag ++ title ++ members) items (facts ++ rest)
     ∙ append_assoc (kind ∷ tag ++ title) members (items ++ (facts ++ rest)) ∙ append_assoc (kind ∷ tag) title (members ++ (items ++ (facts ++ rest))) in
-    let is_tag : IsText LONGEST_TAG c.tag = (rules.tag.most, IsUtf8-from_ascii c.tag (tag_is_ascii c.tag rules.tag.plain)) in
+    let is_tag : IsText LONGEST_TAG c.tag = (tag_most c.tag rules.tag, IsUtf8-from_ascii c.tag (tag_is_ascii c.tag rules.tag)) in
     let facts_read : facts_at kind (length c.members) (length c.items) (facts ++ rest) ≡ Some (c.facts, rest) = rw (rules.member_names, rules.item_names) (facts_again c.facts rest rules.facts) in
     ap (creation_at c.deadline) regrouped
     ∙ rw (
       (text_reads LONGEST_TAG).again c.tag (title ++ (members ++ (items ++ (facts ++ rest)))) is_tag,
-      (text_reads LONGEST_NAME).again c.title (members ++ (items ++ (facts ++ rest))) (rules.title.0.most, rules.title.1),
+      (text_reads LONGEST_NAME).again c.title (members ++ (items ++ (facts ++ rest))) (name_most c.title rules.title.0, rules.title.1),
       (names_read MEMBER_ROOM).again c.members (items ++ (facts ++ rest)) (omega (arith, rules.member_names, (counts_fit c.facts rules.facts).0), names_are_texts c.members rules.members),
       (names_read ITEM_ROOM).again c.items (facts ++ rest) (omega (arith, rules.item_names, (counts_fit c.facts rules.facts).1), names_are_texts c.items rules.items),
       facts_read,
@@ -255,9 +273,11 @@ IsFormed (BidKept moment id member turn given) = IsEvent (BidKept moment id memb
 IsFormed (Closed moment id) = IsEvent (Closed moment id)
 IsFormed (Withdrawn moment id member turn) = IsEvent (Withdrawn moment id member turn)
 
+-- an event that is read was spelled behind this byte, and fits its numbers
 abbrev TakesEvent : ℕ → List ℕ → EventView × List ℕ → Type 0
 TakesEvent kind bytes x = Takes (kind ∷ bytes) (spelling x.0) x.1 × IsFormed x.0
 
+-- a creation event that is read was spelled there
 created_takes : (bytes : List ℕ) (x : EventView × List ℕ) → IsBytes bytes → created_at bytes ≡ Some x → TakesEvent 1 bytes x
 unfolding created_at
 created_takes bytes x fits e =
@@ -271,6 +291,7 @@ created_takes bytes x fits e =
     let made : EventView × List ℕ = (Created moment.x creation.0.0, creation.0.1) in
     subst (TakesEvent 1 bytes) (some_is made x creation.2) (Takes-cons 1 bytes (bytes64 moment.x ++ bytes64 creation.0.0.deadline ++ creation_bytes creation.0.0) creation.0.1 dated, (moment.fits, c.2))
 
+-- a kept bid that is read was spelled there
 bid_kept_takes : (bytes : List ℕ) (x : EventView × List ℕ) → IsBytes bytes → bid_kept_at bytes ≡ Some x → TakesEvent 2 bytes x
 unfolding bid_kept_at
 bid_kept_takes bytes x fits e =
@@ -287,6 +308,7 @@ bid_kept_takes bytes x fits e =
     subst (TakesEvent 2 bytes) (some_is made x given.more)
     (Takes-cons 2 bytes (bytes64 moment.x ++ bytes32 id.x ++ member.x ∷ turn.x ∷ bid_bytes given.x) given.rest whole, (moment.fits, id.fits, member.fits, turn.fits, given.fits))
 
+-- a close that is read was spelled there
 closed_takes : (bytes : List ℕ) (x : EventView × List ℕ) → IsBytes bytes → closed_at bytes ≡ Some x → TakesEvent 3 bytes x
 unfolding closed_at
 closed_takes bytes x fits e =
@@ -296,6 +318,7 @@ closed_takes bytes x fits e =
     let made : EventView × List ℕ = (Closed moment.x id.x, id.rest) in
     subst (TakesEvent 3 bytes) (some_is made x id.more) (Takes-cons 3 bytes (bytes64 moment.x ++ bytes32 id.x) id.rest whole, (moment.fits, id.fits))
 
+-- a withdrawal that is read was spelled there
 withdrawn_takes : (bytes : List ℕ) (x : EventView × List ℕ) → IsBytes bytes → withdrawn_at bytes ≡ Some x → TakesEvent 4 bytes x
 unfolding withdrawn_at
 withdrawn_takes bytes x fits e =
@@ -310,6 +333,7 @@ withdrawn_takes bytes x fits e =
     subst (TakesEvent 4 bytes) (some_is made x turn.more)
     (Takes-cons 4 bytes (bytes64 moment.x ++ bytes32 id.x ++ member.x ∷ turn.x ∷ []) turn.rest whole, (moment.fits, id.fits, member.fits, turn.fits))
 
+-- an event that is read was spelled there
 event_takes : (bytes : List ℕ) (x : EventView × List ℕ) → IsBytes bytes → event_at bytes ≡ Some x → Takes bytes (spelling x.0) x.1 × IsFormed x.0
 unfolding event_at
 event_takes bytes x fits e =
@@ -329,6 +353,7 @@ event_takes bytes x fits e =
       ]
     ]
 
+-- an event that was spelled is read again
 event_again : (e : EventView) (rest : List ℕ) → IsEvent e → event_at (spelling e ++ rest) ≡ Some (e, rest)
 unfolding event_at created_at bid_kept_at closed_at withdrawn_at
 event_again (Created moment c) rest is =
@@ -351,6 +376,7 @@ event_again (Withdrawn moment id member turn) rest is =
 
 -- ---- whole bodies
 
+-- an event with a spelling keeps its rules
 rules_kept : (e : EventView) → IsEvent e → KeepsRules e
 rules_kept (Created moment c) is = record {
   facts = is.1.facts;
@@ -366,6 +392,7 @@ rules_kept (BidKept moment id member turn given) is = tt
 rules_kept (Closed moment id) is = tt
 rules_kept (Withdrawn moment id member turn) is = tt
 
+-- an event that fits its numbers and keeps its rules has a spelling
 formed_is : (e : EventView) → IsFormed e → KeepsRules e → IsEvent e
 formed_is (Created moment c) formed rules = (
   formed.0,
@@ -384,6 +411,7 @@ formed_is (BidKept moment id member turn given) formed rules = formed
 formed_is (Closed moment id) formed rules = formed
 formed_is (Withdrawn moment id member turn) formed rules = formed
 
+-- a body that is read whole spells its event
 pub whole_takes : (body : List ℕ) (e : EventView) → IsBytes body → whole_at body ≡ Some e → KeepsRules e → Spells e body
 unfolding whole_at
 whole_takes body e fits read rules =
@@ -395,6 +423,7 @@ whole_takes body e fits read rules =
     let same : a.0.0 ≡ e = some_is a.0.0 e h.1 in
     (formed_is e (subst IsFormed same t.1) rules, whole ∙ ap spelling same)
 
+-- the spelling of an event is read whole
 pub whole_again : (e : EventView) → IsEvent e → whole_at (spelling e) ≡ Some e
 unfolding whole_at
 whole_again e is =
@@ -405,22 +434,27 @@ whole_again e is =
 pub never : (body : List ℕ) → None ≡ whole_at body → (e : EventView) → Spells e body → ⊥
 never body none e spells = none-some e (none ∙ ap whole_at spells.1 ∙ whole_again e spells.0)
 
+-- a body spells the event that is read
 same_event : (body : List ℕ) (f : EventView) → Some f ≡ whole_at body → (e : EventView) → Spells e body → f ≡ e
 same_event body f read e spells = some_is f e (read ∙ ap whole_at spells.1 ∙ whole_again e spells.0)
 
+-- an event that is kept is spelled by its body
 pub is_found : (body : List ℕ) (event : Event) (kept : Option Event) → IsBytes body → Some (event_view event) ≡ whole_at body → IfSome kept (λ k. k ≡ event) → IfSome kept (λ _. KeepsRules (event_view event))
     → IfSome kept (λ k. Spells (event_view k) body)
 is_found body event (Some k) fits read same rules = subst (λ (x : Event). Spells (event_view x) body) (sym same) (whole_takes body (event_view event) fits (sym read) rules)
 is_found body event None fits read same rules = tt
 
+-- a body whose event breaks its rules spells none
 pub is_none : (body : List ℕ) (event : Event) (kept : Option Event) → Some (event_view event) ≡ whole_at body → IfNone kept (KeepsRules (event_view event) → ⊥) → IfNone kept ((e : EventView) → Spells e body → ⊥)
 is_none body event (Some k) read broken = tt
 is_none body event None read broken = λ e spells. broken (subst KeepsRules (sym (same_event body (event_view event) read e spells)) (rules_kept e spells.0))
 
+-- an event that its body spells is the one that is kept
 pub is_again : (body : List ℕ) (event : Event) (kept : Option Event) → Some (event_view event) ≡ whole_at body → IfSome kept (λ k. k ≡ event) → IfNone kept (KeepsRules (event_view event) → ⊥)
     → (e : EventView) → Spells e body → IsSomeAnd kept (λ k. event_view k ≡ e)
 is_again body event (Some k) read same broken e spells = ap event_view same ∙ same_event body (event_view event) read e spells
 is_again body event None read same broken e spells = absurd (is_none body event None read broken e spells)
 
+-- no two events have one spelling
 pub one_spelling : (e f : EventView) → IsEvent e → IsEvent f → spelling e ≡ spelling f → e ≡ f
 one_spelling e f is_e is_f same = sym (same_event (spelling f) f (sym (whole_again f is_f)) e (is_e, sym same))

@@ -10,11 +10,13 @@ use Rattle.sealed_core.specs.declared.creations.Creation.{Creation}
 use Rattle.sealed_core.specs.Host.{HostView, EventView, Created, BidKept, Closed, Withdrawn, CanApply, creation_view, text}
 use Rattle.host_journal.specs.Spelling.{FitsTypes, IsEvent, text_bytes}
 
+-- a creation of the code fits the types of its fields
 pub creation_fits : {T E : Type 0} (r : Result T E) (moment : ℕ) (c : Creation) → moment < 2 ^ 64 → c.deadline < 2 ^ 64 → OnOk r (IsUtf8 (text c.title)) → OnOk r (All (λ name. IsUtf8 (text name)) c.members.items)
     → OnOk r (All (λ name. IsUtf8 (text name)) c.items.items) → OnOk r (FitsTypes (Created moment (creation_view c)))
 creation_fits (Ok x) moment c now dated title members items = (now, dated, title, All-map IsUtf8 text c.members.items members, All-map IsUtf8 text c.items.items items)
 creation_fits (Err e) moment c now dated title members items = tt
 
+-- what fits its types and may be applied has a spelling
 pub fits_event : (h : HostView) (e : EventView) → FitsTypes e → CanApply h e → IsEvent e
 fits_event h (Created moment c) fits can =
     let checked = can.1.1 in (
@@ -34,6 +36,7 @@ fits_event h (BidKept moment id member turn given) fits can = fits
 fits_event h (Closed moment id) fits can = fits
 fits_event h (Withdrawn moment id member turn) fits can = fits
 
+-- what holds holds after Ok
 pub ok_any : {T E : Type 0} (P : Type 0) (r : Result T E) → P → OnOk r P
 ok_any P (Ok x) p = p
 ok_any P (Err e) p = tt

@@ -8,17 +8,21 @@ use Rattle.sealed_core.specs.Sealed.{empty}
 use Rattle.host_journal.specs.Spelling.{IsEvent, IsOfVersion, spelling}
 use Rattle.host_journal.specs.Journal.{AreKept}
 
+-- events that may be applied in turn, and one that may be applied behind them
 may_push : (h : HostView) (events : List EventView) (e : EventView) → CanApplyAll h events → CanApply (apply_all h events) e → CanApplyAll h (events ++ e ∷ [])
 may_push h [] e may can = (can, tt)
 may_push h (first ∷ events) e (one, may) can = (one, may_push (apply h first) events e may can)
 
+-- the host after one event more
 host_push : (h : HostView) (events : List EventView) (e : EventView) → apply_all h (events ++ e ∷ []) ≡ apply (apply_all h events) e
 host_push h [] e = refl
 host_push h (first ∷ events) e = host_push (apply h first) events e
 
+-- the same from the empty host on
 pub after_push : (secret : List ℕ) (events : List EventView) (e : EventView) → host_of secret (events ++ e ∷ []) ≡ apply (host_of secret events) e
 after_push secret events e = host_push (empty secret) events e
 
+-- kept events with one more
 pub kept_push : (version : ℕ) (secret : List ℕ) (events : List EventView) (e : EventView) → AreKept version secret events → IsEvent e → IsOfVersion version e → CanApply (host_of secret events) e
     → AreKept version secret (events ++ e ∷ [])
 kept_push version secret events e kept is of can = record {
@@ -27,5 +31,6 @@ kept_push version secret events e kept is of can = record {
   may_apply = may_push (empty secret) events e kept.may_apply can;
 }
 
+-- their bodies
 pub bodies_push : (events : List EventView) (e : EventView) → map spelling (events ++ e ∷ []) ≡ map spelling events ++ spelling e ∷ []
 bodies_push events e = map-append spelling events (e ∷ [])

@@ -1,7 +1,11 @@
 mod Appending
 mod Events
+mod FileSize
 mod Fields
 mod Fits
 mod Kept
 mod Loop
+mod Meaning
+mod Names
+mod Replay
 mod Sizes

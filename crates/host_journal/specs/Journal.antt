@@ -1,8 +1,8 @@
 -- What a journal stands for as events, or the place of its first fault.
-use Rattle.std.specs.Prelude.{◌≡◌, ◌≢◌, ◌⊎◌, ℕ, ◌≤◌, List, [], ◌∷◌, ◌++◌, length, map, All}
-use Rattle.gate_log.specs.Records.{header, entry, IsVersion, IsBody, IsRun, Stands, place_after}
-use Rattle.gate_log.specs.Faults.{IsHeaderFault, IsRecordFault}
-use Rattle.gate_log.specs.Log.{LogView, IsLogOf}
+use Rattle.std.specs.Prelude.{◌≡◌, ◌⊎◌, ℕ, ◌≤◌, List, [], ◌∷◌, ◌++◌, map, All, Contains}
+use Rattle.gate_log.specs.Records.{Begins, Stands, place_after}
+use Rattle.gate_log.specs.Faults.{IsHeaderFault, IsFaultAfter}
+use Rattle.gate_log.specs.Log.{LogView, IsLogOf, IsReading}
 use Rattle.sealed_core.specs.Host.{HostView, EventView, CanApply}
 use Rattle.sealed_core.specs.Runs.{CanApplyAll, host_of}
 use Rattle.sealed_core.specs.Sealed.{empty}
@@ -38,26 +38,51 @@ pub record IsJournalOf (images : List ℕ → Type 0) (log : LogView) (host : Ho
 abbrev pub IsNoEvent : ℕ → HostView → List ℕ → Type 0
 IsNoEvent version h body = (e : EventView) → Spells e body → IsOfVersion version e → CanApply h e → ⊥
 
--- a whole header and whole records of events, and then a record with an open gate and a fault: of its form, or of its body,
--- which is then a fault at its gate's place
+-- behind the records of these events the file has a whole record with such a body, its gate at the place
+pub record IsEventFault (version : ℕ) (secret : List ℕ) (events : List EventView) (place : ℕ) (file : List ℕ) : Type 0 where
+  pub body : List ℕ
+  pub begins : Begins version secret (map spelling events ++ body ∷ []) file
+  pub no_event : IsNoEvent version (host_of secret events) body
+  pub at : place ≡ place_after (map spelling events)
+
+-- A whole header and the whole records of these events, and then a record with an open gate and a fault: of its form, or of
+-- its body, which is then a fault at its gate's place.
 pub record IsFaultBehindEvents (place : ℕ) (file : List ℕ) : Type 0 where
-  pub version_gate : ℕ
   pub version : ℕ
   pub secret : List ℕ
   pub events : List EventView
-  pub run : List ℕ
-  pub gate : ℕ
-  pub more : List ℕ
-  pub is_version : IsVersion version_gate version
-  pub secret_size : length secret ≡ 32
-  pub is_run : IsRun (map spelling events) run
   pub kept : AreKept version secret events
-  pub opened : gate ≢ 0
-  pub is : file ≡ header version_gate secret ++ run ++ gate ∷ more
-  pub fault : IsRecordFault (place_after (map spelling events)) more (length file) place
-      ⊎ ((body : List ℕ) × (rest : List ℕ) × IsBody body × (gate ∷ more ≡ entry gate body ++ rest) × (1 ≤ length rest)
-      × IsNoEvent version (host_of secret events) body × (place ≡ place_after (map spelling events)))
+  pub fault : IsFaultAfter version secret (map spelling events) place file ⊎ IsEventFault version secret events place file
 
 -- the first fault of a file
 abbrev pub IsFirstFault : ℕ → List ℕ → Type 0
 IsFirstFault place file = IsHeaderFault place file ⊎ IsFaultBehindEvents place file
+
+-- while the file is read: the header and the records of these events were read, the log is at the gate behind them, and the
+-- host is the one that they make
+pub record IsReplaying (file : List ℕ) (log : LogView) (host : HostView) (secret : List ℕ) (events : List EventView) : Type 0 where
+  pub reading : IsReading file log secret (map spelling events)
+  pub kept : AreKept log.version secret events
+  pub is_host : host ≡ host_of secret events
+
+-- when it was read: these are its events, the log is at the closed gate behind them, and the host is the one that they make
+pub record IsReplayed (file : List ℕ) (log : LogView) (host : HostView) (secret : List ℕ) (events : List EventView) : Type 0 where
+  pub has : HasEvents log.version secret events file
+  pub place : log.place ≡ place_after (map spelling events)
+  pub is_host : host ≡ host_of secret events
+
+-- the file stands for these bodies, in this version or a later one
+abbrev pub HoldsFrom : ℕ → List ℕ → List (List ℕ) → List ℕ → Type 0
+HoldsFrom version secret bodies file = (later : ℕ) × (version ≤ later) × Stands later secret bodies file
+
+-- the file stands for one of these lists of events, in either version
+abbrev pub HoldsOne : List ℕ → List (List EventView) → List ℕ → Type 0
+HoldsOne secret lists file = (events : List EventView) × Contains lists events × HoldsEvents secret events file
+
+-- the file stood for some events and stands for them in version 2, and host and log are theirs
+pub record IsOpened (old new : List ℕ) (images : List ℕ → Type 0) (log : LogView) (host : HostView) : Type 0 where
+  pub secret : List ℕ
+  pub events : List EventView
+  pub before : HoldsEvents secret events old
+  pub after : HasEvents 2 secret events new
+  pub journal : IsJournalOf images log host secret events

@@ -1,5 +1,5 @@
 // Keeping an event.
-ghost use Rattle.std.specs.Prelude.{◌≡◌, ◌⊎◌, ◌↔◌, ◌≤◌, ◌++◌, [], ◌∷◌, List, ℕ, IfErr, OnOk, OnErr, IsTrue};
+ghost use Rattle.std.specs.Prelude.{◌≡◌, ◌⊎◌, ◌↔◌, ◌≤◌, ◌++◌, [], ◌∷◌, List, ℕ, IfErr, OnOk, OnErr, IsTrue, IsFalse};
 ghost use Rattle.split_base.specs.Faults.{HasRisen};
 ghost use Rattle.split_base.specs.Disk.{Each, LeavesOnly};
 ghost use Rattle.sealed_core.specs.Host.{CanApply, EventView, apply, event_view};
@@ -23,7 +23,7 @@ pub struct CommitFault {
 /// leaves the event, and the log is at its end again.
 ///
 /// - `Disk` comes only where the disk's count of faults has risen. The host is as before; the file
-///   holds the event or doesn't.
+///   holds the event or doesn't. The log isn't at its end: the file is opened anew.
 /// - `NoMemory` comes for want of memory, before the first call of the disk, which is as before.
 ///
 /// Each hands the event back; `NotALog` never comes.
@@ -45,6 +45,8 @@ pub fn commit<D: Disk>(
     ensures applied { OnOk result (host.new.content ≡ apply host.old.content (event_view event)) }
     ensures unchanged { OnErr result (host.new.content ≡ host.old.content) }
     ensures at_end { OnOk result (IsTrue log.new.at_end) }
+    ensures used_up { IfErr result (λ e. e.fault ≡ LogFault.Disk → IsFalse log.new.at_end) }
+    ensures log_version { log.new.version ≡ log.old.version }
     ensures honest { D.is_honest disk.old ↔ D.is_honest disk.new }
     ensures acknowledged { D.is_honest disk.old → (secret : List ℕ) (events : List EventView) → IsJournalOf (D.images disk.old) log.old host.old.content secret events
         → OnOk result (IsJournalOf (D.images disk.new) log.new host.new.content secret (events ++ event_view event ∷ [])) }

@@ -2,13 +2,17 @@
 #![tactic(auto)]
 
 mod commits;
+#[cfg(test)]
+mod journal_tests;
 mod laws;
+mod opening;
 mod reading;
 #[cfg(test)]
 mod tests;
 mod writing;
 
 pub use commits::{CommitFault, commit};
-pub use laws::{size_law, spelling_law};
+pub use laws::{JOURNAL_MOST, events_law, file_law, size_law, spelling_law};
+pub use opening::open_host;
 pub use reading::read_event;
 pub use writing::write_event;

@@ -1,6 +1,6 @@
 -- The best of a rising list of allocations is best among all of them, and the first of equals.
 use Rattle.bid_rules.specs.Goods.{pair_of, IsBehind}
-use Rattle.std.proofs.Common.{◌≡◌, ℕ, List, [], ◌∷◌, fold, cond, Bool, true, false, Option, Some, None, arith, refl, sym, ap, ◌∙◌, subst, ◌⊎◌, inl, inr, All, IfSome}
+use Rattle.std.proofs.Common.{◌≡◌, ℕ, List, [], ◌∷◌, fold, cond, Bool, true, false, Option, Some, None, arith, refl, sym, ◌∙◌, subst, ◌⊎◌, inl, inr, All, IfSome}
 use Rattle.std.proofs.lemmas.List.Elements.{All-nil, All-cons, All-head, All-tail}
 use Rattle.std.proofs.lemmas.Bool.Decides.{nat_tests}
 use Rattle.std.proofs.lemmas.Cmp.{nat_list_cmp_total, tied_itself}
@@ -12,16 +12,12 @@ use Rattle.bid_rules.specs.declared.pair.Pair.{Pair}
 use Rattle.bid_rules.specs.Pairs.{IsLess}
 use Rattle.bid_rules.specs.Pairs.{is_less}
 use Rattle.nash_bounds.specs.Allocations.{keep}
-use Rattle.split_lemmas.proofs.PairOrder.{less-from}
+use Rattle.split_lemmas.proofs.PairOrder.{less-from, same_pair}
 
 -- each list comes before all later ones
 abbrev pub Rising : List (List ℕ) → Type 0
 Rising [] = Unit {0}
 Rising (x ∷ xs) = All (λ y. slice_cmp nat_cmp x y ≡ Less) xs × Rising xs
-
--- pairs with the same count and product are the same
-same_pair : (a b : Pair) → a.count ≡ b.count → a.product ≡ b.product → a ≡ b
-same_pair a b c p = ap (λ n. let q : Pair = record { count = n; product = a.product } in q) c ∙ ap (λ n. let q : Pair = record { count = b.count; product = n } in q) p
 
 -- a pair that is not below another is above it or the same
 not_less : (a x : Pair) → is_less a x ≡ false → IsLess x a ⊎ ((x.count ≡ a.count) × (x.product ≡ a.product))

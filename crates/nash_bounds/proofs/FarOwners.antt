@@ -20,7 +20,8 @@ use Rattle.nash_bounds.proofs.OneBound.{bound_of-is}
 use Rattle.nash_bounds.proofs.NextEntries.{sum_within}
 use Rattle.nash_bounds.proofs.LaneEntries.{filled_zero, entries_length, entries_get, entries_positive, positives_le, entries_set, sum_set, positives_set, product_set}
 use Rattle.nash_bounds.proofs.LevelReach.{slack}
-use Rattle.nash_bounds.proofs.LaneNumbers.{get_le_sum, give_is, span_of_lanes, lanes_bound}
+use Rattle.split_lemmas.proofs.ListPlaces.{get_le_sum}
+use Rattle.nash_bounds.proofs.LaneNumbers.{give_is, span_of_lanes, lanes_bound}
 use Rattle.bid_rules.specs.declared.limits.TheConstants.{MEMBER_ROOM, WHOLE_POINTS}
 use Rattle.nash_bounds.specs.declared.limits.TheConstants.{MOST_SUM, UNIT}
 

@@ -25,6 +25,7 @@ use Rattle.nash_bounds.proofs.PlayerPoints.{map_is, length_mapped, AllZip_map, R
 use Rattle.nash_bounds.proofs.LongerPrefixes.{utility_within, within_whole, free_next, low_next, top_next, each_player}
 use Rattle.nash_bounds.proofs.NextEntries.{sum_within}
 use Rattle.nash_bounds.proofs.SortedGoods.{order_length, range_all}
+use Rattle.split_lemmas.proofs.ListPlaces.{get_le_sum}
 use Rattle.std.proofs.lemmas.List.Elements.{All-head, All-tail, All-map, All-weaker}
 use Rattle.bid_rules.specs.declared.limits.TheConstants.{MEMBER_ROOM, WHOLE_POINTS}
 use Rattle.nash_bounds.specs.declared.limits.TheConstants.{MOST_TOP}
@@ -135,12 +136,6 @@ max_small (x ∷ xs) a l h =
     let P : ℕ → Type 0 = λ v. v ≤ WHOLE_POINTS in
     let one : x ≤ WHOLE_POINTS = All-head P x xs h in
     max_small xs (max a x) (omega arith) (All-tail P x xs h)
-
--- an entry is at most the sum
-pub get_le_sum : (xs : List ℕ) (k : ℕ) → get_or xs k 0 ≤ sum xs
-get_le_sum [] k = omega arith
-get_le_sum (x ∷ xs) zero = let e : sum (x ∷ xs) ≡ x + sum xs = sum_by-cons (λ n. n) x xs in omega arith
-get_le_sum (x ∷ xs) (suc k) = let e : sum (x ∷ xs) ≡ x + sum xs = sum_by-cons (λ n. n) x xs in let rest = get_le_sum xs k in omega arith
 
 -- the greatest points for a good are at most all points of a player
 greatest_small : (case : GoodsCase) (good : ℕ) → IsValidGoodsCase case → greatest_points case good ≤ WHOLE_POINTS

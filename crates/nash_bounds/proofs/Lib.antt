@@ -27,6 +27,7 @@ pub mod OwnersByGood
 pub mod BelowPrefix
 pub mod RisingLists
 pub mod PrefixLists
+pub mod TaskRows
 pub mod ServingBest
 pub mod ListFronts
 pub mod OpenPrefixes

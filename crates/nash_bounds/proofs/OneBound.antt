@@ -4,6 +4,7 @@ use Rattle.std.specs.List.{AllZip}
 use Rattle.std.proofs.lemmas.Bool.{cases_lt}
 use Rattle.std.proofs.lemmas.Bool.Decides.{nat_tests}
 use Rattle.bid_rules.specs.declared.pair.Pair.{Pair}
+use Rattle.split_lemmas.proofs.PairOrder.{same_from_at_most}
 use Rattle.bid_rules.specs.Pairs.{IsAtMost}
 use Rattle.nash_bounds.specs.Bound.{IsBound}
 use Rattle.nash_bounds.specs.Levels.{level_sum, filled, level_under, bound_of}
@@ -67,15 +68,4 @@ pub same_bound : (low high : List ℕ) (top : ℕ) (a b : Pair) → IsBound low 
 same_bound low high top a b first second =
     let le : IsAtMost a b = subst (λ (p : Pair). IsAtMost p b) first.reached.2 (second.greatest first.reached.0 first.reached.1) in
     let ge : IsAtMost b a = subst (λ (p : Pair). IsAtMost p a) second.reached.2 (first.greatest second.reached.0 second.reached.1) in
-    same_pair a b le ge
-  where
-    same_pair : (a b : Pair) → IsAtMost a b → IsAtMost b a → a ≡ b
-    same_pair a b (inl l) (inl m) = absurd (omega arith)
-    same_pair a b (inl l) (inr m) = absurd (let e = m.0 in omega arith)
-    same_pair a b (inr l) (inl m) = absurd (let e = l.0 in omega arith)
-    same_pair a b (inr l) (inr m) =
-        let c : a.count ≡ b.count = l.0 in
-        let x = l.1 in
-        let y = m.1 in
-        let p : a.product ≡ b.product = omega arith in
-        ap (λ n. let q : Pair = record { count = n; product = a.product } in q) c ∙ ap (λ n. let q : Pair = record { count = b.count; product = n } in q) p
+    same_from_at_most a b le ge

@@ -24,6 +24,7 @@ use Rattle.nash_bounds.specs.Start.{IsStartValue}
 use Rattle.nash_bounds.specs.Steps.{best_before, earlier, pair_kept, steps_before}
 use Rattle.nash_bounds.specs.Tasks.{depth_of, tasks_of, task_list, task_leaves}
 use Rattle.nash_bounds.proofs.BestOfRising.{Rising, best_is, best_of_rising, first_of}
+use Rattle.nash_bounds.proofs.TaskRows.{count_none, count_one_more}
 use Rattle.nash_bounds.proofs.BestAllocation.{goods_best, some_best}
 use Rattle.nash_bounds.proofs.EarlierBlocks.{best_before_found, tasks_rise}
 use Rattle.nash_bounds.proofs.OwnerCounts.{length_lists, power_less}
@@ -151,20 +152,6 @@ follows case floor above (x ∷ xs) old all f al =
     go true t rest = let both = sim_true case floor above x old all t f al in rest (keep case old x) (keep case all x) both.0 both.1
     go false t rest = rest old (keep case all x) (sim_false case floor above x old all t f al) al
 
--- no task has no counted prefixes
-pub count_tasks-none : (case : GoodsCase) (floor : Pair) (above : Option Pair) (from : ℕ) → count_tasks case floor above from 0 ≡ 0
-unfolding count_tasks
-count_tasks-none case floor above from = refl
-
--- one more task adds its counted prefixes
-pub count_tasks-more : (case : GoodsCase) (floor : Pair) (above : Option Pair) (from n : ℕ) → count_tasks case floor above from (n + 1) ≡ count_tasks case floor above from n + count_task case (from + n) floor above
-unfolding count_tasks
-count_tasks-more case floor above from n =
-    let f : ℕ → ℕ = λ t. count_task case t floor above in
-    let one : sum_by f ((from + n) ∷ []) ≡ f (from + n) + 0 = sum_by-cons f (from + n) [] in
-    let two : sum_by f (range_with_len from n ++ (from + n) ∷ []) ≡ sum_by f (range_with_len from n) + sum_by f ((from + n) ∷ []) = sum_by-append f (range_with_len from n) ((from + n) ∷ []) in
-    ap (sum_by f) (range_more from n) ∙ two ∙ omega arith
-
 -- the rule by the best so far counts what the rule by the best of all counts
 pub same_counted : (case : GoodsCase) (floor : Pair) (old all : Option (List ℕ)) (owners : List ℕ) → Serves case floor old all
     → is_counted case floor (pair_kept case old) owners ≡ is_counted case floor (pair_kept case all) owners
@@ -214,7 +201,7 @@ pub steps_block : (case : GoodsCase) (floor : Pair) (old : Option (List ℕ)) (b
     → steps_before case floor (BLOCK_TASKS * block + n) ≡ steps_before case floor (BLOCK_TASKS * block) + count_tasks case floor (pair_kept case old) (BLOCK_TASKS * block) n
 steps_block case floor old block zero l f =
     let e : BLOCK_TASKS * block + zero ≡ BLOCK_TASKS * block = omega arith in
-    let none : count_tasks case floor (pair_kept case old) (BLOCK_TASKS * block) 0 ≡ 0 = count_tasks-none case floor (pair_kept case old) (BLOCK_TASKS * block) in
+    let none : count_tasks case floor (pair_kept case old) (BLOCK_TASKS * block) 0 ≡ 0 = count_none case floor (pair_kept case old) (BLOCK_TASKS * block) in
     rw (e, none) (omega arith)
 steps_block case floor old block (suc n) l f =
     let e : BLOCK_TASKS * block + suc n ≡ BLOCK_TASKS * block + n + 1 = omega arith in
@@ -224,7 +211,7 @@ steps_block case floor old block (suc n) l f =
     let more = steps_before-more case floor (BLOCK_TASKS * block + n) in
     let more' : steps_before case floor (BLOCK_TASKS * block + n + 1) ≡ steps_before case floor (BLOCK_TASKS * block + n) + count_task case (BLOCK_TASKS * block + n) floor (earlier case block) =
     subst (λ m. steps_before case floor (BLOCK_TASKS * block + n + 1) ≡ steps_before case floor (BLOCK_TASKS * block + n) + count_task case (BLOCK_TASKS * block + n) floor (earlier case m)) b more in
-    let own = count_tasks-more case floor (pair_kept case old) (BLOCK_TASKS * block) n in
+    let own = count_one_more case floor (pair_kept case old) (BLOCK_TASKS * block) n in
     let same = same_count case floor old (best_before case (BLOCK_TASKS * block)) (case.facts.goods - depth_of case) (task_list case (BLOCK_TASKS * block + n)) f in
     rw (e, s) (omega arith)
 

@@ -15,6 +15,7 @@ use Rattle.nash_bounds.specs.Prefixes.{prefix_bound}
 abbrev pub is_same : Pair → Pair → Bool
 is_same a b = a.count == b.count && a.product == b.product
 
+-- the answer of a comparison is that the first is after the second
 abbrev pub is_greater : Ordering → Bool
 is_greater Less = false
 is_greater Equal = false

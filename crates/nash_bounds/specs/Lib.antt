@@ -6,6 +6,7 @@ pub mod Allocations
 pub mod Tasks
 pub mod Counted
 pub mod Steps
+pub mod Blocks
 pub mod Start
 pub mod Tables
 pub mod SlowFilling

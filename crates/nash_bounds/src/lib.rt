@@ -23,9 +23,6 @@ pub use prefix::{Prefix, bound, empty_prefix, extend, extend_by};
 pub use reach::{Flat, flat_of, lane_bound, may_reach, next_bound};
 pub use step_laws::{
     allocations_law, best_before_law, best_counted_law, open_prefixes_law, owner_lists_law,
-    serving_law, steps_law, tasks_law,
+    serving_law, steps_law, tasks_in_row_law, tasks_law,
 };
 pub use table::{PointRow, PointTable, point_table};
-
-#[cfg(test)]
-mod tests;

@@ -1,7 +1,8 @@
-ghost use Rattle.std.specs.Prelude.{◌≡◌, ◌+◌, ◌-◌, ◌<◌, ◌≤◌, [], ◌∷◌, ◌++◌, length, sum, cond, ◌==◌, slice_index};
+ghost use Rattle.std.specs.Prelude.{◌≡◌, ◌+◌, ◌-◌, ◌<◌, ◌≤◌, [], ◌∷◌, ◌++◌, length, map, sum, cond, ◌==◌, slice_index};
+ghost use Rattle.std.specs.List.{range_with_len, sum_by};
 ghost use Rattle.bid_rules.specs.declared.pair.Pair.{Pair};
 ghost use Rattle.bid_rules.specs.Pairs.{IsAtMost};
-ghost use Rattle.bid_rules.specs.Goods.{IsValidGoodsCase, player_count, order_of, utilities};
+ghost use Rattle.bid_rules.specs.Goods.{IsValidGoodsCase, greatest_points, player_count, order_of, utilities};
 ghost use Rattle.nash_bounds.specs.Bound.{IsBound};
 ghost use Rattle.nash_bounds.specs.Levels.{bound_of};
 ghost use Rattle.nash_bounds.specs.Prefixes.{IsPrefix, HasBound, highest, top_of};
@@ -63,22 +64,37 @@ pub fn empty_prefix(case: &GoodsCase) -> Prefix
     ensures bound { HasBound result }
     ensures none { result.owners.items ≡ [] }
 {
-    let mut low = ArrayVec::new();
-    let mut high = ArrayVec::new();
-    for _place in 0..case.values.len() {
-        low.push(0);
-        high.push(WHOLE_POINTS);
-    }
-    let mut top = 0;
-    for k in 0..case.facts.goods {
-        top += greatest(case, k + 1);
-    }
+    let players = case.values.len();
     Prefix {
         owners: ArrayVec::new(),
-        low,
-        high,
-        top,
+        low: alike(players, 0),
+        high: alike(players, WHOLE_POINTS),
+        top: greatest_sum(case),
     }
+}
+
+/// The same points for each player.
+fn alike(players: usize, points: u32) -> ArrayVec<u32, MEMBER_ROOM>
+    requires { players ≤ MEMBER_ROOM }
+    ensures { result.items ≡ map (λ _. points) (range_with_len 1 players) }
+{
+    let mut entries = ArrayVec::new();
+    for _place in 0..players {
+        entries.push(points);
+    }
+    entries
+}
+
+/// For each good the greatest points that any player gives it, in sum.
+fn greatest_sum(case: &GoodsCase) -> u32
+    requires { IsValidGoodsCase case.now }
+    ensures { result ≡ sum_by (greatest_points case.now) (range_with_len 1 case.now.facts.goods) }
+{
+    let mut sum = 0;
+    for k in 0..case.facts.goods {
+        sum += greatest(case, k + 1);
+    }
+    sum
 }
 
 /// The prefix with one more owner, of the next good in the case's search order. Its bound is no higher.

@@ -75,6 +75,17 @@ pub fn best_counted_law()
     ensures one { (case : GoodsCase) (allocations : List (List ℕ)) (a b : Option (List ℕ)) → IsBestOf case allocations a → IsBestOf case allocations b → a ≡ b }
 {}
 
+/// What tasks in a row count is what each of them counts, and so are their counted allocations.
+pub fn tasks_in_row_law()
+    ensures none { (case : GoodsCase) (floor : Pair) (above : Option Pair) (from : ℕ) → count_tasks case floor above from 0 ≡ 0 }
+    ensures more { (case : GoodsCase) (floor : Pair) (above : Option Pair) (from n : ℕ)
+        → count_tasks case floor above from (n + 1) ≡ count_tasks case floor above from n + count_task case (from + n) floor above }
+    ensures rises { (case : GoodsCase) (floor : Pair) (above : Option Pair) (from n more : ℕ) → count_tasks case floor above from n ≤ count_tasks case floor above from (n + more) }
+    ensures none_counted { (case : GoodsCase) (floor : Pair) (above : Option Pair) (from : ℕ) → counted_of_tasks case floor above from 0 ≡ [] }
+    ensures more_counted { (case : GoodsCase) (floor : Pair) (above : Option Pair) (from n : ℕ)
+        → counted_of_tasks case floor above from (n + 1) ≡ counted_of_tasks case floor above from n ++ counted_leaves case (from + n) floor above }
+{}
+
 /// What is found among the counted allocations of the earlier blocks serves for the best of all earlier allocations. By it as many prefixes
 /// of the next block are counted; the better of it and of what is counted in tasks after it serves on; after all tasks it is the best
 /// allocation, which so exists.

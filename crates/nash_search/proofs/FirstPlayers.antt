@@ -5,7 +5,6 @@ use Rattle.bid_rules.specs.declared.goods.GoodsCase.{GoodsCase}
 use Rattle.bid_rules.specs.Goods.{player_count, points, utilities, utility, order_of}
 use Rattle.std.proofs.lemmas.List.{take-append-le, get_or_append_left}
 use Rattle.std.proofs.Math.Seq.{get_or-append_seam}
-use Rattle.std.proofs.lemmas.List.FromFn.{length-map-range_with_len}
 use Rattle.nash_bounds.specs.Levels.{bound_of}
 use Rattle.nash_bounds.specs.Prefixes.{IsPrefix, prefix_bound}
 use Rattle.nash_bounds.specs.declared.prefix.Prefix.{Prefix}
@@ -100,7 +99,3 @@ each_more case owners new low o k good long is low_is good_is here before j l =
 -- a prefix's bound is that of its owners
 pub prefix_pair : (case : GoodsCase) (prefix : Prefix) → IsPrefix case prefix → bound_of prefix.low.items prefix.high.items prefix.top ≡ prefix_bound case prefix.owners.items
 prefix_pair case prefix is = rw (is.is_low, is.is_high, is.is_top) refl
-
--- and it has one utility for each player
-pub low_length : (case : GoodsCase) (prefix : Prefix) → IsPrefix case prefix → length prefix.low.items ≡ player_count case
-low_length case prefix is = ap length is.is_low ∙ length-map-range_with_len (λ player. utility case player (order_of case) prefix.owners.items) 1 (player_count case)

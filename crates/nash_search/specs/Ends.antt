@@ -10,3 +10,8 @@ use Rattle.nash_search.specs.declared.task.TaskEnd.TheVariants.{Done, Stopped}
 abbrev pub EndsTask : GoodsCase → ℕ → List (List ℕ) → ℕ → TaskEnd → Type 0
 EndsTask case count allocations allowance (Done nodes best) = (nodes ≤ allowance) × (nodes ≡ count) × IsFoundBest case allocations best
 EndsTask case count allocations allowance (Stopped nodes) = (nodes ≡ allowance + 1) × (nodes ≤ count)
+
+-- the number that an end gives
+abbrev pub nodes_in : TaskEnd → ℕ
+nodes_in (Done nodes best) = nodes
+nodes_in (Stopped nodes) = nodes

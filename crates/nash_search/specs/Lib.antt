@@ -1,6 +1,6 @@
 pub mod Best
 pub mod Ends
-pub mod SearchEnds
+pub mod Progress
 pub mod Division
 pub mod First
 pub mod Waiting

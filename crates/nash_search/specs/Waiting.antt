@@ -13,10 +13,11 @@ use Rattle.nash_bounds.specs.Counted.{is_counted, count, best}
 use Rattle.nash_search.specs.Best.{list_of, IsKept}
 use Rattle.nash_search.specs.declared.walk.Walk.{Walk}
 
--- the owners of each level
+-- the owners who wait at a level
 abbrev pub Level : Type 0
 Level = ArrayVec ℕ MEMBER_ROOM (Unit {0})
 
+-- these owners as a list
 abbrev pub owners_of : Level → List ℕ
 owners_of level = level.items
 

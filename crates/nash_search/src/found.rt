@@ -73,7 +73,7 @@ pub fn better(first: Option<Found>, second: Option<Found>) -> Option<Found>
 }
 
 /// The pair of what is found.
-pub(crate) fn pair_found(found: &Option<Found>) -> Option<Pair>
+pub fn pair_found(found: &Option<Found>) -> Option<Pair>
     ensures { (case : GoodsCase) → IsKept case found.now → result ≡ pair_kept case (list_of found.now) }
 {
     match found {

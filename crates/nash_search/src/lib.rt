@@ -8,19 +8,26 @@ mod division;
 mod found;
 mod laws;
 mod pieces;
+mod progress;
 mod start;
 mod tables;
 mod tally;
 mod task;
 mod walk;
 
+pub use blocks::{search_block, tasks_in_block};
 pub use division::{GoodsDivision, OverLimit, search_alone};
-pub use found::{Found, better};
-pub use laws::step_count_law;
-pub use pieces::{TaskWalk, start_walk};
+pub use found::{Found, better, pair_found};
+pub use laws::{limit_law, step_count_law};
+pub use pieces::{TaskWalk, start_walk, walk_by};
+pub use progress::Progress;
 pub use start::start_value;
-pub use task::{TaskEnd, search_task, tasks};
+pub use tables::Tables;
+pub use tally::Tally;
+pub use task::{TaskEnd, search_by, search_task, tasks};
 
+#[cfg(test)]
+mod bound_tests;
 #[cfg(test)]
 mod plain;
 #[cfg(test)]

@@ -50,8 +50,8 @@ pub fn start_walk(case: &GoodsCase, task: u32, floor: Pair, above: Option<Pair>)
     walk_by(case, &Tables::of(case), task, floor, above)
 }
 
-/// The same with the case's tables at hand.
-pub(crate) fn walk_by(
+/// What `start_walk` gives, by the case's tables, which a whole search makes once.
+pub fn walk_by(
     case: &GoodsCase,
     tables: &Tables,
     task: u32,

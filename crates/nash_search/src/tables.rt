@@ -2,11 +2,13 @@ use arrayvec::ArrayVec;
 use bid_rules::GoodsCase;
 use nash_bounds::{LaneTable, PointTable, lane_table, point_table, search_order};
 
-/// What the players give each good, by its place in the search order, for prefixes and for walks.
+/// What the players give each good, by its place in the search order, for prefixes and for walks. A search makes them once.
 #[derive(Drop)]
-pub(crate) struct Tables {
-    pub(crate) points: PointTable,
-    pub(crate) lanes: LaneTable,
+pub struct Tables {
+    /// For prefixes.
+    pub points: PointTable,
+    /// For walks.
+    pub lanes: LaneTable,
 }
 
 impl Tables {
@@ -15,7 +17,7 @@ impl Tables {
     ghost use Rattle.nash_search.specs.Tables.{AreTables};
 
     /// The tables of a case.
-    pub(crate) fn of(case: &GoodsCase) -> Tables
+    pub fn of(case: &GoodsCase) -> Tables
         requires { IsValidGoodsCase case.now }
         ensures { AreTables case.now result }
     {

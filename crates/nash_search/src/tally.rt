@@ -1,37 +1,44 @@
 use crate::found::{Found, better};
 use crate::task::TaskEnd;
+use nash_bounds::tasks_in_row_law;
 
-/// What is counted so far, and the best allocation among it.
+/// What is counted in the first tasks of a row, and the best allocation among it.
 #[derive(Drop)]
-pub(crate) struct Tally {
-    pub(crate) nodes: u32,
-    pub(crate) best: Option<Found>,
+pub struct Tally {
+    /// How many prefixes are counted.
+    pub nodes: u32,
+    /// The best of the counted allocations, the least list among equals, or `None` where there are none.
+    pub best: Option<Found>,
 }
 
 impl Tally {
-    ghost use Rattle.std.specs.Prelude.{◌≡◌, ℕ, ◌+◌, ◌<◌, ◌^◌, ◌++◌, List, None};
+    ghost use Rattle.std.specs.Prelude.{◌≡◌, ℕ, ◌+◌, ◌-◌, ◌<◌, ◌≤◌, ◌^◌, Option};
     ghost use Rattle.bid_rules.specs.declared.goods.GoodsCase.{GoodsCase};
-    ghost use Rattle.nash_search.specs.Best.{IsFoundBest};
-    ghost use Rattle.nash_search.specs.Ends.{EndsTask};
-    ghost use Rattle.nash_search.specs.SearchEnds.{Added, nodes_in};
+    ghost use Rattle.bid_rules.specs.declared.pair.Pair.{Pair};
+    ghost use Rattle.nash_bounds.specs.Counted.{count_task, counted_leaves};
+    ghost use Rattle.nash_search.specs.Ends.{EndsTask, nodes_in};
+    ghost use Rattle.nash_search.specs.Progress.{AfterTask, IsRow};
 
-    /// Nothing counted and nothing found.
-    pub(crate) fn new() -> Tally
+    /// Nothing counted and nothing found, before the first task.
+    pub fn new() -> Tally
         ensures nodes { result.nodes ≡ 0 }
-        ensures best { result.best ≡ None }
+        ensures row { (case : GoodsCase) (floor : Pair) (above : Option Pair) (from : ℕ) → IsRow case floor above from 0 result }
     {
+        tasks_in_row_law();
         Tally {
             nodes: 0,
             best: None,
         }
     }
 
-    /// Adds an end; false where it is stopped.
-    pub(crate) fn add(&mut self, end: TaskEnd) -> bool
+    /// Adds the end of the next task, which was searched with what the earlier ones left of the allowance; false where it was stopped.
+    pub fn add(&mut self, end: TaskEnd) -> bool
         requires { self.old.nodes + nodes_in end < 2 ^ 32 }
-        ensures { (case : GoodsCase) (count allowance : ℕ) (xs ys : List (List ℕ)) → IsFoundBest case xs self.old.best → EndsTask case count ys allowance end
-            → Added case count (xs ++ ys) allowance self.old self.new result }
+        ensures { (case : GoodsCase) (floor : Pair) (above : Option Pair) (from n allowance : ℕ) → self.old.nodes ≤ allowance → IsRow case floor above from n self.old
+            → EndsTask case (count_task case (from + n) floor above) (counted_leaves case (from + n) floor above) (allowance - self.old.nodes) end
+            → AfterTask case floor above from n allowance self.new result }
     {
+        tasks_in_row_law();
         match end {
             TaskEnd::Done { nodes, best } => {
                 self.nodes += nodes;

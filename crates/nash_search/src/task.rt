@@ -105,8 +105,8 @@ pub fn search_task(
     search_by(case, &Tables::of(case), task, floor, above, allowance)
 }
 
-/// The same with the case's tables at hand.
-pub(crate) fn search_by(
+/// What `search_task` gives, by the case's tables, which a whole search makes once.
+pub fn search_by(
     case: &GoodsCase,
     tables: &Tables,
     task: u32,

@@ -7,7 +7,7 @@ use Rattle.bid_rules.specs.declared.rents.RentCase.{RentCase}
 use Rattle.bid_rules.specs.Rent.{IsAssignment, price_of, room_count}
 use Rattle.bid_rules.specs.Walks.{weight_at}
 use Rattle.bid_rules.specs.Keys.{key, key_sum, AreDualNumbers, HasGreatestKeySum}
-use Rattle.split_lemmas.proofs.Totals.{total-le, total-same}
+use Rattle.split_lemmas.proofs.Totals.{total-le, total-same_range}
 use Rattle.split_lemmas.proofs.SignedSums.{total-add}
 use Rattle.split_lemmas.proofs.RoomPlaces.{room_place, room_range, members_sum}
 
@@ -20,7 +20,7 @@ duals_bound case s t left right h g d =
     let each = total-le (λ i. key case i (get_or t i 0)) (λ i. at i +ℤ of (get_or t i 0)) 0 n (λ i l m. let room = room_range n t i g (omega arith) in d.bound i (get_or t i 0) (omega arith) room.0 room.1) in
     let theirs = total-add at (λ i. of (get_or t i 0)) (range_with_len 0 n) in
     let ours = total-add at (λ i. of (get_or s i 0)) (range_with_len 0 n) in
-    let reach = total-same (λ i. at i +ℤ of (get_or s i 0)) (λ i. key case i (get_or s i 0)) 0 n (λ i l m. d.reached i (omega arith)) in
+    let reach = total-same_range (λ i. at i +ℤ of (get_or s i 0)) (λ i. key case i (get_or s i 0)) 0 n (λ i l m. d.reached i (omega arith)) in
     let a = members_sum of t n g in
     let b = members_sum of s n h in
     omega (arith, ints, each, theirs, ours, reach, a, b)

@@ -7,7 +7,8 @@ use Rattle.bid_rules.specs.declared.rents.RentCase.{RentCase}
 use Rattle.bid_rules.specs.Rent.{value, room_count, sum_over_members, IsAssignment, welfare, IsPricedAssignment, price_of, utility_with, utility, IsEnvyFree}
 use Rattle.split_lemmas.proofs.RoomPlaces.{room_range, members_sum}
 use Rattle.split_lemmas.proofs.PriceLists.{prices_total}
-use Rattle.split_lemmas.proofs.Totals.{times_le, times_cancel, total-sub, total-times, total-le, each_same}
+use Rattle.split_lemmas.proofs.Multiples.{multiple_cancel, multiple_le}
+use Rattle.split_lemmas.proofs.Totals.{total-sub, total-times, total-le, each_same}
 
 -- the utilities that the prices give with any assignment sum to its welfare less the rent
 pub sum_utilities : (case : RentCase) (k : ℕ) (t : List ℕ) (q : List ℤ) (s : List ℕ) → IsPricedAssignment case k t q → IsAssignment case s
@@ -26,7 +27,7 @@ kept case k t q s p free h best i l =
     let n = room_count case in
     let ours = sum_utilities case k t q s p h in
     let theirs = sum_utilities case k t q t p p.assignment in
-    let more = times_le k (welfare case t) (welfare case s) best in
+    let more = multiple_le k (welfare case t) (welfare case s) best in
     each_same (utility case k s q) (utility case k t q) 0 n
     (λ j a b. let room = room_range n s j h (omega arith) in free j (get_or s j 0) (omega arith) room.0 room.1)
     (omega (arith, ints, ours, theirs, more)) i (omega arith) (omega arith)
@@ -46,4 +47,4 @@ free_is_best case k t q s p free h =
     let theirs = sum_utilities case k t q t p p.assignment in
     let less = total-le (utility case k s q) (utility case k t q) 0 n
     (λ j a b. let room = room_range n s j h (omega arith) in free j (get_or s j 0) (omega arith) room.0 room.1) in
-    times_cancel k (welfare case s) (welfare case t) p.parts (omega (arith, ints, ours, theirs, less))
+    multiple_cancel k (welfare case s) (welfare case t) p.parts (omega (arith, ints, ours, theirs, less))

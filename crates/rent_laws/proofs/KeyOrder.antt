@@ -14,7 +14,8 @@ use Rattle.bid_rules.specs.declared.rents.RentCase.{RentCase}
 use Rattle.bid_rules.specs.Rent.{value, room_count, IsAssignment, welfare}
 use Rattle.bid_rules.specs.Sums.{total}
 use Rattle.bid_rules.specs.Keys.{key_sum}
-use Rattle.split_lemmas.proofs.Totals.{times_add, times_le, total-sub, total-times, total-same}
+use Rattle.split_lemmas.proofs.Multiples.{multiple_le, multiple_sum}
+use Rattle.split_lemmas.proofs.Totals.{total-sub, total-times, total-same_range}
 use Rattle.split_lemmas.proofs.RoomPlaces.{rooms_length, room_range}
 
 -- rooms numbered from 1 to n
@@ -79,7 +80,7 @@ digits_places n (x ∷ xs) a =
     let none : a - a ≡ 0 = omega arith in
     let power : a + suc (length xs) - 1 - a ≡ length xs = omega arith in
     let first : (get_or (x ∷ xs) (a - a) 0 - 1) * n ^ (a + suc (length xs) - 1 - a) ≡ (x - 1) * n ^ length xs = ap (λ k. (get_or (x ∷ xs) k 0 - 1) * n ^ (a + suc (length xs) - 1 - a)) none ∙ ap (λ k. (x - 1) * n ^ k) power in
-    let shift = total-same (λ i. pos ((get_or (x ∷ xs) (i - a) 0 - 1) * n ^ (a + suc (length xs) - 1 - i))) (λ i. pos ((get_or xs (i - (a + 1)) 0 - 1) * n ^ (a + 1 + length xs - 1 - i))) (a + 1) (length xs)
+    let shift = total-same_range (λ i. pos ((get_or (x ∷ xs) (i - a) 0 - 1) * n ^ (a + suc (length xs) - 1 - i))) (λ i. pos ((get_or xs (i - (a + 1)) 0 - 1) * n ^ (a + 1 + length xs - 1 - i))) (a + 1) (length xs)
     (λ i l m. let e : i - a ≡ suc (i - (a + 1)) = omega arith in let f : a + suc (length xs) - 1 - i ≡ a + 1 + length xs - 1 - i = omega arith in
     ap (λ k. pos ((get_or (x ∷ xs) k 0 - 1) * n ^ (a + suc (length xs) - 1 - i))) e ∙ ap (λ k. pos ((get_or xs (i - (a + 1)) 0 - 1) * n ^ k)) f) in
     let rest = digits_places n xs (a + 1) in
@@ -92,7 +93,7 @@ key_sum_is case s e =
     let split = total-sub (λ i. pos (n ^ n) *ℤ value case i (get_or s i 0)) (λ i. pos ((get_or s i 0 - 1) * n ^ (n - 1 - i))) (range_with_len 0 n) in
     let values = total-times (n ^ n) (λ i. value case i (get_or s i 0)) (range_with_len 0 n) in
     let places = digits_places n s 0 in
-    let same = total-same (λ i. pos ((get_or s i 0 - 1) * n ^ (n - 1 - i))) (λ i. pos ((get_or s (i - 0) 0 - 1) * n ^ (0 + length s - 1 - i))) 0 n
+    let same = total-same_range (λ i. pos ((get_or s i 0 - 1) * n ^ (n - 1 - i))) (λ i. pos ((get_or s (i - 0) 0 - 1) * n ^ (0 + length s - 1 - i))) 0 n
     (λ i l m. let g : i ≡ i - 0 = omega arith in let f : n - 1 - i ≡ 0 + length s - 1 - i = omega arith in
     ap (λ k. pos ((get_or s k 0 - 1) * n ^ (n - 1 - i))) g ∙ ap (λ k. pos ((get_or s (i - 0) 0 - 1) * n ^ k)) f) in
     let range = ap (λ k. total (λ i. pos ((get_or s (i - 0) 0 - 1) * n ^ (0 + length s - 1 - i))) (range_with_len 0 k)) (sym e) in
@@ -112,8 +113,8 @@ keys_best case s t h g less = by_lt_z (welfare case s) (welfare case t)
     let theirs = key_sum_is case t count in
     let below = digits_below n t (rooms_all n t g) in
     let power : n ^ length t ≡ n ^ n = ap (λ k. n ^ k) count in
-    let more = times_le (n ^ n) (welfare case s +ℤ pos 1) (welfare case t) (omega (arith, ints)) in
-    let split = times_add (n ^ n) (welfare case s) (pos 1) in
+    let more = multiple_le (n ^ n) (welfare case s +ℤ pos 1) (welfare case t) (omega (arith, ints)) in
+    let split = multiple_sum (n ^ n) (welfare case s) (pos 1) in
     let one = *ℤ-one (pos (n ^ n)) in
     omega (arith, ints, ours, theirs, below, power, more, split, one)))
     (λ x. x)

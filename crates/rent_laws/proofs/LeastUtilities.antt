@@ -13,7 +13,8 @@ use Rattle.bid_rules.specs.Walks.{walk_weight, weight_at, AreVertices, IsAttaine
 use Rattle.bid_rules.specs.Maximin.{value_step, least_in_parts}
 use Rattle.rent_laws.proofs.EnvyFreeWelfare.{sum_utilities, kept}
 use Rattle.split_lemmas.proofs.RoomPlaces.{room_range}
-use Rattle.split_lemmas.proofs.Totals.{times_add, times_sub, times_le, total-times, total-const, total-le}
+use Rattle.split_lemmas.proofs.Multiples.{multiple_difference, multiple_le, multiple_sum}
+use Rattle.split_lemmas.proofs.Totals.{total-times, total-const, total-le}
 use Rattle.split_lemmas.proofs.SignedSums.{total-add}
 
 -- the least of the first n numbers is not above any
@@ -49,7 +50,7 @@ one_step_up case k t q s p free h best from to known l =
     let room = room_range (room_count case) s from h known in
     let envy = free to (get_or s from 0) l room.0 room.1 in
     let stays = kept case k t q s p free h best from known in
-    let two = times_sub k (value case to (get_or s from 0)) (value case from (get_or s from 0)) in
+    let two = multiple_difference k (value case to (get_or s from 0)) (value case from (get_or s from 0)) in
     omega (arith, ints, envy, stays, two)
 
 -- a utility is at least the least one and the walk, k times
@@ -62,7 +63,7 @@ along case k t q s least p free h best low to (from ∷ before) l v =
     let known : from < n = All-head (λ j. j < n) from before v in
     let rest = along case k t q s least p free h best low from before known (All-tail (λ j. j < n) from before v) in
     let up = one_step_up case k t q s p free h best from to known l in
-    let one = times_add k (walk_weight (value_step case s) from before) (value_step case s from to) in
+    let one = multiple_sum k (walk_weight (value_step case s) from before) (value_step case s from to) in
     omega (arith, ints, rest, up, one)
 
 -- so the sum over the members bounds the least utility
@@ -80,7 +81,7 @@ upper case k t q s walks least p free h best attained low =
     let const = total-const least 0 n in
     let times = total-times k (weight_at walks) (range_with_len 0 n) in
     let sum = sum_utilities case k t q t p p.assignment in
-    let more = times_le k (welfare case t) (welfare case s) best in
-    let one = times_sub k (welfare case s -ℤ pos case.facts.rent) (sum_over_members case (weight_at walks)) in
-    let two = times_sub k (welfare case s) (pos case.facts.rent) in
+    let more = multiple_le k (welfare case t) (welfare case s) best in
+    let one = multiple_difference k (welfare case s -ℤ pos case.facts.rent) (sum_over_members case (weight_at walks)) in
+    let two = multiple_difference k (welfare case s) (pos case.facts.rent) in
     omega (arith, ints, each, split, const, times, sum, more, one, two)

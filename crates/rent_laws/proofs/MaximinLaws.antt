@@ -14,7 +14,8 @@ use Rattle.split_lemmas.proofs.PriceLists.{prices_total}
 use Rattle.rent_laws.proofs.LeastUtilities.{least_low, least_reached, upper}
 use Rattle.split_lemmas.proofs.RoomPlaces.{room_place, members_sum}
 use Rattle.rent_laws.proofs.WalkWeights.{zero_weight}
-use Rattle.split_lemmas.proofs.Totals.{times_add, times_sub, times_le, total-sub, total-times, total-const, total-same}
+use Rattle.split_lemmas.proofs.Multiples.{multiple_difference, multiple_le, multiple_sum}
+use Rattle.split_lemmas.proofs.Totals.{total-sub, total-times, total-const, total-same_range}
 use Rattle.split_lemmas.proofs.SignedSums.{total-add}
 
 -- the utilities that the prices leave
@@ -33,7 +34,7 @@ own_least case s walks q some shown are =
     let low = least_low f n zero_at.0 zero_at.1 in
     let here = own_utility case s walks q are zero_at.0 zero_at.1 in
     let there = own_utility case s walks q are reached.0 reached.1 in
-    let scaled = times_le n (pos 0) (weight_at walks reached.0) (shown.low reached.0 reached.1) in
+    let scaled = multiple_le n (pos 0) (weight_at walks reached.0) (shown.low reached.0 reached.1) in
     let none = *ℤ-zero (pos n) in
     let nothing : pos n *ℤ weight_at walks zero_at.0 ≡ pos 0 = ap (λ z. pos n *ℤ z) zero_at.2 ∙ none in
     omega (arith, ints, reached.2, low, here, there, scaled, none, nothing)
@@ -49,14 +50,14 @@ own_priced case s walks q some h count are = record {
       let n = room_count case in
       let least = least_in_parts case s walks in
       let prices = sym (prices_total q n count) ∙ sym (members_sum (price_of q) s n h) in
-      let same = total-same (λ i. price_of q (get_or s i 0)) (price_in_parts case s walks) 0 n (λ i a b. are i (omega arith)) in
+      let same = total-same_range (λ i. price_of q (get_or s i 0)) (price_in_parts case s walks) 0 n (λ i a b. are i (omega arith)) in
       let split = total-sub (λ i. pos n *ℤ value case i (get_or s i 0)) (λ i. least +ℤ pos n *ℤ weight_at walks i) (range_with_len 0 n) in
       let values = total-times n (λ i. value case i (get_or s i 0)) (range_with_len 0 n) in
       let add = total-add (λ i. least) (λ i. pos n *ℤ weight_at walks i) (range_with_len 0 n) in
       let const = total-const least 0 n in
       let times = total-times n (weight_at walks) (range_with_len 0 n) in
-      let one = times_sub n (welfare case s -ℤ pos case.facts.rent) (sum_over_members case (weight_at walks)) in
-      let two = times_sub n (welfare case s) (pos case.facts.rent) in
+      let one = multiple_difference n (welfare case s -ℤ pos case.facts.rent) (sum_over_members case (weight_at walks)) in
+      let two = multiple_difference n (welfare case s) (pos case.facts.rent) in
       let last = pos-*ℤ-pos n case.facts.rent in
       omega (arith, ints, prices, same, split, values, add, const, times, one, two, last);
 }
@@ -71,9 +72,9 @@ own_envy_free case s walks q h shown are i r l a b =
     let mine = are i l in
     let theirs = are j there.1 in
     let step = shown.steps j i there.1 l in
-    let scaled = times_le n (weight_at walks j +ℤ value_step case s j i) (weight_at walks i) step in
-    let one = times_add n (weight_at walks j) (value_step case s j i) in
-    let two = times_sub n (value case i (get_or s j 0)) (value case j (get_or s j 0)) in
+    let scaled = multiple_le n (weight_at walks j +ℤ value_step case s j i) (weight_at walks i) step in
+    let one = multiple_sum n (weight_at walks j) (value_step case s j i) in
+    let two = multiple_difference n (value case i (get_or s j 0)) (value case j (get_or s j 0)) in
     subst (λ room. utility_with case n q i room ≤ℤ utility case n s q i) there.2 (omega (arith, ints, mine, theirs, scaled, one, two))
 
 -- the first assignment of greatest welfare, with the prices of the formula, is the best

@@ -18,7 +18,8 @@ use Rattle.rent_laws.proofs.LeastUtilities.{least_low, least_reached}
 use Rattle.rent_laws.proofs.MaximinLaws.{own_envy_free, own_least, own_priced}
 use Rattle.split_lemmas.proofs.RoomPlaces.{room_place}
 use Rattle.rent_laws.proofs.ShownRents.{formula_parts}
-use Rattle.split_lemmas.proofs.Totals.{times_le, times_cancel, total-sub, total-times, total-const, total-le, total-places}
+use Rattle.split_lemmas.proofs.Multiples.{multiple_cancel, multiple_le}
+use Rattle.split_lemmas.proofs.Totals.{total-sub, total-times, total-const, total-le, total-places}
 
 -- the sum of whole numbers as signed ones
 total_sum : (xs : List ℕ) → total (λ x. pos x) xs ≡ pos (sum xs)
@@ -56,7 +57,7 @@ utility_low case k s q valid p free i l =
     let less = total-le (utility_with case k q i) (λ r. utility case k s q i) 1 n (λ r a b. free i r l a (omega arith)) in
     let const = total-const (utility case k s q i) 1 n in
     let none = *ℤ-zero (pos n) in
-    times_cancel n (pos 0) (utility case k s q i) (let some = valid.facts.0 in omega arith) (omega (arith, ints, parts, values, worth, whole, prices, less, const, none))
+    multiple_cancel n (pos 0) (utility case k s q i) (let some = valid.facts.0 in omega arith) (omega (arith, ints, parts, values, worth, whole, prices, less, const, none))
 
 -- values are from 0 to the rent
 abbrev pub HaveValuesWithinRent : Type 0
@@ -90,7 +91,7 @@ module _ (within : HaveValuesWithinRent) where
       let there = room_place (room_count case) s r p.assignment a b in
       let i = there.0 in
       let low : pos 0 ≤ℤ utility_with case k q i r = subst (λ room. pos 0 ≤ℤ utility_with case k q i room) there.2 (utility_low case k s q valid p free i there.1) in
-      let worth = times_le k (value case i r) (pos case.facts.rent) (within case i r valid there.1).1 in
+      let worth = multiple_le k (value case i r) (pos case.facts.rent) (within case i r valid there.1).1 in
       let whole = pos-*ℤ-pos k case.facts.rent in
       omega (arith, ints, low, worth, whole)
 
@@ -101,9 +102,9 @@ module _ (within : HaveValuesWithinRent) where
       let there = room_place (room_count case) s t p.assignment d e in
       let i = there.0 in
       let envy : utility_with case k q i r ≤ℤ utility_with case k q i t = subst (λ room. utility_with case k q i r ≤ℤ utility_with case k q i room) there.2 (free i r there.1 a b) in
-      let worth = times_le k (value case i t) (pos case.facts.rent) (within case i t valid there.1).1 in
+      let worth = multiple_le k (value case i t) (pos case.facts.rent) (within case i t valid there.1).1 in
       let none = *ℤ-zero (pos k) in
-      let some = times_le k (pos 0) (value case i r) (within case i r valid there.1).0 in
+      let some = multiple_le k (pos 0) (value case i r) (within case i r valid there.1).0 in
       let whole = pos-*ℤ-pos k case.facts.rent in
       omega (arith, ints, envy, worth, none, some, whole)
 
@@ -117,7 +118,7 @@ module _ (within : HaveValuesWithinRent) where
       let const = total-const most 1 n in
       let prices = prices_total q n p.each ∙ p.whole in
       let none = *ℤ-zero (pos n) in
-      times_cancel n (pos 0) most (omega arith) (omega (arith, ints, less, const, prices, none))
+      multiple_cancel n (pos 0) most (omega arith) (omega (arith, ints, less, const, prices, none))
 
   -- each price is at most the rent, of either sign
   pub price_within : (case : RentCase) (k : ℕ) (s : List ℕ) (q : List ℤ) → IsValidRentCase case → IsPricedAssignment case k s q → IsEnvyFree case k s q → (r : ℕ) → 1 ≤ r → r ≤ room_count case
@@ -140,14 +141,14 @@ module _ (within : HaveValuesWithinRent) where
       let sum = sum_utilities case k s q s p p.assignment in
       let worth = total-le (λ (i : ℕ). value case i (get_or s i 0)) (λ (i : ℕ). pos case.facts.rent) 0 n (λ i a b. (within case i (get_or s i 0) valid (omega arith)).1) in
       let rents = total-const (pos case.facts.rent) 0 n in
-      let more = times_le k (welfare case s) (pos n *ℤ pos case.facts.rent) (omega (arith, ints, worth, rents)) in
+      let more = multiple_le k (welfare case s) (pos n *ℤ pos case.facts.rent) (omega (arith, ints, worth, rents)) in
       let one = pos-*ℤ-pos n case.facts.rent in
       let two = pos-*ℤ-pos k (n * case.facts.rent) in
       let three = pos-*ℤ-pos k case.facts.rent in
       let four = pos-*ℤ-pos n (k * case.facts.rent) in
       let five : k * (n * case.facts.rent) ≡ n * (k * case.facts.rent) = omega arith in
       let times = ap (λ z. pos k *ℤ z) one in
-      let high = times_cancel n least (pos (k * case.facts.rent)) some (omega (arith, ints, less, const, sum, more, times, two, three, four, five)) in
+      let high = multiple_cancel n least (pos (k * case.facts.rent)) some (omega (arith, ints, less, const, sum, more, times, two, three, four, five)) in
       omega (arith, ints, low, high, reached.2)
 
   -- n times the least utility of the formula is n times at most the rent, and so its quotient is

@@ -11,20 +11,8 @@ use Rattle.bid_rules.specs.Sums.{total}
 use Rattle.split_lemmas.proofs.PriceLists.{prices_total}
 use Rattle.rent_laws.proofs.LeastUtilities.{least_reached}
 use Rattle.split_lemmas.proofs.RoomPlaces.{room_range}
-use Rattle.split_lemmas.proofs.Totals.{times_sub, times_le, times_suc, times_zero, total-sub, total-times, total-const, total-same, each_same}
-
--- so many times and so many more
-times_plus : (a b : ℕ) (z : ℤ) → pos (a + b) *ℤ z ≡ pos a *ℤ z +ℤ pos b *ℤ z
-times_plus zero b z = omega (arith, ints, times_zero z)
-times_plus (suc a) b z = let h = times_plus a b z in omega (arith, ints, h, times_suc (a + b) z, times_suc a z)
-
--- one number of times after another
-pub times_times : (a b : ℕ) (z : ℤ) → pos (a * b) *ℤ z ≡ pos a *ℤ (pos b *ℤ z)
-times_times zero b z = omega (arith, ints, times_zero z, times_zero (pos b *ℤ z))
-times_times (suc a) b z =
-    let h = times_times a b z in
-    let more : suc a * b ≡ a * b + b = omega arith in
-    ap (λ k. pos k *ℤ z) more ∙ times_plus (a * b) b z ∙ omega (arith, ints, h, times_suc a (pos b *ℤ z))
+use Rattle.split_lemmas.proofs.Multiples.{multiple_difference, multiple_le, multiple_multiple}
+use Rattle.split_lemmas.proofs.Totals.{total-sub, total-times, total-const, total-same_range, each_same}
 
 -- the greater of two numbers
 record IsGreater (a b c : ℤ) : Type 0 where
@@ -56,7 +44,7 @@ price_by f n r a b =
 
 -- the prices sum to the sum of the function
 total_by : (f : ℕ → ℤ) (n : ℕ) → total (λ p. p) (prices_by f n) ≡ total f (range_with_len 1 n)
-total_by f n = sym (prices_total (prices_by f n) n (prices_count f n)) ∙ total-same (price_of (prices_by f n)) f 1 n (λ r a b. price_by f n r a (omega arith))
+total_by f n = sym (prices_total (prices_by f n) n (prices_count f n)) ∙ total-same_range (price_of (prices_by f n)) f 1 n (λ r a b. price_by f n r a (omega arith))
 
 -- two lists of envy-free prices of one assignment, in the same parts, that leave everyone at least z; no prices leave everyone more
 pub record AreRivals (case : RentCase) (m : ℕ) (s : List ℕ) (p q : List ℤ) (z : ℤ) : Type 0 where
@@ -102,8 +90,8 @@ with_higher : (case : RentCase) (m : ℕ) (p q : List ℤ) (i r : ℕ) → 1 ≤
 with_higher case m p q i r a b =
     let n = room_count case in
     let price = price_by (lowered case m p q) n r a b ∙ lowered_is case m p q r in
-    let worth = times_times n m (value case i r) in
-    let split = times_sub n (pos m *ℤ value case i r) (higher p q r) in
+    let worth = multiple_multiple n m (value case i r) in
+    let split = multiple_difference n (pos m *ℤ value case i r) (higher p q r) in
     omega (arith, ints, price, worth, split)
 
 -- the lowered prices sum to the rent
@@ -118,11 +106,11 @@ lowered_priced case m s p q z some rivals =
       each = prices_count (lowered case m p q) n;
       whole =
           let by = total_by (lowered case m p q) n in
-          let terms = total-same (lowered case m p q) (λ r. pos n *ℤ higher p q r -ℤ excess case m p q) 1 n (λ r a b. lowered_is case m p q r) in
+          let terms = total-same_range (lowered case m p q) (λ r. pos n *ℤ higher p q r -ℤ excess case m p q) 1 n (λ r a b. lowered_is case m p q r) in
           let split = total-sub (λ r. pos n *ℤ higher p q r) (λ r. excess case m p q) (range_with_len 1 n) in
           let times = total-times n (higher p q) (range_with_len 1 n) in
           let const = total-const (excess case m p q) 1 n in
-          let less = times_sub n (total (higher p q) (range_with_len 1 n)) (pos (m * case.facts.rent)) in
+          let less = multiple_difference n (total (higher p q) (range_with_len 1 n)) (pos (m * case.facts.rent)) in
           let same = ap (λ y. pos n *ℤ y) (excess_is case m p q) in
           let rent : pos n *ℤ pos (m * case.facts.rent) ≡ pos (n * m * case.facts.rent) = pos-*ℤ-pos n (m * case.facts.rent) ∙ ap pos (omega arith) in
           omega (arith, ints, by, terms, split, times, const, less, same, rent);
@@ -148,7 +136,7 @@ lowered_free case m s p q z rivals i r l a b =
     let own = room_range n s i rivals.priced.assignment l in
     let there = with_higher case m p q i r a b in
     let here = with_higher case m p q i (get_or s i 0) own.0 own.1 in
-    let more = times_le n (pos m *ℤ value case i r -ℤ higher p q r) (pos m *ℤ value case i (get_or s i 0) -ℤ higher p q (get_or s i 0)) (higher_free case m s p q z rivals i r l a b) in
+    let more = multiple_le n (pos m *ℤ value case i r -ℤ higher p q r) (pos m *ℤ value case i (get_or s i 0) -ℤ higher p q (get_or s i 0)) (higher_free case m s p q z rivals i r l a b) in
     omega (arith, ints, there, here, more)
 
 -- the excess would be everyone's gain, so there is none
@@ -166,7 +154,7 @@ no_excess case m s p q z some rivals =
     (λ (e : higher p q (get_or s i 0) ≡ price_of p (get_or s i 0)). let a = rivals.low i reached.1 in omega (arith, ints, a, e))
     (λ (e : higher p q (get_or s i 0) ≡ price_of q (get_or s i 0)). let a = rivals.other_low i reached.1 in omega (arith, ints, a, e))
     own.one in
-    let more = times_le n z (pos m *ℤ value case i (get_or s i 0) -ℤ higher p q (get_or s i 0)) low in
+    let more = multiple_le n z (pos m *ℤ value case i (get_or s i 0) -ℤ higher p q (get_or s i 0)) low in
     let is = reached.2 in
     omega (arith, ints, most, is, here, more)
 

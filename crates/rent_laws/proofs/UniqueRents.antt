@@ -12,8 +12,9 @@ use Rattle.rent_laws.proofs.LeastUtilities.{least_low}
 use Rattle.split_lemmas.proofs.ListOrder.{same_from_neither}
 use Rattle.split_lemmas.proofs.PartLaws.{same_prices, whole_sum}
 use Rattle.split_lemmas.proofs.RoomPlaces.{room_range}
-use Rattle.split_lemmas.proofs.Totals.{times_sub, times_le, times_cancel, total-times}
-use Rattle.rent_laws.proofs.UniquePrices.{AreRivals, rivals_same, times_times}
+use Rattle.split_lemmas.proofs.Multiples.{multiple_cancel, multiple_difference, multiple_le, multiple_multiple}
+use Rattle.split_lemmas.proofs.Totals.{total-times}
+use Rattle.rent_laws.proofs.UniquePrices.{AreRivals, rivals_same}
 
 -- l times as many parts
 finer : ℕ → List ℤ → List ℤ
@@ -53,8 +54,8 @@ finer_with : (case : RentCase) (k l : ℕ) (s : List ℕ) (q : List ℤ) → IsP
 finer_with case k l s q p i r a b =
     let count = p.each in
     let price = finer_at l q (r - 1) (omega arith) in
-    let worth = times_times l k (value case i r) in
-    let split = times_sub l (pos k *ℤ value case i r) (price_of q r) in
+    let worth = multiple_multiple l k (value case i r) in
+    let split = multiple_difference l (pos k *ℤ value case i r) (price_of q r) in
     omega (arith, ints, price, worth, split)
 
 -- nobody envies in the finer parts
@@ -63,7 +64,7 @@ finer_free case k l s q p free i r h a b =
     let own = room_range (room_count case) s i p.assignment h in
     let here = finer_with case k l s q p i (get_or s i 0) own.0 own.1 in
     let there = finer_with case k l s q p i r a b in
-    let more = times_le l (utility_with case k q i r) (utility case k s q i) (free i r h a b) in
+    let more = multiple_le l (utility_with case k q i r) (utility case k s q i) (free i r h a b) in
     omega (arith, ints, here, there, more)
 
 -- the utilities are at least l times the least one
@@ -72,7 +73,7 @@ finer_low : (case : RentCase) (k l : ℕ) (s : List ℕ) (q : List ℤ) → IsPr
 finer_low case k l s q p i h =
     let own = room_range (room_count case) s i p.assignment h in
     let here = finer_with case k l s q p i (get_or s i 0) own.0 own.1 in
-    let more = times_le l (least_utility case k s q) (utility case k s q i) (least_low (utility case k s q) (room_count case) i h) in
+    let more = multiple_le l (least_utility case k s q) (utility case k s q i) (least_low (utility case k s q) (room_count case) i h) in
     omega (arith, ints, here, more)
 
 -- two best ones have one least utility
@@ -112,8 +113,8 @@ best_rivals case s prices others best other =
           let least = least_utility case k s best.parts in
           let order : n * (l * k) ≡ k * (n * l) = omega arith in
           let opened : pos (n * (l * k)) *ℤ least ≡ pos k *ℤ (pos n *ℤ (pos l *ℤ least)) =
-          ap (λ m. pos m *ℤ least) order ∙ times_times k (n * l) least ∙ ap (λ z. pos k *ℤ z) (times_times n l least) in
-          times_cancel k (least_utility case (n * (l * k)) s new) (pos n *ℤ (pos l *ℤ least)) best.priced.parts
+          ap (λ m. pos m *ℤ least) order ∙ multiple_multiple k (n * l) least ∙ ap (λ z. pos k *ℤ z) (multiple_multiple n l least) in
+          multiple_cancel k (least_utility case (n * (l * k)) s new) (pos n *ℤ (pos l *ℤ least)) best.priced.parts
           (subst (λ z. (pos k *ℤ least_utility case (n * (l * k)) s new) ≤ℤ z) opened bound);
     }
 

@@ -9,7 +9,7 @@ use Rattle.bid_rules.specs.Keys.{HasGreatestWelfare}
 use Rattle.bid_rules.specs.Maximin.{value_step}
 use Rattle.bid_rules.specs.Walks.{walk_weight, AreVertices, HasNoPositiveCycle}
 use Rattle.split_lemmas.proofs.RoomPlaces.{room_range, members_sum}
-use Rattle.split_lemmas.proofs.Totals.{total-same, each_same}
+use Rattle.split_lemmas.proofs.Totals.{total-same_range, each_same}
 use Rattle.split_lemmas.proofs.SignedSums.{total-add}
 
 -- a walk is no heavier than the difference of the numbers at its ends
@@ -39,7 +39,7 @@ values_no_cycle case s t left right best h bound reached =
     let theirs = total-add left (λ i. right (get_or t i 0)) (range_with_len 0 n) in
     let a = members_sum right s n best.assignment in
     let b = members_sum right t n h in
-    let reach = total-same (λ i. left i +ℤ right (get_or t i 0)) (λ i. value case i (get_or t i 0)) 0 n (λ i l m. reached i (omega arith)) in
+    let reach = total-same_range (λ i. left i +ℤ right (get_or t i 0)) (λ i. value case i (get_or t i 0)) 0 n (λ i l m. reached i (omega arith)) in
     let less = best.greatest t h in
     let tight : (i : ℕ) → i < n → value case i (get_or s i 0) ≡ left i +ℤ right (get_or s i 0) = λ i l.
     each_same (λ j. value case j (get_or s j 0)) (λ j. left j +ℤ right (get_or s j 0)) 0 n above (omega (arith, ints, ours, theirs, a, b, reach, less)) i (omega arith) (omega arith) in

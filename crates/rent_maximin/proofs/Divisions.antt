@@ -4,14 +4,14 @@ use Rattle.std.specs.List.{AllZip}
 use Rattle.bid_rules.specs.Fractions.{HasSameValue}
 use Rattle.rent_maximin.specs.declared.division.RentDivision.{RentDivision}
 use Rattle.split_frac.specs.declared.frac.Frac.{Frac}
-use Rattle.split_frac.specs.Frac.{pair_of}
+use Rattle.split_frac.specs.Frac.{fraction_of}
 
 -- fractions whose cross products agree are equal
 abbrev pub HaveOneValue : Type 0
 HaveOneValue = (a b : Frac) → a.num *ℤ pos b.den ≡ b.num *ℤ pos a.den → a ≡ b
 
 -- so are lists of fractions of the same values
-pub same_fractions : HaveOneValue → (xs ys : List Frac) → AllZip HasSameValue (map pair_of xs) (map pair_of ys) → xs ≡ ys
+pub same_fractions : HaveOneValue → (xs ys : List Frac) → AllZip HasSameValue (map fraction_of xs) (map fraction_of ys) → xs ≡ ys
 same_fractions value [] [] h = refl
 same_fractions value [] (y ∷ ys) h = absurd h
 same_fractions value (x ∷ xs) [] h = absurd h

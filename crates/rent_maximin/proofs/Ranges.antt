@@ -8,24 +8,24 @@ use Rattle.bid_rules.specs.declared.rents.RentCase.{RentCase}
 use Rattle.bid_rules.specs.Fractions.{Fraction, IsQuotient}
 use Rattle.bid_rules.specs.Rent.{IsValidRentCase, IsWithinRent, room_count}
 use Rattle.split_frac.specs.declared.frac.Frac.{Frac}
-use Rattle.split_frac.specs.Frac.{HasValue, IsWithin, pair_of}
+use Rattle.split_frac.specs.Frac.{HasValue, IsWithin, fraction_of}
 
 -- the denominator of a fraction divides that of each way to write its value
 abbrev pub DenominatorsDivide : Type 0
 DenominatorsDivide = (a : Frac) (num : ℤ) (den : ℕ) → HasValue a num den → a.den ∣ den
 
 -- the denominators of quotients in lowest terms divide the number of parts
-pub all_divide : DenominatorsDivide → (n : ℕ) (prices : List Frac) (parts : List ℤ) → AllZip (λ price part. IsQuotient price part n) (map pair_of prices) parts → All (λ (price : Frac). price.den ∣ n) prices
+pub all_divide : DenominatorsDivide → (n : ℕ) (prices : List Frac) (parts : List ℤ) → AllZip (λ price part. IsQuotient price part n) (map fraction_of prices) parts → All (λ (price : Frac). price.den ∣ n) prices
 all_divide divides n [] parts zip = All-nil (λ (price : Frac). price.den ∣ n)
 all_divide divides n (price ∷ prices) [] zip = absurd zip
 all_divide divides n (price ∷ prices) (part ∷ parts) zip =
     All-cons (λ (price : Frac). price.den ∣ n) price prices (divides price part n zip.0.1) (all_divide divides n prices parts zip.1)
 
 -- what holds of all pairs holds of all fractions
-pub of_pairs : (P : Fraction → Type 0) (prices : List Frac) → All P (map pair_of prices) → All (λ price. P (pair_of price)) prices
-of_pairs P [] h = All-nil (λ (price : Frac). P (pair_of price))
+pub of_pairs : (P : Fraction → Type 0) (prices : List Frac) → All P (map fraction_of prices) → All (λ price. P (fraction_of price)) prices
+of_pairs P [] h = All-nil (λ (price : Frac). P (fraction_of price))
 of_pairs P (price ∷ prices) h =
-    All-cons (λ (price : Frac). P (pair_of price)) price prices (All-head P (pair_of price) (map pair_of prices) h) (of_pairs P prices (All-tail P (pair_of price) (map pair_of prices) h))
+    All-cons (λ (price : Frac). P (fraction_of price)) price prices (All-head P (fraction_of price) (map fraction_of prices) h) (of_pairs P prices (All-tail P (fraction_of price) (map fraction_of prices) h))
 
 -- an amount of at most the rent, in whole n-ths of a cent, lies in the ranges of fractions
 pub amount_within : (case : RentCase) (amount : Frac) → IsValidRentCase case → amount.den ∣ room_count case → IsWithinRent case amount.den amount.num

@@ -1,5 +1,5 @@
 -- The solver's division of a rent for a case (Gal, Mash, Procaccia and Zick 2016).
-use Rattle.std.specs.Prelude.{pos, ◌<◌, ◌^◌, map, All, unsigned_abs}
+use Rattle.std.specs.Prelude.{pos, ◌<◌, map, All, unsigned_abs}
 use Rattle.std.specs.Int.{◌∣◌}
 use Rattle.bid_rules.specs.declared.rents.RentCase.{RentCase}
 use Rattle.bid_rules.specs.Fractions.{IsQuotient, sum_of_fractions}
@@ -8,16 +8,17 @@ use Rattle.bid_rules.specs.Maximin.{AreMaximinPrices, least_in_parts, value_step
 use Rattle.bid_rules.specs.Rent.{IsLeastUtility, IsWithinRent, RentBest, room_count}
 use Rattle.bid_rules.specs.Walks.{AreGreatestWeights, AreRanks}
 use Rattle.rent_maximin.specs.declared.division.RentDivision.{RentDivision}
-use Rattle.split_frac.specs.Frac.{pair_of}
+use Rattle.split_frac.specs.Frac.{fraction_of}
+use Rattle.room_assignment.specs.declared.limits.TheConstants.{DUAL_LIMIT}
 
 -- the best rooms and prices with the numbers that show it; each price is in whole n-ths of a cent and at most the rent, of either sign.
 -- Dual numbers and walks have at most 25 digits, and each rank is below the number of members
 pub record IsRentDivision (case : RentCase) (division : RentDivision) : Type 0 where
-  pub best : RentBest case division.best.rooms.items (map pair_of division.prices.items)
-  pub least : IsLeastUtility case division.best.rooms.items (map pair_of division.prices.items) (pair_of division.least)
-  pub least_formula : IsQuotient (pair_of division.least) (least_in_parts case division.best.rooms.items division.walks.weights.items) (room_count case)
-  pub prices : AreMaximinPrices case division.best.rooms.items division.walks.weights.items (map pair_of division.prices.items)
-  pub total : IsQuotient (sum_of_fractions (map pair_of division.prices.items)) (pos case.facts.rent) 1
+  pub best : RentBest case division.best.rooms.items (map fraction_of division.prices.items)
+  pub least : IsLeastUtility case division.best.rooms.items (map fraction_of division.prices.items) (fraction_of division.least)
+  pub least_formula : IsQuotient (fraction_of division.least) (least_in_parts case division.best.rooms.items division.walks.weights.items) (room_count case)
+  pub prices : AreMaximinPrices case division.best.rooms.items division.walks.weights.items (map fraction_of division.prices.items)
+  pub total : IsQuotient (sum_of_fractions (map fraction_of division.prices.items)) (pos case.facts.rent) 1
   pub rooms : HasGreatestKeySum case division.best.rooms.items
   pub left : AreGreatestWeights (room_count case) (key_step case division.best.rooms.items) division.best.left.items
   pub dual : AreDualNumbers case division.best.rooms.items division.best.left.items division.best.right.items
@@ -27,7 +28,7 @@ pub record IsRentDivision (case : RentCase) (division : RentDivision) : Type 0 w
   pub price_range : All (λ price. IsWithinRent case price.den price.num) division.prices.items
   pub least_parts : division.least.den ∣ room_count case
   pub least_range : IsWithinRent case division.least.den division.least.num
-  pub left_range : All (λ number. unsigned_abs number < 10 ^ 25) division.best.left.items
-  pub right_range : All (λ number. unsigned_abs number < 10 ^ 25) division.best.right.items
-  pub walk_range : All (λ weight. unsigned_abs weight < 10 ^ 25) division.walks.weights.items
+  pub left_range : All (λ number. unsigned_abs number < DUAL_LIMIT) division.best.left.items
+  pub right_range : All (λ number. unsigned_abs number < DUAL_LIMIT) division.best.right.items
+  pub walk_range : All (λ weight. unsigned_abs weight < DUAL_LIMIT) division.walks.weights.items
   pub rank_range : All (λ rank. rank < room_count case) division.walks.ranks.items

@@ -5,6 +5,7 @@ use Rattle.bid_rules.specs.declared.rents.RentCase.{RentCase}
 use Rattle.bid_rules.specs.Fractions.{Fraction, IsQuotient}
 use Rattle.bid_rules.specs.Maximin.{least_in_parts, price_in_parts}
 use Rattle.bid_rules.specs.Rent.{IsAssignment, IsValidRentCase, room_count}
+use Rattle.room_assignment.specs.declared.limits.TheConstants.{MOST_STEP}
 
 -- a valid case, an assignment, and for each member the weight of a walk
 pub record HasWalks (case : RentCase) (rooms : List ℕ) (walks : List ℤ) : Type 0 where
@@ -12,7 +13,7 @@ pub record HasWalks (case : RentCase) (rooms : List ℕ) (walks : List ℤ) : Ty
   pub assignment : IsAssignment case rooms
   pub rooms_count : length rooms ≡ room_count case
   pub walks_count : length walks ≡ room_count case
-  pub small : All (λ weight. unsigned_abs weight ≤ MOST_MEMBERS * 10 ^ 21) walks
+  pub small : All (λ weight. unsigned_abs weight ≤ MOST_MEMBERS * MOST_STEP) walks
 
 -- the number is n times the least utility of the formula
 pub record IsLeastOf (case : RentCase) (rooms : List ℕ) (walks : List ℤ) (least : ℤ) : Type 0 where

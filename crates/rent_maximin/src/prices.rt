@@ -6,11 +6,12 @@ ghost use Rattle.bid_rules.specs.Rent.{IsAssignment, IsValidRentCase, room_count
 ghost use Rattle.bid_rules.specs.Sums.{total};
 ghost use Rattle.bid_rules.specs.Walks.{weight_at};
 ghost use Rattle.rent_maximin.specs.Prices.{HasWalks, IsLeastOf, IsPartAt, IsPriceAt};
-ghost use Rattle.split_frac.specs.Frac.{pair_of};
+ghost use Rattle.split_frac.specs.Frac.{fraction_of};
 
 use arrayvec::ArrayVec;
 use bid_rules::RentCase;
 use bid_rules::limits::{MEMBER_ROOM, MOST_MEMBERS, MOST_RENT};
+use room_assignment::limits::MOST_STEP;
 use split_frac::{Frac, make};
 
 /// What a member, from 0, would pay for a room, from 1.
@@ -43,9 +44,9 @@ fn welfare_of(case: &RentCase, rooms: &[u8]) -> i128
 /// The sum of the weights of the walks.
 fn sum_of(walks: &[i128]) -> i128
     requires few { length walks.now ≤ MEMBER_ROOM }
-    requires small { All (λ weight. unsigned_abs weight ≤ MOST_MEMBERS * 10 ^ 21) walks.now }
+    requires small { All (λ weight. unsigned_abs weight ≤ MOST_MEMBERS * MOST_STEP) walks.now }
     ensures value { result ≡ total (weight_at walks.now) (range_with_len 0 (length walks.now)) }
-    ensures small { unsigned_abs result ≤ 144 * 10 ^ 21 }
+    ensures small { unsigned_abs result ≤ MOST_MEMBERS * MOST_MEMBERS * MOST_STEP }
 {
     let mut sum = 0;
     for k in 0..walks.len() {
@@ -57,9 +58,9 @@ fn sum_of(walks: &[i128]) -> i128
 /// A number some times.
 fn times(count: u8, number: i128) -> i128
     requires count { count ≤ MEMBER_ROOM }
-    requires number { unsigned_abs number ≤ MOST_MEMBERS * 10 ^ 21 }
+    requires number { unsigned_abs number ≤ MOST_MEMBERS * MOST_STEP }
     ensures value { result ≡ pos count *ℤ number }
-    ensures small { unsigned_abs result ≤ 144 * 10 ^ 21 }
+    ensures small { unsigned_abs result ≤ MOST_MEMBERS * MOST_MEMBERS * MOST_STEP }
 {
     i128::from(count) * number
 }
@@ -98,7 +99,7 @@ fn price_of(case: &RentCase, rooms: &[u8], walks: &[i128], least: i128, room: us
     requires walks { HasWalks case.now rooms.now walks.now }
     requires least { IsLeastOf case.now rooms.now walks.now least }
     requires room { room < room_count case.now }
-    ensures { IsPriceAt case.now rooms.now walks.now room (pair_of result) }
+    ensures { IsPriceAt case.now rooms.now walks.now room (fraction_of result) }
 {
     make(
         part_of(case, rooms, walks, least, room),
@@ -115,7 +116,7 @@ pub(crate) fn prices_of(
 ) -> ArrayVec<Frac, MEMBER_ROOM>
     requires walks { HasWalks case.now rooms.now walks.now }
     requires least { IsLeastOf case.now rooms.now walks.now least }
-    ensures { AreMaximinPrices case.now rooms.now walks.now (map pair_of result.items) }
+    ensures { AreMaximinPrices case.now rooms.now walks.now (map fraction_of result.items) }
 {
     let mut prices = ArrayVec::new();
     for room in 0..case.facts.members as usize {

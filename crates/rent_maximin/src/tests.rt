@@ -150,7 +150,7 @@ fn rent_case(rt: &impl Abort, worked: &Worked) -> RentCase {
     }
 }
 
-fn pair_of(fraction: &Frac) -> (i128, u64) {
+fn parts_of(fraction: &Frac) -> (i128, u64) {
     (fraction.num, fraction.den)
 }
 
@@ -161,12 +161,12 @@ fn worked_rents(rt: HostRuntime) -> Result<(), Fail> {
         assert!(rt; case.is_valid());
         let division = solve_rent(&case);
         assert_eq!(rt; division.best.rooms.as_slice(), worked.rooms);
-        assert_eq!(rt; pair_of(&division.least), worked.least);
+        assert_eq!(rt; parts_of(&division.least), worked.least);
         assert_eq!(rt; division.walks.weights.as_slice(), worked.walks);
         assert_eq!(rt; division.walks.ranks.as_slice(), worked.ranks);
         assert_eq!(rt; division.prices.len(), worked.prices.len());
         for (price, want) in division.prices.iter().zip(worked.prices) {
-            assert_eq!(rt; pair_of(price), *want);
+            assert_eq!(rt; parts_of(price), *want);
         }
     }
     Ok(())

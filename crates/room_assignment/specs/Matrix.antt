@@ -1,7 +1,8 @@
 -- Square matrices of weights.
-use Rattle.std.specs.Prelude.{◌≡◌, ℕ, ℤ, pos, ◌≤◌, ◌^◌, [], length, All, slice_index_or, unsigned_abs}
+use Rattle.std.specs.Prelude.{◌≡◌, ℕ, ℤ, pos, ◌≤◌, [], length, All, slice_index_or, unsigned_abs}
 use Rattle.arrayvec.specs.declared.array_vec.ArrayVec.{ArrayVec}
 use Rattle.bid_rules.specs.declared.limits.TheConstants.{MEMBER_ROOM}
+use Rattle.room_assignment.specs.declared.limits.TheConstants.{MOST_STEP}
 
 -- a matrix of weights, with a row and a column at most for each member
 abbrev pub Matrix : Type 0
@@ -14,4 +15,4 @@ entry matrix from to = slice_index_or (slice_index_or matrix.items from (record 
 -- as many columns as rows, each entry between -10^21 and 10^21
 pub record IsSquare (matrix : Matrix) : Type 0 where
   pub columns : All (λ row. length row.items ≡ length matrix.items) matrix.items
-  pub small : All (λ row. All (λ weight. unsigned_abs weight ≤ 10 ^ 21) row.items) matrix.items
+  pub small : All (λ row. All (λ weight. unsigned_abs weight ≤ MOST_STEP) row.items) matrix.items

@@ -1,6 +1,7 @@
 -- Longest walks among those of limited length, one step more each round.
-use Rattle.std.specs.Prelude.{◌≡◌, ℕ, ℤ, pos, ◌*◌, ◌<◌, ◌≤◌, ◌^◌, ◌≤ℤ◌, List, length, All, slice_index, slice_index_or, unsigned_abs}
+use Rattle.std.specs.Prelude.{◌≡◌, ℕ, ℤ, pos, ◌*◌, ◌<◌, ◌≤◌, ◌≤ℤ◌, List, length, All, slice_index, slice_index_or, unsigned_abs}
 use Rattle.bid_rules.specs.Walks.{walk_weight, AreVertices}
+use Rattle.room_assignment.specs.declared.limits.TheConstants.{MOST_STEP}
 
 -- the greatest weight of a walk of at most so many steps that ends at the vertex, and the least number of steps of such a walk
 pub record IsLongestWithin (limit n : ℕ) (w : ℕ → ℕ → ℤ) (to : ℕ) (weight : ℤ) (steps : ℕ) : Type 0 where
@@ -13,5 +14,5 @@ pub record IsLongestWithin (limit n : ℕ) (w : ℕ → ℕ → ℤ) (to : ℕ) 
 pub record AreLongestWithin (limit n : ℕ) (w : ℕ → ℕ → ℤ) (weights : List ℤ) (ranks : List ℕ) : Type 0 where
   pub weights_count : length weights ≡ n
   pub ranks_count : length ranks ≡ n
-  pub small : All (λ weight. unsigned_abs weight ≤ 10 ^ 21 * limit) weights
+  pub small : All (λ weight. unsigned_abs weight ≤ MOST_STEP * limit) weights
   pub longest : (i : ℕ) → i < n → IsLongestWithin limit n w i (slice_index_or weights i (pos 0)) (slice_index ranks i)

@@ -1,5 +1,5 @@
 -- How the assignment of greatest sum is found: members are matched one by one, each by an alternating tree (Kuhn 1955; Munkres 1957).
-use Rattle.std.specs.Prelude.{◌≡◌, ◌≢◌, ℕ, ℤ, Bool, true, false, pos, ◌<◌, ◌≤◌, ◌^◌, ◌+ℤ◌, ◌-ℤ◌, ◌≤ℤ◌, List, [], length, slice_index, slice_index_or, unsigned_abs, sum_by, if◌then◌else◌}
+use Rattle.std.specs.Prelude.{◌≡◌, ◌≢◌, ℕ, ℤ, Bool, true, false, pos, ◌<◌, ◌≤◌, ◌+ℤ◌, ◌-ℤ◌, ◌≤ℤ◌, List, [], length, slice_index, slice_index_or, unsigned_abs, sum_by, if◌then◌else◌}
 use Rattle.std.specs.List.{range_with_len}
 use Rattle.std.specs.List.Sorted.{IsPermutation}
 use Rattle.bid_rules.specs.declared.limits.TheConstants.{MEMBER_ROOM}
@@ -7,6 +7,7 @@ use Rattle.room_assignment.specs.Matrix.{Matrix, IsSquare, entry}
 use Rattle.room_assignment.specs.declared.tree.Plan.{Plan}
 use Rattle.room_assignment.specs.declared.tree.Tree.{Tree}
 use Rattle.room_assignment.specs.declared.tree.Choice.{Choice}
+use Rattle.room_assignment.specs.declared.limits.TheConstants.{MOST_KEY}
 
 -- dual numbers bound each key
 abbrev pub Bounds : ℕ → (ℕ → ℕ → ℤ) → (ℕ → ℤ) → (ℕ → ℤ) → Type 0
@@ -16,7 +17,7 @@ Bounds n key left right = (i j : ℕ) → i < n → j < n → key i j ≤ℤ (le
 pub record IsMatched (n m : ℕ) (key : ℕ → ℕ → ℤ) (left right : ℕ → ℤ) (rooms : List ℕ) : Type 0 where
   pub permutation : IsPermutation (range_with_len 0 n) rooms
   pub bound : Bounds n key left right
-  pub top : (i : ℕ) → i < n → left i ≤ℤ pos (10 ^ 20)
+  pub top : (i : ℕ) → i < n → left i ≤ℤ pos MOST_KEY
   pub tight : (i : ℕ) → i < m → left i +ℤ right (slice_index rooms i) ≡ key i (slice_index rooms i)
   pub zero : (i : ℕ) → m ≤ i → i < n → right (slice_index rooms i) ≡ pos 0
 
@@ -32,7 +33,7 @@ pub record LeavesFree (n m k : ℕ) (key : ℕ → ℕ → ℤ) (left right : �
 pub record IsAlternatingTree (n m : ℕ) (key : ℕ → ℕ → ℤ) (left right : ℕ → ℤ) (rooms : List ℕ) (in_tree labelled : ℕ → Bool) (plan : ℕ → List ℕ) : Type 0 where
   pub permutation : IsPermutation (range_with_len 0 n) rooms
   pub bound : Bounds n key left right
-  pub top : (i : ℕ) → i < n → left i ≤ℤ pos (10 ^ 20)
+  pub top : (i : ℕ) → i < n → left i ≤ℤ pos MOST_KEY
   pub zero : (i : ℕ) → m ≤ i → i < n → right (slice_index rooms i) ≡ pos 0
   pub free : (i : ℕ) → m ≤ i → i < n → labelled (slice_index rooms i) ≡ false
   pub root : in_tree m ≡ true
@@ -71,7 +72,7 @@ pub record AreKeys (keys : Matrix) : Type 0 where
   pub square : IsSquare keys
   pub some : 1 ≤ length keys.items
   pub few : length keys.items ≤ MEMBER_ROOM
-  pub keys_small : (i j : ℕ) → i < length keys.items → j < length keys.items → unsigned_abs (entry keys i j) ≤ 10 ^ 20
+  pub keys_small : (i j : ℕ) → i < length keys.items → j < length keys.items → unsigned_abs (entry keys i j) ≤ MOST_KEY
 
 -- numbers by place, 0 past the last
 abbrev pub numbers : List ℤ → ℕ → ℤ
@@ -124,7 +125,7 @@ missing xs = sum_by (λ b. if b then 0 else 1) xs
 -- the number bounds the keys of a member
 pub record IsMost (keys : Matrix) (member : ℕ) (most : ℤ) : Type 0 where
   pub bound : (j : ℕ) → j < length keys.items → entry keys member j ≤ℤ most
-  pub top : most ≤ℤ pos (10 ^ 20)
+  pub top : most ≤ℤ pos MOST_KEY
 
 -- what the dual number of a room is: the key of the member who has it, less that member's number
 abbrev pub IsRight : ℕ → (ℕ → ℕ → ℤ) → List ℕ → List ℤ → ℕ → ℤ → Type 0

@@ -5,6 +5,7 @@ ghost use Rattle.room_assignment.specs.Tree.{AreKeys};
 ghost use Rattle.bid_rules.specs.Keys.{key};
 ghost use Rattle.room_assignment.specs.Entries.{IsRowOf, HasEntries};
 
+use crate::limits::{MOST_KEY, MOST_STEP};
 use crate::walks::{Matrix, step};
 use arrayvec::ArrayVec;
 use bid_rules::RentCase;
@@ -16,7 +17,7 @@ fn power(base: u8, exponent: usize) -> u64
     requires high { base ≤ MOST_MEMBERS }
     requires exponent { exponent ≤ MOST_MEMBERS }
     ensures value { result ≡ base ^ exponent }
-    ensures small { result ≤ 8916100448256 }
+    ensures small { result ≤ MOST_MEMBERS ^ MOST_MEMBERS }
 {
     let mut power = 1;
     for _k in 0..exponent {
@@ -29,7 +30,7 @@ fn power(base: u8, exponent: usize) -> u64
 fn lifted(value: i128, by: u64) -> i128
     requires low { pos 0 ≤ℤ value }
     requires high { value ≤ℤ pos MOST_RENT }
-    requires by { by ≤ 8916100448256 }
+    requires by { by ≤ MOST_MEMBERS ^ MOST_MEMBERS }
     ensures value { result ≡ pos by *ℤ value }
     ensures low { pos 0 ≤ℤ result }
     ensures high { result ≤ℤ pos (9 * 10 ^ 19) }
@@ -39,8 +40,8 @@ fn lifted(value: i128, by: u64) -> i128
 
 /// A room's place times a power.
 fn digit(room: usize, by: u64) -> i128
-    requires room { room ≤ 11 }
-    requires by { by ≤ 8916100448256 }
+    requires room { room < MOST_MEMBERS }
+    requires by { by ≤ MOST_MEMBERS ^ MOST_MEMBERS }
     ensures value { result ≡ pos (room * by) }
     ensures high { result ≤ℤ pos (10 ^ 14) }
 {
@@ -70,7 +71,7 @@ pub fn key_at(case: &RentCase, member: u8, room: u8) -> i128
     requires room_low { 1 ≤ room }
     requires room_high { room ≤ room_count case.now }
     ensures value { result ≡ key case.now (member - 1) room }
-    ensures small { unsigned_abs result ≤ 10 ^ 20 }
+    ensures small { unsigned_abs result ≤ MOST_KEY }
 {
     key_of(case, member as usize - 1, room as usize - 1)
 }
@@ -81,7 +82,7 @@ fn key_of(case: &RentCase, member: usize, room: usize) -> i128
     requires member { member < room_count case.now }
     requires room { room < room_count case.now }
     ensures value { result ≡ key case.now member (room + 1) }
-    ensures small { unsigned_abs result ≤ 10 ^ 20 }
+    ensures small { unsigned_abs result ≤ MOST_KEY }
 {
     let count = case.facts.members;
     let value = value_of(case, member, room);
@@ -93,7 +94,7 @@ fn key_of(case: &RentCase, member: usize, room: usize) -> i128
 fn key_row(case: &RentCase, member: usize) -> ArrayVec<i128, MEMBER_ROOM>
     requires case { IsValidRentCase case.now }
     requires member { member < room_count case.now }
-    ensures { IsRowOf (room_count case.now) (10 ^ 20) (λ j. key case.now member (j + 1)) result.items }
+    ensures { IsRowOf (room_count case.now) MOST_KEY (λ j. key case.now member (j + 1)) result.items }
 {
     let mut row = ArrayVec::new();
     for room in 0..case.facts.members as usize {
@@ -105,7 +106,7 @@ fn key_row(case: &RentCase, member: usize) -> ArrayVec<i128, MEMBER_ROOM>
 /// The keys of all members and rooms.
 pub(crate) fn keys_of(case: &RentCase) -> Matrix
     requires { IsValidRentCase case.now }
-    ensures { HasEntries (room_count case.now) (10 ^ 20) (λ i j. key case.now i (j + 1)) result }
+    ensures { HasEntries (room_count case.now) MOST_KEY (λ i j. key case.now i (j + 1)) result }
 {
     let mut keys = ArrayVec::new();
     for member in 0..case.facts.members as usize {
@@ -118,7 +119,7 @@ pub(crate) fn keys_of(case: &RentCase) -> Matrix
 fn value_row(case: &RentCase, member: usize) -> ArrayVec<i128, MEMBER_ROOM>
     requires case { IsValidRentCase case.now }
     requires member { member < room_count case.now }
-    ensures { IsRowOf (room_count case.now) (10 ^ 20) (λ j. value case.now member (j + 1)) result.items }
+    ensures { IsRowOf (room_count case.now) MOST_KEY (λ j. value case.now member (j + 1)) result.items }
 {
     let mut row = ArrayVec::new();
     for room in 0..case.facts.members as usize {
@@ -130,7 +131,7 @@ fn value_row(case: &RentCase, member: usize) -> ArrayVec<i128, MEMBER_ROOM>
 /// The values of all members and rooms.
 pub(crate) fn values_of(case: &RentCase) -> Matrix
     requires { IsValidRentCase case.now }
-    ensures { HasEntries (room_count case.now) (10 ^ 20) (λ i j. value case.now i (j + 1)) result }
+    ensures { HasEntries (room_count case.now) MOST_KEY (λ i j. value case.now i (j + 1)) result }
 {
     let mut values = ArrayVec::new();
     for member in 0..case.facts.members as usize {
@@ -145,7 +146,7 @@ fn step_row(weights: &Matrix, rooms: &[u8], from: usize) -> ArrayVec<i128, MEMBE
     requires count { length rooms.now ≡ length weights.now.items }
     requires rooms { All (λ room. room < length weights.now.items) rooms.now }
     requires from { from < length weights.now.items }
-    ensures { IsRowOf (length weights.now.items) (10 ^ 21) (λ to. entry weights.now to (slice_index rooms.now from) -ℤ entry weights.now from (slice_index rooms.now from)) result.items }
+    ensures { IsRowOf (length weights.now.items) MOST_STEP (λ to. entry weights.now to (slice_index rooms.now from) -ℤ entry weights.now from (slice_index rooms.now from)) result.items }
 {
     let room = usize::from(rooms[from]);
     let mut row = ArrayVec::new();
@@ -162,7 +163,7 @@ fn one_step(weights: &Matrix, from: usize, to: usize, room: usize) -> i128
     requires to { to < length weights.now.items }
     requires room { room < length weights.now.items }
     ensures value { result ≡ entry weights.now to room -ℤ entry weights.now from room }
-    ensures small { unsigned_abs result ≤ 10 ^ 21 }
+    ensures small { unsigned_abs result ≤ MOST_STEP }
 {
     step(weights, to, room) - step(weights, from, room)
 }
@@ -172,7 +173,7 @@ pub(crate) fn walk_matrix(weights: &Matrix, rooms: &[u8]) -> Matrix
     requires weights { AreKeys weights.now }
     requires count { length rooms.now ≡ length weights.now.items }
     requires rooms { All (λ room. room < length weights.now.items) rooms.now }
-    ensures { HasEntries (length weights.now.items) (10 ^ 21) (λ from to. entry weights.now to (slice_index rooms.now from) -ℤ entry weights.now from (slice_index rooms.now from)) result }
+    ensures { HasEntries (length weights.now.items) MOST_STEP (λ from to. entry weights.now to (slice_index rooms.now from) -ℤ entry weights.now from (slice_index rooms.now from)) result }
 {
     let mut steps = ArrayVec::new();
     for from in 0..weights.len() {

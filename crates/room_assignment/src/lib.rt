@@ -2,6 +2,7 @@
 #![tactic(auto)]
 
 mod keys;
+pub mod limits;
 mod rooms;
 mod tree;
 mod walks;

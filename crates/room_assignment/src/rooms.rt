@@ -9,6 +9,7 @@ ghost use Rattle.room_assignment.specs.Matrix.{entry};
 ghost use Rattle.room_assignment.specs.Tree.{AreKeys, IsRight, numbers};
 
 use crate::keys::{keys_of, values_of, walk_matrix};
+use crate::limits::{DUAL_LIMIT, MOST_STEP};
 use crate::tree::{assign, holder};
 use crate::walks::{Matrix, Walks, longest_walks, step};
 use arrayvec::ArrayVec;
@@ -83,8 +84,8 @@ pub fn best_rooms(case: &RentCase) -> Rooms
     ensures first { IsFirstOfItsWelfare case.now result.rooms.items }
     ensures left { AreGreatestWeights (room_count case.now) (key_step case.now result.rooms.items) result.left.items }
     ensures dual { AreDualNumbers case.now result.rooms.items result.left.items result.right.items }
-    ensures left_small { All (λ number. unsigned_abs number < 10 ^ 25) result.left.items }
-    ensures right_small { All (λ number. unsigned_abs number < 10 ^ 25) result.right.items }
+    ensures left_small { All (λ number. unsigned_abs number < DUAL_LIMIT) result.left.items }
+    ensures right_small { All (λ number. unsigned_abs number < DUAL_LIMIT) result.right.items }
 {
     key_law();
     potential_law();
@@ -122,7 +123,7 @@ pub fn value_walks(case: &RentCase, rooms: &[u8]) -> Walks
     requires rooms { HasGreatestWelfare case.now rooms.now }
     ensures weights { AreGreatestWeights (room_count case.now) (value_step case.now rooms.now) result.weights.items }
     ensures ranks { AreRanks (room_count case.now) (value_step case.now rooms.now) result.weights.items result.ranks.items }
-    ensures small { All (λ weight. unsigned_abs weight ≤ 10 ^ 21 * room_count case.now) result.weights.items }
+    ensures small { All (λ weight. unsigned_abs weight ≤ MOST_STEP * room_count case.now) result.weights.items }
     ensures below { All (λ rank. rank < room_count case.now) result.ranks.items }
 {
     value_cycle_law();

@@ -3,8 +3,9 @@ ghost use Rattle.bid_rules.specs.Walks.{AreGreatestWeights, AreRanks, HasNoPosit
 ghost use Rattle.room_assignment.specs.Matrix.{IsSquare, entry};
 ghost use Rattle.room_assignment.specs.Rounds.{IsLongestWithin, AreLongestWithin};
 
+use crate::limits::MOST_STEP;
 use arrayvec::ArrayVec;
-use bid_rules::limits::MEMBER_ROOM;
+use bid_rules::limits::{MEMBER_ROOM, MOST_MEMBERS};
 
 /// A matrix of weights: the entry (from, to) is the weight of the step from one vertex to another, both from 0.
 pub type Matrix = ArrayVec<ArrayVec<i128, MEMBER_ROOM>, MEMBER_ROOM>;
@@ -31,7 +32,7 @@ pub(crate) fn step(matrix: &Matrix, from: usize, to: usize) -> i128
     requires from { from < length matrix.now.items }
     requires to { to < length matrix.now.items }
     ensures value { result ≡ entry matrix.now from to }
-    ensures small { unsigned_abs result ≤ 10 ^ 21 }
+    ensures small { unsigned_abs result ≤ MOST_STEP }
 {
     matrix[from][to]
 }
@@ -42,7 +43,7 @@ fn extended(matrix: &Matrix, weights: &[i128], from: usize, to: usize) -> i128
     requires from { from < length matrix.now.items }
     requires to { to < length matrix.now.items }
     requires count { length weights.now ≡ length matrix.now.items }
-    requires small { All (λ weight. unsigned_abs weight ≤ 11 * 10 ^ 21) weights.now }
+    requires small { All (λ weight. unsigned_abs weight ≤ (MOST_MEMBERS - 1) * MOST_STEP) weights.now }
     ensures value { result ≡ slice_index_or weights.now from (pos 0) +ℤ entry matrix.now from to }
 {
     weights[from] + step(matrix, from, to)
@@ -65,7 +66,7 @@ fn best_extended(matrix: &Matrix, weights: &[i128], to: usize) -> i128
     requires square { IsSquare matrix.now }
     requires to { to < length matrix.now.items }
     requires count { length weights.now ≡ length matrix.now.items }
-    requires small { All (λ weight. unsigned_abs weight ≤ 11 * 10 ^ 21) weights.now }
+    requires small { All (λ weight. unsigned_abs weight ≤ (MOST_MEMBERS - 1) * MOST_STEP) weights.now }
     ensures reached { (from : ℕ) × (from < length weights.now) × (result ≡ slice_index_or weights.now from (pos 0) +ℤ entry matrix.now from to) }
     ensures greatest { (from : ℕ) → from < length weights.now → (slice_index_or weights.now from (pos 0) +ℤ entry matrix.now from to) ≤ℤ result }
 {
@@ -80,10 +81,10 @@ fn best_extended(matrix: &Matrix, weights: &[i128], to: usize) -> i128
 fn longer_walk(matrix: &Matrix, walks: &Walks, to: usize, limit: u8) -> Walk
     requires square { IsSquare matrix.now }
     requires to { to < length matrix.now.items }
-    requires limit { limit < 11 }
+    requires limit { limit < MOST_MEMBERS - 1 }
     requires walks { AreLongestWithin limit (length matrix.now.items) (entry matrix.now) walks.now.weights.items walks.now.ranks.items }
     ensures longest { IsLongestWithin (limit + 1) (length matrix.now.items) (entry matrix.now) to result.weight result.steps }
-    ensures small { unsigned_abs result.weight ≤ 10 ^ 21 * (limit + 1) }
+    ensures small { unsigned_abs result.weight ≤ MOST_STEP * (limit + 1) }
 {
     let best = best_extended(matrix, walks.weights.as_slice(), to);
     let weight = walks.weights[to];
@@ -102,7 +103,7 @@ fn longer_walk(matrix: &Matrix, walks: &Walks, to: usize, limit: u8) -> Walk
 /// The longest walks where one more step is allowed.
 fn longer_walks(matrix: &Matrix, walks: &Walks, limit: u8) -> Walks
     requires square { IsSquare matrix.now }
-    requires limit { limit < 11 }
+    requires limit { limit < MOST_MEMBERS - 1 }
     requires walks { AreLongestWithin limit (length matrix.now.items) (entry matrix.now) walks.now.weights.items walks.now.ranks.items }
     ensures { AreLongestWithin (limit + 1) (length matrix.now.items) (entry matrix.now) result.weights.items result.ranks.items }
 {
@@ -140,7 +141,7 @@ pub fn longest_walks(matrix: &Matrix) -> Walks
     requires cycles { HasNoPositiveCycle (length matrix.now.items) (entry matrix.now) }
     ensures weights { AreGreatestWeights (length matrix.now.items) (entry matrix.now) result.weights.items }
     ensures ranks { AreRanks (length matrix.now.items) (entry matrix.now) result.weights.items result.ranks.items }
-    ensures small { All (λ weight. unsigned_abs weight ≤ 10 ^ 21 * length matrix.now.items) result.weights.items }
+    ensures small { All (λ weight. unsigned_abs weight ≤ MOST_STEP * length matrix.now.items) result.weights.items }
     ensures below { All (λ rank. rank < length matrix.now.items) result.ranks.items }
 {
     let mut walks = no_walks(matrix.len());

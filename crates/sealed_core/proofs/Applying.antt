@@ -1,33 +1,21 @@
 -- The event of a step may be applied.
-use Rattle.std.proofs.Common.{◌≡◌, ◌≢◌, ℕ, zero, suc, ◌+◌, ◌-◌, ◌<◌, ◌≤◌, ◌⊎◌, inl, inr, max, Bool, true, false, ◌==◌, nat_le, List, [], ◌∷◌, map, length, sum, if◌then◌else◌, is_some, is_none, Option, None, Some, option_map, IfSome, IsSome, IsSomeAnd, All, refl, ap, sym, subst, ◌∙◌, arith, true≢false, slice_get, slice_index}
+use Rattle.std.proofs.Common.{◌≡◌, ◌≢◌, ℕ, zero, suc, ◌+◌, ◌-◌, ◌<◌, ◌≤◌, ◌⊎◌, inl, inr, max, Bool, true, false, ◌==◌, List, [], ◌∷◌, map, length, if◌then◌else◌, is_some, is_none, Option, None, Some, option_map, IfSome, IsSome, IsSomeAnd, All, refl, ap, sym, subst, ◌∙◌, arith, true≢false, slice_get, slice_index}
 use Rattle.std.specs.List.{list_all}
 use Rattle.std.specs.Cmp.Lexicographic.{bytes_decides}
-use Rattle.std.proofs.lemmas.Bool.{eqb-true, eqb-false, leb-true, leb-false, and_parts, cond_both, cases_lt}
+use Rattle.std.proofs.lemmas.Bool.{eqb-false, leb-false, cond_both, cases_lt}
 use Rattle.std.proofs.lemmas.Option.{slice_get_within, get_or_from_slice_get}
 use Rattle.std.proofs.lemmas.List.{get_or_past}
 use Rattle.bid_rules.specs.declared.bids.Bid.{Bid}
-use Rattle.bid_rules.specs.declared.bids.Bid.TheVariants.{Values, Place}
-use Rattle.bid_rules.specs.declared.bids.Facts.{Facts}
-use Rattle.bid_rules.specs.declared.bids.Facts.TheVariants.{Rent, Goods, Fares}
-use Rattle.bid_rules.specs.declared.limits.TheConstants.{WHOLE_POINTS}
 use Rattle.bid_rules.specs.Facts.{IsCheckedBid}
 use Rattle.sealed_core.specs.declared.limits.TheConstants.{MOST_TURNS}
 use Rattle.sealed_core.specs.declared.replies.Answered.{Answered}
 use Rattle.sealed_core.specs.declared.events.Event.{Event}
 use Rattle.sealed_core.specs.Host.{CreationView, InstanceView, HostView, EventView, Created, BidKept, Closed, Withdrawn, AreSound, IsSound, IsNextTurn, CanApply, event_view, instance_at, kept_turn, kept_bid}
-use Rattle.sealed_core.specs.Sameness.{is_checked_bid, same_text}
+use Rattle.sealed_core.specs.Sameness.{same_text}
 use Rattle.sealed_core.specs.Step.{Answer, CommandView, IsCheckedCommand, answer_view, tagged_from, step}
 use Rattle.sealed_core.proofs.Fits.{Fits, HasTurn, step_fits}
 
--- the test tells checked bids
-pub checked_is : (facts : Facts) (bid : Bid) → is_checked_bid facts bid ≡ true → IsCheckedBid facts bid
-checked_is (Rent rent) (Values values) is = let p = and_parts (length values.items == rent.members) (sum values.items == rent.rent) is in (eqb-true _ _ p.0, eqb-true _ _ p.1)
-checked_is (Goods goods) (Values values) is = let p = and_parts (length values.items == goods.goods) (sum values.items == WHOLE_POINTS) is in (eqb-true _ _ p.0, eqb-true _ _ p.1)
-checked_is (Fares fares) (Place place) is = let p = and_parts (nat_le 1 place) (nat_le place fares.places) is in (leb-true _ _ p.0, leb-true _ _ p.1)
-checked_is (Rent rent) (Place place) is = absurd (true≢false (sym is))
-checked_is (Goods goods) (Place place) is = absurd (true≢false (sym is))
-checked_is (Fares fares) (Values values) is = absurd (true≢false (sym is))
-
+-- where the search for a tag finds none, no instance has it
 pub none_tagged : (id : ℕ) (instances : List InstanceView) (tag : List ℕ) → tagged_from id instances tag ≡ None → All (λ i. i.creation.tag ≢ tag) instances
 none_tagged id [] tag is k d there = absurd (omega arith)
 none_tagged id (i ∷ instances) tag is zero d there = λ same.
@@ -38,6 +26,7 @@ none_tagged id (i ∷ instances) tag is (suc k) d there =
     (cond_both (same_text i.creation.tag tag) (Some (id, i.creation)) (tagged_from (id + 1) instances tag) (λ (o : Option (ℕ × CreationView)). o ≡ None → tagged_from (id + 1) instances tag ≡ None)
     (λ _ none. absurd (true≢false (ap is_some none))) (λ _ none. none) is) k d (omega arith)
 
+-- an instance found at a place among sound ones is sound
 found_if : (none : Bool) (instances : List InstanceView) (p : ℕ) (i : InstanceView) → (if none then None else slice_get instances p) ≡ Some i → All IsSound instances → IsSound i
 found_if true instances p i is sound = absurd (true≢false (sym (ap is_some is)))
 found_if false instances p i is sound = subst IsSound (get_or_from_slice_get instances p i i is) (sound p i (slice_get_within instances p i is))
@@ -46,17 +35,21 @@ found_if false instances p i is sound = subst IsSound (get_or_from_slice_get ins
 pub sound_found : (h : HostView) (id : ℕ) (i : InstanceView) → AreSound h.instances → instance_at h id ≡ Some i → IsSound i
 sound_found h id i sound is = found_if (id == 0) h.instances (id - 1) i is sound.each
 
+-- what holds of a value holds of the option that has it
 at_least : {A : Type 0} (o : Option A) (x : A) (P : A → Type 0) → o ≡ Some x → P x → IsSomeAnd o P
 at_least o x P is p = subst (λ (q : Option _). IsSomeAnd q P) (sym is) p
 
+-- a kept turn is at most the greatest, past the list too
 turn_at : (turns : List ℕ) (p : ℕ) → All (λ turn. turn ≤ MOST_TURNS) turns → (p < length turns) ⊎ (length turns ≤ p) → slice_index turns p ≤ MOST_TURNS
 turn_at turns p used (inl there) = used p 0 there
 turn_at turns p used (inr past) = rw (get_or_past turns p 0 past) (omega arith)
 
+-- so is that of a member or the organiser
 turn_if : (organiser : Bool) (turns : List ℕ) (p : ℕ) → All (λ turn. turn ≤ MOST_TURNS) turns → (if organiser then 0 else slice_index turns p) ≤ MOST_TURNS
 turn_if true turns p used = omega arith
 turn_if false turns p used = turn_at turns p used (cases_lt p (length turns))
 
+-- a turn that a step keeps is the next one of a sound instance
 next_turn : (now m turn : ℕ) (i : InstanceView) → IsSound i → HasTurn now i m turn → IsNextTurn now i m turn
 next_turn now m turn i sound has =
     let few = turn_if (m == 0) i.turns (m - 1) sound.used in
@@ -64,19 +57,23 @@ next_turn now m turn i sound has =
     let next = has.next in
     record { open_ = has.open_; early = leb-false _ _ has.early; least = has.least; most = has.most; next = has.next; used = omega (arith, few, left, next) }
 
+-- where each entry has a bid, each is there
 all_some : (bids : List (Option Bid)) → list_all (λ (has : Bool). has) (map is_some bids) ≡ true → All (λ bid. IsSome bid) bids
 all_some [] is k d there = absurd (omega arith)
 all_some (None ∷ bids) is k d there = absurd (true≢false (sym is))
 all_some (Some bid ∷ bids) is zero d there = refl
 all_some (Some bid ∷ bids) is (suc k) d there = all_some bids is k d (omega arith)
 
+-- a bid that is not none is there
 is_there : (bid : Option Bid) → is_none bid ≡ false → IsSome bid
 is_there None is = absurd (true≢false is)
 is_there (Some bid) is = refl
 
+-- the moment of an event is not below the greatest kept one
 not_before : (a t : ℕ) (now : ℕ) → now ≡ max t a → a ≤ now
 not_before a t now is = omega (arith, is)
 
+-- an event that fits its step may be applied
 pub event_applies : (h : HostView) (t : ℕ) (command : CommandView) → AreSound h.instances → IsCheckedCommand command → (o : Option EventView) → Fits h t command o → IfSome o (CanApply h)
 event_applies h t command sound right None fits = tt
 event_applies h t command sound right (Some (Created now c)) fits =
@@ -85,7 +82,7 @@ event_applies h t command sound right (Some (BidKept now id m turn given)) fits 
     let i = fits.2.0 in (
       not_before h.moment t now fits.0,
       at_least (instance_at h id) i (λ (i : InstanceView). IsNextTurn now i m turn × IsCheckedBid i.creation.facts given) fits.2.1
-          (next_turn now m turn i (sound_found h id i sound fits.2.1) fits.2.2, checked_is i.creation.facts given fits.2.3),
+          (next_turn now m turn i (sound_found h id i sound fits.2.1) fits.2.2, fits.2.3),
     )
 event_applies h t command sound right (Some (Closed now id)) fits =
     let i = fits.1.0 in (
@@ -104,10 +101,12 @@ event_applies h t command sound right (Some (Withdrawn now id m turn)) fits =
           (next_turn now m turn i (sound_found h id i sound fits.2.1) fits.2.2, is_there (kept_bid i m) fits.2.3),
     )
 
+-- of an event as the code holds it, what holds of its view
 seen_event : (h : HostView) (event : Option Event) → IfSome (option_map event_view event) (CanApply h) → IfSome event (λ e. CanApply h (event_view e))
 seen_event h None can = tt
 seen_event h (Some e) can = can
 
+-- the event of an answer that is the step's may be applied
 pub applies_from : (h : HostView) (t : ℕ) (command : CommandView) (a : Answered) → AreSound h.instances → IsCheckedCommand command → answer_view a ≡ step h t command
     → IfSome a.event (λ e. CanApply h (event_view e))
 applies_from h t command a sound right is =

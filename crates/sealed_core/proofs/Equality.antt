@@ -1,43 +1,48 @@
--- The tests of a step tell equal creations, equal bids and checked bids, and find the least holder of a key.
+-- The tests of a step tell equal creations and equal bids, and find the least holder of a key.
 use Rattle.std.proofs.Common.{◌≡◌, ◌≢◌, ◌↔◌, ℕ, zero, suc, ◌+◌, ◌<◌, ◌≤◌, ◌⊎◌, inl, inr, true, false, ◌&&◌, ◌==◌, nat_eq, List, is_some, unwrap_or, Option, None, Some, refl, ap, sym, ◌∙◌, subst, arith, true≢false}
 use Rattle.std.specs.Cmp.Lexicographic.{pointwise, bytes_decides, pointwise_decides}
-use Rattle.std.proofs.lemmas.Bool.{and_parts, and_from, cases_eq, cases_order, cond_both, eq-eqb, eqb-true, le-leb}
+use Rattle.std.proofs.lemmas.Bool.{and_parts, cases_eq, cases_order, cond_both, eq-eqb, eqb-true}
 use Rattle.arrayvec.specs.declared.array_vec.ArrayVec.{ArrayVec}
 use Rattle.bid_rules.specs.declared.bids.Bid.{Bid}
 use Rattle.bid_rules.specs.declared.bids.Bid.TheVariants.{Values, Place}
 use Rattle.bid_rules.specs.declared.bids.Facts.{Facts}
 use Rattle.bid_rules.specs.declared.bids.Facts.TheVariants.{Rent, Goods, Fares}
 use Rattle.bid_rules.specs.declared.limits.TheConstants.{PLACE_ROOM}
-use Rattle.bid_rules.specs.Facts.{IsCheckedBid}
 use Rattle.sealed_core.specs.Host.{CreationView}
 use Rattle.sealed_core.specs.Keys.{first_holder, key_text}
 use Rattle.sealed_core.specs.Runs.{HoldsLeast}
-use Rattle.sealed_core.specs.Sameness.{is_checked_bid, same_bid, same_creation, same_facts, same_text, same_texts}
-use Rattle.sealed_core.proofs.Applying.{checked_is}
+use Rattle.sealed_core.specs.Sameness.{same_bid, same_creation, same_facts, same_text, same_texts}
 
+-- numbers that pass as equal are equal
 same_number : (x y : ℕ) → (x == y) ≡ true → x ≡ y
 same_number x y is = eqb-true x y is
 
+-- a number passes as equal to itself
 own_number : (x : ℕ) → (x == x) ≡ true
 own_number x = eq-eqb x x refl
 
+-- lists of texts pass as equal exactly where they are
 texts_decide : (a b : List (List ℕ)) → (same_texts a b ≡ true → a ≡ b) × (a ≡ b → same_texts a b ≡ true)
 texts_decide a b = pointwise_decides bytes_decides a b
 
 -- ---- facts
 
+-- a row of legs
 abbrev LegRow : Type 0
 LegRow = ArrayVec ℕ PLACE_ROOM (Unit {0})
 
+-- rows of legs pass as equal exactly where they are
 row_decides : (a b : LegRow) → (pointwise nat_eq a.items b.items ≡ true → a ≡ b) × (a ≡ b → pointwise nat_eq a.items b.items ≡ true)
 row_decides a b = (
   λ is. λ i. record { items = (bytes_decides a.items b.items).0 is i },
   λ is. (bytes_decides a.items b.items).1 (ap (λ (v : LegRow). v.items) is),
 )
 
+-- so do tables of legs
 legs_decide : (a b : List LegRow) → (pointwise (λ row other. pointwise nat_eq row.items other.items) a b ≡ true → a ≡ b) × (a ≡ b → pointwise (λ row other. pointwise nat_eq row.items other.items) a b ≡ true)
 legs_decide a b = pointwise_decides {E = λ row other. pointwise nat_eq row.items other.items} row_decides a b
 
+-- facts that pass as equal are equal
 facts_same : (a b : Facts) → same_facts a b ≡ true → a ≡ b
 facts_same (Rent a) (Rent b) is =
     let p = and_parts (a.members == b.members) (a.rent == b.rent) is in
@@ -59,6 +64,7 @@ facts_same (Goods a) (Fares b) is = absurd (true≢false (sym is))
 facts_same (Fares a) (Rent b) is = absurd (true≢false (sym is))
 facts_same (Fares a) (Goods b) is = absurd (true≢false (sym is))
 
+-- facts pass as equal to themselves
 own_facts : (a : Facts) → same_facts a a ≡ true
 own_facts (Rent a) = λ i. own_number a.members i && own_number a.rent i
 own_facts (Goods a) = λ i. own_number a.members i && own_number a.goods i && own_number a.limit i
@@ -66,6 +72,7 @@ own_facts (Fares a) = λ i. own_number a.members i && own_number a.places i && o
 
 -- ---- creations
 
+-- creations that pass as equal are equal
 creation_same : (a b : CreationView) → same_creation a b ≡ true → a ≡ b
 creation_same a b is =
     let one = same_text a.title b.title in
@@ -87,40 +94,35 @@ creation_same a b is =
       tag = (bytes_decides a.tag b.tag).0 p.1 i;
     }
 
+-- a creation passes as equal to itself
 own_creation : (a : CreationView) → same_creation a a ≡ true
 own_creation a = λ i. (bytes_decides a.title a.title).1 refl i && (texts_decide a.members a.members).1 refl i && (texts_decide a.items a.items).1 refl i && own_facts a.facts i && own_number a.deadline i && (bytes_decides a.tag a.tag).1 refl i
 
+-- creations pass as equal exactly where they are
 pub creations_decide : (a b : CreationView) → (same_creation a b ≡ true) ↔ (a ≡ b)
 creations_decide a b = (creation_same a b, λ is. subst (λ (c : CreationView). same_creation a c ≡ true) is (own_creation a))
 
 -- ---- bids
 
+-- bids that pass as equal are equal
 bid_same : (a b : Bid) → same_bid a b ≡ true → a ≡ b
 bid_same (Values a) (Values b) is = λ i. Values (record { items = (bytes_decides a.items b.items).0 is i })
 bid_same (Place a) (Place b) is = ap Place (same_number a b is)
 bid_same (Values a) (Place b) is = absurd (true≢false (sym is))
 bid_same (Place a) (Values b) is = absurd (true≢false (sym is))
 
+-- a bid passes as equal to itself
 own_bid : (a : Bid) → same_bid a a ≡ true
 own_bid (Values a) = (bytes_decides a.items a.items).1 refl
 own_bid (Place a) = own_number a
 
+-- bids pass as equal exactly where they are
 pub bids_decide : (a b : Bid) → (same_bid a b ≡ true) ↔ (a ≡ b)
 bids_decide a b = (bid_same a b, λ is. subst (λ (c : Bid). same_bid a c ≡ true) is (own_bid a))
 
-is_checked : (facts : Facts) (bid : Bid) → IsCheckedBid facts bid → is_checked_bid facts bid ≡ true
-is_checked (Rent rent) (Values values) is = and_from _ _ (eq-eqb _ _ is.0) (eq-eqb _ _ is.1)
-is_checked (Goods goods) (Values values) is = and_from _ _ (eq-eqb _ _ is.0) (eq-eqb _ _ is.1)
-is_checked (Fares fares) (Place place) is = and_from _ _ (le-leb _ _ is.0) (le-leb _ _ is.1)
-is_checked (Rent rent) (Place place) is = absurd is
-is_checked (Goods goods) (Place place) is = absurd is
-is_checked (Fares fares) (Values values) is = absurd is
-
-pub checked_decide : (facts : Facts) (bid : Bid) → (is_checked_bid facts bid ≡ true) ↔ IsCheckedBid facts bid
-checked_decide facts bid = (checked_is facts bid, is_checked facts bid)
-
 -- ---- holders
 
+-- the number that the search gives is among those asked, holds the key, and none before it does
 found_least : (secret key : List ℕ) (id n from m : ℕ) → first_holder secret id key n from ≡ Some m
     → (from ≤ m) × (m < from + n) × (key_text secret id m ≡ key) × ((k : ℕ) → from ≤ k → k < m → key_text secret id k ≢ key)
 found_least secret key id zero from m is = absurd (true≢false (sym (ap is_some is)))
@@ -137,6 +139,7 @@ found_least secret key id (suc n) from m is =
     before k (inl at) other above below rest = λ same. true≢false (sym ((bytes_decides (key_text secret id from) key).1 (subst (λ (j : ℕ). key_text secret id j ≡ key) at same)) ∙ other)
     before k (inr past) other above below rest = rest k (omega (arith, above, past)) below
 
+-- where the search gives none, nobody among those asked holds the key
 pub none_found : (secret key : List ℕ) (id n from : ℕ) → first_holder secret id key n from ≡ None → (k : ℕ) → from ≤ k → k < from + n → key_text secret id k ≢ key
 none_found secret key id zero from is k low high = absurd (omega (arith, low, high))
 none_found secret key id (suc n) from is k low high =
@@ -148,17 +151,21 @@ none_found secret key id (suc n) from is k low high =
     here (inl at) other rest = λ same. true≢false (sym ((bytes_decides (key_text secret id from) key).1 (subst (λ (j : ℕ). key_text secret id j ≡ key) at same)) ∙ other)
     here (inr past) other rest = rest (omega (arith, low, past))
 
+-- the number that the whole search gives is the least holder
 least_from : (secret key : List ℕ) (id count m : ℕ) → first_holder secret id key (count + 1) 0 ≡ Some m → HoldsLeast secret id count key m
 least_from secret key id count m is = let it = found_least secret key id (count + 1) 0 m is in let high = it.1 in record { among = omega (arith, high); own = it.2; least = λ k below. it.3 k (omega arith) below }
 
+-- there is one least holder
 one_least : (secret key : List ℕ) (id count m k : ℕ) → HoldsLeast secret id count key m → HoldsLeast secret id count key k → (k ≡ m) ⊎ ((k < m) ⊎ (m < k)) → k ≡ m
 one_least secret key id count m k a b (inl same) = same
 one_least secret key id count m k a b (inr (inl below)) = absurd (a.least k below b.own)
 one_least secret key id count m k a b (inr (inr above)) = absurd (b.least m above a.own)
 
+-- the least holder is the number that the search gives
 holds_found : (secret key : List ℕ) (id count m : ℕ) (o : Option ℕ) → first_holder secret id key (count + 1) 0 ≡ o → HoldsLeast secret id count key m → o ≡ Some m
 holds_found secret key id count m None is holds = let among = holds.among in absurd (none_found secret key id (count + 1) 0 is m (omega arith) (omega (arith, among)) holds.own)
 holds_found secret key id count m (Some k) is holds = ap Some (one_least secret key id count m k holds (least_from secret key id count k is) (cases_order k m))
 
+-- the search gives a number exactly where it is the least holder
 pub least_holder : (secret : List ℕ) (id count : ℕ) (key : List ℕ) (m : ℕ) → (first_holder secret id key (count + 1) 0 ≡ Some m) ↔ HoldsLeast secret id count key m
 least_holder secret id count key m = (least_from secret key id count m, holds_found secret key id count m (first_holder secret id key (count + 1) 0) refl)

@@ -1,5 +1,7 @@
 pub mod Applying
+pub mod BidRules
 pub mod Bidders
+pub mod Closing
 pub mod Equality
 pub mod Fits
 pub mod Holders

@@ -10,10 +10,10 @@ use Rattle.sealed_core.proofs.Sealing.{get_changed}
 use Rattle.sealed_core.specs.declared.commands.Ask.TheVariants as asks
 use Rattle.sealed_core.specs.declared.commands.BidBody.{BidBody}
 use Rattle.sealed_core.specs.declared.replies.Reply.TheVariants as reply
-use Rattle.sealed_core.specs.Sameness.{is_checked_bid, is_kept}
-use Rattle.std.proofs.lemmas.Bool.{and_left, and_right, cond-true, eq-eqb, lt-leb, ne_eqb}
+use Rattle.sealed_core.specs.Sameness.{is_kept}
+use Rattle.std.proofs.lemmas.Bool.{and_left, and_right, eq-eqb, lt-leb, ne_eqb}
 use Rattle.bid_rules.specs.declared.bids.Facts.{Facts}
-use Rattle.sealed_core.proofs.Equality.{checked_decide}
+use Rattle.sealed_core.proofs.BidRules.{allowed_is}
 use Rattle.bid_rules.specs.declared.bids.Bid.{Bid}
 use Rattle.sealed_core.specs.Step.{Answer, To, answer_to, caller_by, caller_in, caller_of, holder, is_over, may_ask, refused, answer_ask, answer_caller, standing_of, step, bid_body, bid_form, checked, form_of, says}
 use Rattle.sealed_core.specs.Runs.{apply_all, CanApplyAll, kept, last, AreChecked}
@@ -31,6 +31,7 @@ sound_change h id f P sound asked keeps =
     (λ i here. let one : it.0 ≡ i = ap (λ (o : Option InstanceView). unwrap_or o i) (sym place.at ∙ here) in
     subst (λ (i : InstanceView). IsSound (f i)) one (keeps it.0 (sound_found h id it.0 sound it.1) it.2))
 
+-- an event that is due leaves the instances sound
 sound_apply : (h : HostView) (e : EventView) → AreSound h.instances → IsDue h e → AreSound (instances_after h.instances e)
 sound_apply h (Created now c) sound due = sound_push h.instances (fresh c) sound (sound_fresh c due.1) due.0
 sound_apply h (BidKept now id m turn given) sound due =
@@ -40,18 +41,22 @@ sound_apply h (Closed now id) sound due =
 sound_apply h (Withdrawn now id m turn) sound due =
     sound_change h id (with_turn m turn None) (λ i. IsNextTurn now i m turn × IsSome (kept_bid i m)) sound due (λ i own right. sound_turn now m turn None i own right.0 tt)
 
+-- so does the event of a step, if there is one
 sound_applied : (h : HostView) (o : Option EventView) → AreSound h.instances → IfSome o (CanApply h) → AreSound (applied h o).instances
 sound_applied h None sound can = sound
 sound_applied h (Some e) sound can = sound_apply h e sound can.1
 
+-- an event that may come, before others that may
 can_more : (h : HostView) (o : Option EventView) (events : List EventView) → IfSome o (CanApply h) → CanApplyAll (applied h o) events → CanApplyAll h (option_to_list o ++ events)
 can_more h None events can rest = rest
 can_more h (Some e) events can rest = (can, rest)
 
+-- the host after one event and then others
 last_more : (h : HostView) (o : Option EventView) (events : List EventView) → apply_all (applied h o) events ≡ apply_all h (option_to_list o ++ events)
 last_more h None events = refl
 last_more h (Some e) events = refl
 
+-- each event that a run keeps may be applied at its turn
 pub can_run : (h : HostView) (run : List Asked) → AreSound h.instances → AreChecked run → CanApplyAll h (kept h run)
 can_run h [] sound right = tt
 can_run h (a ∷ run) sound right =
@@ -59,15 +64,18 @@ can_run h (a ∷ run) sound right =
     let can = event_applies h a.moment a.command sound right.0 event (step_fits h a.moment a.command) in
     can_more h event (kept (next h a) run) can (can_run (next h a) run (sound_applied h event sound can) right.1)
 
+-- a run's last host is the one that its kept events make
 pub last_run : (h : HostView) (run : List Asked) → last h run ≡ apply_all h (kept h run)
 last_run h [] = refl
 last_run h (a ∷ run) = last_run (next h a) run ∙ last_more h (step h a.moment a.command).event (kept (next h a) run)
 
+-- the empty host is sound
 pub nobody : (secret : List ℕ) → AreSound (empty secret).instances
 nobody secret = record { each = λ k d there. absurd (omega (arith, there)); few = omega arith }
 
 -- ---- closed for good
 
+-- a change that keeps the closed closed leaves a closed instance closed
 shut_changed : (f : InstanceView → InstanceView) → ((i : InstanceView) → i.closed ≡ true → (f i).closed ≡ true) → (instances : List InstanceView) (p q : ℕ)
     → is_shut (slice_get instances q) ≡ true → is_shut (slice_get (changed f instances p) q) ≡ true
 shut_changed f keeps [] p q shut = shut
@@ -76,44 +84,53 @@ shut_changed f keeps (i ∷ instances) zero (suc q) shut = shut
 shut_changed f keeps (i ∷ instances) (suc p) zero shut = shut
 shut_changed f keeps (i ∷ instances) (suc p) (suc q) shut = shut_changed f keeps instances p q shut
 
+-- so does a new instance behind it
 shut_pushed : (instances : List InstanceView) (new : InstanceView) (q : ℕ) → is_shut (slice_get instances q) ≡ true → is_shut (slice_get (instances ++ new ∷ []) q) ≡ true
 shut_pushed [] new q shut = absurd (true≢false (sym shut))
 shut_pushed (i ∷ instances) new zero shut = shut
 shut_pushed (i ∷ instances) new (suc q) shut = shut_pushed instances new q shut
 
+-- so does every event
 shut_after : (instances : List InstanceView) (e : EventView) (q : ℕ) → is_shut (slice_get instances q) ≡ true → is_shut (slice_get (instances_after instances e) q) ≡ true
 shut_after instances (Created now c) q shut = shut_pushed instances (fresh c) q shut
 shut_after instances (BidKept now id m turn given) q shut = shut_changed (with_turn m turn (Some given)) (λ i closed. closed) instances (id - 1) q shut
 shut_after instances (Closed now id) q shut = shut_changed as_closed (λ i closed. refl) instances (id - 1) q shut
 shut_after instances (Withdrawn now id m turn) q shut = shut_changed (with_turn m turn None) (λ i closed. closed) instances (id - 1) q shut
 
+-- the same under an id
 shut_if : (none : Bool) (a b : Option InstanceView) → (is_shut a ≡ true → is_shut b ≡ true) → is_shut (if none then None else a) ≡ true → is_shut (if none then None else b) ≡ true
 shut_if true a b keeps shut = shut
 shut_if false a b keeps shut = keeps shut
 
+-- a closed instance stays closed
 pub closed_for_good : (h : HostView) (id : ℕ) (e : EventView) → is_closed h id ≡ true → is_closed (apply h e) id ≡ true
 closed_for_good h id e shut = shut_if (id == 0) (slice_get h.instances (id - 1)) (slice_get (instances_after h.instances e) (id - 1)) (shut_after h.instances e (id - 1)) shut
 
 -- ---- past the deadline
 
+-- an instance that a Close names is closed after it
 closed_there : (none : Bool) (instances : List InstanceView) (p : ℕ) (i : InstanceView) → (if none then None else slice_get instances p) ≡ Some i
     → (if none then None else slice_get (changed as_closed instances p) p) ≡ Some (as_closed i)
 closed_there true instances p i is = absurd (true≢false (sym (ap is_some is)))
 closed_there false instances p i is = get_changed as_closed instances p ∙ ap (option_map as_closed) is
 
+-- who is answered where the instance and the key's holder are known
 found_caller : (h : HostView) (now id m : ℕ) (i : InstanceView) (key : List ℕ) (ask : Ask) → instance_at h id ≡ Some i → holder h.secret id i key ≡ Some m
     → answer_to now id ask (caller_of h id (Some key)) ≡ answer_caller now id ask i m
 found_caller h now id m i key ask there is =
     ap (λ (o : Option InstanceView). answer_to now id ask (caller_in h.secret id o (Some key))) there ∙ ap (λ (o : Option ℕ). answer_to now id ask (caller_by i o)) is
 
+-- past the test of the role
 by_tests : (role over : Bool) (r a b : Answer) → role ≡ true → (if not role then r else if over then a else b) ≡ (if over then a else b)
 by_tests false over r a b is = absurd (true≢false (sym is))
 by_tests true over r a b is = refl
 
+-- past the deadline the close comes first
 over_first : (over : Bool) (a b : Answer) → over ≡ true → (if over then a else b) ≡ a
 over_first false a b is = absurd (true≢false (sym is))
 over_first true a b is = refl
 
+-- what is asked past the deadline has the Close, and the reply of the closed instance
 pub late : (h : HostView) (t id m : ℕ) (i : InstanceView) (key : List ℕ) (ask : Ask) → instance_at h id ≡ Some i → holder h.secret id i key ≡ Some m → may_ask m ask ≡ true → is_over (max t h.moment) i ≡ true
     → step h t (To id (Some key) ask) ≡ record { event = Some (Closed (max t h.moment) id); reply = (step (apply h (Closed (max t h.moment) id)) t (To id (Some key) ask)).reply }
 late h t id m i key ask there is may over =
@@ -132,10 +149,12 @@ late h t id m i key ask there is may over =
 
 -- ---- a right bid is kept
 
+-- past a test that does not hold
 otherwise : (test : Bool) (a b : Answer) → test ≡ false → (if test then a else b) ≡ b
 otherwise true a b is = absurd (true≢false is)
 otherwise false a b is = refl
 
+-- a bid of a caller who may bid, with the next turn and a turn left, is kept
 pub right_bid : (h : HostView) (t id m turn : ℕ) (i : InstanceView) (key : List ℕ) (body : BidBody) (given : Bid)
     → instance_at h id ≡ Some i → holder h.secret id i key ≡ Some m → (m == 0) ≡ false → i.closed ≡ false → is_over (max t h.moment) i ≡ false
     → body.turn ≡ Some turn → checked i.creation.facts (form_of i.creation.facts body) ≡ Some given
@@ -159,11 +178,13 @@ right_bid h t id m turn i key body given there held member opened early says_tur
     ∙ otherwise (not (turn == (kept_turn i m + 1))) (refused (refusal.Turn (kept_turn i m))) fourth (ap not next)
     ∙ otherwise (kept_turn i m == MOST_TURNS) (refused refusal.TurnsUsed) kept left
 
+-- before its deadline an instance is not over
 not_over : (closed late : Bool) → late ≡ false → (not closed && late) ≡ false
 not_over closed late is = and_right (not closed) late is
 
-checked_some : (facts : Facts) (given : Bid) (o : Option Bid) → o ≡ Some given → is_checked_bid facts given ≡ true → checked facts o ≡ Some given
-checked_some facts given o is right = ap (checked facts) is ∙ cond-true (is_checked_bid facts given) (Some given) None right
+-- a checked bid passes
+checked_some : (facts : Facts) (given : Bid) (o : Option Bid) → o ≡ Some given → IsCheckedBid facts given → checked facts o ≡ Some given
+checked_some facts given o is right = ap (checked facts) is ∙ (allowed_is facts given).1 right
 
 -- a bid whose event may be applied is kept
 pub kept_bid_of : (h : HostView) (t id m turn : ℕ) (i : InstanceView) (key : List ℕ) (body : BidBody) (given : Bid)
@@ -183,7 +204,7 @@ kept_bid_of h t id m turn i key body given there held says_turn form can =
     right.0.open_
     (not_over i.closed (nat_le i.creation.deadline now) (lt-leb i.creation.deadline now early))
     says_turn
-    (checked_some i.creation.facts given (form_of i.creation.facts body) form ((checked_decide i.creation.facts given).1 right.1))
+    (checked_some i.creation.facts given (form_of i.creation.facts body) form right.1)
     (ne_eqb turn (kept_turn i m) (λ is. omega (arith, is, next)))
     (eq-eqb turn (kept_turn i m + 1) next)
     (ne_eqb (kept_turn i m) MOST_TURNS (λ is. omega (arith, is, next, used)))

@@ -15,10 +15,12 @@ use Rattle.sealed_core.specs.Sameness.{is_kept, same_creation}
 use Rattle.sealed_core.specs.Sealed.{IsQuiet, is_refused}
 use Rattle.sealed_core.specs.Step.{Answer, CommandView, Create, To, Standing, standing_of, says, refused, bid_turn, bid_form, bid_body, checked, form_of, withdrawal_turn, withdrawal_body, answer_close, answer_ask, is_over, may_ask, answer_to, caller_by, caller_in, holder, tagged_from, new_creation, step}
 
+-- of two answers one of which is given
 either : (test : Bool) (a b : Answer) → IsQuiet a → IsQuiet b → IsQuiet (if test then a else b)
 either true a b p q = p
 either false a b p q = q
 
+-- of a bid with a turn
 quiet_bid_turn : (now id m : ℕ) (standing : Standing) (turn : ℕ) (given : Bid) → IsQuiet (bid_turn now id m standing turn given)
 quiet_bid_turn now id m standing turn given =
     let kept : Answer = record { event = Some (BidKept now id m turn given); reply = reply.Kept turn } in
@@ -30,14 +32,17 @@ quiet_bid_turn now id m standing turn given =
     (either (not (turn == (standing.turn + 1))) (refused (refusal.Turn standing.turn)) fourth refl
     (either (standing.turn == MOST_TURNS) (refused refusal.TurnsUsed) kept refl refl)))
 
+-- of a bid that is checked or not
 quiet_bid_form : (now id m : ℕ) (standing : Standing) (turn : ℕ) (given : Option Bid) → IsQuiet (bid_form now id m standing turn given)
 quiet_bid_form now id m standing turn None = refl
 quiet_bid_form now id m standing turn (Some given) = quiet_bid_turn now id m standing turn given
 
+-- of a bid's body
 quiet_bid_body : (now id m : ℕ) (standing : Standing) (body : BidBody) (turn : Option ℕ) → IsQuiet (bid_body now id m standing body turn)
 quiet_bid_body now id m standing body None = refl
 quiet_bid_body now id m standing body (Some turn) = quiet_bid_form now id m standing turn (checked standing.facts (form_of standing.facts body))
 
+-- of a withdrawal with a turn
 quiet_withdrawal_turn : (now id m : ℕ) (standing : Standing) (turn : ℕ) → IsQuiet (withdrawal_turn now id m standing turn)
 quiet_withdrawal_turn now id m standing turn =
     let gone : Answer = record { event = Some (Withdrawn now id m turn); reply = reply.Kept turn } in
@@ -52,10 +57,12 @@ quiet_withdrawal_turn now id m standing turn =
     (either (standing.turn == MOST_TURNS) (refused refusal.TurnsUsed) fifth refl
     (either (is_none standing.bid) (refused refusal.NoBid) gone refl refl))))
 
+-- of a withdrawal's body
 quiet_withdrawal_body : (now id m : ℕ) (standing : Standing) (turn : Option ℕ) → IsQuiet (withdrawal_body now id m standing turn)
 quiet_withdrawal_body now id m standing None = refl
 quiet_withdrawal_body now id m standing (Some turn) = quiet_withdrawal_turn now id m standing turn
 
+-- of an asked close
 quiet_close : (now id : ℕ) (standing : Standing) → IsQuiet (answer_close now id standing)
 quiet_close now id standing =
     let all : Bool = list_all (λ has. has) standing.have_bid in
@@ -63,6 +70,7 @@ quiet_close now id standing =
     let second : Answer = if all then shut else refused refusal.NotAll in
     either standing.closed (refused refusal.Closed) second refl (either all shut (refused refusal.NotAll) refl refl)
 
+-- of whatever a caller may ask
 quiet_ask : (now id m : ℕ) (standing : Standing) (ask : Ask) → IsQuiet (answer_ask now id m standing ask)
 quiet_ask now id m standing asks.Status = refl
 quiet_ask now id m standing (asks.Bid (Err Json)) = refl
@@ -75,6 +83,7 @@ quiet_ask now id m standing (asks.Withdraw (Err Json)) = refl
 quiet_ask now id m standing (asks.Withdraw (Err (Field name))) = refl
 quiet_ask now id m standing (asks.Withdraw (Ok body)) = quiet_withdrawal_body now id m standing body.turn
 
+-- of whatever a caller asks
 quiet_caller : (now id : ℕ) (ask : Ask) (i : InstanceView) (who : Option ℕ) → IsQuiet (answer_to now id ask (caller_by i who))
 quiet_caller now id ask i None = refl
 quiet_caller now id ask i (Some m) =
@@ -84,15 +93,18 @@ quiet_caller now id ask i (Some m) =
     either (not (may_ask m ask)) (refused refusal.Role) second refl
     (either (is_over now i) after before (and_right (is_refused after.reply) false refl) (quiet_ask now id m (standing_of i m i.closed) ask))
 
+-- of a command on an instance
 quiet_found : (secret : List ℕ) (now id : ℕ) (ask : Ask) (key : Option (List ℕ)) (found : Option InstanceView) → IsQuiet (answer_to now id ask (caller_in secret id found key))
 quiet_found secret now id ask key None = refl
 quiet_found secret now id ask None (Some i) = refl
 quiet_found secret now id ask (Some key) (Some i) = quiet_caller now id ask i (holder secret id i key)
 
+-- of a creation
 quiet_creation : (now count : ℕ) (c : CreationView) (found : Option (ℕ × CreationView)) → IsQuiet (new_creation now count c found)
 quiet_creation now count c None = either (nat_lt count MOST_INSTANCES) (record { event = Some (Created now c); reply = reply.Created (count + 1) }) (refused refusal.HostFull) refl refl
 quiet_creation now count c (Some found) = either (same_creation found.1 c) (says (reply.Created found.0)) (refused refusal.TagTaken) refl refl
 
+-- no refusal of a step has an event but a close
 quiet_step : (h : HostView) (t : ℕ) (command : CommandView) → IsQuiet (step h t command)
 quiet_step h t (Create (Err Json)) = refl
 quiet_step h t (Create (Err (Field name))) = refl

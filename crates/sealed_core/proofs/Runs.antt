@@ -15,28 +15,34 @@ use Rattle.sealed_core.proofs.Sealing.{sealed}
 
 -- ---- what the veil lets through of a host
 
+-- whether an instance is closed shows through the veil
 shut_veiled : (c : Caller) (found : Option InstanceView) → is_shut (option_map (veiled c) found) ≡ is_shut found
 shut_veiled c None = refl
 shut_veiled c (Some i) = refl
 
+-- so it does by id
 closed_veiled : (c : Caller) (h : HostView) (id : ℕ) → is_closed (veil c h) id ≡ is_closed h id
 closed_veiled c h id = ap is_shut (instance_veiled c h id) ∙ shut_veiled c (instance_at h id)
 
+-- so does the turn of every member
 turn_veiled : (c : Caller) (m : ℕ) (found : Option InstanceView) → own_turn (option_map (veiled c) found) (Some m) ≡ own_turn found (Some m)
 turn_veiled c m None = refl
 turn_veiled c m (Some i) = refl
 
+-- and the caller's own turn
 own_turn_veiled : (c d : Caller) (found : Option InstanceView) → own_turn (option_map (veiled c) found) d ≡ own_turn found d
 own_turn_veiled c None None = refl
 own_turn_veiled c (Some m) None = refl
 own_turn_veiled c None (Some i) = refl
 own_turn_veiled c (Some m) (Some i) = refl
 
+-- and the caller's own bid
 own_bid_of : (c : Caller) (found : Option InstanceView) → own_bid (option_map (veiled c) found) c ≡ own_bid found c
 own_bid_of c None = refl
 own_bid_of None (Some i) = refl
 own_bid_of (Some m) (Some i) = own_bid_veiled m i
 
+-- and the public facts
 public_veiled : (c : Caller) (found : Option InstanceView) → option_map public_of (option_map (veiled c) found) ≡ option_map public_of found
 public_veiled c None = refl
 public_veiled c (Some i) = λ j. Some (record {
@@ -49,9 +55,11 @@ public_veiled c (Some i) = λ j. Some (record {
   have_bid = have_bid_veiled c i.bids j;
 })
 
+-- so all that the caller may know does
 view_of_veiled : (c : Caller) (moment : ℕ) (found : Option InstanceView) → view_of moment (option_map (veiled c) found) c ≡ view_of moment found c
 view_of_veiled c moment found = λ j. record { caller = c; public = public_veiled c found j; moment = moment; turn = own_turn_veiled c c found j; bid = own_bid_of c found j }
 
+-- the same by id
 view_veiled : (c : Caller) (h : HostView) (id : ℕ) → view (veil c h) id c ≡ view h id c
 view_veiled c h id = ap (λ (found : Option InstanceView). view_of h.moment found c) (instance_veiled c h id) ∙ view_of_veiled c h.moment (instance_at h id)
 
@@ -62,21 +70,27 @@ module _ (c : Caller) (g h : HostView) (twins : veil c g ≡ veil c h) where
   through : {A : Type 0} (f : HostView → A) → ((x : HostView) → f (veil c x) ≡ f x) → f g ≡ f h
   through f is = sym (is g) ∙ ap f twins ∙ is h
 
+  -- one command has one event
   same_event : (t : ℕ) (command : CommandView) → (step g t command).event ≡ (step h t command).event
   same_event t command = through (λ (x : HostView). (step x t command).event) (λ x. step_veiled c x t command)
 
+  -- the same instances are closed
   same_closed : (id : ℕ) → is_closed g id ≡ is_closed h id
   same_closed id = through (λ (x : HostView). is_closed x id) (λ x. closed_veiled c x id)
 
+  -- the caller's views are equal
   same_view : (id : ℕ) → view g id c ≡ view h id c
   same_view id = through (λ (x : HostView). view x id c) (λ x. view_veiled c x id)
 
+  -- a key has one holder
   same_number : (id : ℕ) (key : Option (List ℕ)) → caller_number g id key ≡ caller_number h id key
   same_number id key = through (λ (x : HostView). caller_number x id key) (λ x. caller_veiled c x id key)
 
+  -- each member has one kept turn
   same_turn : (id m : ℕ) → own_turn (instance_at g id) (Some m) ≡ own_turn (instance_at h id) (Some m)
   same_turn id m = through (λ (x : HostView). own_turn (instance_at x id) (Some m)) (λ x. ap (λ (found : Option InstanceView). own_turn found (Some m)) (instance_veiled c x id) ∙ turn_veiled c m (instance_at x id))
 
+  -- the greatest moments are equal
   same_moment : g.moment ≡ h.moment
   same_moment = ap (λ (x : HostView). x.moment) twins
 
@@ -84,10 +98,12 @@ module _ (c : Caller) (g h : HostView) (twins : veil c g ≡ veil c h) where
   twins_apply : (e f : EventView) → event_seen c e ≡ event_seen c f → veil c (apply g e) ≡ veil c (apply h f)
   twins_apply e f same = apply_veiled c g e ∙ (λ i. apply (twins i) (same i)) ∙ sym (apply_veiled c h f)
 
+  -- one event keeps the hosts one
   twins_applied : (e : Option EventView) → veil c (applied g e) ≡ veil c (applied h e)
   twins_applied None = twins
   twins_applied (Some e) = twins_apply e e refl
 
+  -- so does one command
   twins_step : (t : ℕ) (command : CommandView) → veil c (host_after g t command) ≡ veil c (host_after h t command)
   twins_step t command = ap (λ (e : Option EventView). veil c (applied g e)) (same_event t command) ∙ twins_applied (step h t command).event
 
@@ -97,12 +113,14 @@ module _ (c : Caller) (g h : HostView) (twins : veil c g ≡ veil c h) where
   reply_if true false r s is = refl
   reply_if true true r s is = ap Some (is refl refl)
 
+-- callers that pass as equal are equal
 same_caller_is : (a b : Caller) → same_caller a b ≡ true → a ≡ b
 same_caller_is None None is = refl
 same_caller_is None (Some m) is = absurd (true≢false (sym is))
 same_caller_is (Some k) None is = absurd (true≢false (sym is))
 same_caller_is (Some k) (Some m) is = ap Some (eqb-true k m is)
 
+-- a command of the caller gets one reply
 heard_if : (c : Caller) (g h : HostView) (twins : veil c g ≡ veil c h) (id t : ℕ) (other : ℕ) (key : Option (List ℕ)) (ask : Ask)
     → is_closed (host_after g t (To other key ask)) id ≡ false → (other ≡ id) → caller_number g other key ≡ c
     → (step g t (To other key ask)).reply ≡ (step h t (To other key ask)).reply
@@ -131,6 +149,7 @@ unheard_if false d c m r is other mine that = refl
 unheard_if true d c m r is other true that = absurd (other (sym (same_caller_is d c (sym that)) ∙ is))
 unheard_if true d c m r is other false that = refl
 
+-- a command of another member is not heard by the caller
 unheard : (c : Caller) (h : HostView) (id m t : ℕ) (command : CommandView) → IsBy h id m command → (c ≢ Some m) → heard_of h id c t command ≡ None
 unheard c h id m t (Create body) by other = absurd by
 unheard c h id m t (To asked key ask) by other =
@@ -142,10 +161,12 @@ not_own None m some other = refl
 not_own (Some zero) m some other = refl
 not_own (Some (suc k)) m some other = other_place (m - 1) k (λ is. other (let same : suc k ≡ m = omega (arith, is) in ap Some same))
 
+-- another member's bid is seen as any
 chosen : (c : Caller) (m : ℕ) (a b : Bid) (own : Bool) → own ≡ false → (if own then a else Place 0) ≡ (if own then b else Place 0)
 chosen c m a b true is = absurd (true≢false is)
 chosen c m a b false is = refl
 
+-- the next turn is told from the kept one
 turn_of : (h : HostView) (id m turn : ℕ) (i : InstanceView) → instance_at h id ≡ Some i → turn ≡ kept_turn i m + 1 → turn ≡ own_turn (instance_at h id) (Some m) + 1
 turn_of h id m turn i there is = is ∙ sym (ap (λ (found : Option InstanceView). own_turn found (Some m) + 1) there)
 
@@ -173,12 +194,14 @@ twins_next c g h twins id a b (inl same) = (
 twins_next c g h twins id a b (inr (same, (m, other, k, l))) =
     let both = twins_bids c g h twins id m a b same other k l in (both.0, λ stays. both.1)
 
+-- two lists that end together and are equal step by step are equal
 until : {A : Type 0} (shut shut' : Bool) (x y : A) (xs ys : List A) → shut ≡ shut' → (shut ≡ false → x ≡ y) → xs ≡ ys → (if shut then [] else x ∷ xs) ≡ (if shut' then [] else y ∷ ys)
 until true true x y xs ys same is rest = refl
 until true false x y xs ys same is rest = absurd (true≢false same)
 until false true x y xs ys same is rest = absurd (true≢false (sym same))
 until false false x y xs ys same is rest = λ i. is refl i ∷ rest i
 
+-- two runs alike from hosts that are one under the veil are heard alike
 pub heard_alike : (c : Caller) (id : ℕ) (run others : List Asked) (g h : HostView) → veil c g ≡ veil c h → RunAlike g h id c run others → heard g id c run ≡ heard h id c others
 heard_alike c id [] [] g h twins alike = refl
 heard_alike c id [] (b ∷ others) g h twins alike = absurd alike
@@ -188,6 +211,7 @@ heard_alike c id (a ∷ run) (b ∷ others) g h twins alike =
     until (is_closed (next g a) id) (is_closed (next h b) id) _ _ _ _ (same_closed c (next g a) (next h b) one.0 id) one.1
     (heard_alike c id run others (next g a) (next h b) one.0 alike.1)
 
+-- and the caller's views are equal at each step
 pub views_alike : (c : Caller) (id : ℕ) (run others : List Asked) (g h : HostView) → veil c g ≡ veil c h → RunAlike g h id c run others → views g id c run ≡ views h id c others
 views_alike c id [] [] g h twins alike = refl
 views_alike c id [] (b ∷ others) g h twins alike = absurd alike

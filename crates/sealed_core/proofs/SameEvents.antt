@@ -20,9 +20,11 @@ use Rattle.sealed_core.specs.Sealed.{Caller, caller_with, caller_number}
 use Rattle.sealed_core.specs.Step.{Answer, CommandView, Create, To, Standing, standing_of, says, refused, bid_turn, bid_form, bid_body, checked, form_of, withdrawal_turn, withdrawal_body, answer_ask, is_over, may_ask, answer_to, caller_by, caller_in, holder, tagged_from, new_creation, answer_creation, step}
 use Rattle.sealed_core.proofs.Veil.{veil, veiled, have_bid_veiled, has_bid_veiled, instance_veiled}
 
+-- how a caller stands, field by field
 abbrev pub standing : Facts → Bool → List Bool → ℕ → Option Bid → Standing
 standing facts closed have turn bid = record { facts = facts; closed = closed; have_bid = have; turn = turn; bid = bid }
 
+-- the kept turn is not the next one
 far_turn : (turn kept : ℕ) → (turn == kept) ≡ true → not (turn == (kept + 1)) ≡ true
 far_turn turn kept is = not_from_false (turn == (kept + 1)) (ne_eqb turn (kept + 1) (λ next. omega (arith, eqb-true turn kept is)))
 
@@ -35,31 +37,37 @@ turn_event true far true false kept other rest is = rw (is refl) refl
 turn_event true far false true kept other rest is = rw (is refl) refl
 turn_event true far false false kept other rest is = refl
 
+-- the event of a bid does not depend on the kept bid
 bid_turn_event : (now id m : ℕ) (facts : Facts) (closed : Bool) (have : List Bool) (kept : ℕ) (a b : Option Bid) (turn : ℕ) (given : Bid)
     → (bid_turn now id m (standing facts closed have kept a) turn given).event ≡ (bid_turn now id m (standing facts closed have kept b) turn given).event
 bid_turn_event now id m facts true have kept a b turn given = refl
 bid_turn_event now id m facts false have kept a b turn given =
     turn_event (turn == kept) (not (turn == (kept + 1))) (is_kept a given) (is_kept b given) (reply.Kept kept) (refusal.Turn kept) (if kept == MOST_TURNS then refused refusal.TurnsUsed else record { event = Some (BidKept now id m turn given); reply = reply.Kept turn }) (far_turn turn kept)
 
+-- nor where the form is at fault
 bid_form_event : (now id m : ℕ) (facts : Facts) (closed : Bool) (have : List Bool) (kept : ℕ) (a b : Option Bid) (turn : ℕ) (given : Option Bid)
     → (bid_form now id m (standing facts closed have kept a) turn given).event ≡ (bid_form now id m (standing facts closed have kept b) turn given).event
 bid_form_event now id m facts closed have kept a b turn None = refl
 bid_form_event now id m facts closed have kept a b turn (Some given) = bid_turn_event now id m facts closed have kept a b turn given
 
+-- nor does that of a bid's body
 bid_body_event : (now id m : ℕ) (facts : Facts) (closed : Bool) (have : List Bool) (kept : ℕ) (a b : Option Bid) (body : BidBody) (turn : Option ℕ)
     → (bid_body now id m (standing facts closed have kept a) body turn).event ≡ (bid_body now id m (standing facts closed have kept b) body turn).event
 bid_body_event now id m facts closed have kept a b body None = refl
 bid_body_event now id m facts closed have kept a b body (Some turn) = bid_form_event now id m facts closed have kept a b turn (checked facts (form_of facts body))
 
+-- the event of a withdrawal asks only whether there is a bid
 withdrawal_turn_event : (now id m : ℕ) (facts : Facts) (closed : Bool) (have : List Bool) (kept : ℕ) (a b : Option Bid) (turn : ℕ) → is_none a ≡ is_none b
     → (withdrawal_turn now id m (standing facts closed have kept a) turn).event ≡ (withdrawal_turn now id m (standing facts closed have kept b) turn).event
 withdrawal_turn_event now id m facts closed have kept a b turn is = rw is refl
 
+-- so does that of its body
 withdrawal_body_event : (now id m : ℕ) (facts : Facts) (closed : Bool) (have : List Bool) (kept : ℕ) (a b : Option Bid) (turn : Option ℕ) → is_none a ≡ is_none b
     → (withdrawal_body now id m (standing facts closed have kept a) turn).event ≡ (withdrawal_body now id m (standing facts closed have kept b) turn).event
 withdrawal_body_event now id m facts closed have kept a b None is = refl
 withdrawal_body_event now id m facts closed have kept a b (Some turn) is = withdrawal_turn_event now id m facts closed have kept a b turn is
 
+-- so does whatever is asked
 ask_event : (now id m : ℕ) (facts : Facts) (closed : Bool) (have : List Bool) (kept : ℕ) (a b : Option Bid) → is_none a ≡ is_none b → (ask : Ask)
     → (answer_ask now id m (standing facts closed have kept a) ask).event ≡ (answer_ask now id m (standing facts closed have kept b) ask).event
 ask_event now id m facts closed have kept a b is asks.Status = refl
@@ -73,40 +81,48 @@ ask_event now id m facts closed have kept a b is (asks.Withdraw (Err Json)) = re
 ask_event now id m facts closed have kept a b is (asks.Withdraw (Err (Field name))) = refl
 ask_event now id m facts closed have kept a b is (asks.Withdraw (Ok body)) = withdrawal_body_event now id m facts closed have kept a b body.turn is
 
+-- under the veil a caller stands as without it, but for the bid
 veiled_standing : (c : Caller) (i : InstanceView) (m : ℕ) → standing_of (veiled c i) m i.closed ≡ standing i.creation.facts i.closed (map is_some i.bids) (kept_turn i m) (kept_bid (veiled c i) m)
 veiled_standing c i m = λ j. record { facts = i.creation.facts; closed = i.closed; have_bid = have_bid_veiled c i.bids j; turn = kept_turn i m; bid = kept_bid (veiled c i) m }
 
+-- so what they ask has one event
 standing_event : (c : Caller) (now id m : ℕ) (i : InstanceView) (ask : Ask) → (answer_ask now id m (standing_of (veiled c i) m i.closed) ask).event ≡ (answer_ask now id m (standing_of i m i.closed) ask).event
 standing_event c now id m i ask =
     ap (λ (s : Standing). (answer_ask now id m s ask).event) (veiled_standing c i m)
     ∙ ask_event now id m i.creation.facts i.closed (map is_some i.bids) (kept_turn i m) (kept_bid (veiled c i) m) (kept_bid i m) (has_bid_veiled c i m) ask
 
+-- past the deadline it is the close in both
 over_event : (role over : Bool) (e : Option EventView) (r s : Reply) (a b : Answer) → a.event ≡ b.event
     → (if not role then refused refusal.Role else if over then record { event = e; reply = r } else a).event ≡ (if not role then refused refusal.Role else if over then record { event = e; reply = s } else b).event
 over_event false over e r s a b is = refl
 over_event true true e r s a b is = refl
 over_event true false e r s a b is = is
 
+-- the same of whatever a caller asks
 by_caller : (c : Caller) (now id : ℕ) (ask : Ask) (i : InstanceView) (who : Option ℕ)
     → (answer_to now id ask (caller_by (veiled c i) who)).event ≡ (answer_to now id ask (caller_by i who)).event
 by_caller c now id ask i None = refl
 by_caller c now id ask i (Some m) = over_event (may_ask m ask) (is_over now i) (Some (Closed now id)) _ _ (answer_ask now id m (standing_of (veiled c i) m i.closed) ask) (answer_ask now id m (standing_of i m i.closed) ask) (standing_event c now id m i ask)
 
+-- the same of a command on an instance
 by_instance : (c : Caller) (secret : List ℕ) (now id : ℕ) (ask : Ask) (key : Option (List ℕ)) (found : Option InstanceView)
     → (answer_to now id ask (caller_in secret id (option_map (veiled c) found) key)).event ≡ (answer_to now id ask (caller_in secret id found key)).event
 by_instance c secret now id ask key None = refl
 by_instance c secret now id ask None (Some i) = refl
 by_instance c secret now id ask (Some key) (Some i) = by_caller c now id ask i (holder secret id i key)
 
+-- one step of the search for a tag
 tagged_if : (c : Caller) (is : Bool) (id : ℕ) (creation : CreationView) (a b : Option (ℕ × CreationView)) → a ≡ b
     → (if is then Some (id, creation) else a) ≡ (if is then Some (id, creation) else b)
 tagged_if c true id creation a b is = refl
 tagged_if c false id creation a b is = is
 
+-- a tag is found under the veil as without it
 tagged_veiled : (c : Caller) (id : ℕ) (instances : List InstanceView) (tag : List ℕ) → tagged_from id (map (veiled c) instances) tag ≡ tagged_from id instances tag
 tagged_veiled c id [] tag = refl
 tagged_veiled c id (i ∷ instances) tag = tagged_if c (same_text i.creation.tag tag) id i.creation _ _ (tagged_veiled c (id + 1) instances tag)
 
+-- a creation is answered under the veil as without it
 creation_veiled : (c : Caller) (now : ℕ) (instances : List InstanceView) (body : Result CreationView BodyFault) → answer_creation now (map (veiled c) instances) body ≡ answer_creation now instances body
 creation_veiled c now instances (Err fault) = refl
 creation_veiled c now instances (Ok creation) = λ j. new_creation now (length-map instances (veiled c) j) creation (tagged_veiled c 1 instances creation.tag j)
@@ -118,6 +134,7 @@ step_veiled c h t (To id key ask) =
     ap (λ (found : Option InstanceView). (answer_to (max t h.moment) id ask (caller_in h.secret id found key)).event) (instance_veiled c h id)
     ∙ by_instance c h.secret (max t h.moment) id ask key (instance_at h id)
 
+-- a key has one holder under the veil
 number_in : (c : Caller) (secret : List ℕ) (id : ℕ) (key : Option (List ℕ)) (found : Option InstanceView) → caller_with secret id (option_map (veiled c) found) key ≡ caller_with secret id found key
 number_in c secret id key None = refl
 number_in c secret id None (Some i) = refl

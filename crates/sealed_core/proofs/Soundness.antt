@@ -10,6 +10,7 @@ use Rattle.sealed_core.specs.declared.host.Instance.{Instance}
 use Rattle.sealed_core.proofs.Wholes.{sound_at}
 use Rattle.sealed_core.specs.Host.{CreationView, InstanceView, HostView, AreSound, IsSound, IsCheckedCreation, IsNextTurn, instance_view, instance_at, fresh, with_turn, as_closed, change, changed}
 
+-- a new instance of a checked creation is sound
 pub sound_fresh : (c : CreationView) → IsCheckedCreation c → IsSound (fresh c)
 sound_fresh c right = record {
   creation = right;
@@ -19,6 +20,7 @@ sound_fresh c right = record {
   checked = All-replicate (λ (bid : Option Bid). IfSome bid (IsCheckedBid c.facts)) (length c.members) None tt;
 }
 
+-- a next turn leaves an instance sound
 pub sound_turn : (now m turn : ℕ) (bid : Option Bid) (i : InstanceView) → IsSound i → IsNextTurn now i m turn → IfSome bid (IsCheckedBid i.creation.facts) → IsSound (with_turn m turn bid i)
 sound_turn now m turn bid i sound next right = record {
   creation = sound.creation;
@@ -28,17 +30,21 @@ sound_turn now m turn bid i sound next right = record {
   checked = All-set (λ (bid : Option Bid). IfSome bid (IsCheckedBid i.creation.facts)) i.bids (m - 1) bid right sound.checked;
 }
 
+-- closing leaves it sound
 pub sound_closed : (i : InstanceView) → IsSound i → IsSound (as_closed i)
 sound_closed i sound = record { creation = sound.creation; turns = sound.turns; bids = sound.bids; used = sound.used; checked = sound.checked }
 
+-- a new sound instance leaves the list sound
 pub sound_push : (instances : List InstanceView) (i : InstanceView) → AreSound instances → IsSound i → length instances < MOST_INSTANCES → AreSound (instances ++ i ∷ [])
 sound_push instances i sound own few = let size = length_push instances i in record { each = All-push IsSound instances i sound.each own; few = omega (arith, size, few) }
 
+-- a change at a place leaves the length
 length-changed : (f : InstanceView → InstanceView) (instances : List InstanceView) (p : ℕ) → length (changed f instances p) ≡ length instances
 length-changed f [] p = refl
 length-changed f (i ∷ instances) zero = refl
 length-changed f (i ∷ instances) (suc p) = ap suc (length-changed f instances p)
 
+-- a change that keeps the instance sound leaves all sound
 each_changed : (f : InstanceView → InstanceView) (instances : List InstanceView) (p : ℕ) → All IsSound instances → ((i : InstanceView) → slice_get instances p ≡ Some i → IsSound (f i)) → All IsSound (changed f instances p)
 each_changed f [] p each new k d there = absurd (omega arith)
 each_changed f (i ∷ instances) zero each new zero d there = new i refl
@@ -46,6 +52,7 @@ each_changed f (i ∷ instances) zero each new (suc k) d there = each (suc k) d 
 each_changed f (i ∷ instances) (suc p) each new zero d there = each zero d (omega arith)
 each_changed f (i ∷ instances) (suc p) each new (suc k) d there = each_changed f instances p (λ j e below. each (suc j) e (omega (arith, below))) new k d (omega (arith, there))
 
+-- so the list stays sound
 pub sound_changed : (f : InstanceView → InstanceView) (instances : List InstanceView) (p : ℕ) → AreSound instances → ((i : InstanceView) → slice_get instances p ≡ Some i → IsSound (f i)) → AreSound (changed f instances p)
 sound_changed f instances p sound new = let size = length-changed f instances p in let few = sound.few in record { each = each_changed f instances p sound.each new; few = omega (arith, size, few) }
 
@@ -61,17 +68,21 @@ pub record IsAt (h : HostView) (id : ℕ) (i : InstanceView) : Type 0 where
   pub least : 1 ≤ id
   pub at : slice_get h.instances (id - 1) ≡ Some i
 
+-- an instance that is found has a place
 at_if : (none : Bool) (instances : List InstanceView) (p : ℕ) (i : InstanceView) → (if none then None else slice_get instances p) ≡ Some i → (none ≡ false) × (slice_get instances p ≡ Some i)
 at_if true instances p i is = absurd (true≢false (sym (ap is_some is)))
 at_if false instances p i is = (refl, is)
 
+-- an instance with an id stands at its place
 pub is_at : (h : HostView) (id : ℕ) (i : InstanceView) → instance_at h id ≡ Some i → IsAt h id i
 is_at h id i is = let both = at_if (id == 0) h.instances (id - 1) i is in let some = eqb-false id 0 both.0 in record { least = omega (arith, some); at = both.1 }
 
+-- what holds of some value, with the value
 pub found : {A : Type 0} (o : Option A) (P : A → Type 0) → IsSomeAnd o P → (x : A) × (o ≡ Some x) × P x
 found None P p = absurd p
 found (Some x) P p = (x, refl, p)
 
+-- an option that is there has a value
 pub found_some : {A : Type 0} (o : Option A) → IsSome o → (x : A) × (o ≡ Some x)
 found_some None is = absurd (true≢false (sym is))
 found_some (Some x) is = (x, refl)
@@ -82,6 +93,7 @@ at_is [] p i old there is = absurd (true≢false (sym (ap is_some there)))
 at_is (x ∷ xs) zero i old there is = (omega arith, ap (λ (o : Option InstanceView). unwrap_or o i) (sym there) ∙ ap instance_view (sym is))
 at_is (x ∷ xs) (suc p) i old there is = let rest = at_is xs p i old there is in let below = rest.0 in (omega (arith, below), rest.1)
 
+-- an instance at a place of a sound list is sound
 sound_of : (xs : List Instance) (p : ℕ) (old : Instance) → AreSound (map instance_view xs) → p < length xs → old ≡ get_or xs p old → IsSound (instance_view old)
 sound_of xs p old sound there is = sound_at xs p old sound.each there is
 

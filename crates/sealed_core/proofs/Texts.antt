@@ -5,6 +5,7 @@ use Rattle.arrayvec.specs.ArrayString.{ArrayString}
 use Rattle.sealed_core.specs.Host.{text}
 use Rattle.sealed_core.specs.Sameness.{same_texts}
 
+-- texts are compared as their bytes
 pub texts_equal : (a b : List ArrayString) → pointwise (λ s t. pointwise nat_eq s.bytes t.bytes) a b ≡ same_texts (map text a) (map text b)
 texts_equal [] [] = refl
 texts_equal [] (t ∷ b) = refl

@@ -5,8 +5,8 @@ use Rattle.bid_rules.specs.declared.bids.Bid.{Bid}
 use Rattle.bid_rules.specs.declared.bids.Facts.{Facts}
 use Rattle.bid_rules.specs.declared.bids.Facts.TheVariants as facts
 use Rattle.bid_rules.specs.Facts.{IsCheckedBid, IsCheckedFacts, member_count}
-use Rattle.bid_rules.specs.declared.limits.TheConstants.{LONGEST_NAME}
-use Rattle.sealed_core.specs.declared.limits.TheConstants.{LAST_DEADLINE, LONGEST_TAG, MOST_INSTANCES, MOST_TURNS, SHORTEST_TAG}
+use Rattle.sealed_core.specs.declared.limits.TheConstants.{LAST_DEADLINE, MOST_INSTANCES, MOST_TURNS}
+pub use Rattle.sealed_core.specs.Rules.{IsName, IsTag}
 use Rattle.sealed_core.specs.declared.creations.Creation.{Creation}
 use Rattle.sealed_core.specs.declared.host.Instance.{Instance}
 use Rattle.sealed_core.specs.declared.events.Event.{Event}
@@ -58,22 +58,6 @@ event_view (event.Create moment creation) = Created moment (creation_view creati
 event_view (event.Bid moment id member turn bid) = BidKept moment id member turn bid
 event_view (event.Close moment id) = Closed moment id
 event_view (event.Withdraw moment id member turn) = Withdrawn moment id member turn
-
--- a name: 1 to 40 bytes without control characters
-pub record IsName (name : List ℕ) : Type 0 where
-  pub some : 1 ≤ length name
-  pub most : length name ≤ LONGEST_NAME
-  pub plain : All (λ byte. (32 ≤ byte) × (byte ≢ 127)) name
-
--- a byte of a tag: a digit, a lower-case letter or a hyphen
-abbrev pub IsTagByte : ℕ → Type 0
-IsTagByte byte = ((48 ≤ byte) × (byte ≤ 57)) ⊎ ((97 ≤ byte) × (byte ≤ 122)) ⊎ (byte ≡ 45)
-
--- a tag: 16 to 64 of these
-pub record IsTag (tag : List ℕ) : Type 0 where
-  pub least : SHORTEST_TAG ≤ length tag
-  pub most : length tag ≤ LONGEST_TAG
-  pub plain : All IsTagByte tag
 
 -- how many rooms, goods or places the facts name
 abbrev pub item_count : Facts → ℕ

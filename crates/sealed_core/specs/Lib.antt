@@ -2,6 +2,7 @@ pub mod Causes
 pub mod Fields
 pub mod Host
 pub mod Keys
+pub mod Rules
 pub mod Runs
 pub mod Sameness
 pub mod Sealed

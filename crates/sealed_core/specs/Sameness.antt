@@ -1,10 +1,9 @@
--- What a step compares: creations, bids, and bids with the facts.
-use Rattle.std.specs.Prelude.{ℕ, Bool, false, ◌&&◌, ◌==◌, nat_eq, nat_le, List, length, sum, Option, None, Some}
+-- What a step compares: creations, and bids.
+use Rattle.std.specs.Prelude.{ℕ, Bool, false, ◌&&◌, ◌==◌, nat_eq, List, Option, None, Some}
 use Rattle.std.specs.Cmp.Lexicographic.{pointwise}
 use Rattle.bid_rules.specs.declared.bids.Bid.{Bid}
 use Rattle.bid_rules.specs.declared.bids.Bid.TheVariants.{Values, Place}
 use Rattle.bid_rules.specs.declared.bids.Facts.{Facts}
-use Rattle.bid_rules.specs.declared.limits.TheConstants.{WHOLE_POINTS}
 use Rattle.bid_rules.specs.declared.bids.Facts.TheVariants.{Rent, Goods, Fares}
 use Rattle.sealed_core.specs.Host.{CreationView}
 
@@ -28,15 +27,6 @@ same_facts (Fares a) (Goods b) = false
 -- two creations are equal where all fields are
 abbrev pub same_creation : CreationView → CreationView → Bool
 same_creation a b = same_text a.title b.title && same_texts a.members b.members && same_texts a.items b.items && same_facts a.facts b.facts && (a.deadline == b.deadline) && same_text a.tag b.tag
-
--- a bid without a fault
-abbrev pub is_checked_bid : Facts → Bid → Bool
-is_checked_bid (Rent rent) (Values values) = (length values.items == rent.members) && (sum values.items == rent.rent)
-is_checked_bid (Goods goods) (Values values) = (length values.items == goods.goods) && (sum values.items == WHOLE_POINTS)
-is_checked_bid (Fares fares) (Place place) = nat_le 1 place && nat_le place fares.places
-is_checked_bid (Rent rent) (Place place) = false
-is_checked_bid (Goods goods) (Place place) = false
-is_checked_bid (Fares fares) (Values values) = false
 
 abbrev pub same_bid : Bid → Bid → Bool
 same_bid (Values a) (Values b) = pointwise nat_eq a.items b.items

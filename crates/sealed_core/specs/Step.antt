@@ -1,5 +1,5 @@
 -- One step of the host: to a command at a moment at most one event, and one reply.
-use Rattle.std.specs.Prelude.{ℕ, ◌+◌, max, Bool, true, not, ◌&&◌, ◌==◌, nat_le, nat_lt, List, [], ◌∷◌, map, length, if◌then◌else◌, is_some, is_none, Option, None, Some, Result, Ok, Err}
+use Rattle.std.specs.Prelude.{ℕ, ◌+◌, max, Bool, true, not, ◌&&◌, ◌==◌, nat_le, nat_lt, List, [], ◌∷◌, map, length, if◌then◌else◌, is_some, is_none, option_and_then, Option, None, Some, Result, Ok, Err}
 use Rattle.std.specs.List.{list_all}
 use Rattle.std.specs.Option.{option_map}
 use Rattle.bid_rules.specs.declared.bids.Bid.{Bid}
@@ -24,7 +24,8 @@ use Rattle.sealed_core.specs.declared.replies.Reply.TheVariants as reply
 use Rattle.sealed_core.specs.declared.creations.Creation.{Creation}
 use Rattle.sealed_core.specs.Host.{IsCheckedCreation, CreationView, InstanceView, HostView, EventView, Created, BidKept, Closed, Withdrawn, creation_view, event_view, instance_at, kept_turn, kept_bid}
 use Rattle.sealed_core.specs.Keys.{first_holder}
-use Rattle.sealed_core.specs.Sameness.{same_creation, same_text, is_checked_bid, is_kept}
+use Rattle.sealed_core.specs.Sameness.{same_creation, same_text, is_kept}
+use Rattle.sealed_core.specs.Rules.{allowed_bid}
 
 -- a command creates an instance, or asks one with this id, under a key or none
 pub data CommandView : Type 0 where
@@ -132,8 +133,7 @@ form_field (Goods facts) = field.Values
 form_field (Fares facts) = field.Place
 
 abbrev pub checked : Facts → Option Bid → Option Bid
-checked facts None = None
-checked facts (Some given) = if is_checked_bid facts given then Some given else None
+checked facts given = option_and_then (allowed_bid facts) given
 
 abbrev pub bid_form : ℕ → ℕ → ℕ → Standing → ℕ → Option Bid → Answer
 bid_form now id m standing turn None = refused (refusal.BadField (form_field standing.facts))

@@ -7,9 +7,10 @@ ghost use Rattle.sealed_core.specs.Sealed.{IsQuiet, IsSealed};
 ghost use Rattle.sealed_core.specs.Step.{IsCheckedCommand, answer_view, answer_to, answer_bid, bid_turn, broken, caller_of, checked, answer_close, command_view, answer_creation, creation_seen, form_field, form_of, may_ask, refused, answer_ask, answer_caller, says, standing_of, step, answer_withdrawal, withdrawal_turn};
 
 use crate::commands::Ask;
-use crate::equals::{is_checked_bid, is_kept, same_creation};
+use crate::equals::{is_kept, same_creation};
 use crate::limits::{MOST_INSTANCES, MOST_TURNS};
 use crate::lookups::{all_bid, bid_of, caller, is_over, tagged, turn_of};
+use crate::rules::allowed_bid;
 use crate::{
     Answered, BidBody, BodyFault, Command, Creation, Event, FieldName, Host, Instance, Key,
     Refusal, Reply,
@@ -86,11 +87,7 @@ fn checked_bid(facts: &Facts, body: BidBody) -> Option<Bid>
         Facts::Rent(_) | Facts::Goods(_) => Bid::Values(body.values?),
         Facts::Fares(_) => Bid::Place(body.place?),
     };
-    if is_checked_bid(facts, &bid) {
-        Some(bid)
-    } else {
-        None
-    }
+    allowed_bid(facts, bid)
 }
 
 fn form_field(facts: &Facts) -> FieldName
@@ -333,6 +330,8 @@ fn step(host: &Host, moment: u64, command: Command) -> Answered
 /// as its event, and is answered as on the closed instance. A creation equal to the one that stands under its tag has no event and
 /// that one's reply; nor has a bid equal to the kept one with the kept turn, or a withdrawal with the turn of the last withdrawal where
 /// the member has not bid since: they get the kept turn.
+///
+/// A creation in the command keeps the rules that `Creation::is_checked` tests; every other command may come as it stands.
 ///
 /// Each refusal comes exactly where it has its cause, and with no event but the close of an instance whose deadline has passed. Where
 /// the instance that is asked isn't closed after the step, the reply follows from what the caller may know of it.

@@ -65,13 +65,19 @@ pub enum Command {
     },
 }
 
-/// What is asked of an instance.
+/// What is asked of an instance: a command without the id and the key.
 #[derive(Debug, Drop, PartialEq, Eq)]
-pub(crate) enum Ask {
+pub enum Ask {
+    /// The public facts.
     Status,
+    /// A member's bid is to be kept.
     Bid(Result<BidBody, BodyFault>),
+    /// The member's own bid.
     Own,
+    /// The close.
     Close,
+    /// What the closed instance came to.
     Publish(What),
+    /// A member's bid is to be withdrawn.
     Withdraw(Result<BidBody, BodyFault>),
 }

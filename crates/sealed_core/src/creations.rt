@@ -1,12 +1,13 @@
 // What the creation of an instance says, and the rules that it keeps.
-ghost use Rattle.std.specs.Prelude.{◌≡◌, ◌≢◌, ◌≤◌, ◌↔◌, length, map, All, IsTrue};
-ghost use Rattle.bid_rules.specs.Facts.{IsCheckedFacts, member_count};
-ghost use Rattle.sealed_core.specs.Host.{IsCheckedCreation, IsName, IsTag, IsTagByte, creation_view, item_count, text};
+ghost use Rattle.std.specs.Prelude.{◌≡◌, ◌↔◌, length, map, All, IsTrue};
+ghost use Rattle.bid_rules.specs.Facts.{member_count};
+ghost use Rattle.sealed_core.specs.Host.{IsCheckedCreation, IsName, IsTag, creation_view, item_count, text};
 
-use crate::limits::{LAST_DEADLINE, LONGEST_TAG, SHORTEST_TAG};
+use crate::limits::{LAST_DEADLINE, LONGEST_TAG};
+use crate::rules::{is_name, is_tag, member_count};
 use arrayvec::{ArrayString, ArrayVec};
 use bid_rules::limits::{ITEM_ROOM, LONGEST_NAME, MEMBER_ROOM};
-use bid_rules::{Facts, check_fares, check_goods, check_rent};
+use bid_rules::{Facts, check_facts};
 
 /// The title of an instance, or the name of a member, room, good or place: 1 to 40 bytes of UTF-8 without ASCII control characters
 /// (U+0000 to U+001F and U+007F).
@@ -38,77 +39,23 @@ impl Creation {
     pub fn is_checked(&self) -> bool
         ensures { IsTrue result ↔ IsCheckedCreation (creation_view self.now) }
     {
-        are_checked(&self.facts)
+        check_facts(&self.facts).is_ok()
             && has_counts(self)
             && has_texts(self)
             && self.deadline <= LAST_DEADLINE
     }
 }
 
-fn is_plain(bytes: &[u8]) -> bool
-    ensures { IsTrue result ↔ All (λ byte. (32 ≤ byte) × (byte ≢ 127)) bytes.now }
-{
-    bytes.iter().all(|byte| !byte.is_ascii_control())
-}
-
-/// Whether it is a name: 1 to 40 bytes without control characters.
-fn is_name(name: &Name) -> bool
-    ensures { IsTrue result ↔ IsName (text name.now) }
-{
-    let bytes = name.as_str().as_bytes();
-    !bytes.is_empty() && bytes.len() <= LONGEST_NAME && is_plain(bytes)
-}
-
-fn is_tag_byte(byte: u8) -> bool
-    ensures { IsTrue result ↔ IsTagByte byte }
-{
-    byte.is_ascii_digit() || byte.is_ascii_lowercase() || byte == b'-'
-}
-
-fn are_tag_bytes(bytes: &[u8]) -> bool
-    ensures { IsTrue result ↔ All IsTagByte bytes.now }
-{
-    bytes.iter().all(|byte| is_tag_byte(*byte))
-}
-
-/// Whether it is a tag: 16 to 64 digits, lower-case letters and hyphens.
-fn is_tag(tag: &Tag) -> bool
-    ensures { IsTrue result ↔ IsTag (text tag.now) }
-{
-    let bytes = tag.as_str().as_bytes();
-    bytes.len() >= SHORTEST_TAG && bytes.len() <= LONGEST_TAG && are_tag_bytes(bytes)
-}
-
 fn each_is_name(names: &[Name]) -> bool
     ensures { IsTrue result ↔ All (λ name. IsName (text name)) names.now }
 {
-    names.iter().all(|name| is_name(name))
+    names.iter().all(|name| is_name(name.as_str()))
 }
 
 fn are_names(names: &[Name]) -> bool
     ensures { IsTrue result ↔ All IsName (map text names.now) }
 {
     each_is_name(names)
-}
-
-fn are_checked(facts: &Facts) -> bool
-    ensures { IsTrue result ↔ IsCheckedFacts facts.now }
-{
-    match facts {
-        Facts::Rent(rent) => check_rent(rent).is_ok(),
-        Facts::Goods(goods) => check_goods(goods).is_ok(),
-        Facts::Fares(fares) => check_fares(fares).is_ok(),
-    }
-}
-
-fn member_count(facts: &Facts) -> usize
-    ensures { result ≡ member_count facts.now }
-{
-    match facts {
-        Facts::Rent(rent) => usize::from(rent.members),
-        Facts::Goods(goods) => usize::from(goods.members),
-        Facts::Fares(fares) => usize::from(fares.members),
-    }
 }
 
 fn item_count(facts: &Facts) -> usize
@@ -131,8 +78,8 @@ fn has_counts(creation: &Creation) -> bool
 fn has_texts(creation: &Creation) -> bool
     ensures { IsTrue result ↔ IsName (text creation.now.title) × All IsName (map text creation.now.members.items) × All IsName (map text creation.now.items.items) × IsTag (text creation.now.tag) }
 {
-    is_name(&creation.title)
+    is_name(creation.title.as_str())
         && are_names(creation.members.as_slice())
         && are_names(creation.items.as_slice())
-        && is_tag(&creation.tag)
+        && is_tag(creation.tag.as_str())
 }

@@ -1,10 +1,9 @@
 ghost use Rattle.std.specs.Prelude.{◌≡◌, map};
-ghost use Rattle.bid_rules.specs.Facts.{IsCheckedFacts};
 ghost use Rattle.sealed_core.specs.Host.{creation_view, text};
-ghost use Rattle.sealed_core.specs.Sameness.{is_checked_bid, is_kept, same_bid, same_creation, same_facts, same_texts};
+ghost use Rattle.sealed_core.specs.Sameness.{is_kept, same_bid, same_creation, same_facts, same_texts};
 
 use crate::{Creation, Name};
-use bid_rules::{Bid, Facts, Fares, check_bid};
+use bid_rules::{Bid, Facts, Fares};
 
 fn same_fares(a: &Fares, b: &Fares) -> bool
     ensures { result ≡ same_facts (Facts.Fares a.now) (Facts.Fares b.now) }
@@ -60,12 +59,4 @@ pub(crate) fn is_kept(kept: &Option<Bid>, bid: &Bid) -> bool
         Some(kept) => same_bid(kept, bid),
         None => false,
     }
-}
-
-/// Whether the bid is without a fault.
-pub(crate) fn is_checked_bid(facts: &Facts, bid: &Bid) -> bool
-    requires { IsCheckedFacts facts.now }
-    ensures { result ≡ is_checked_bid facts.now bid.now }
-{
-    check_bid(facts, bid).is_ok()
 }

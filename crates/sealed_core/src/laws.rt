@@ -9,19 +9,26 @@ ghost use Rattle.sealed_core.specs.declared.commands.Ask.{Ask};
 ghost use Rattle.sealed_core.specs.declared.commands.Ask.TheVariants as asks;
 ghost use Rattle.sealed_core.specs.declared.commands.BidBody.{BidBody};
 ghost use Rattle.sealed_core.specs.declared.replies.Reply.TheVariants as replies;
-ghost use Rattle.sealed_core.specs.Sameness.{is_checked_bid, same_bid, same_creation};
+ghost use Rattle.sealed_core.specs.Sameness.{same_bid, same_creation};
+ghost use Rattle.sealed_core.specs.Rules.{allowed_bid};
 ghost use Rattle.sealed_core.specs.Host.{BidKept, CanApply, CreationView, EventView, HostView, apply, Closed, InstanceView, instance_at};
 ghost use Rattle.sealed_core.specs.Runs.{AreChecked, CanApplyAll, HoldsLeast, host_of, kept, last};
-ghost use Rattle.sealed_core.specs.Sealed.{Asked, Caller, RunAlike, caller_number, empty, heard, host_after, is_closed, view, views};
+ghost use Rattle.sealed_core.specs.Sealed.{Asked, Caller, RunAlike, caller_number, empty, heard, host_after, is_closed, sealed_reply, view, views};
 
 /// Bids are sealed until their instance is closed. Take two runs from one empty host whose steps are equal pair by pair, but that
 /// some of them may be two bids on the instance by the same member other than the caller, at the same moment, each of them kept.
 /// Then the caller hears the same of the instance in both, and their view of it is the same, up to the step at which it is closed.
-/// And at any two hosts, one command from two callers with equal views gets one reply where the instance isn't closed after the step.
+/// The reply to a command is written from the caller's view, the command and the moment where the instance isn't closed after the step.
+/// So at any two hosts, one command from two callers with equal views gets one reply where the instance isn't closed after the step; and
+/// it is closed after the step at both or at neither.
 pub fn sealing_law()
+    ensures from_view { (h : HostView) (t id : ℕ) (key : Option (List ℕ)) (ask : Ask) → is_closed (host_after h t (To id key ask)) id ≡ false
+        → (step h t (To id key ask)).reply ≡ sealed_reply (view h id (caller_number h id key)) t id key ask }
     ensures one_step { (g h : HostView) (t id : ℕ) (key : Option (List ℕ)) (ask : Ask) → view g id (caller_number g id key) ≡ view h id (caller_number h id key)
-        → is_closed (host_after g t (To id key ask)) id ≡ false → is_closed (host_after h t (To id key ask)) id ≡ false
+        → is_closed (host_after g t (To id key ask)) id ≡ false
         → (step g t (To id key ask)).reply ≡ (step h t (To id key ask)).reply }
+    ensures closed_alike { (g h : HostView) (t id : ℕ) (key : Option (List ℕ)) (ask : Ask) → view g id (caller_number g id key) ≡ view h id (caller_number h id key)
+        → is_closed (host_after g t (To id key ask)) id ≡ is_closed (host_after h t (To id key ask)) id }
     ensures heard { (secret : List ℕ) (id : ℕ) (caller : Caller) (run others : List Asked) → RunAlike (empty secret) (empty secret) id caller run others
         → heard (empty secret) id caller run ≡ heard (empty secret) id caller others }
     ensures views { (secret : List ℕ) (id : ℕ) (caller : Caller) (run others : List Asked) → RunAlike (empty secret) (empty secret) id caller run others
@@ -51,10 +58,10 @@ pub fn key_law()
 {}
 
 /// What the tests of a step mean. The holder of a key is the least number, from 0 to the number of members, whose key it is; two
-/// creations, or two bids, pass for equal exactly where they are; a bid passes as checked exactly where it is.
+/// creations, or two bids, pass for equal exactly where they are; a bid is allowed exactly where it is checked.
 pub fn sameness_law()
     ensures holder { (secret : List ℕ) (id count : ℕ) (key : List ℕ) (m : ℕ) → (first_holder secret id key (count + 1) 0 ≡ Some m) ↔ HoldsLeast secret id count key m }
     ensures creations { (a b : CreationView) → (same_creation a b ≡ true) ↔ (a ≡ b) }
     ensures bids { (a b : Bid) → (same_bid a b ≡ true) ↔ (a ≡ b) }
-    ensures checked { (facts : Facts) (bid : Bid) → (is_checked_bid facts bid ≡ true) ↔ IsCheckedBid facts bid }
+    ensures allowed { (facts : Facts) (bid : Bid) → (allowed_bid facts bid ≡ Some bid) ↔ IsCheckedBid facts bid }
 {}

@@ -1,7 +1,8 @@
 //! The host of sealed bids: a machine of accepted commands.
 //!
 //! `answer` says what a host replies to a command at a moment, and which event goes before the reply; `apply` makes the event's change.
-//! Until an instance is closed, what a caller hears of it follows from their own bid and the public facts alone.
+//! Until an instance is closed, what a caller hears of it follows from the public facts, their own bid and kept turn, and the greatest
+//! moment of a kept event alone.
 #![tactic(auto)]
 
 mod answers;
@@ -16,16 +17,19 @@ mod laws;
 pub mod limits;
 mod lookups;
 mod replies;
+mod rules;
 
 pub use answers::answer;
-pub use commands::{BidBody, Command, What};
+pub use commands::{Ask, BidBody, Command, What};
 pub use creations::{Creation, Name, Tag};
 pub use events::{Event, can_apply};
 pub use fields::{BodyFault, FieldName};
 pub use host::{Host, Instance, apply, reserve};
 pub use keys::{Key, key_of};
 pub use laws::{key_law, machine_law, sameness_law, sealing_law};
+pub use lookups::{bid_of, instance_at, turn_of};
 pub use replies::{Answered, Refusal, Reply};
+pub use rules::{allowed_bid, is_name, is_tag, member_count};
 
 #[cfg(test)]
 mod tests;

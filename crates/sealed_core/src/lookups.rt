@@ -8,7 +8,8 @@ use crate::keys::holder_of;
 use crate::{Creation, Host, Instance, Key, Refusal, Tag};
 use bid_rules::Bid;
 
-pub(crate) fn instance_at<'a>(host: &'a Host, id: u32) -> Option<&'a Instance>
+/// The instance with this id, from 1, in the order of creation.
+pub fn instance_at<'a>(host: &'a Host, id: u32) -> Option<&'a Instance>
     ensures found { MatchOption result (instance_at host.now.content id ≡ None) (λ i. instance_at host.now.content id ≡ Some (instance_view i.now)) }
     ensures sound { IfSome result (λ i. IsSound (instance_view i.now)) }
 {
@@ -64,7 +65,7 @@ pub(crate) fn all_bid(instance: &Instance) -> bool
 }
 
 /// The kept turn of a member.
-pub(crate) fn turn_of(instance: &Instance, member: u8) -> u8
+pub fn turn_of(instance: &Instance, member: u8) -> u8
     requires least { 1 ≤ member }
     requires most { member ≤ length instance.now.creation.members.items }
     requires sound { IsSound (instance_view instance.now) }
@@ -75,7 +76,7 @@ pub(crate) fn turn_of(instance: &Instance, member: u8) -> u8
 }
 
 /// The kept bid of a member.
-pub(crate) fn bid_of(instance: &Instance, member: u8) -> &Option<Bid>
+pub fn bid_of(instance: &Instance, member: u8) -> &Option<Bid>
     requires least { 1 ≤ member }
     requires most { member ≤ length instance.now.creation.members.items }
     requires sound { IsSound (instance_view instance.now) }

@@ -22,8 +22,8 @@ pub enum Refusal {
     HostFull,
     /// A bid, a withdrawal or a close on a closed instance.
     Closed,
-    /// The turn of a bid is neither the next one nor that of an equal kept bid, or the turn of a withdrawal is neither the next one nor
-    /// one with which the member withdrew. With the member's kept turn.
+    /// The turn of a bid is neither the next one nor the kept one of an equal kept bid, or the turn of a withdrawal is neither the next
+    /// one nor the kept one, above 0, of a member who has withdrawn and not bid since. With the member's kept turn.
     Turn { kept: u8 },
     /// The turn is the next one, and the member has used all turns.
     TurnsUsed,

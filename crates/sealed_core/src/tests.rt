@@ -46,7 +46,7 @@ fn flat(rt: &impl Abort, tag: &str) -> Creation {
 
 // Fares of two members to one place.
 fn taxi_for_two(rt: &impl Abort) -> Creation {
-    let mut creation = flat(rt, "ride-2026-000001");
+    let mut creation = flat(rt, "fares-2026-000001");
     let mut items = ArrayVec::new();
     assert!(rt; items.try_push(text(rt, "Harbour")).is_ok());
     let mut legs = ArrayVec::new();
@@ -431,7 +431,7 @@ fn bids_are_sealed(rt: HostRuntime) -> Result<(), Fail> {
 }
 
 #[test]
-fn a_ride_is_bid_for_by_place(rt: HostRuntime) -> Result<(), Fail> {
+fn a_member_bids_for_a_place(rt: HostRuntime) -> Result<(), Fail> {
     let mut host = Host::new(rt.alloc(), SECRET);
     let fares = taxi_for_two(&rt);
     assert!(rt; fares.is_checked());

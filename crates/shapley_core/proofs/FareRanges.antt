@@ -9,7 +9,7 @@ use Rattle.split_frac.specs.declared.frac.Frac.{Frac}
 use Rattle.bid_rules.specs.Orders.{factorial}
 use Rattle.split_lemmas.proofs.OrderLaws.{factorial_pos}
 use Rattle.shapley_core.specs.Division.{IsFareInRange}
-use Rattle.shapley_core.proofs.Factorials.{factorial_rises}
+use Rattle.split_lemmas.proofs.Factorials.{factorial_rises}
 
 -- a mean of numbers up to a limit is up to it
 mean_small : (fare : Frac) (sum : ℤ) (count limit : ℕ) → 0 < count → HasValue fare sum count → unsigned_abs sum ≤ limit * count → unsigned_abs fare.num ≤ limit * fare.den

@@ -1,4 +1,2 @@
-pub mod Factorials
 pub mod FareRanges
 pub mod SameFares
-pub mod SetSums

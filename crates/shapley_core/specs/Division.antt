@@ -6,7 +6,7 @@ use Rattle.bid_rules.specs.Fares.{FareBest, coalition_cost, riders_of}
 use Rattle.bid_rules.specs.Fractions.{IsQuotient, sum_of_fractions}
 use Rattle.bid_rules.specs.Orders.{factorial}
 use Rattle.bid_rules.specs.declared.limits.TheConstants.{MOST_FARE_CENTS, MOST_RIDERS}
-use Rattle.split_frac.specs.Frac.{pair_of}
+use Rattle.split_frac.specs.Frac.{fraction_of}
 use Rattle.split_frac.specs.declared.frac.Frac.{Frac}
 use Rattle.shapley_core.specs.declared.division.FareDivision.{FareDivision}
 
@@ -19,9 +19,9 @@ pub record IsFareInRange (riders : ℕ) (fare : Frac) : Type 0 where
 
 -- the division of the case: the best fares and route, the cost of all riders, to which the fares sum, and the costs of this case
 pub record IsFareDivision (case : FareCase) (division : FareDivision) : Type 0 where
-  pub best : FareBest case (map pair_of division.fares.items) division.route.items
+  pub best : FareBest case (map fraction_of division.fares.items) division.route.items
   pub total : division.total ≡ coalition_cost case (riders_of case)
-  pub sum : IsQuotient (sum_of_fractions (map pair_of division.fares.items)) (pos division.total) 1
+  pub sum : IsQuotient (sum_of_fractions (map fraction_of division.fares.items)) (pos division.total) 1
   pub costs : division.costs ≡ case
   pub few_riders : length case.at.items ≤ MOST_RIDERS
   pub ranges : All (IsFareInRange (length case.at.items)) division.fares.items

@@ -5,15 +5,15 @@ ghost use Rattle.bid_rules.specs.Facts.{IsValidFareCase};
 ghost use Rattle.bid_rules.specs.Fares.{riders_of, sum_of_marginal_costs};
 ghost use Rattle.bid_rules.specs.Fractions.{IsQuotient};
 ghost use Rattle.bid_rules.specs.Orders.{factorial as orders_of};
-ghost use Rattle.split_frac.specs.Frac.{HasValue, pair_of};
+ghost use Rattle.split_frac.specs.Frac.{HasValue, fraction_of};
 ghost use Rattle.shapley_core.specs.Division.{IsFareDivision, IsFareInRange};
 
-use crate::sums::{all_riders, factorial, sum_over_orders};
 use arrayvec::ArrayVec;
 use bid_rules::FareCase;
 use bid_rules::limits::{MOST_FARE_CENTS, MOST_RIDERS, RIDER_ROOM, RiderList};
 use fare_laws::{best_fares_law, coalition_law};
-use fare_routes::{Costs, costs, riders_of_set};
+use fare_routes::{Costs, costs};
+use set_costs::{all_riders, factorial, riders_of_set};
 use split_base::NoMemory;
 use split_frac::{Frac, make, value_law};
 use std::alloc::Global;
@@ -38,7 +38,8 @@ pub struct FareDivision {
 fn mean(sum: i128, count: u8) -> Frac
     requires count { count ≤ MOST_RIDERS }
     requires small { unsigned_abs sum ≤ MOST_FARE_CENTS * (MOST_RIDERS + 1) * orders_of count }
-    ensures value { IsQuotient (pair_of result) sum (orders_of count) }
+    requires fits { unsigned_abs sum ≤ MOST_FARE_CENTS * (MOST_RIDERS + 1) * orders_of MOST_RIDERS }
+    ensures value { IsQuotient (fraction_of result) sum (orders_of count) }
     ensures range { IsFareInRange count result }
 {
     value_law();
@@ -46,31 +47,26 @@ fn mean(sum: i128, count: u8) -> Frac
 }
 
 /// The fares of all riders, in turn: each is the mean of the rider's marginal costs over all orders.
-fn fares_of(alloc: Global, costs: &Costs, count: u8) -> Result<FareList, NoMemory>
+fn fares_of(costs: &Costs, count: u8) -> FareList
     requires valid { IsValidFareCase costs.now }
     requires count { count ≡ length costs.now.at.items }
-    ensures means { IfOk result (λ fares. AllZip (λ rider fare. IsQuotient fare (sum_of_marginal_costs costs.now rider) (orders_of count)) (riders_of costs.now) (map pair_of fares.items)) }
-    ensures ranges { IfOk result (λ fares. All (IsFareInRange count) fares.items) }
+    ensures means { AllZip (λ rider fare. IsQuotient fare (sum_of_marginal_costs costs.now rider) (orders_of count)) (riders_of costs.now) (map fraction_of result.items) }
+    ensures ranges { All (IsFareInRange count) result.items }
 {
     coalition_law();
-    let all = all_riders(count);
-    let Ok(mut sums) = Vec::with_capacity(alloc, usize::from(all)) else {
-        return Err(NoMemory);
-    };
-    let mut fares = ArrayVec::new();
-    let riders = riders_of_set(count, all);
+    let mut fares = FareList::new();
+    let riders = riders_of_set(count, all_riders(count));
     for rider in riders.as_slice() {
-        let sum = sum_over_orders(costs, &mut sums, *rider, count)?;
-        fares.push(mean(sum, count));
+        fares.push(mean(costs.sum_over_orders(*rider), count));
     }
-    Ok(fares)
+    fares
 }
 
 /// The best division of a shared fare among 1 to 10 riders: each pays the mean of their marginal costs over all orders of
 /// the riders (Shapley 1953), and the route is the least of the cheapest.
 ///
-/// It takes about `n^2 * 2^n` steps for n riders, and memory for two tables by set, each once. `NoMemory` comes for want of
-/// memory alone.
+/// It takes about `n^2 * 2^n` steps for n riders, and memory once, for the table of costs. `NoMemory` comes for want of memory
+/// alone.
 pub fn solve_fares(alloc: Global, case: &FareCase) -> Result<FareDivision, NoMemory>
     requires { IsValidFareCase case.now }
     ensures { IfOk result (λ division. IsFareDivision case.now division) }
@@ -79,9 +75,8 @@ pub fn solve_fares(alloc: Global, case: &FareCase) -> Result<FareDivision, NoMem
     coalition_law();
     let count = case.at.len() as u8;
     let costs = costs(alloc, case)?;
-    let fares = fares_of(alloc, &costs, count)?;
     Ok(FareDivision {
-        fares,
+        fares: fares_of(&costs, count),
         total: costs.cost_of(all_riders(count)),
         route: costs.route(),
         costs,

@@ -3,7 +3,6 @@
 
 mod division;
 mod laws;
-mod sums;
 #[cfg(test)]
 mod tests;
 

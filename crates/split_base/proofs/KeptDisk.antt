@@ -22,6 +22,7 @@ acts_push (call.Wrote place count ∷ calls) bytes call more size =
     ∙ ap (λ (l : List Act). Wrote place (take count bytes) ∷ l) rest
 acts_push (call.Synced ∷ calls) bytes call more size = ap (λ (l : List Act). Synced ∷ l) (acts_push calls bytes call more size)
 
+-- how many bytes the calls have written with one call more
 pub bytes_push : (calls : List Call) (call : Call) → bytes_of (calls ++ call ∷ []) ≡ bytes_of calls + bytes_of (call ∷ [])
 bytes_push [] call = omega arith
 bytes_push (call.Wrote place count ∷ calls) call = omega (arith, bytes_push calls call)
@@ -43,6 +44,7 @@ state_push first calls new bytes whole more call act size bytes_is calls_is act_
     ∙ acts_push calls bytes call more size
     ∙ ap (λ (l : List Act). acts_of calls bytes ++ l) act_is
 
+-- the state after one act more
 pub state_after : (first : List ℕ) (acts new : List Act) (act : Act) → new ≡ acts ++ act ∷ [] → after_all (fresh first) new ≡ after (after_all (fresh first) acts) act
 state_after first acts new act is = ap (λ (l : List Act). after_all (fresh first) l) is ∙ after_push (fresh first) acts act
 
@@ -63,6 +65,7 @@ sync_rests d taken =
       };
     }
 
+-- after a sync there is one image, what a read gives
 pub sync_durable : (d : DiskState) (taken : ℕ) → Only (seen_of d) (images_at (after_act (after_call d) Synced taken))
 sync_durable d taken c image = subst (λ (s : State). images_of s c) (after_push (fresh d.first) d.acts Synced) image
 
@@ -71,11 +74,13 @@ pub written_is : (old bytes : List ℕ) (place : ℕ) → IsWritten old place by
 written_is old [] place = refl
 written_is old (b ∷ bytes) place = record { gap = replicate (place - length old) 0; gap_size = length-replicate {A = ℕ} (place - length old) 0; is = refl }
 
+-- the file after a write holds its bytes
 pub write_written : (d : DiskState) (place : ℕ) (bytes : List ℕ) (taken : ℕ) → IsWritten (seen_of d) place bytes (seen_of (after_act (after_call d) (Wrote place bytes) taken))
 write_written d place bytes taken =
     let s : state_of (after_act (after_call d) (Wrote place bytes) taken) ≡ after (state_of d) (Wrote place bytes) = after_push (fresh d.first) d.acts (Wrote place bytes) in
     subst (IsWritten (seen_of d) place bytes) (sym (ap (λ (s : State). s.seen) s)) (written_is (seen_of d) bytes place)
 
+-- what a crash may leave after a write is what it might have left before, torn by it or not
 pub write_tears : (d : DiskState) (place : ℕ) (bytes : List ℕ) (taken : ℕ) → MayTear images_at moment_of left_of place (length bytes) d (after_act (after_call d) (Wrote place bytes) taken)
 write_tears d place bytes taken = record {
   crash = λ c image. subst (λ (s : State). images_of s c) (after_push (fresh d.first) d.acts (Wrote place bytes)) image;
@@ -120,6 +125,7 @@ over_grown old bytes place end is =
         ap (λ (l : List ℕ). drop (place + length bytes) (old ++ l)) (none (end - length old) (omega (arith, is, within)))
         ∙ ap (λ (l : List ℕ). drop (place + length bytes) l) (append-nil old)
 
+-- a write of some bytes is a write over the file
 pub over_is_written : (old bytes : List ℕ) (place : ℕ) → 1 ≤ length bytes → over old place bytes ≡ written old place bytes
 over_is_written old [] place some = absurd (omega (arith, some))
 over_is_written old (b ∷ bytes) place some = refl

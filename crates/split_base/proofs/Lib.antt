@@ -1,3 +1,4 @@
 pub mod KnownBytes
 mod KeptDisk
 mod Replayed
+mod SameOutside

@@ -19,6 +19,7 @@ syncs [] = false
 syncs (Wrote place bytes ∷ acts) = syncs acts
 syncs (Synced ∷ acts) = true
 
+-- the acts have written as many bytes as their calls
 size_of_acts : (calls : List Call) (bytes : List ℕ) → bytes_of calls ≡ length bytes → size_of (acts_of calls bytes) ≡ length bytes
 unfolding size_of
 size_of_acts [] bytes is = is
@@ -45,6 +46,7 @@ total_synced s (Synced ∷ acts) one = behind (total_synced (after s Synced) act
     behind later true is = later is
     behind later false is = omega (arith, total_plain (after s Synced) acts is)
 
+-- without a sync, the bytes that are left go on top of the stable file
 plain : (s : State) (acts : List Act) (keep left : ℕ) → syncs acts ≡ false → left ≡ keep - total s.later
     → played (on_top s.stable s.later keep) acts left ≡ on_top (after_all s acts).stable (after_all s acts).later keep
 plain s [] keep left none is = refl
@@ -54,6 +56,7 @@ plain s (Wrote place bytes ∷ acts) keep left none is =
     ∙ plain (after s (Wrote place bytes)) acts keep (left - length bytes) none (omega (arith, is))
 plain s (Synced ∷ acts) keep left none is = absurd (cc none)
 
+-- with a sync among the acts, what comes before the last one is played whole
 synced : (s : State) (acts : List Act) (keep left : ℕ) → syncs acts ≡ true → left + total (after_all s acts).later ≡ size_of acts + keep
     → played s.seen acts left ≡ on_top (after_all s acts).stable (after_all s acts).later keep
 unfolding size_of
@@ -100,6 +103,7 @@ part_no_longer below seen (b ∷ bytes) place j le =
     written_fits below (take j (b ∷ bytes)) place (length (written seen place (b ∷ bytes))) (omega (arith, le, written_no_shorter seen (b ∷ bytes) place))
     (omega (arith, length-take j (b ∷ bytes), length_over seen (b ∷ bytes) place))
 
+-- what a crash leaves is no longer than what a read gives
 pub on_top_no_longer : (s : State) (acts : List Act) (keep : ℕ) → length (on_top s.stable s.later keep) ≤ length s.seen
     → length (on_top (after_all s acts).stable (after_all s acts).later keep) ≤ length (after_all s acts).seen
 on_top_no_longer s [] keep le = le

@@ -18,6 +18,12 @@ pub record IsTorn (place n : ℕ) (old new : List ℕ) : Type 0 where
   pub before : take place (take (length old) new) ≡ take place old
   pub after : drop (place + n) (take (length old) new) ≡ drop (place + n) old
 
+-- before this end, and outside a range of n bytes at the place, a read gives the same
+pub record IsSameOutside (place n end : ℕ) (old new : List ℕ) : Type 0 where
+  pub no_shorter : end ≤ length new
+  pub before : take place (take end new) ≡ take place (take end old)
+  pub after : drop (place + n) (take end new) ≡ drop (place + n) (take end old)
+
 -- each image after a step is an image of before, changed by that step
 abbrev pub Follows : (List ℕ → List ℕ → Type 0) → (List ℕ → Type 0) → (List ℕ → Type 0) → Type 0
 Follows step old new = (c : List ℕ) → new c → (d : List ℕ) × old d × step d c
@@ -33,6 +39,10 @@ Only file images = (c : List ℕ) → images c → c ≡ file
 -- each image has P
 abbrev pub Each : (List ℕ → Type 0) → (List ℕ → Type 0) → Type 0
 Each images P = (c : List ℕ) → images c → P c
+
+-- this is no further than the stable end: each image reaches it
+abbrev pub IsStableTo : (List ℕ → Type 0) → ℕ → Type 0
+IsStableTo images end = Each images (λ c. end ≤ length c)
 
 -- an image of before, torn by a write of n bytes at the place or not
 abbrev pub Tears : (List ℕ → Type 0) → ℕ → ℕ → List ℕ → Type 0

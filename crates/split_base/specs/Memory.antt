@@ -1,5 +1,5 @@
 -- What contracts see of the objects in memory, and what each call makes of it.
-use Rattle.std.specs.Prelude.{ℕ, ◌-◌, ◌^◌, List, [], ◌∷◌, ◌++◌, length, drop}
+use Rattle.std.specs.Prelude.{ℕ, ◌-◌, ◌^◌, List, [], ◌∷◌, ◌++◌, length, drop, Option, Some}
 pub use Rattle.split_base.specs.Faults.{counted}
 
 -- a source: the bytes that are left, the most bytes that each next call gives, the numbers of the calls that fail, and how many calls were made and have failed
@@ -17,6 +17,19 @@ pub record SinkState : Type 0 where
   pub fails : List ℕ
   pub calls : ℕ
   pub faults : ℕ
+
+-- a link: the source that it reads from and the sink that it writes to
+pub record LinkState : Type 0 where
+  pub input : SourceState
+  pub output : SinkState
+
+-- what the other side of a link tells of its source: the bytes that are left, and the faults
+abbrev pub source_side : LinkState → Option (List ℕ) × ℕ
+source_side link = (Some link.input.left, link.input.faults)
+
+-- what the other side of a link tells of its sink: the bytes that were written, and the faults
+abbrev pub sink_side : LinkState → Option (List ℕ) × ℕ
+sink_side link = (Some link.output.written, link.output.faults)
 
 -- the most bytes that the next call gives: any number where the list has ended
 abbrev pub next_piece : List ℕ → ℕ

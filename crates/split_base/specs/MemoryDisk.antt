@@ -1,6 +1,7 @@
 -- How a disk in memory keeps its calls.
 use Rattle.std.specs.Prelude.{◌≡◌, ◌+◌, ◌/◌, ◌≤◌, vec_len, vec_capacity}
 use Rattle.split_base.specs.declared.memory.disk.MemDisk.TheInside.{Inside}
+use Rattle.split_base.specs.declared.memory.disk.TheConstants.{CALL_SIZE}
 use Rattle.split_base.specs.Past.{DiskState, state_of, seen_of, total}
 use Rattle.split_base.specs.Replay.{acts_of, bytes_of}
 
@@ -24,4 +25,4 @@ pub record IsSound (d : Inside) : Type 0 where
   pub bytes : bytes_of d.acts.items ≡ vec_len d.bytes
   pub stable : d.stable + total (state_of (disk_view d)).later ≡ vec_len d.bytes
   pub bytes_room : vec_len d.bytes + d.list ≤ vec_capacity d.bytes
-  pub acts_room : vec_len d.acts + d.list / 32 ≤ vec_capacity d.acts
+  pub acts_room : vec_len d.acts + d.list / CALL_SIZE ≤ vec_capacity d.acts

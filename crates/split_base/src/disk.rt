@@ -1,7 +1,7 @@
 // A file as the journal sees it: what a read gives, and what a crash may leave of it.
 ghost use Rattle.std.specs.Prelude.{◌≡◌, ◌≤◌, ◌↔◌, ◌+◌, ◌-◌, ◌^◌, min, List, ℕ, length, take, drop, IfOk, OnOk};
 ghost use Rattle.split_base.specs.Faults.{HasCause};
-ghost use Rattle.split_base.specs.Disk.{Only, Each, Tears, IsWritten, LeavesOnly, Rests, MayTear};
+ghost use Rattle.split_base.specs.Disk.{Only, Each, Tears, IsWritten, IsSameOutside, IsStableTo, LeavesOnly, Rests, MayTear};
 
 use crate::Failed;
 
@@ -55,12 +55,13 @@ pub trait Disk {
     /// Writes the bytes at the place, over what is there and past the end.
     ///
     /// `Failed` comes only where the count of faults has risen. Until a sync, a crash may leave any
-    /// bytes in the range and past the stable end, also after `Failed`.
+    /// bytes in the range and past the stable end, also after `Failed`. Other bytes stay, for a read too.
     fn write_at(&mut self, place: u64, bytes: &[u8]) -> Result<(), Failed>
         ensures cause { HasCause (faults self.old) (faults self.new) result }
         ensures least { OnOk result (place + length bytes.now ≤ 2 ^ 63) }
         ensures honest { is_honest self.old ↔ is_honest self.new }
         ensures written { is_honest self.old → OnOk result (IsWritten (seen self.old) place bytes.now (seen self.new)) }
+        ensures stays { is_honest self.old → (end : ℕ) → IsStableTo (images self.old) end → IsSameOutside place (length bytes.now) end (seen self.old) (seen self.new) }
         ensures tears { is_honest self.old → MayTear images moment left_since place (length bytes.now) self.old self.new };
 
     /// Makes what a read gives stable: after it, a crash leaves that and nothing else.
@@ -86,13 +87,15 @@ pub trait Disk {
 /// Writes the bytes at the place and syncs: two calls of the disk.
 ///
 /// `Failed` comes only where the disk's count of faults has risen. A crash at any moment of it, and
-/// after it, leaves an image of before, with any bytes in the range and past the stable end. After
-/// `Ok` there is one image, which holds the bytes. It takes no memory.
+/// after it, leaves an image of before, with any bytes in the range and past the stable end; other
+/// bytes stay, for a read too. After `Ok` there is one image, which holds the bytes. It takes no
+/// memory.
 pub fn write_synced<D: Disk>(disk: &mut D, place: u64, bytes: &[u8]) -> Result<(), Failed>
     ensures cause { HasCause (D.faults disk.old) (D.faults disk.new) result }
     ensures least { OnOk result (place + length bytes.now ≤ 2 ^ 63) }
     ensures honest { D.is_honest disk.old ↔ D.is_honest disk.new }
     ensures written { D.is_honest disk.old → OnOk result (IsWritten (D.seen disk.old) place bytes.now (D.seen disk.new)) }
+    ensures stays { D.is_honest disk.old → (end : ℕ) → IsStableTo (D.images disk.old) end → IsSameOutside place (length bytes.now) end (D.seen disk.old) (D.seen disk.new) }
     ensures durable { D.is_honest disk.old → OnOk result (Only (D.seen disk.new) (D.images disk.new)) }
     ensures crash { D.is_honest disk.old → Each (D.images disk.new) (Tears (D.images disk.old) place (length bytes.now)) }
     ensures any_moment { D.is_honest disk.old → LeavesOnly D.moment D.left_since disk.old disk.new

@@ -1,13 +1,14 @@
 -- The value, sum, difference, order, ranges and text of fractions in lowest terms.
-use Rattle.std.specs.Prelude.{◌≡◌, ℕ, ℤ, pos, ◌+ℤ◌, ◌-ℤ◌, ◌*ℤ◌, ◌<ℤ◌, ◌≤ℤ◌, ◌*◌, ◌≤◌, ◌^◌, unsigned_abs, List, ◌∷◌, ◌++◌, ◌==◌, if◌then◌else◌}
+use Rattle.std.specs.Prelude.{◌≡◌, ℕ, ℤ, pos, ◌+ℤ◌, ◌-ℤ◌, ◌*ℤ◌, ◌<ℤ◌, ◌≤ℤ◌, ◌*◌, ◌≤◌, unsigned_abs, List, ◌∷◌, ◌++◌, ◌==◌, if◌then◌else◌}
 use Rattle.std.specs.Fmt.{decimal, signed_decimal}
 use Rattle.std.specs.declared.cmp.Ordering.{Ordering}
 use Rattle.std.specs.Ordering.{int_cmp}
+use Rattle.split_frac.specs.declared.limits.TheConstants.{MOST_DENOMINATOR, MOST_NUMERATOR}
 use Rattle.split_frac.specs.declared.frac.Frac.{Frac}
 
 -- the fraction as its numerator and denominator, as definitions that know no Frac compare it
-abbrev pub pair_of : Frac → ℤ × ℕ
-pair_of a = (a.num, a.den)
+abbrev pub fraction_of : Frac → ℤ × ℕ
+fraction_of a = (a.num, a.den)
 
 -- the fraction has the value num over den, for a den above 0, by cross products
 abbrev pub HasValue : Frac → ℤ → ℕ → Type 0
@@ -25,9 +26,9 @@ IsDifference a b c = HasValue c (a.num *ℤ pos b.den -ℤ b.num *ℤ pos a.den)
 abbrev pub IsFloor : Frac → ℤ → Type 0
 IsFloor a whole = ((whole *ℤ pos a.den) ≤ℤ a.num) × (a.num <ℤ ((whole +ℤ pos 1) *ℤ pos a.den))
 
--- the ranges that calls ask for: a numerator between -10^24 and 10^24, a denominator up to 4,000,000
+-- the ranges that calls ask for: a numerator as far from 0 as the greatest at most, a denominator up to the greatest
 abbrev pub IsWithin : Frac → Type 0
-IsWithin a = (unsigned_abs a.num ≤ 10 ^ 24) × (a.den ≤ 4000000)
+IsWithin a = (unsigned_abs a.num ≤ MOST_NUMERATOR) × (a.den ≤ MOST_DENOMINATOR)
 
 -- the order of the values of two fractions, by cross products
 abbrev pub frac_cmp : Frac → Frac → Ordering
@@ -39,4 +40,4 @@ pair_text number = if number.1 == 1 then signed_decimal number.0 else signed_dec
 
 -- the fraction in decimal
 abbrev pub frac_text : Frac → List ℕ
-frac_text a = pair_text (pair_of a)
+frac_text a = pair_text (fraction_of a)

@@ -1,6 +1,7 @@
 ghost use Rattle.std.specs.Prelude.{◌≡◌, ℕ, ℤ, pos, ◌+ℤ◌, ◌-ℤ◌, ◌*ℤ◌, ◌<ℤ◌, ◌≤ℤ◌, ◌*◌, ◌<◌, ◌≤◌, ◌^◌, unsigned_abs};
 ghost use Rattle.std.specs.Int.{IsGcd};
 ghost use Rattle.std.specs.Int.RustNames.{int_div};
+ghost use Rattle.split_frac.specs.declared.limits.TheConstants.{MOST_DENOMINATOR, MOST_NUMERATOR};
 ghost use Rattle.split_frac.specs.Frac.{HasValue, IsSum, IsDifference, IsFloor, IsWithin, frac_cmp};
 
 use crate::frac::Frac;
@@ -11,9 +12,9 @@ use std::cmp::Ordering;
 /// Asks for a numerator between -10^24 and 10^24 and a denominator from 1 to 4,000,000, and
 /// answers a fraction in these ranges.
 pub fn make(num: i128, den: u64) -> Frac
-    requires num { unsigned_abs num ≤ 10 ^ 24 }
+    requires num { unsigned_abs num ≤ MOST_NUMERATOR }
     requires den_low { 0 < den }
-    requires den_high { den ≤ 4000000 }
+    requires den_high { den ≤ MOST_DENOMINATOR }
     ensures value { HasValue result num den }
     ensures within { IsWithin result }
 {
@@ -88,10 +89,10 @@ pub fn rem(a: &Frac) -> Frac
 
 /// A numerator times a denominator: a product too small to overflow a sum of two.
 fn scaled(num: i128, den: u64) -> i128
-    requires num { unsigned_abs num ≤ 10 ^ 24 }
-    requires den { den ≤ 4000000 }
+    requires num { unsigned_abs num ≤ MOST_NUMERATOR }
+    requires den { den ≤ MOST_DENOMINATOR }
     ensures value { result ≡ num *ℤ pos den }
-    ensures size { unsigned_abs result ≤ 4 * 10 ^ 30 }
+    ensures size { unsigned_abs result ≤ MOST_NUMERATOR * MOST_DENOMINATOR }
 {
     num * den as i128
 }
@@ -119,8 +120,10 @@ fn quotient(num: i128, divisor: u64) -> i128
     num / divisor as i128
 }
 
-/// The greatest common divisor, by Euclid's algorithm.
-fn gcd(a: u128, b: u64) -> u64
+/// The greatest common divisor of two numbers, by Euclid's algorithm (Elements, book VII).
+///
+/// Asks for a second number above 0.
+pub fn gcd(a: u128, b: u64) -> u64
     requires { 0 < b }
     ensures gcd { IsGcd a b result }
     ensures positive { 0 < result }

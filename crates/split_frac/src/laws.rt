@@ -3,7 +3,7 @@ ghost use Rattle.std.specs.Prelude.{◌≡◌, ◌↔◌, ℕ, ℤ, pos, ◌+ℤ
 ghost use Rattle.std.specs.Int.{◌∣◌};
 ghost use Rattle.std.specs.Ordering.{ordering_reverse};
 ghost use Rattle.std.specs.declared.cmp.Ordering.TheVariants.{Less, Equal};
-ghost use Rattle.split_frac.specs.Frac.{HasValue, IsSum, IsDifference, IsFloor, frac_cmp, pair_of};
+ghost use Rattle.split_frac.specs.Frac.{HasValue, IsSum, IsDifference, IsFloor, frac_cmp, fraction_of};
 ghost use Rattle.split_frac.specs.declared.frac.Frac.{Frac};
 
 /// Each value has one fraction: two fractions whose cross products agree are equal, and so are two
@@ -11,7 +11,7 @@ ghost use Rattle.split_frac.specs.declared.frac.Frac.{Frac};
 /// denominator divides theirs, and its numerator is no greater.
 pub fn value_law()
     ensures value { (a b : Frac) → a.num *ℤ pos b.den ≡ b.num *ℤ pos a.den → a ≡ b }
-    ensures pair { (a b : Frac) → pair_of a ≡ pair_of b → a ≡ b }
+    ensures pair { (a b : Frac) → fraction_of a ≡ fraction_of b → a ≡ b }
     ensures divides { (a : Frac) (num : ℤ) (den : ℕ) → HasValue a num den → a.den ∣ den }
     ensures size { (a : Frac) (num : ℤ) (den : ℕ) → 0 < den → HasValue a num den → unsigned_abs a.num ≤ unsigned_abs num }
 {}

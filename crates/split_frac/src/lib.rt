@@ -4,9 +4,10 @@
 mod arithmetic;
 mod frac;
 mod laws;
+pub mod limits;
 mod printing;
 
-pub use arithmetic::{add, compare, floor, make, rem, sub};
+pub use arithmetic::{add, compare, floor, gcd, make, rem, sub};
 pub use frac::Frac;
 pub use laws::{floor_law, order_law, parts_law, sum_law, value_law};
 pub use printing::{NoMemory, text};

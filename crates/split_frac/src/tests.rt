@@ -82,3 +82,11 @@ fn floors_and_remainders(rt: HostRuntime) -> Result<(), Fail> {
     }
     Ok(())
 }
+
+#[test]
+fn greatest_common_divisors(rt: HostRuntime) -> Result<(), Fail> {
+    assert_eq!(rt; gcd(84, 36), 12);
+    assert_eq!(rt; gcd(0, 7), 7);
+    assert_eq!(rt; gcd(35, 12), 1);
+    Ok(())
+}

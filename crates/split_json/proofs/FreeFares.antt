@@ -16,11 +16,12 @@ All-parts f P (x ∷ xs) all = All-append P (f x) (flat_map f xs) (all 0 x (omeg
 abbrev row : ℕ → ArrayVec ℕ
 row places = record { items = replicate places 0 }
 
+-- fares without costs are checked exactly where the counts and the flag fall are within their limits
 pub free_fares-checked : (members places flag : ℕ) → IsCheckedFacts (free_fares members places flag)
     ↔ ((FEWEST_MEMBERS ≤ members) × (members ≤ MOST_RIDERS) × (1 ≤ places) × (places ≤ MOST_PLACES) × (flag ≤ MOST_FARE_CENTS))
 unfolding free_fares
 free_fares-checked members places flag = (
-  λ checked. (checked.shape.members_low, checked.shape.members_high, checked.shape.places_low, checked.shape.places_high, All-head (λ cents. cents ≤ MOST_FARE_CENTS) flag _ checked.million),
+  λ checked. (checked.shape.members_low, checked.shape.members_high, checked.shape.places_low, checked.shape.places_high, All-head (λ cents. cents ≤ MOST_FARE_CENTS) flag _ checked.cents),
   λ within. record {
     shape = record {
       members_low = within.0;
@@ -29,7 +30,7 @@ free_fares-checked members places flag = (
       places_high = within.3;
       table = record { rows = length-replicate (places + 1) (row places); columns = All-replicate (λ one. length one.items ≡ places) (places + 1) (row places) (length-replicate places 0) };
     };
-    million = All-cons (λ cents. cents ≤ MOST_FARE_CENTS) flag _ within.4
+    cents = All-cons (λ cents. cents ≤ MOST_FARE_CENTS) flag _ within.4
         (All-parts (λ one. one.items) (λ cents. cents ≤ MOST_FARE_CENTS) (replicate (places + 1) (row places))
         (All-replicate (λ one. All (λ cents. cents ≤ MOST_FARE_CENTS) one.items) (places + 1) (row places) (All-replicate (λ cents. cents ≤ MOST_FARE_CENTS) places 0 (omega arith))));
     own_legs = λ place low high.

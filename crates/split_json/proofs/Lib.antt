@@ -1,5 +1,6 @@
-pub mod Bodies
 pub mod FreeFares
+pub mod JsonValues
 pub mod Lists
 pub mod ReadyCases
+pub mod ReadyCreations
 pub mod WrittenBids

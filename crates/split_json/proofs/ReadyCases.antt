@@ -13,7 +13,8 @@ use Rattle.bid_rules.specs.declared.bids.Facts.{Facts}
 use Rattle.bid_rules.specs.declared.limits.TheConstants.{ITEM_ROOM, MEMBER_ROOM, MOST_GOODS, MOST_PLACES, MOST_RENT, PLACE_ROOM, USUAL_STEPS}
 use Rattle.bid_rules.specs.Decisions.{Decision, holds, fails, is_checked_bid, is_checked_facts, where_holds}
 use Rattle.bid_rules.specs.Facts.{IsCheckedBid, IsCheckedFacts, member_count}
-use Rattle.split_json.specs.Rules.{allowed_bid, bid_in, bids_in, each, elements, entry_in, is_within, json_of, kind_in, legs_in, list_in, listed, name_in, names_in, number_in, passing, written_bid}
+use Rattle.sealed_core.specs.Rules.{allowed_bid}
+use Rattle.split_json.specs.Rules.{bid_in, bids_in, each, elements, entry_in, is_within, json_of, kind_in, legs_in, list_in, listed, name_in, names_in, number_in, passing, written_bid}
 use Rattle.split_json.specs.Reading.{CaseData, HeadData, IsReady, IsReadyHead, allowed, answer_of, case_in, case_of_object, fares_head, field_text, free_fares, goods_head, head_of_object, held, held_or, item_count, rent_head, rest_of_head, goods_facts, rent_facts, fares_facts, ◌>>=◌}
 use Rattle.sealed_core.specs.declared.fields.FieldName.{FieldName}
 use Rattle.sealed_core.specs.declared.fields.FieldName.TheVariants as field
@@ -22,32 +23,32 @@ use Rattle.split_json.specs.declared.rules.Kind.TheVariants as kind
 use Rattle.sealed_core.specs.declared.fields.BodyFault.TheVariants.{Field}
 
 -- where a decision lets x pass, the fact holds
-passed : {A : Type 0} (P : Type 0) (decision : Decision P) (x y : A) → where_holds P decision x ≡ Some y → P × (x ≡ y)
+pub passed : {A : Type 0} (P : Type 0) (decision : Decision P) (x y : A) → where_holds P decision x ≡ Some y → P × (x ≡ y)
 passed P (holds p) x y h = (p, cc h)
 passed P (fails not) x y h = cc h
 
 -- an option that gave a value
-given-ok : {A E : Type 0} (o : Option A) (error : E) (x : A) → ok_or o error ≡ Ok x → o ≡ Some x
+pub given-ok : {A E : Type 0} (o : Option A) (error : E) (x : A) → ok_or o error ≡ Ok x → o ≡ Some x
 given-ok None error x h = cc h
 given-ok (Some y) error x h = cc h
 
 -- a choice that gave a value
-chosen-some : {A : Type 0} (b : Bool) (x y : A) → (if b then Some x else None) ≡ Some y → (b ≡ true) × (x ≡ y)
+pub chosen-some : {A : Type 0} (b : Bool) (x y : A) → (if b then Some x else None) ≡ Some y → (b ≡ true) × (x ≡ y)
 chosen-some true x y h = (refl, cc h)
 chosen-some false x y h = cc h
 
 -- a value that was mapped
-option_map-some : {A B P : Type 0} (f : A → B) (o : Option A) (y : B) → option_map f o ≡ Some y → ((x : A) → o ≡ Some x → f x ≡ y → P) → P
+pub option_map-some : {A B P : Type 0} (f : A → B) (o : Option A) (y : B) → option_map f o ≡ Some y → ((x : A) → o ≡ Some x → f x ≡ y → P) → P
 option_map-some f None y h next = cc h
 option_map-some f (Some x) y h next = next x refl (cc h)
 
 -- two tests of which both gave a value
-both-ok : {A B P : Type 0} (first : Result A FieldName) (next : A → Result B FieldName) (y : B) → (first >>= next) ≡ Ok y → ((x : A) → first ≡ Ok x → next x ≡ Ok y → P) → P
+pub both-ok : {A B P : Type 0} (first : Result A FieldName) (next : A → Result B FieldName) (y : B) → (first >>= next) ≡ Ok y → ((x : A) → first ≡ Ok x → next x ≡ Ok y → P) → P
 both-ok (Ok x) next y h and_so = and_so x refl h
 both-ok (Err name) next y h and_so = cc h
 
 -- the value of a field that keeps its rule
-held-ok : {A P : Type 0} (name : FieldName) (rule : Data → Option A) (body : Data) (x : A) → held name rule body ≡ Ok x → ((d : Data) → rule d ≡ Some x → P) → P
+pub held-ok : {A P : Type 0} (name : FieldName) (rule : Data → Option A) (body : Data) (x : A) → held name rule body ≡ Ok x → ((d : Data) → rule d ≡ Some x → P) → P
 held-ok name rule body x h next =
     option_and_then_some rule (get (field_text name) body) x (given-ok (option_and_then rule (get (field_text name) body)) name x h) (λ d found kept. next d kept)
 
@@ -103,6 +104,7 @@ allowed-ready name title members items given head each_member each_item h =
     let ready : IsReadyHead (record { title = title; members = members; items = items; facts = given }) = record { facts = checked.0; members = each_member; items = each_item } in
     subst IsReadyHead (cc is) (subst (λ (f : Facts). IsReadyHead (record { title = title; members = members; items = items; facts = f })) checked.1 ready))
 
+-- the head of a rent is ready
 rent_head-ready : (title : List ℕ) (body : Data) (head : HeadData) → rent_head title body ≡ Ok head → IsReadyHead head
 unfolding rent_head
 rent_head-ready title body head h =
@@ -113,6 +115,7 @@ rent_head-ready title body head h =
     held-ok field.Rooms (names_in (length members) (length members)) body rooms rooms_held (λ value kept.
     allowed-ready field.Rent title members rooms (rent_facts (length members) rent) head refl (list_in-some name_in (λ _. ⊤) (λ _ _ _. tt) (length members) value rooms kept).0 after_rent)))))
 
+-- that of goods is
 goods_head-ready : (title : List ℕ) (body : Data) (head : HeadData) → goods_head title body ≡ Ok head → IsReadyHead head
 unfolding goods_head
 goods_head-ready title body head h =
@@ -123,6 +126,7 @@ goods_head-ready title body head h =
     both-ok (held_or USUAL_STEPS field.Limit number_in body) _ head more (λ limit _ after_limit.
     allowed-ready field.Limit title members goods (goods_facts (length members) (length goods) limit) head refl refl after_limit)))))
 
+-- that of fares is
 fares_head-ready : (title : List ℕ) (body : Data) (head : HeadData) → fares_head title body ≡ Ok head → IsReadyHead head
 unfolding fares_head
 fares_head-ready title body head h =
@@ -167,7 +171,7 @@ case_of_object-ready body case h =
     subst IsReady (cc is) ready)))
 
 -- an answer that was mapped
-answer-ok : {A B E F P : Type 0} (f : A → B) (g : E → F) (r : Result A E) (y : B) → result_map_both f g r ≡ Ok y → ((x : A) → r ≡ Ok x → f x ≡ y → P) → P
+pub answer-ok : {A B E F P : Type 0} (f : A → B) (g : E → F) (r : Result A E) (y : B) → result_map_both f g r ≡ Ok y → ((x : A) → r ≡ Ok x → f x ≡ y → P) → P
 answer-ok f g (Ok x) y h next = next x refl (cc h)
 answer-ok f g (Err e) y h next = cc h
 

@@ -11,7 +11,8 @@ use Rattle.bid_rules.specs.declared.bids.Facts.TheVariants as facts
 use Rattle.bid_rules.specs.declared.limits.TheConstants.{ITEM_ROOM}
 use Rattle.bid_rules.specs.Decisions.{Decision, holds, fails, is_checked_bid, where_holds}
 use Rattle.bid_rules.specs.Facts.{IsCheckedBid, IsCheckedFacts}
-use Rattle.split_json.specs.Rules.{allowed_bid, bid_in, each, is_within, listed, number_in, values_in, whole_number}
+use Rattle.sealed_core.specs.Rules.{allowed_bid}
+use Rattle.split_json.specs.Rules.{bid_in, each, is_within, listed, number_in, values_in, whole_number}
 use Rattle.split_json.proofs.ReadyCases.{bid_in-some, each-some}
 
 -- a checked bid passes
@@ -46,8 +47,10 @@ values-read (facts.Goods goods) value list values sound found read checked =
     rw (numbers-read value list values found read (omega (arith, checked.0, sound.counts.3))) (passes (facts.Goods goods) (bid.Values values) checked)
 values-read (facts.Fares fares) value list values sound found read checked = absurd checked
 
+-- under checked facts a whole number is a bid exactly where it is a checked place
 pub place-iff : (given : Facts) (value : Data) (place : ℕ) → IsCheckedFacts given → whole_number value ≡ Some place → (bid_in given value ≡ Some (bid.Place place)) ↔ IsCheckedBid given (bid.Place place)
 place-iff given value place sound number = (bid_in-some given value (bid.Place place), place-read given value place sound number)
 
+-- and a list of numbers exactly where they are checked values or points
 pub values-iff : (given : Facts) (value : Data) (list : List Data) (values : ArrayVec ℕ) → IsCheckedFacts given → listed value ≡ Some list → each number_in list ≡ Some values.items → (bid_in given value ≡ Some (bid.Values values)) ↔ IsCheckedBid given (bid.Values values)
 values-iff given value list values sound found read = (bid_in-some given value (bid.Values values), values-read given value list values sound found read)

@@ -1,2 +1,4 @@
+pub mod Bodies
+pub mod Deadlines
 pub mod Reading
 pub mod Rules

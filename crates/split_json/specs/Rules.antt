@@ -1,6 +1,6 @@
--- What the fields of a body hold, by form: texts, whole numbers and lists. Which of these make checked facts and bids is said by `bid_rules`.
-use Rattle.std.specs.Prelude.{ℕ, ◌==◌, ◌&&◌, nat_le, nat_lt, not, Bool, if◌then◌else◌, List, [], ◌∷◌, length, codes, bytes_eq, Option, Some, None, is_some, option_map, option_and_then}
-use Rattle.std.specs.List.{list_all}
+-- What the fields of a body hold, by form: texts, whole numbers and lists. Which texts are names is said by `sealed_core`, and which of
+-- these make checked facts and bids by `bid_rules`.
+use Rattle.std.specs.Prelude.{ℕ, ◌&&◌, nat_le, Bool, if◌then◌else◌, List, [], ◌∷◌, length, codes, bytes_eq, Option, Some, None, is_some, option_map, option_and_then}
 use Rattle.std.specs.Str.{is_utf8}
 use Rattle.serde_json.specs.Data.{Data, Items, no_items, item}
 use Rattle.serde_json.specs.Read.{read}
@@ -10,23 +10,15 @@ use Rattle.bid_rules.specs.declared.bids.Bid.{Bid}
 use Rattle.bid_rules.specs.declared.bids.Bid.TheVariants as bid
 use Rattle.bid_rules.specs.declared.bids.Facts.{Facts}
 use Rattle.bid_rules.specs.declared.bids.Facts.TheVariants as facts
-use Rattle.bid_rules.specs.declared.limits.TheConstants.{ITEM_ROOM, LEG_ROW_ROOM, LONGEST_NAME, PLACE_ROOM}
-use Rattle.bid_rules.specs.Decisions.{is_checked_bid, where_holds}
-use Rattle.bid_rules.specs.Facts.{IsCheckedBid, member_count}
+use Rattle.bid_rules.specs.declared.limits.TheConstants.{ITEM_ROOM, LEG_ROW_ROOM, PLACE_ROOM}
+use Rattle.bid_rules.specs.Facts.{member_count}
+use Rattle.sealed_core.specs.Rules.{allowed_bid, is_name}
 use Rattle.split_json.specs.declared.rules.Kind.{Kind}
 use Rattle.split_json.specs.declared.rules.Kind.TheVariants as kind
 
 -- the JSON value (RFC 8259) that the bytes are, if they are UTF-8 and serde_json reads them: at most 127 levels, each number within f64
 abbrev pub json_of : List ℕ → Option Data
 json_of body = if is_utf8 body then read body else None
-
--- a byte that is no ASCII control character
-abbrev pub is_plain : ℕ → Bool
-is_plain byte = nat_le 32 byte && not (byte == 127)
-
--- a name: not empty, not too long, without ASCII control characters
-abbrev pub is_name : List ℕ → Bool
-is_name text = nat_lt 0 (length text) && nat_le (length text) LONGEST_NAME && list_all is_plain text
 
 -- the value, where it passes the test
 abbrev pub passing : {A : Type 0} → (A → Bool) → A → Option A
@@ -115,10 +107,6 @@ abbrev pub written_bid : Facts → Data → Option Bid
 written_bid (facts.Rent rent) d = values_in d
 written_bid (facts.Goods goods) d = values_in d
 written_bid (facts.Fares fares) d = option_map bid.Place (place_in d)
-
--- a bid, where the facts allow it
-unfoldable pub allowed_bid : Facts → Bid → Option Bid
-allowed_bid given one = where_holds (IsCheckedBid given one) (is_checked_bid given one) one
 
 -- a written bid that the facts allow
 abbrev pub bid_in : Facts → Data → Option Bid

@@ -5,6 +5,7 @@ ghost use Rattle.serde_json.specs.View.{view};
 ghost use Rattle.split_json.specs.Rules.{json_of};
 ghost use Rattle.split_json.specs.Reading.{IsReady, case_in, case_of_object, shown};
 
+use crate::bodies::parsed;
 use crate::heads::head_of_object;
 use crate::held::bids_of;
 use crate::input::CaseInput;
@@ -23,13 +24,12 @@ pub fn read_case(alloc: Global, body: &[u8]) -> Result<Result<CaseInput, BodyFau
     ensures json { IfOk result (λ answer. (answer ≡ Err BodyFault.Json) ↔ (json_of body.now ≡ None)) }
     ensures checked { IfOk result (λ answer. IfOk answer (λ input. IsReady (shown input))) }
 {
-    match Value::from_slice(alloc, body) {
-        Ok(value) => match case_of_object(&value) {
-            Ok(input) => Ok(Ok(input)),
-            Err(name) => Ok(Err(BodyFault::Field { name })),
-        },
-        Err(error) if error.is_memory() => Err(NoMemory),
-        Err(_) => Ok(Err(BodyFault::Json)),
+    let Some(value) = parsed(alloc, body)? else {
+        return Ok(Err(BodyFault::Json));
+    };
+    match case_of_object(&value) {
+        Ok(input) => Ok(Ok(input)),
+        Err(name) => Ok(Err(BodyFault::Field { name })),
     }
 }
 

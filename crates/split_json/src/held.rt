@@ -16,7 +16,7 @@ use sealed_core::{FieldName, Name};
 use serde_json::Value;
 
 // What the body holds in the field.
-fn value_of(body: &Value, name: FieldName) -> Option<&Value>
+pub(crate) fn value_of(body: &Value, name: FieldName) -> Option<&Value>
     ensures { option_map (λ value. view value.now) result ≡ get (field_text name) (view body.now) }
 {
     body.get(name.name())

@@ -23,7 +23,8 @@ pub fn head_law()
 {}
 
 /// The form of a bid refuses none that the rules allow. Under checked facts a whole number is a bid exactly where it is a checked
-/// place, and a list of whole numbers below 2^32 exactly where they are checked values or points.
+/// place, and a list of whole numbers below 2^32 exactly where they are checked values or points. The facts are asked to be checked since
+/// the form has the room of checked facts alone: a bid of more entries or a greater place is refused before the rule is asked.
 pub fn field_rules_law()
     ensures places { (facts : Facts) (value : Data) (place : ℕ) → IsCheckedFacts facts → whole_number value ≡ Some place
         → (bid_in facts value ≡ Some (Bid.Place place)) ↔ IsCheckedBid facts (Bid.Place place) }

@@ -1,14 +1,13 @@
 // The rules of the fields, over the JSON values that they hold.
 ghost use Rattle.std.specs.Prelude.{◌≡◌, ◌≤◌, length, map, IfSome, option_map};
-ghost use Rattle.std.specs.List.{list_all};
 ghost use Rattle.serde_json.specs.View.{view};
-ghost use Rattle.bid_rules.specs.Facts.{IsCheckedFacts, member_count};
-ghost use Rattle.split_json.specs.Rules.{allowed_bid, bid_in, bids_in, each, elements, entry_in, is_name, is_plain, is_within, kind_in, kind_named, legs_in, name_in, names_in, number_in, numbers_in, place_in, row_in, whole_in, written_bid};
+ghost use Rattle.bid_rules.specs.Facts.{IsCheckedFacts};
+ghost use Rattle.split_json.specs.Rules.{bid_in, bids_in, each, elements, entry_in, is_within, kind_in, kind_named, legs_in, name_in, names_in, number_in, numbers_in, place_in, row_in, whole_in, written_bid};
 
 use arrayvec::ArrayVec;
-use bid_rules::limits::{LEG_ROW_ROOM, LONGEST_NAME, LegRow, Legs, MEMBER_ROOM};
-use bid_rules::{Bid, Facts, check_bid};
-use sealed_core::Name;
+use bid_rules::limits::{LEG_ROW_ROOM, LegRow, Legs, MEMBER_ROOM};
+use bid_rules::{Bid, Facts};
+use sealed_core::{Name, allowed_bid, is_name, member_count};
 use serde_json::Value;
 
 /// The kinds of case.
@@ -34,26 +33,6 @@ pub(crate) fn kind_in(value: &Value) -> Option<Kind>
     ensures { result ≡ kind_in (view value.now) }
 {
     kind_named(value.as_str()?)
-}
-
-// No control character of ASCII.
-fn is_plain(byte: u8) -> bool
-    ensures { result ≡ is_plain byte }
-{
-    byte >= 32 && byte != 127
-}
-
-fn has_plain_bytes(text: &str) -> bool
-    ensures { result ≡ list_all is_plain text.now }
-{
-    text.as_bytes().iter().all(|byte| is_plain(*byte))
-}
-
-fn is_name(text: &str) -> bool
-    ensures { result ≡ is_name text.now }
-{
-    let has_length = !text.is_empty() && text.len() <= LONGEST_NAME;
-    has_length && has_plain_bytes(text)
 }
 
 pub(crate) fn name_in(value: &Value) -> Option<Name>
@@ -83,7 +62,7 @@ pub(crate) fn number_in(value: &Value) -> Option<u32>
 }
 
 // The number of a place.
-fn place_in(value: &Value) -> Option<u8>
+pub(crate) fn place_in(value: &Value) -> Option<u8>
     ensures { result ≡ place_in (view value.now) }
 {
     let place = whole_in(value, u64::from(u8::MAX))?;
@@ -147,7 +126,7 @@ fn each_number<const N: usize>(list: &[Value]) -> Option<ArrayVec<u32, N>>
 }
 
 // A list of numbers, as many as there is room for.
-fn numbers_in<const N: usize>(value: &Value) -> Option<ArrayVec<u32, N>>
+pub(crate) fn numbers_in<const N: usize>(value: &Value) -> Option<ArrayVec<u32, N>>
     ensures { option_map (λ numbers. numbers.items) result ≡ numbers_in N (view value.now) }
 {
     each_number(elements(value, 0, N)?)
@@ -187,23 +166,11 @@ fn written_bid(value: &Value, facts: &Facts) -> Option<Bid>
     }
 }
 
-#[tactic(auto, unfolding(crate::specs::Rules::allowed_bid))]
-fn allowed_bid(bid: Bid, facts: &Facts) -> Option<Bid>
-    requires { IsCheckedFacts facts.now }
-    ensures { result ≡ allowed_bid facts.now bid }
-{
-    if check_bid(facts, &bid).is_ok() {
-        Some(bid)
-    } else {
-        None
-    }
-}
-
 fn bid_in(value: &Value, facts: &Facts) -> Option<Bid>
     requires { IsCheckedFacts facts.now }
     ensures { result ≡ bid_in facts.now (view value.now) }
 {
-    allowed_bid(written_bid(value, facts)?, facts)
+    allowed_bid(facts, written_bid(value, facts)?)
 }
 
 // An entry of the bids: null where the member hasn't bid.
@@ -227,18 +194,6 @@ fn each_bid(list: &[Value], facts: &Facts) -> Option<ArrayVec<Option<Bid>, MEMBE
         bids.push(entry_in(item, facts)?);
     }
     Some(bids)
-}
-
-fn member_count(facts: &Facts) -> usize
-    requires { IsCheckedFacts facts.now }
-    ensures count { result ≡ member_count facts.now }
-    ensures few { result ≤ MEMBER_ROOM }
-{
-    match facts {
-        Facts::Rent(rent) => usize::from(rent.members),
-        Facts::Goods(goods) => usize::from(goods.members),
-        Facts::Fares(fares) => usize::from(fares.members),
-    }
 }
 
 pub(crate) fn bids_in(value: &Value, facts: &Facts) -> Option<ArrayVec<Option<Bid>, MEMBER_ROOM>>

@@ -28,7 +28,7 @@ same_values whole k some (x ∷ xs) (a ∷ fs) [] h g = absurd g
 same_values whole k some (x ∷ xs) (a ∷ fs) (b ∷ gs) h g = (same_value a b (whole x) k some h.0 g.0, same_values whole k some xs fs gs h.1 g.1)
 
 -- the sum of two quotients
-sum_of_two : (a b : Fraction) (u v : ℤ) (k : ℕ) → IsQuotient a u k → IsQuotient b v k → IsQuotient (fraction_sum a b) (u +ℤ v) k
+pub sum_of_two : (a b : Fraction) (u v : ℤ) (k : ℕ) → IsQuotient a u k → IsQuotient b v k → IsQuotient (fraction_sum a b) (u +ℤ v) k
 sum_of_two a b u v k h g =
     let some : 0 < a.1 * b.1 = (let x = h.0 in let y = g.0 in grind arith) in
     let other : b.1 * a.1 ≡ a.1 * b.1 = omega arith in (

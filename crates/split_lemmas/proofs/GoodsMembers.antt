@@ -1,11 +1,10 @@
 -- How many members there are takes no part in what is said of players and goods, and players are no more than members can be.
-use Rattle.std.proofs.Common.{◌≡◌, ℕ, zero, suc, ◌+◌, ◌<◌, ◌≤◌, get_or, List, [], ◌∷◌, length, map, cond, nat_le, ◌==◌, All, arith, refl, sym, ap, ◌∙◌, subst}
+use Rattle.std.proofs.Common.{◌≡◌, ℕ, ◌+◌, ◌≤◌, List, [], ◌∷◌, length, map, cond, nat_le, ◌==◌, arith, refl, ap, ◌∙◌}
 use Rattle.std.specs.List.{range_with_len}
-use Rattle.std.specs.List.Sorted.{IsStrictlyIncreasing}
 use Rattle.bid_rules.specs.declared.goods.GoodsCase.{GoodsCase}
-use Rattle.bid_rules.specs.declared.pair.Pair.{Pair}
 use Rattle.bid_rules.specs.Goods.{GoodsBest, IsValidGoodsCase, greatest_points, order_of, pair_of, IsBehind, player_count, points, put_in, sorted_goods, utilities, utility, with_members}
-use Rattle.bid_rules.specs.Pairs.{IsLess, nash_welfare}
+use Rattle.bid_rules.specs.Pairs.{nash_welfare}
+use Rattle.split_lemmas.proofs.ListPlaces.{rising_few}
 
 -- a good is put in at the same place
 put_in_same : (case : GoodsCase) (m n good : ℕ) (goods : List ℕ) → put_in (with_members case m) good goods ≡ put_in (with_members case n) good goods
@@ -13,6 +12,7 @@ put_in_same case m n good [] = refl
 put_in_same case m n good (other ∷ others) =
     ap (λ xs. cond (nat_le (greatest_points (with_members case m) other) (greatest_points (with_members case m) good)) (good ∷ other ∷ others) (other ∷ xs)) (put_in_same case m n good others)
 
+-- sorted goods are the same
 sorted_same : (case : GoodsCase) (m n : ℕ) (goods : List ℕ) → sorted_goods (with_members case m) goods ≡ sorted_goods (with_members case n) goods
 sorted_same case m n [] = refl
 sorted_same case m n (good ∷ goods) = put_in_same case m n good (sorted_goods (with_members case m) goods) ∙ ap (put_in (with_members case n) good) (sorted_same case m n goods)
@@ -21,6 +21,7 @@ sorted_same case m n (good ∷ goods) = put_in_same case m n good (sorted_goods 
 pub order_same : (case : GoodsCase) (m n : ℕ) → order_of (with_members case m) ≡ order_of (with_members case n)
 order_same case m n = sorted_same case m n (range_with_len 1 case.facts.goods)
 
+-- a player's utility of some goods is the same
 utility_same : (case : GoodsCase) (m n player : ℕ) (goods owners : List ℕ) → utility (with_members case m) player goods owners ≡ utility (with_members case n) player goods owners
 utility_same case m n player [] owners = refl
 utility_same case m n player (good ∷ goods) [] = refl
@@ -56,22 +57,6 @@ best_same case m n answer best = record {
     behind : (others : List ℕ) → IsBehind (with_members case m) others answer → IsBehind (with_members case n) others answer
     behind others h = rw (pair_same case n m others, pair_same case n m answer) h
 
-rises_by_one : (xs : List ℕ) → IsStrictlyIncreasing xs → All (λ x. 1 ≤ x) xs → (k : ℕ) → k < length xs → k + 1 ≤ get_or xs k 0
-rises_by_one xs rising low zero l = low 0 0 l
-rises_by_one xs rising low (suc k) l =
-    let before = rises_by_one xs rising low k (omega arith) in
-    let next = rising k (omega arith) in
-    let e : suc k ≡ k + 1 = omega arith in
-    let here : get_or xs k 0 < get_or xs (k + 1) 0 = next in
-    subst (λ j. j + 1 ≤ get_or xs j 0) (sym e) (omega (arith, before, here))
-
 -- there are no more players than members
 pub players_few : (case : GoodsCase) → IsValidGoodsCase case → player_count case ≤ case.facts.members
-players_few case valid = at (length case.who.items) refl
-  where
-    at : (n : ℕ) → n ≡ length case.who.items → player_count case ≤ case.facts.members
-    at zero e = omega (arith, e, valid.each)
-    at (suc n) e =
-        let last = rises_by_one case.who.items valid.rising (λ k d l. (valid.members k d l).0) n (omega (arith, e)) in
-        let most = (valid.members n 0 (omega (arith, e))).1 in
-        omega (arith, e, last, most, valid.each)
+players_few case valid = omega (arith, valid.each, rising_few case.who.items case.facts.members valid.rising valid.members)

@@ -1,10 +1,12 @@
 pub mod CompleteOrders
 pub mod Counts
 pub mod DistinctOrders
+pub mod Factorials
 pub mod FractionLaws
 pub mod GoodsMembers
 pub mod ListOrder
 pub mod ListPlaces
+pub mod Multiples
 pub mod OrderLaws
 pub mod PairOrder
 pub mod PartLaws
@@ -13,6 +15,7 @@ pub mod PriceLists
 pub mod RangePermutations
 pub mod RangeSteps
 pub mod RenamedOrders
+pub mod RiderPlaces
 pub mod RoomPlaces
 pub mod SignedProducts
 pub mod SignedSums

@@ -1,8 +1,10 @@
 -- Lists that are made and compared place by place.
-use Rattle.std.proofs.Common.{◌≡◌, ℕ, ℤ, pos, suc, zero, ◌+◌, ◌<◌, ◌≤◌, List, [], ◌∷◌, ◌++◌, length, map, get_or, arith, refl, sym, ◌∙◌, subst, ⊎_elim}
+use Rattle.std.proofs.Common.{◌≡◌, ℕ, ℤ, pos, suc, zero, ◌+◌, ◌-◌, ◌<◌, ◌≤◌, List, [], ◌∷◌, ◌++◌, length, map, get_or, sum, All, arith, refl, sym, ◌∙◌, subst, ⊎_elim}
 use Rattle.std.specs.List.{AllZip}
+use Rattle.std.specs.List.Sorted.{IsStrictlyIncreasing}
 use Rattle.std.proofs.lemmas.Bool.{cases_lt}
-use Rattle.std.proofs.lemmas.List.{get_or_push, get_or_append_left, length_push, length-map, map-append}
+use Rattle.std.proofs.lemmas.List.Sums.{get_or-le-sum_by}
+use Rattle.std.proofs.lemmas.List.{get_or_past, get_or_push, get_or_append_left, length_push, length-map, map-append}
 use Rattle.bid_rules.specs.Walks.{weight_at}
 
 -- one number more in a list that is made place by place
@@ -38,3 +40,26 @@ push_at {X} {Y} f d P k xs x e h here i l =
     (λ (early : i < k). let a : i < length (map f xs) = omega arith in subst (P i) (sym (get_or_append_left (map f xs) (f x ∷ []) d i a)) (h i early))
     (λ (late : k ≤ i). let is : i ≡ k = omega arith in subst (P i) (sym (get_or_push (map f xs) (f x) d i (count ∙ sym is))) (subst (λ j. P j (f x)) (sym is) here))
     (cases_lt i k))
+
+-- a number of a list is at most their sum
+pub get_le_sum : (xs : List ℕ) (k : ℕ) → get_or xs k 0 ≤ sum xs
+get_le_sum xs k = ⊎_elim (λ l. get_or-le-sum_by (λ x. x) xs k 0 l) (λ m. let e = get_or_past xs k 0 m in omega (arith, e)) (cases_lt k (length xs))
+
+-- rising numbers from 1 on are above their places
+rises_by_one : (xs : List ℕ) → IsStrictlyIncreasing xs → All (λ x. 1 ≤ x) xs → (k : ℕ) → k < length xs → k + 1 ≤ get_or xs k 0
+rises_by_one xs rising low zero l = low 0 0 l
+rises_by_one xs rising low (suc k) l =
+    let before = rises_by_one xs rising low k (omega arith) in
+    let e : suc k ≡ k + 1 = omega arith in
+    let here : get_or xs k 0 < get_or xs (k + 1) 0 = rising k (omega arith) in
+    subst (λ j. j + 1 ≤ get_or xs j 0) (sym e) (omega (arith, before, here))
+
+-- rising numbers from 1 to a number are no more than that
+pub rising_few : (xs : List ℕ) (most : ℕ) → IsStrictlyIncreasing xs → All (λ x. (1 ≤ x) × (x ≤ most)) xs → length xs ≤ most
+rising_few xs most rising within = ⊎_elim
+    (λ (some : 0 < length xs).
+    let last : length xs - 1 < length xs = omega (arith, some) in
+    let high : get_or xs (length xs - 1) 0 ≤ most = (within (length xs - 1) 0 last).1 in
+    omega (arith, high, some, rises_by_one xs rising (λ k d l. (within k d l).0) (length xs - 1) last))
+    (λ none. omega (arith, none))
+    (cases_lt 0 (length xs))

@@ -1,12 +1,13 @@
 -- Prices as fractions and in k-ths: two ways to write one price, and the sum of the prices.
-use Rattle.std.proofs.Common.{◌≡◌, ℕ, ℤ, pos, suc, ◌*◌, ◌<◌, ◌≤◌, ◌+ℤ◌, ◌*ℤ◌, List, [], ◌∷◌, length, arith, sym, ap, ◌∙◌}
+use Rattle.std.proofs.Common.{◌≡◌, ℕ, ℤ, pos, suc, ◌*◌, ◌<◌, ◌≤◌, ◌*ℤ◌, List, [], ◌∷◌, length, arith, sym, ap, ◌∙◌}
 use Rattle.std.specs.List.{AllZip}
 use Rattle.std.proofs.Math.IntN.{zero-*ℤ, *ℤ_comm, pos-*ℤ-pos}
-use Rattle.bid_rules.specs.Fractions.{Fraction, IsQuotient, HasSameValue, fraction_sum, sum_of_fractions}
+use Rattle.bid_rules.specs.Fractions.{Fraction, IsQuotient, HasSameValue, sum_of_fractions}
 use Rattle.bid_rules.specs.Rent.{HasParts}
 use Rattle.bid_rules.specs.Sums.{total}
 use Rattle.bid_rules.specs.Walks.{weight_at}
-use Rattle.split_lemmas.proofs.SignedProducts.{add_times, times_one, times_times, times_swap, times_cancel}
+use Rattle.split_lemmas.proofs.SignedProducts.{times_one, times_swap, times_cancel}
+use Rattle.split_lemmas.proofs.FractionLaws.{sum_of_two}
 
 -- a quotient, both sides times the denominator and the divisor of another
 crossed : (a : Fraction) (x : ℤ) (k m n : ℕ) → IsQuotient a x k → a.0 *ℤ pos m *ℤ pos k *ℤ pos n ≡ x *ℤ pos n *ℤ pos a.1 *ℤ pos m
@@ -15,9 +16,9 @@ crossed a x k m n h =
     ∙ times_swap (x *ℤ pos a.1) m n
     ∙ ap (λ z. z *ℤ pos m) (times_swap x a.1 n)
 
--- quotients of equal values are equal
-same_value : (a b : Fraction) (x y : ℤ) (k l : ℕ) → 1 ≤ k → 1 ≤ l → IsQuotient a x k → IsQuotient b y l → x *ℤ pos l ≡ y *ℤ pos k → HasSameValue a b
-same_value a b x y k l some more h g e =
+-- quotients of equal values have one value
+same_quotient : (a b : Fraction) (x y : ℤ) (k l : ℕ) → 1 ≤ k → 1 ≤ l → IsQuotient a x k → IsQuotient b y l → x *ℤ pos l ≡ y *ℤ pos k → HasSameValue a b
+same_quotient a b x y k l some more h g e =
     let ours = crossed a x k b.1 l h in
     let theirs = crossed b y l a.1 k g in
     let turned = times_swap (y *ℤ pos k) a.1 b.1 in
@@ -38,19 +39,8 @@ same_prices (a ∷ prices) [] k l (x ∷ p) (y ∷ q) some more h g e same = abs
 same_prices (a ∷ prices) others k l (x ∷ p) [] some more h g e same = absurd (omega arith)
 same_prices (a ∷ prices) (b ∷ others) k l (x ∷ p) (y ∷ q) some more h g e same =
     let first = same 0 (omega arith) in (
-      same_value a b x y k l some more h.0 g.0 (*ℤ_comm x (pos l) ∙ first ∙ *ℤ_comm (pos k) y),
+      same_quotient a b x y k l some more h.0 g.0 (*ℤ_comm x (pos l) ∙ first ∙ *ℤ_comm (pos k) y),
       same_prices prices others k l p q some more h.1 g.1 (omega arith) (λ i m. same (suc i) (omega arith)),
-    )
-
--- the sum of two quotients
-sum_of_two : (a b : Fraction) (x y : ℤ) (k : ℕ) → IsQuotient a x k → IsQuotient b y k → IsQuotient (fraction_sum a b) (x +ℤ y) k
-sum_of_two a b x y k h g =
-    let some : 0 < a.1 * b.1 = (let u = h.0 in let v = g.0 in grind arith) in
-    let turned : b.1 * a.1 ≡ a.1 * b.1 = omega arith in
-    let first : a.0 *ℤ pos b.1 *ℤ pos k ≡ x *ℤ pos (a.1 * b.1) = times_swap a.0 b.1 k ∙ ap (λ z. z *ℤ pos b.1) h.1 ∙ times_times x a.1 b.1 in
-    let second : b.0 *ℤ pos a.1 *ℤ pos k ≡ y *ℤ pos (a.1 * b.1) = times_swap b.0 a.1 k ∙ ap (λ z. z *ℤ pos a.1) g.1 ∙ times_times y b.1 a.1 ∙ ap (λ n. y *ℤ pos n) turned in (
-      some,
-      add_times (a.0 *ℤ pos b.1) (b.0 *ℤ pos a.1) k ∙ ap (λ z. z +ℤ b.0 *ℤ pos a.1 *ℤ pos k) first ∙ ap (λ z. x *ℤ pos (a.1 * b.1) +ℤ z) second ∙ sym (add_times x y (a.1 * b.1)),
     )
 
 -- the sum of the fractions is that of the parts

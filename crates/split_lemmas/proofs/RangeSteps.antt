@@ -5,12 +5,15 @@ use Rattle.std.proofs.lemmas.List.Sums.{sum_by-cons, sum_by-append}
 use Rattle.std.proofs.lemmas.List.Concat.{flat_map-append}
 
 -- one more number comes last
+pub range_next : (a n last : ℕ) → a + n ≡ last → range_with_len a (n + 1) ≡ range_with_len a n ++ last ∷ []
+range_next a zero last e = ap (λ x. x ∷ []) (let same : a ≡ last = omega (arith, e) in same)
+range_next a (suc n) last e =
+    let more : suc n + 1 ≡ suc (n + 1) = omega arith in
+    ap (range_with_len a) more ∙ ap (λ xs. a ∷ xs) (range_next (a + 1) n last (omega (arith, e)))
+
+-- which is their first and their count
 pub range_more : (a n : ℕ) → range_with_len a (n + 1) ≡ range_with_len a n ++ (a + n) ∷ []
-range_more a zero = let e : a + zero ≡ a = omega arith in rw e refl
-range_more a (suc n) =
-    let s : suc n + 1 ≡ suc (n + 1) = omega arith in
-    let e : a + suc n ≡ a + 1 + n = omega arith in
-    rw (s, e) (ap (λ xs. a ∷ xs) (range_more (a + 1) n))
+range_more a n = range_next a n (a + n) refl
 
 -- the first numbers, and the others
 pub range_split : (a m n : ℕ) → range_with_len a (m + n) ≡ range_with_len a m ++ range_with_len (a + m) n

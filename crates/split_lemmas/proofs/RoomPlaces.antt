@@ -7,7 +7,7 @@ use Rattle.std.proofs.lemmas.List.Elements.{All-from_get_or}
 use Rattle.std.proofs.lemmas.List.FromFn.{length-range_with_len, get_or-range_with_len}
 use Rattle.std.proofs.lemmas.List.Sorted.{length_permutation, All-permutation, Contains-permutation}
 use Rattle.bid_rules.specs.Sums.{total}
-use Rattle.split_lemmas.proofs.Totals.{total-same, total-places}
+use Rattle.split_lemmas.proofs.Totals.{total-same_range, total-places}
 use Rattle.split_lemmas.proofs.SignedSums.{total-permutation}
 
 -- there are as many rooms as members
@@ -34,5 +34,5 @@ room_place n s r h a b =
 pub members_sum : (f : ℕ → ℤ) (s : List ℕ) (n : ℕ) → IsPermutation (range_with_len 1 n) s → total (λ i. f (get_or s i 0)) (range_with_len 0 n) ≡ total f (range_with_len 1 n)
 members_sum f s n h =
     let by_places = total-places f 0 s 0 in
-    let same = total-same (λ i. f (get_or s i 0)) (λ i. f (get_or s (i - 0) 0)) 0 n (λ i l m. let e : i ≡ i - 0 = omega arith in ap (λ k. f (get_or s k 0)) e) in
+    let same = total-same_range (λ i. f (get_or s i 0)) (λ i. f (get_or s (i - 0) 0)) 0 n (λ i l m. let e : i ≡ i - 0 = omega arith in ap (λ k. f (get_or s k 0)) e) in
     same ∙ ap (λ k. total (λ i. f (get_or s (i - 0) 0)) (range_with_len 0 k)) (sym (rooms_length n s h)) ∙ by_places ∙ total-permutation f (range_with_len 1 n) s h

@@ -1,44 +1,12 @@
--- Sums of signed numbers over ranges, and natural numbers times signed ones.
-use Rattle.std.proofs.Common.{◌≡◌, ℕ, ℤ, pos, suc, zero, ◌+◌, ◌-◌, ◌<◌, ◌≤◌, ◌+ℤ◌, ◌-ℤ◌, ◌*ℤ◌, ◌≤ℤ◌, ◌<ℤ◌, List, [], ◌∷◌, ◌++◌, length, get_or, arith, refl, sym, ap, ◌∙◌, ⊎_elim}
+-- Sums of signed numbers over ranges.
+use Rattle.std.proofs.Common.{◌≡◌, ℕ, ℤ, pos, suc, zero, ◌+◌, ◌-◌, ◌<◌, ◌≤◌, ◌+ℤ◌, ◌-ℤ◌, ◌*ℤ◌, ◌≤ℤ◌, List, [], ◌∷◌, ◌++◌, length, get_or, arith, refl, sym, ap, ◌∙◌, ⊎_elim}
 use Rattle.std.specs.List.{range_with_len}
-use Rattle.std.proofs.lemmas.Int.{ints, by_lt_z}
+use Rattle.std.proofs.lemmas.Int.{ints}
 use Rattle.std.proofs.Math.IntN.{suc_ℤ-*ℤ, zero-*ℤ, *ℤ-zero}
 use Rattle.std.proofs.lemmas.Bool.{cases_eq, cases_lt}
-use Rattle.std.proofs.lemmas.List.{map-id}
-use Rattle.std.proofs.lemmas.List.FromFn.{map-range_with_len_more}
 use Rattle.bid_rules.specs.Sums.{total}
-
--- once more
-pub times_suc : (k : ℕ) (z : ℤ) → pos (suc k) *ℤ z ≡ pos k *ℤ z +ℤ z
-times_suc k z = suc_ℤ-*ℤ (pos k) z
-
--- no times
-pub times_zero : (z : ℤ) → pos 0 *ℤ z ≡ pos 0
-times_zero z = zero-*ℤ z
-
--- a sum, so many times
-pub times_add : (k : ℕ) (a b : ℤ) → pos k *ℤ (a +ℤ b) ≡ pos k *ℤ a +ℤ pos k *ℤ b
-times_add zero a b = omega (arith, ints, times_zero (a +ℤ b), times_zero a, times_zero b)
-times_add (suc k) a b = let h = times_add k a b in omega (arith, ints, h, times_suc k (a +ℤ b), times_suc k a, times_suc k b)
-
--- a difference, so many times
-pub times_sub : (k : ℕ) (a b : ℤ) → pos k *ℤ (a -ℤ b) ≡ pos k *ℤ a -ℤ pos k *ℤ b
-times_sub zero a b = omega (arith, ints, times_zero (a -ℤ b), times_zero a, times_zero b)
-times_sub (suc k) a b = let h = times_sub k a b in omega (arith, ints, h, times_suc k (a -ℤ b), times_suc k a, times_suc k b)
-
--- an order, so many times
-pub times_le : (k : ℕ) (a b : ℤ) → a ≤ℤ b → (pos k *ℤ a) ≤ℤ (pos k *ℤ b)
-times_le zero a b h = omega (arith, ints, times_zero a, times_zero b)
-times_le (suc k) a b h = let r = times_le k a b h in omega (arith, ints, r, times_suc k a, times_suc k b)
-
--- a strict order, a positive number of times
-times_lt : (k : ℕ) (a b : ℤ) → a <ℤ b → (pos (suc k) *ℤ a) <ℤ (pos (suc k) *ℤ b)
-times_lt k a b h = let r = times_le k a b (omega (arith, ints)) in omega (arith, ints, r, times_suc k a, times_suc k b)
-
--- an order that holds a positive number of times
-pub times_cancel : (k : ℕ) (a b : ℤ) → 1 ≤ k → (pos k *ℤ a) ≤ℤ (pos k *ℤ b) → a ≤ℤ b
-times_cancel zero a b l h = absurd (omega arith)
-times_cancel (suc k) a b l h = by_lt_z b a (λ (x : b <ℤ a). absurd (let r = times_lt k b a x in omega (arith, ints))) (λ x. x)
+use Rattle.split_lemmas.proofs.Multiples.{multiple_sum}
+use Rattle.split_lemmas.proofs.RangeSteps.{range_next}
 
 -- the sum of differences
 pub total-sub : {X : Type 0} (f g : X → ℤ) (xs : List X) → total (λ x. f x -ℤ g x) xs ≡ total f xs -ℤ total g xs
@@ -48,12 +16,12 @@ total-sub f g (x ∷ xs) = let h = total-sub f g xs in omega (arith, ints, h)
 -- the sum of multiples
 pub total-times : {X : Type 0} (k : ℕ) (f : X → ℤ) (xs : List X) → total (λ x. pos k *ℤ f x) xs ≡ pos k *ℤ total f xs
 total-times k f [] = sym (*ℤ-zero (pos k))
-total-times k f (x ∷ xs) = let h = total-times k f xs in ap (λ z. pos k *ℤ f x +ℤ z) h ∙ sym (times_add k (f x) (total f xs))
+total-times k f (x ∷ xs) = let h = total-times k f xs in ap (λ z. pos k *ℤ f x +ℤ z) h ∙ sym (multiple_sum k (f x) (total f xs))
 
 -- the sum of one number, so many times
 pub total-const : (z : ℤ) (a n : ℕ) → total (λ (i : ℕ). z) (range_with_len a n) ≡ pos n *ℤ z
-total-const z a zero = sym (times_zero z)
-total-const z a (suc n) = let h = total-const z (a + 1) n in omega (arith, ints, h, times_suc n z)
+total-const z a zero = sym (zero-*ℤ z)
+total-const z a (suc n) = let h = total-const z (a + 1) n in omega (arith, ints, h, suc_ℤ-*ℤ (pos n) z)
 
 -- a sum of lower numbers is lower
 pub total-le : (f g : ℕ → ℤ) (a n : ℕ) → ((i : ℕ) → a ≤ i → i < a + n → f i ≤ℤ g i) → total f (range_with_len a n) ≤ℤ total g (range_with_len a n)
@@ -64,11 +32,11 @@ total-le f g a (suc n) h =
     omega (arith, ints)
 
 -- a sum of equal numbers is equal
-pub total-same : (f g : ℕ → ℤ) (a n : ℕ) → ((i : ℕ) → a ≤ i → i < a + n → f i ≡ g i) → total f (range_with_len a n) ≡ total g (range_with_len a n)
-total-same f g a zero h = refl
-total-same f g a (suc n) h =
+pub total-same_range : (f g : ℕ → ℤ) (a n : ℕ) → ((i : ℕ) → a ≤ i → i < a + n → f i ≡ g i) → total f (range_with_len a n) ≡ total g (range_with_len a n)
+total-same_range f g a zero h = refl
+total-same_range f g a (suc n) h =
     let first = h a (omega arith) (omega arith) in
-    let rest = total-same f g (a + 1) n (λ i l m. h i (omega arith) (omega arith)) in
+    let rest = total-same_range f g (a + 1) n (λ i l m. h i (omega arith) (omega arith)) in
     omega (arith, ints)
 
 -- where the sums are equal, each part is
@@ -90,7 +58,7 @@ total-places {X} f d (x ∷ xs) a =
     let none : a - a ≡ 0 = omega arith in
     let first : f (get_or (x ∷ xs) (a - a) d) ≡ f x = ap (λ n. f (get_or (x ∷ xs) n d)) none in
     let shift : total (λ i. f (get_or (x ∷ xs) (i - a) d)) (range_with_len (a + 1) (length xs)) ≡ total (λ i. f (get_or xs (i - (a + 1)) d)) (range_with_len (a + 1) (length xs)) =
-    total-same (λ i. f (get_or (x ∷ xs) (i - a) d)) (λ i. f (get_or xs (i - (a + 1)) d)) (a + 1) (length xs)
+    total-same_range (λ i. f (get_or (x ∷ xs) (i - a) d)) (λ i. f (get_or xs (i - (a + 1)) d)) (a + 1) (length xs)
     (λ i l m. let e : i - a ≡ suc (i - (a + 1)) = omega arith in ap (λ n. f (get_or (x ∷ xs) n d)) e) in
     let rest = total-places f d xs (a + 1) in
     omega (arith, ints, first, shift, rest)
@@ -100,10 +68,6 @@ total-append : {X : Type 0} (f : X → ℤ) (xs ys : List X) → total f (xs ++ 
 total-append f [] ys = omega (arith, ints)
 total-append f (x ∷ xs) ys = let h = total-append f xs ys in omega (arith, ints, h)
 
--- the first numbers, and one more
-pub range_more : (k : ℕ) → range_with_len 0 (k + 1) ≡ range_with_len 0 k ++ k ∷ []
-range_more k = sym (map-id (range_with_len 0 (k + 1))) ∙ map-range_with_len_more (λ x. x) 0 k k (omega arith) ∙ ap (λ xs. xs ++ k ∷ []) (map-id (range_with_len 0 k))
-
 -- a sum over the first numbers, and one more
 pub total_more : (f : ℕ → ℤ) (k : ℕ) → total f (range_with_len 0 (k + 1)) ≡ total f (range_with_len 0 k) +ℤ f k
-total_more f k = let e = ap (total f) (range_more k) in let h = total-append f (range_with_len 0 k) (k ∷ []) in omega (arith, ints, e, h)
+total_more f k = omega (arith, ints, ap (total f) (range_next 0 k k (omega arith)), total-append f (range_with_len 0 k) (k ∷ []))

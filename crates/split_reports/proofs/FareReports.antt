@@ -4,7 +4,7 @@ use Rattle.std.specs.List.Sorted.{IsPermutation}
 use Rattle.std.proofs.lemmas.List.{length-map}
 use Rattle.std.proofs.lemmas.List.FromFn.{get_or-range_with_len, length-range_with_len}
 use Rattle.std.proofs.lemmas.List.Sorted.{All-permutation}
-use Rattle.split_frac.specs.Frac.{pair_of}
+use Rattle.split_frac.specs.Frac.{fraction_of}
 use Rattle.bid_rules.specs.declared.cases.FareCase.{FareCase}
 use Rattle.bid_rules.specs.Facts.{IsValidFareCase}
 use Rattle.bid_rules.specs.Fares.{riders_of}
@@ -16,7 +16,7 @@ use Rattle.shapley_core.specs.declared.division.FareDivision.{FareDivision}
 -- there is a fare for each rider
 pub fare_count : (case : FareCase) (division : FareDivision) → IsValidFareCase case → IsFareDivision case division → length division.fares.items ≡ length case.who.items
 fare_count case division valid is =
-    sym (length-map division.fares.items pair_of) ∙ length-AllZip _ (riders_of case) (map pair_of division.fares.items) is.best.mean ∙ length-range_with_len 1 (length case.at.items) ∙ valid.each
+    sym (length-map division.fares.items fraction_of) ∙ length-AllZip _ (riders_of case) (map fraction_of division.fares.items) is.best.mean ∙ length-range_with_len 1 (length case.at.items) ∙ valid.each
 
 -- the route goes through riders
 pub route_riders : ((xs ys : List ℕ) → Contains (all_orders xs) ys ↔ IsPermutation xs ys) → (case : FareCase) (division : FareDivision) → IsValidFareCase case → IsFareDivision case division

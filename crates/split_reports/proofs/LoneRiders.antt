@@ -16,13 +16,14 @@ lone_rider law rider low =
     let from_one : All (λ r. 1 ≤ r) (rider ∷ []) = All-cons (λ r. 1 ≤ r) rider [] low (All-nil (λ r. 1 ≤ r)) in
     ap riders_in (sym number) ∙ law (rider ∷ []) rises from_one
 
--- one bit among so many is below their power, and fits 16 bits
+-- one bit among so many is below their power
 pub lone_set : (rider n : ℕ) → 1 ≤ rider → rider ≤ n → 2 ^ (rider - 1) < 2 ^ n
 lone_set rider n low high =
     let next : 2 ^ suc (rider - 1) ≡ 2 ^ (rider - 1) * 2 = pow-suc 2 (rider - 1) in
     let grows : 2 ^ suc (rider - 1) ≤ 2 ^ n = pow_mono (omega arith) in
     omega (arith, pow_pos (rider - 1))
 
+-- and where there are at most 16, the code makes it as it is
 pub lone_bit : (rider n : ℕ) → 1 ≤ rider → rider ≤ 16 → rider ≤ n → 1 * 2 ^ (rider - 1) % 65536 ≡ 2 ^ (rider - 1)
 lone_bit rider n low few high =
     let small : 2 ^ (rider - 1) < 2 ^ 16 = lone_set rider 16 low few in

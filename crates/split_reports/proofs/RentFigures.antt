@@ -5,7 +5,7 @@ use Rattle.std.proofs.lemmas.List.{get_or-map, get_or_default, length-map, map-a
 use Rattle.std.proofs.lemmas.List.Elements.{All-weaker}
 use Rattle.std.proofs.lemmas.List.FromFn.{length-map-range_with_len}
 use Rattle.split_frac.specs.declared.frac.Frac.{Frac}
-use Rattle.split_frac.specs.Frac.{IsWithin, pair_of}
+use Rattle.split_frac.specs.Frac.{IsWithin, fraction_of}
 use Rattle.bid_rules.specs.declared.rents.RentCase.{RentCase}
 use Rattle.bid_rules.specs.Cents.{amount_at, prices_by_member}
 use Rattle.bid_rules.specs.Fractions.{Fraction}
@@ -29,7 +29,7 @@ best_rooms case rooms prices best = λ i d l.
 
 -- how many prices there are
 pub price_count : (case : RentCase) (division : RentDivision) → IsRentDivision case division → length division.prices.items ≡ room_count case
-price_count case division is = sym (length-map division.prices.items pair_of) ∙ is.prices.count
+price_count case division is = sym (length-map division.prices.items fraction_of) ∙ is.prices.count
 
 -- the prices are ones of which there is an envy table
 pub best_prices : (case : RentCase) (division : RentDivision) → IsValidRentCase case → IsRentDivision case division
@@ -51,9 +51,9 @@ figures_each given case division told members items is are =
     let n = room_count case in
     let long = rooms_length n division.best.rooms.items is.best.priced.assignment in
     let rooms : length told.rooms ≡ n = ap length are.rooms ∙ long in
-    let rows : All (IsRoom (length given.members)) told.rooms = subst (λ (xs : List ℕ). All (IsRoom (length given.members)) xs) (sym are.rooms) (subst (λ m. All (IsRoom m) division.best.rooms.items) (sym members) (best_rooms case division.best.rooms.items (map pair_of division.prices.items) is.best)) in
+    let rows : All (IsRoom (length given.members)) told.rooms = subst (λ (xs : List ℕ). All (IsRoom (length given.members)) xs) (sym are.rooms) (subst (λ m. All (IsRoom m) division.best.rooms.items) (sym members) (best_rooms case division.best.rooms.items (map fraction_of division.prices.items) is.best)) in
     let plan : length told.pays ≡ length told.rooms = ap length are.pays ∙ length-map-range_with_len _ 0 _ ∙ length-map told.rooms _ in
-    let utilities : length told.utilities ≡ n = sym (length-map told.utilities pair_of) ∙ are.utilities.count in
+    let utilities : length told.utilities ≡ n = sym (length-map told.utilities fraction_of) ∙ are.utilities.count in
     let envy : length told.envy ≡ n = sym (length-map told.envy _) ∙ are.envy.members in
     record {
       rooms = rooms ∙ sym members;
@@ -67,25 +67,25 @@ figures_each given case division told members items is are =
 
 -- one more price by member
 pub price_more : (prices : List Frac) (rooms : List ℕ) (i : ℕ) (amounts : List Frac) (price : Frac) → i < length rooms → All (IsRoom (length prices)) rooms
-    → price ≡ get_or prices (get_or rooms i 0 - 1) price → map pair_of amounts ≡ prices_by_member (take i rooms) (map pair_of prices)
-    → map pair_of (amounts ++ price ∷ []) ≡ prices_by_member (take (i + 1) rooms) (map pair_of prices)
+    → price ≡ get_or prices (get_or rooms i 0 - 1) price → map fraction_of amounts ≡ prices_by_member (take i rooms) (map fraction_of prices)
+    → map fraction_of (amounts ++ price ∷ []) ≡ prices_by_member (take (i + 1) rooms) (map fraction_of prices)
 price_more prices rooms i amounts price l all is before =
     let place : ℕ = get_or rooms i 0 - 1 in
     let here = all i 0 l in
     let within : place < length prices = omega (arith, here.0, here.1) in
-    let amount : ℕ → Fraction = λ room. amount_at (map pair_of prices) (room - 1) in
-    let same : pair_of price ≡ amount (get_or rooms i 0) = ap pair_of is ∙ sym (get_or-map pair_of prices place price (pos 0, 1) within) in
-    map-append pair_of amounts (price ∷ []) ∙ ap (λ xs. xs ++ pair_of price ∷ []) before ∙ ap (λ x. map amount (take i rooms) ++ x ∷ []) same ∙ sym (map_more amount rooms i 0 l)
+    let amount : ℕ → Fraction = λ room. amount_at (map fraction_of prices) (room - 1) in
+    let same : fraction_of price ≡ amount (get_or rooms i 0) = ap fraction_of is ∙ sym (get_or-map fraction_of prices place price (pos 0, 1) within) in
+    map-append fraction_of amounts (price ∷ []) ∙ ap (λ xs. xs ++ fraction_of price ∷ []) before ∙ ap (λ x. map amount (take i rooms) ++ x ∷ []) same ∙ sym (map_more amount rooms i 0 l)
 
 -- the division's rooms are numbers of rooms, of which each has a price
 pub rooms_within : (case : RentCase) (division : RentDivision) (rooms : List ℕ) (prices : List Frac) → IsRentDivision case division → rooms ≡ division.best.rooms.items → prices ≡ division.prices.items
     → All (IsRoom (length prices)) rooms
 rooms_within case division rooms prices is same_rooms same_prices =
     let count : length prices ≡ room_count case = ap length same_prices ∙ price_count case division is in
-    subst (λ xs. All (IsRoom (length prices)) xs) (sym same_rooms) (subst (λ m. All (IsRoom m) division.best.rooms.items) (sym count) (best_rooms case division.best.rooms.items (map pair_of division.prices.items) is.best))
+    subst (λ xs. All (IsRoom (length prices)) xs) (sym same_rooms) (subst (λ m. All (IsRoom m) division.best.rooms.items) (sym count) (best_rooms case division.best.rooms.items (map fraction_of division.prices.items) is.best))
 
 -- the prices by member, as they are listed
 pub prices_listed : (division : RentDivision) (rooms : List ℕ) (prices amounts : List Frac) → rooms ≡ division.best.rooms.items → prices ≡ division.prices.items
-    → map pair_of amounts ≡ prices_by_member rooms (map pair_of prices) → map pair_of amounts ≡ prices_by_member division.best.rooms.items (map pair_of division.prices.items)
+    → map fraction_of amounts ≡ prices_by_member rooms (map fraction_of prices) → map fraction_of amounts ≡ prices_by_member division.best.rooms.items (map fraction_of division.prices.items)
 prices_listed division rooms prices amounts same_rooms same_prices listed =
-    listed ∙ ap (λ xs. prices_by_member xs (map pair_of prices)) same_rooms ∙ ap (λ xs. prices_by_member division.best.rooms.items (map pair_of xs)) same_prices
+    listed ∙ ap (λ xs. prices_by_member xs (map fraction_of prices)) same_rooms ∙ ap (λ xs. prices_by_member division.best.rooms.items (map fraction_of xs)) same_prices

@@ -5,7 +5,7 @@ use Rattle.std.proofs.lemmas.List.{ext_get_or, get_or-map, length-map}
 use Rattle.std.proofs.lemmas.List.Elements.{All-head, All-tail}
 use Rattle.arrayvec.specs.declared.array_vec.ArrayVec.{ArrayVec}
 use Rattle.split_frac.specs.declared.frac.Frac.{Frac}
-use Rattle.split_frac.specs.Frac.{pair_of}
+use Rattle.split_frac.specs.Frac.{fraction_of}
 use Rattle.bid_rules.specs.declared.cases.Case.{Case}
 use Rattle.bid_rules.specs.declared.cases.Case.TheVariants as case
 use Rattle.bid_rules.specs.declared.cases.FareCase.{FareCase}
@@ -40,14 +40,15 @@ use Rattle.split_reports.specs.Reports.{IsReport}
 abbrev pub OneFrac : Type 0
 OneFrac = (a b : Frac) → a.num *ℤ pos b.den ≡ b.num *ℤ pos a.den → a ≡ b
 
-same_zipped : OneFrac → (xs ys : List Frac) → AllZip HasSameValue (map pair_of xs) (map pair_of ys) → xs ≡ ys
+-- fractions of the same values are the same, one by one
+same_zipped : OneFrac → (xs ys : List Frac) → AllZip HasSameValue (map fraction_of xs) (map fraction_of ys) → xs ≡ ys
 same_zipped one [] [] h = refl
 same_zipped one [] (y ∷ ys) h = absurd h
 same_zipped one (x ∷ xs) [] h = absurd h
 same_zipped one (x ∷ xs) (y ∷ ys) h = ap (λ (f : Frac). f ∷ xs) (one x y h.0) ∙ ap (λ (fs : List Frac). y ∷ fs) (same_zipped one xs ys h.1)
 
 -- lists of equal values, place by place
-same_listed : OneFrac → (xs ys : List Frac) → length xs ≡ length ys → ((i : ℕ) → i < length xs → HasSameValue (amount_at (map pair_of xs) i) (amount_at (map pair_of ys) i)) → xs ≡ ys
+same_listed : OneFrac → (xs ys : List Frac) → length xs ≡ length ys → ((i : ℕ) → i < length xs → HasSameValue (amount_at (map fraction_of xs) i) (amount_at (map fraction_of ys) i)) → xs ≡ ys
 same_listed one [] [] l h = refl
 same_listed one [] (y ∷ ys) l h = absurd (omega arith)
 same_listed one (x ∷ xs) [] l h = absurd (omega arith)
@@ -55,17 +56,17 @@ same_listed one (x ∷ xs) (y ∷ ys) l h =
     ap (λ (f : Frac). f ∷ xs) (one x y (h 0 (omega arith))) ∙ ap (λ (fs : List Frac). y ∷ fs) (same_listed one xs ys (omega arith) (λ i k. h (suc i) (omega arith)))
 
 -- tables of equal values, entry by entry
-same_tables : OneFrac → (n : ℕ) (xs ys : List (List Frac)) → length xs ≡ length ys → All (λ (row : List Fraction). length row ≡ n) (map (map pair_of) xs) → All (λ (row : List Fraction). length row ≡ n) (map (map pair_of) ys)
-    → ((i j : ℕ) → i < length xs → j < n → HasSameValue (entry_at (map (map pair_of) xs) i j) (entry_at (map (map pair_of) ys) i j)) → xs ≡ ys
+same_tables : OneFrac → (n : ℕ) (xs ys : List (List Frac)) → length xs ≡ length ys → All (λ (row : List Fraction). length row ≡ n) (map (map fraction_of) xs) → All (λ (row : List Fraction). length row ≡ n) (map (map fraction_of) ys)
+    → ((i j : ℕ) → i < length xs → j < n → HasSameValue (entry_at (map (map fraction_of) xs) i j) (entry_at (map (map fraction_of) ys) i j)) → xs ≡ ys
 same_tables one n [] [] l a b h = refl
 same_tables one n [] (y ∷ ys) l a b h = absurd (omega arith)
 same_tables one n (x ∷ xs) [] l a b h = absurd (omega arith)
 same_tables one n (x ∷ xs) (y ∷ ys) l a b h =
     let Row : List Fraction → Type 0 = λ row. length row ≡ n in
-    let long_x : length x ≡ n = sym (length-map x pair_of) ∙ All-head Row (map pair_of x) (map (map pair_of) xs) a in
-    let long_y : length y ≡ n = sym (length-map y pair_of) ∙ All-head Row (map pair_of y) (map (map pair_of) ys) b in
+    let long_x : length x ≡ n = sym (length-map x fraction_of) ∙ All-head Row (map fraction_of x) (map (map fraction_of) xs) a in
+    let long_y : length y ≡ n = sym (length-map y fraction_of) ∙ All-head Row (map fraction_of y) (map (map fraction_of) ys) b in
     ap (λ (r : List Frac). r ∷ xs) (same_listed one x y (long_x ∙ sym long_y) (λ j k. h 0 j (omega arith) (omega (arith, k, long_x))))
-    ∙ ap (λ (rs : List (List Frac)). y ∷ rs) (same_tables one n xs ys (omega arith) (All-tail Row (map pair_of x) (map (map pair_of) xs) a) (All-tail Row (map pair_of y) (map (map pair_of) ys) b) (λ i j k m. h (suc i) j (omega arith) m))
+    ∙ ap (λ (rs : List (List Frac)). y ∷ rs) (same_tables one n xs ys (omega arith) (All-tail Row (map fraction_of x) (map (map fraction_of) xs) a) (All-tail Row (map fraction_of y) (map (map fraction_of) ys) b) (λ i j k m. h (suc i) j (omega arith) m))
 
 -- what is told, from its parts
 abbrev told_of : List ℕ → List Frac → List ℤ → List Frac → Frac → List (List Frac) → RentTold
@@ -81,11 +82,11 @@ module _
     same_fares : (given : CaseData) (case : FareCase) (d e : FareDivision) (text other : List ℕ) → IsFareDivision case d → IsFareDivision case e → IsFaresReport given case d text → IsFaresReport given case e other → text ≡ other
     same_fares given case d e text other a b ta tb =
         let total : d.total ≡ e.total = a.total ∙ sym b.total in
-        let route = one_route case (map pair_of d.fares.items) (map pair_of e.fares.items) d.route.items e.route.items a.best b.best in
-        let fares = same_zipped one d.fares.items e.fares.items (one_fares case (map pair_of d.fares.items) (map pair_of e.fares.items) d.route.items e.route.items a.best b.best) in
-        ta ∙ ap (λ t. fares_report given case t d.route.items d.fares.items (cent_plan (map pair_of d.fares.items) (pos t))) total
-        ∙ ap (λ r. fares_report given case e.total r d.fares.items (cent_plan (map pair_of d.fares.items) (pos e.total))) route
-        ∙ ap (λ fs. fares_report given case e.total e.route.items fs (cent_plan (map pair_of fs) (pos e.total))) fares ∙ sym tb
+        let route = one_route case (map fraction_of d.fares.items) (map fraction_of e.fares.items) d.route.items e.route.items a.best b.best in
+        let fares = same_zipped one d.fares.items e.fares.items (one_fares case (map fraction_of d.fares.items) (map fraction_of e.fares.items) d.route.items e.route.items a.best b.best) in
+        ta ∙ ap (λ t. fares_report given case t d.route.items d.fares.items (cent_plan (map fraction_of d.fares.items) (pos t))) total
+        ∙ ap (λ r. fares_report given case e.total r d.fares.items (cent_plan (map fraction_of d.fares.items) (pos e.total))) route
+        ∙ ap (λ fs. fares_report given case e.total e.route.items fs (cent_plan (map fraction_of fs) (pos e.total))) fares ∙ sym tb
 
     same_points : (case : GoodsCase) (owners : List ℕ) (xs ys : List (ArrayVec ℤ MEMBER_ROOM (Unit {0}))) → IsPointsTable case owners xs → IsPointsTable case owners ys → map (λ row. row.items) xs ≡ map (λ row. row.items) ys
     same_points case owners xs ys a b =
@@ -122,19 +123,19 @@ module _
         let rooms : s.rooms ≡ t.rooms = moved.1.rooms ∙ sym tb.1.rooms in
         let prices : s.prices ≡ t.prices = moved.1.prices ∙ sym tb.1.prices in
         let least : s.least ≡ t.least = moved.1.least ∙ sym tb.1.least in
-        let pays : s.pays ≡ t.pays = moved.1.pays ∙ ap (λ xs. cent_plan (prices_by_member xs (map pair_of s.prices)) (pos case.facts.rent)) rooms
-        ∙ ap (λ (xs : List Frac). cent_plan (prices_by_member t.rooms (map pair_of xs)) (pos case.facts.rent)) prices ∙ sym tb.1.pays in
+        let pays : s.pays ≡ t.pays = moved.1.pays ∙ ap (λ xs. cent_plan (prices_by_member xs (map fraction_of s.prices)) (pos case.facts.rent)) rooms
+        ∙ ap (λ (xs : List Frac). cent_plan (prices_by_member t.rooms (map fraction_of xs)) (pos case.facts.rent)) prices ∙ sym tb.1.pays in
         let k = b.best.k in
-        let in_parts = subst (λ (xs : List Frac). AllZip (λ price part. IsQuotient price part k) (map pair_of xs) b.best.parts) (sym tb.1.prices) b.best.in_parts in
+        let in_parts = subst (λ (xs : List Frac). AllZip (λ price part. IsQuotient price part k) (map fraction_of xs) b.best.parts) (sym tb.1.prices) b.best.in_parts in
         let some = b.best.priced.parts in
-        let us = subst (λ (xs : List Frac). AreUtilities case t.rooms (map pair_of xs) (map pair_of s.utilities)) prices (subst (λ (xs : List ℕ). AreUtilities case xs (map pair_of s.prices) (map pair_of s.utilities)) rooms moved.1.utilities) in
+        let us = subst (λ (xs : List Frac). AreUtilities case t.rooms (map fraction_of xs) (map fraction_of s.utilities)) prices (subst (λ (xs : List ℕ). AreUtilities case xs (map fraction_of s.prices) (map fraction_of s.utilities)) rooms moved.1.utilities) in
         let ut = tb.1.utilities in
-        let utilities : s.utilities ≡ t.utilities = same_listed one s.utilities t.utilities (sym (length-map s.utilities pair_of) ∙ us.count ∙ sym ut.count ∙ length-map t.utilities pair_of) (λ i l.
-        let within : i < n = omega (arith, l, length-map s.utilities pair_of, us.count) in
-        same_value (amount_at (map pair_of s.utilities) i) (amount_at (map pair_of t.utilities) i) (utility case k t.rooms b.best.parts i) k (omega (arith, some)) (us.each i within k b.best.parts some in_parts) (ut.each i within k b.best.parts some in_parts)) in
-        let es = subst (λ (xs : List Frac). IsEnvyTable case t.rooms (map pair_of xs) (map (map pair_of) s.envy)) prices (subst (λ (xs : List ℕ). IsEnvyTable case xs (map pair_of s.prices) (map (map pair_of) s.envy)) rooms moved.1.envy) in
+        let utilities : s.utilities ≡ t.utilities = same_listed one s.utilities t.utilities (sym (length-map s.utilities fraction_of) ∙ us.count ∙ sym ut.count ∙ length-map t.utilities fraction_of) (λ i l.
+        let within : i < n = omega (arith, l, length-map s.utilities fraction_of, us.count) in
+        same_value (amount_at (map fraction_of s.utilities) i) (amount_at (map fraction_of t.utilities) i) (utility case k t.rooms b.best.parts i) k (omega (arith, some)) (us.each i within k b.best.parts some in_parts) (ut.each i within k b.best.parts some in_parts)) in
+        let es = subst (λ (xs : List Frac). IsEnvyTable case t.rooms (map fraction_of xs) (map (map fraction_of) s.envy)) prices (subst (λ (xs : List ℕ). IsEnvyTable case xs (map fraction_of s.prices) (map (map fraction_of) s.envy)) rooms moved.1.envy) in
         let et = tb.1.envy in
-        let row : List Frac → List Fraction = map pair_of in
+        let row : List Frac → List Fraction = map fraction_of in
         let table : s.envy ≡ t.envy = same_tables one n s.envy t.envy (sym (length-map s.envy row) ∙ es.members ∙ sym et.members ∙ length-map t.envy row) es.others et.others (λ i j l m.
         let within : i < n = omega (arith, l, length-map s.envy row, es.members) in
         same_value (entry_at (map row s.envy) i j) (entry_at (map row t.envy) i j) (envy case k t.rooms b.best.parts i j) k (omega (arith, some)) (es.entries i j within m k b.best.parts some in_parts) (et.entries i j within m k b.best.parts some in_parts)) in

@@ -6,7 +6,7 @@ use Rattle.bid_rules.specs.Cents.{cent_plan}
 use Rattle.bid_rules.specs.Fares.{coalition_cost, place_of}
 use Rattle.shapley_core.specs.declared.division.FareDivision.{FareDivision}
 use Rattle.split_frac.specs.declared.frac.Frac.{Frac}
-use Rattle.split_frac.specs.Frac.{frac_text, pair_of}
+use Rattle.split_frac.specs.Frac.{frac_text, fraction_of}
 use Rattle.split_json.specs.Reading.{CaseData}
 use Rattle.split_reports.specs.Lines.{count_line, lines_to, named_at, number_at, text_at}
 use Rattle.split_text.specs.Texts.{line_of, spaced}
@@ -43,4 +43,4 @@ pub record AreRiders (given : CaseData) (case : FareCase) : Type 0 where
 -- the text is the report of the division of shared fares, in which each rider pays the cent plan of the fares
 abbrev pub IsFaresReport : CaseData → FareCase → FareDivision → List ℕ → Type 0
 IsFaresReport given case division text =
-    text ≡ fares_report given case division.total division.route.items division.fares.items (cent_plan (map pair_of division.fares.items) (pos division.total))
+    text ≡ fares_report given case division.total division.route.items division.fares.items (cent_plan (map fraction_of division.fares.items) (pos division.total))

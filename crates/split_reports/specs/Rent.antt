@@ -2,7 +2,7 @@
 use Rattle.std.specs.Prelude.{◌≡◌, ◌<◌, ◌≤◌, ◌-◌, pos, ℕ, ℤ, List, [], ◌∷◌, ◌++◌, All, length, codes, map, slice_index_or}
 use Rattle.std.specs.Fmt.{decimal, signed_decimal}
 use Rattle.split_frac.specs.declared.frac.Frac.{Frac}
-use Rattle.split_frac.specs.Frac.{frac_text, pair_of}
+use Rattle.split_frac.specs.Frac.{frac_text, fraction_of}
 use Rattle.bid_rules.specs.declared.rents.RentCase.{RentCase}
 use Rattle.bid_rules.specs.Cents.{amount_at, cent_plan, prices_by_member}
 use Rattle.bid_rules.specs.Fractions.{Fraction, IsQuotient}
@@ -80,9 +80,9 @@ pub record AreFiguresOf (case : RentCase) (division : RentDivision) (told : Rent
   pub rooms : told.rooms ≡ division.best.rooms.items
   pub prices : told.prices ≡ division.prices.items
   pub least : told.least ≡ division.least
-  pub pays : told.pays ≡ cent_plan (prices_by_member told.rooms (map pair_of told.prices)) (pos case.facts.rent)
-  pub utilities : AreUtilities case told.rooms (map pair_of told.prices) (map pair_of told.utilities)
-  pub envy : IsEnvyTable case told.rooms (map pair_of told.prices) (map (map pair_of) told.envy)
+  pub pays : told.pays ≡ cent_plan (prices_by_member told.rooms (map fraction_of told.prices)) (pos case.facts.rent)
+  pub utilities : AreUtilities case told.rooms (map fraction_of told.prices) (map fraction_of told.utilities)
+  pub envy : IsEnvyTable case told.rooms (map fraction_of told.prices) (map (map fraction_of) told.envy)
 
 -- the text is the report of the division of a rent
 abbrev pub IsRentReport : CaseData → RentCase → RentDivision → List ℕ → Type 0

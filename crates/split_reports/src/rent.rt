@@ -5,7 +5,7 @@ ghost use Rattle.bid_rules.specs.Rent.{IsValidRentCase, room_count};
 ghost use Rattle.bid_rules.specs.declared.limits.TheConstants.{MEMBER_ROOM};
 ghost use Rattle.envy_check.specs.Envy.{ArePrices, IsAmount};
 ghost use Rattle.rent_maximin.specs.Division.{IsRentDivision};
-ghost use Rattle.split_frac.specs.Frac.{pair_of};
+ghost use Rattle.split_frac.specs.Frac.{fraction_of};
 ghost use Rattle.split_json.specs.Reading.{shown};
 ghost use Rattle.split_reports.specs.Lines.{lines_to};
 ghost use Rattle.split_reports.specs.Rent.{AreFigures, AreFiguresOf, AreUtilities, IsRentReport, figures_shown, least_line, member_envy, member_line, rent_head, rent_report};
@@ -141,7 +141,7 @@ fn prices_of_members(rooms: &[u8], prices: &[Frac]) -> ArrayVec<Frac, MEMBER_ROO
     requires few { length rooms.now ≤ MEMBER_ROOM }
     requires rooms { All (λ room. (1 ≤ room) × (room ≤ length prices.now)) rooms.now }
     requires amounts { All IsAmount prices.now }
-    ensures prices { map pair_of result.items ≡ prices_by_member rooms.now (map pair_of prices.now) }
+    ensures prices { map fraction_of result.items ≡ prices_by_member rooms.now (map fraction_of prices.now) }
     ensures amounts { All IsAmount result.items }
 {
     let mut amounts = ArrayVec::new();
@@ -157,7 +157,7 @@ fn utilities_of(case: &RentCase, rooms: &[u8], prices: &[Frac]) -> ArrayVec<Frac
     requires count { length rooms.now ≡ room_count case.now }
     requires rooms { All (λ room. (1 ≤ room) × (room ≤ room_count case.now)) rooms.now }
     requires prices { ArePrices case.now prices.now }
-    ensures { AreUtilities case.now rooms.now (map pair_of prices.now) (map pair_of result.items) }
+    ensures { AreUtilities case.now rooms.now (map fraction_of prices.now) (map fraction_of result.items) }
 {
     let mut utilities = ArrayVec::new();
     for member in 0..case.facts.members as usize {

@@ -53,31 +53,6 @@ fn report_of(alloc: Global, body: &str) -> Result<Vec<u8>, Fail> {
 }
 
 #[test]
-fn rent_of_three_rooms(rt: HostRuntime) -> Result<(), Fail> {
-    let text = report_of(
-        rt.alloc(),
-        r#"{"kind":"rent","title":"Flat","members":["Ann","Ben","Cy"],"rooms":["Attic","Back","Cellar"],
-            "rent":900,"bids":[[800,100,0],[700,200,0],[300,300,300]]}"#,
-    )?;
-    assert!(rt;
-        text.as_slice()
-            == "rent Flat
-members 3
-total 900
-1 Ann: room 1 Attic, price 700, pays 700, utility 100
-2 Ben: room 2 Back, price 100, pays 100, utility 100
-3 Cy: room 3 Cellar, price 100, pays 100, utility 200
-least utility 100
-envy 1: 0 -100 -200
-envy 2: -100 0 -200
-envy 3: -600 0 0
-"
-                .as_bytes()
-    );
-    Ok(())
-}
-
-#[test]
 fn odd_rent_and_odd_names(rt: HostRuntime) -> Result<(), Fail> {
     let text = report_of(
         rt.alloc(),
@@ -101,51 +76,6 @@ envy 2: -101 0
 }
 
 #[test]
-fn rent_with_a_negative_price(rt: HostRuntime) -> Result<(), Fail> {
-    let text = report_of(
-        rt.alloc(),
-        r#"{"kind":"rent","title":"Flat","members":["Ann","Ben","Cy"],"rooms":["Attic","Back","Cellar"],
-            "rent":300,"bids":[[300,0,0],[300,0,0],[0,100,200]]}"#,
-    )?;
-    assert!(rt;
-        text.as_slice()
-            == "rent Flat
-members 3
-total 300
-1 Ann: room 1 Attic, price 800/3, pays 267, utility 100/3
-2 Ben: room 2 Back, price -100/3, pays -33, utility 100/3
-3 Cy: room 3 Cellar, price 200/3, pays 66, utility 400/3
-least utility 100/3
-envy 1: 0 0 -100
-envy 2: 0 0 -100
-envy 3: -400 0 0
-"
-                .as_bytes()
-    );
-    Ok(())
-}
-
-#[test]
-fn taxi_for_two(rt: HostRuntime) -> Result<(), Fail> {
-    let text = report_of(
-        rt.alloc(),
-        r#"{"kind":"fares","title":"Taxi","members":["Ann","Ben"],"places":["Station","Harbour"],"flag":300,
-            "legs":[[1000,1500],[0,700],[900,0]],"bids":[1,2]}"#,
-    )?;
-    assert!(rt;
-        text.as_slice()
-            == "fares Taxi
-riders 2 of 2
-total 2000, route 1 2
-1 Ann: place 1 Station, fare 750, pays 750, alone 1300
-2 Ben: place 2 Harbour, fare 1250, pays 1250, alone 1800
-"
-                .as_bytes()
-    );
-    Ok(())
-}
-
-#[test]
 fn fares_of_the_later_members(rt: HostRuntime) -> Result<(), Fail> {
     let text = report_of(
         rt.alloc(),
@@ -159,28 +89,6 @@ riders 2 of 3
 total 2000, route 3 2
 2 Ben: place 2 Harbour, fare 1250, pays 1250, alone 1800
 3 Cy: place 1 Station, fare 750, pays 750, alone 1300
-"
-                .as_bytes()
-    );
-    Ok(())
-}
-
-#[test]
-fn two_players(rt: HostRuntime) -> Result<(), Fail> {
-    let text = report_of(
-        rt.alloc(),
-        r#"{"kind":"goods","title":"Attic","members":["Ann","Ben"],"goods":["Clock","Desk"],
-            "bids":[[700,300],[400,600]]}"#,
-    )?;
-    assert!(rt;
-        text.as_slice()
-            == "goods Attic
-players 2 of 2
-1 Ann: goods 1, points 700
-2 Ben: goods 2, points 600
-positive 2, product 420000, steps 1
-envy 1: 0 -400
-envy 2: -200 0
 "
                 .as_bytes()
     );

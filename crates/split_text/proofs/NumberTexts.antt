@@ -4,11 +4,12 @@ use Rattle.std.specs.Fmt.{decimal, signed_decimal}
 use Rattle.split_frac.specs.Frac.{pair_text}
 use Rattle.split_text.specs.Texts.{numbers_text, spaced}
 
--- a whole number is written as the number over 1
+-- a natural number is written as the number over 1
 pub natural_text : (number : ℕ) → pair_text (pos number, 1) ≡ decimal number
 unfolding pair_text
 natural_text number = refl
 
+-- so is a whole number
 pub whole_text : (number : ℤ) → pair_text (number, 1) ≡ signed_decimal number
 unfolding pair_text
 whole_text number = refl

@@ -2,7 +2,7 @@
 ghost use Rattle.std.specs.Prelude.{◌≡◌, ℕ, ℤ, List, map, pos};
 ghost use Rattle.std.specs.Fmt.{decimal, signed_decimal};
 ghost use Rattle.split_frac.specs.declared.frac.Frac.{Frac};
-ghost use Rattle.split_frac.specs.Frac.{frac_text, pair_of, pair_text};
+ghost use Rattle.split_frac.specs.Frac.{frac_text, fraction_of, pair_text};
 ghost use Rattle.split_text.specs.Texts.{numbers_text, spaced};
 
 /// A whole number is written as the number over 1 is. So numbers that each follow a space are one text, whether they are
@@ -12,5 +12,5 @@ pub fn number_law()
     ensures whole { (number : ℤ) → pair_text (number, 1) ≡ signed_decimal number }
     ensures naturals { (numbers : List ℕ) → spaced (map decimal numbers) ≡ numbers_text (map (λ number. (pos number, 1)) numbers) }
     ensures wholes { (numbers : List ℤ) → spaced (map signed_decimal numbers) ≡ numbers_text (map (λ number. (number, 1)) numbers) }
-    ensures fractions { (numbers : List Frac) → spaced (map frac_text numbers) ≡ numbers_text (map pair_of numbers) }
+    ensures fractions { (numbers : List Frac) → spaced (map frac_text numbers) ≡ numbers_text (map fraction_of numbers) }
 {}

@@ -17,8 +17,10 @@ use Rattle.split_top.specs.declared.limits.TheConstants.{LONGEST_INPUT}
 use Rattle.split_top.specs.declared.stop.Stop.{Stop}
 use Rattle.split_top.specs.declared.stop.Stop.TheVariants.{Void, OverLimit, BadWords, TooLong, BadCase, ReadFault, NoMemory}
 use Rattle.split_top.specs.Told.{Ends, HasWritten, IsShort, IsSound, IsTooLong, IsWhole, Told}
-use Rattle.split_top.specs.Texts.{Holds, IsBestText, IsOverLimit, IsVoid, MakesCase}
-use Rattle.split_top.specs.Endings.{IsNoRow, ReadsCase, owed}
+use Rattle.split_solve.specs.Solving.{IsAboveLimit}
+use Rattle.split_top.specs.Commands.{IsNoRow, ReadsCase}
+use Rattle.split_top.specs.Texts.{Holds, IsBestText, IsVoid, MakesCase}
+use Rattle.split_top.specs.Endings.{owed}
 use Rattle.split_top.specs.Causes.{HasCauses, IsComplete, IsDue}
 
 -- an ending that came licenses its status
@@ -82,7 +84,7 @@ of_body (Err fault) = Err 3
 abbrev Settles : Result Case ℕ → ℕ → Type 0
 Settles found status =
     (found ≡ Err status)
-    ⊎ ((case : Case) × (found ≡ Ok case) × (((limit : ℕ) × IsOverLimit case limit × (status ≡ 1)) ⊎ (((limit : ℕ) → IsOverLimit case limit → ⊥) × (status ≡ 0))))
+    ⊎ ((case : Case) × (found ≡ Ok case) × (((limit : ℕ) × IsAboveLimit case limit × (status ≡ 1)) ⊎ (((limit : ℕ) → IsAboveLimit case limit → ⊥) × (status ≡ 0))))
 
 -- a body settles one status
 one_settled : (found : Result Case ℕ) (status other : ℕ) → Settles found status → Settles found other → status ≡ other
@@ -90,8 +92,8 @@ one_settled found status other (inl a) (inl b) = cc (a, b)
 one_settled found status other (inl a) (inr b) = let case = b.1 in cc (a, case)
 one_settled found status other (inr a) (inl b) = let case = a.1 in cc (b, case)
 one_settled found status other (inr a) (inr b) = let same : a.0 ≡ b.0 = cc (a.1, b.1) in ⊎_elim
-    (λ over. ⊎_elim (λ too. over.2 ∙ sym too.2) (λ within. absurd (within.0 over.0 (subst (λ c. IsOverLimit c over.0) same over.1))) b.2)
-    (λ within. ⊎_elim (λ over. absurd (within.0 over.0 (subst (λ c. IsOverLimit c over.0) (sym same) over.1))) (λ too. within.1 ∙ sym too.1) b.2)
+    (λ over. ⊎_elim (λ too. over.2 ∙ sym too.2) (λ within. absurd (within.0 over.0 (subst (λ c. IsAboveLimit c over.0) same over.1))) b.2)
+    (λ within. ⊎_elim (λ over. absurd (within.0 over.0 (subst (λ c. IsAboveLimit c over.0) (sym same) over.1))) (λ too. within.1 ∙ sym too.1) b.2)
     a.2
 
 -- the status by the bytes: 3 where they are too long, and else by what the body comes to
@@ -116,11 +118,11 @@ void bytes missing h = inl (ap of_body h.1 ∙ ap of_case h.2)
 held : (bytes : List ℕ) (so : Case → Type 0) (h : Holds bytes (λ given. MakesCase given so)) → of_body (case_in bytes) ≡ Ok h.2.0
 held bytes so h = ap of_body h.1 ∙ ap of_case h.2.1
 
-over : (bytes : List ℕ) (limit : ℕ) → Holds bytes (λ given. MakesCase given (λ case. IsOverLimit case limit)) → Settles (of_body (case_in bytes)) 1
-over bytes limit h = inr (h.2.0, held bytes (λ case. IsOverLimit case limit) h, inl (limit, h.2.2, refl))
+over : (bytes : List ℕ) (limit : ℕ) → Holds bytes (λ given. MakesCase given (λ case. IsAboveLimit case limit)) → Settles (of_body (case_in bytes)) 1
+over bytes limit h = inr (h.2.0, held bytes (λ case. IsAboveLimit case limit) h, inl (limit, h.2.2, refl))
 
-within : (bytes : List ℕ) → Holds bytes (λ given. MakesCase given (λ case. (limit : ℕ) → IsOverLimit case limit → ⊥)) → Settles (of_body (case_in bytes)) 0
-within bytes h = inr (h.2.0, held bytes (λ case. (limit : ℕ) → IsOverLimit case limit → ⊥) h, inr (h.2.2, refl))
+within : (bytes : List ℕ) → Holds bytes (λ given. MakesCase given (λ case. (limit : ℕ) → IsAboveLimit case limit → ⊥)) → Settles (of_body (case_in bytes)) 0
+within bytes h = inr (h.2.0, held bytes (λ case. (limit : ℕ) → IsAboveLimit case limit → ⊥) h, inr (h.2.2, refl))
 
 -- the ending for which bytes call has the status that they settle
 due_settled : (bytes : List ℕ) (ending : Result (List ℕ) Stop) → IsDue bytes ending → IsSettled bytes (owed ending).status
@@ -172,7 +174,7 @@ of_long input h =
 
 module _ (one_count : (case : GoodsCase) (steps other : ℕ) → HasSteps case steps → HasSteps case other → steps ≡ other) where
   -- a case above its limit has no division
-  allowed : (case : Case) (division : Division) → IsDivisionOf case division → (limit : ℕ) → IsOverLimit case limit → ⊥
+  allowed : (case : Case) (division : Division) → IsDivisionOf case division → (limit : ℕ) → IsAboveLimit case limit → ⊥
   allowed (case.Goods goods) (division.Goods found) is limit above =
       let same = one_count goods found.steps above.above.0 is.steps above.above.1 in
       let low = is.allowed in

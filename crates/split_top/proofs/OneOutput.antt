@@ -2,7 +2,7 @@
 use Rattle.std.proofs.Common.{◌≡◌, ℕ, List, All, Ok, length, map, IfSome, sym, ap, ◌∙◌, subst}
 use Rattle.std.specs.Prelude.{Option}
 use Rattle.split_frac.specs.declared.frac.Frac.{Frac}
-use Rattle.split_frac.specs.Frac.{pair_of}
+use Rattle.split_frac.specs.Frac.{fraction_of}
 use Rattle.bid_rules.specs.declared.bids.Bid.{Bid}
 use Rattle.bid_rules.specs.declared.bids.Facts.{Facts}
 use Rattle.bid_rules.specs.declared.cases.Case.{Case}
@@ -24,13 +24,14 @@ use Rattle.split_json.specs.Reading.{CaseData, IsReady, case_in}
 use Rattle.split_reports.specs.Reports.{IsReport}
 use Rattle.split_top.specs.declared.command.Command.{Command}
 use Rattle.split_top.specs.declared.command.Command.TheVariants.{Solve, Report}
+use Rattle.split_top.specs.Commands.{AreAlike}
 use Rattle.split_top.specs.Texts.{IsOutput, IsTextOf, division_lines, fare_lines}
 
 module _
     (one_rent : (case : RentCase) (division other : RentDivision) → IsValidRentCase case → IsRentDivision case division → IsRentDivision case other → division ≡ other)
     (one_goods : (case : GoodsCase) (division other : GoodsDivision) → IsGoodsDivision case division → IsGoodsDivision case other → division ≡ other)
-    (one_fares : (case : FareCase) (fares others : List Frac) (route other : List ℕ) → FareBest case (map pair_of fares) route → FareBest case (map pair_of others) other → fares ≡ others)
-    (one_route : (case : FareCase) (fares others : List Frac) (route other : List ℕ) → FareBest case (map pair_of fares) route → FareBest case (map pair_of others) other → route ≡ other)
+    (one_fares : (case : FareCase) (fares others : List Frac) (route other : List ℕ) → FareBest case (map fraction_of fares) route → FareBest case (map fraction_of others) other → fares ≡ others)
+    (one_route : (case : FareCase) (fares others : List Frac) (route other : List ℕ) → FareBest case (map fraction_of fares) route → FareBest case (map fraction_of others) other → route ≡ other)
     (is_valid : (facts : Facts) (bids : List (Option Bid)) (case : Case) → IsCheckedFacts facts → length bids ≡ member_count facts
     → All (λ bid. IfSome bid (IsCheckedBid facts)) bids → case_of facts bids ≡ Ok case → IsValidCase case)
     (is_ready : (body : List ℕ) (case : CaseData) → case_in body ≡ Ok case → IsReady case)
@@ -57,20 +58,22 @@ module _
     one_lines (Fares case) (division.Goods a) b valid is others = absurd is
     one_lines (Fares case) (division.Rent a) b valid is others = absurd is
 
-    -- a command has one text of a case
-    one_text : (command : Command) (given : CaseData) (case : Case) (a b : Division) (text other : List ℕ) → IsReady given → case_of given.facts given.bids ≡ Ok case
-        → IsDivisionOf case a → IsDivisionOf case b → IsTextOf command given case a text → IsTextOf command given case b other → text ≡ other
-    one_text Solve given case a b text other ready made best too is others =
-        is ∙ one_lines case a b (is_valid given.facts given.bids case ready.facts ready.count ready.bids made) best too ∙ sym others
-    one_text Report given case a b text other ready made best too is others = one_report given case a b text other ready made best too is others
+    -- a command has one text of a case, whatever the number of workers
+    one_text : (command another : Command) (given : CaseData) (case : Case) (a b : Division) (text other : List ℕ) → AreAlike command another → IsReady given → case_of given.facts given.bids ≡ Ok case
+        → IsDivisionOf case a → IsDivisionOf case b → IsTextOf command given case a text → IsTextOf another given case b other → text ≡ other
+    one_text (Solve workers) (Solve others) given case a b text other same ready made best too is others_is =
+        is ∙ one_lines case a b (is_valid given.facts given.bids case ready.facts ready.count ready.bids made) best too ∙ sym others_is
+    one_text (Report workers) (Report others) given case a b text other same ready made best too is others_is = one_report given case a b text other ready made best too is others_is
+    one_text (Solve workers) (Report others) given case a b text other same ready made best too is others_is = absurd same
+    one_text (Report workers) (Solve others) given case a b text other same ready made best too is others_is = absurd same
 
     -- and so of the bytes that hold it
-    pub one_output : (command : Command) (bytes text other : List ℕ) → IsOutput command bytes text → IsOutput command bytes other → text ≡ other
-    one_output command bytes text other a b =
+    pub one_output : (command another : Command) (bytes text other : List ℕ) → AreAlike command another → IsOutput command bytes text → IsOutput another bytes other → text ≡ other
+    one_output command another bytes text other alike a b =
         let same : a.0 ≡ b.0 = cc (a.1, b.1) in
         let made = ap (λ (d : CaseData). case_of d.facts d.bids) same in
         let one : a.2.0 ≡ b.2.0 = cc (made, a.2.1, b.2.1) in
         let best = a.2.2 in
         let too = b.2.2 in
-        one_text command b.0 b.2.0 best.0 too.0 text other (is_ready bytes b.0 b.1) b.2.1 (subst (λ (c : Case). IsDivisionOf c best.0) one best.1) too.1
+        one_text command another b.0 b.2.0 best.0 too.0 text other alike (is_ready bytes b.0 b.1) b.2.1 (subst (λ (c : Case). IsDivisionOf c best.0) one best.1) too.1
         (subst (λ (c : Case). IsTextOf command b.0 c best.0 text) one (subst (λ (d : CaseData). IsTextOf command d a.2.0 best.0 text) same best.2)) too.2

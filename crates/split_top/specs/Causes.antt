@@ -7,8 +7,10 @@ use Rattle.split_top.specs.declared.limits.TheConstants.{LONGEST_INPUT}
 use Rattle.split_top.specs.declared.stop.Stop.{Stop}
 use Rattle.split_top.specs.declared.stop.Stop.TheVariants.{Void, OverLimit, BadWords, TooLong, BadCase, ReadFault, NoMemory}
 use Rattle.split_top.specs.Told.{HasFault, HasWritten, IsShort, IsSound, Told}
-use Rattle.split_top.specs.Texts.{Holds, IsOverLimit, IsVoid, MakesCase}
-use Rattle.split_top.specs.Endings.{IsNoRow, ReadsCase, owed}
+use Rattle.split_solve.specs.Solving.{IsAboveLimit}
+use Rattle.split_top.specs.Commands.{IsNoRow, ReadsCase}
+use Rattle.split_top.specs.Texts.{Holds, IsVoid, MakesCase}
+use Rattle.split_top.specs.Endings.{owed}
 
 -- the ending came: its cause holds, and its text was written
 abbrev pub Came : List (List ℕ) → Told → Told → Result (List ℕ) Stop → Type 0
@@ -35,9 +37,9 @@ HasCauses words input output status = get_or (licences words input output) statu
 
 -- the ending that the input's bytes call for, where the words are a row
 abbrev pub IsDue : List ℕ → Result (List ℕ) Stop → Type 0
-IsDue bytes (Ok text) = IsShort bytes × Holds bytes (λ given. MakesCase given (λ case. (limit : ℕ) → IsOverLimit case limit → ⊥))
+IsDue bytes (Ok text) = IsShort bytes × Holds bytes (λ given. MakesCase given (λ case. (limit : ℕ) → IsAboveLimit case limit → ⊥))
 IsDue bytes (Err (Void missing)) = IsShort bytes × Holds bytes (IsVoid missing)
-IsDue bytes (Err (OverLimit limit)) = IsShort bytes × Holds bytes (λ given. MakesCase given (λ case. IsOverLimit case limit))
+IsDue bytes (Err (OverLimit limit)) = IsShort bytes × Holds bytes (λ given. MakesCase given (λ case. IsAboveLimit case limit))
 IsDue bytes (Err TooLong) = LONGEST_INPUT < length bytes
 IsDue bytes (Err (BadCase fault)) = IsShort bytes × (case_in bytes ≡ Err fault)
 IsDue bytes (Err other) = ⊥

@@ -5,25 +5,13 @@ use Rattle.sealed_core.specs.declared.fields.BodyFault.{BodyFault}
 use Rattle.sealed_core.specs.declared.fields.BodyFault.TheVariants.{Json, Field}
 use Rattle.split_json.specs.Reading.{case_in, field_text}
 use Rattle.split_top.specs.declared.command.Command.{Command}
-use Rattle.split_top.specs.declared.command.Command.TheVariants.{Solve, Report}
 use Rattle.split_top.specs.declared.stop.Stop.{Stop}
 use Rattle.split_top.specs.declared.stop.Stop.TheVariants.{Void, OverLimit, BadWords, TooLong, BadCase, ReadFault, NoMemory}
 use Rattle.split_text.specs.Texts.{line, word_line}
+use Rattle.split_top.specs.Commands.{IsNoRow, IsRow, ReadsCase}
 use Rattle.split_top.specs.Told.{HasFault, IsPartRead, IsTooLong, IsUntouched, IsWhole, Told}
-use Rattle.split_top.specs.Texts.{Holds, IsOutput, IsOverLimit, IsVoid, MakesCase}
-
--- the command table: the words of each row
-abbrev pub IsRow : List (List ℕ) → Command → Type 0
-IsRow words Solve = words ≡ codes "solve" ∷ codes "1" ∷ []
-IsRow words Report = words ≡ codes "report" ∷ codes "1" ∷ []
-
--- the words are a row of a command that reads a case, as all of them do
-abbrev pub ReadsCase : List (List ℕ) → Type 0
-ReadsCase words = (command : Command) × IsRow words command
-
--- the words are no row of the command table
-abbrev pub IsNoRow : List (List ℕ) → Type 0
-IsNoRow words = (command : Command) → IsRow words command → ⊥
+use Rattle.split_top.specs.Texts.{Holds, IsOutput, IsVoid, MakesCase}
+use Rattle.split_solve.specs.Solving.{IsAboveLimit}
 
 -- the command read its input whole, and this is so of the bytes
 abbrev pub HasRead : List (List ℕ) → Told → (Command → List ℕ → Type 0) → Type 0
@@ -55,7 +43,7 @@ owed (Err (Void missing)) = record {
 owed (Err (OverLimit limit)) = record {
   status = 1;
   text = word_line (codes "step limit") (decimal limit ∷ []);
-  cause = λ words input. HasRead words input (λ command bytes. Holds bytes (λ given. MakesCase given (λ case. IsOverLimit case limit)));
+  cause = λ words input. HasRead words input (λ command bytes. Holds bytes (λ given. MakesCase given (λ case. IsAboveLimit case limit)));
 }
 owed (Err BadWords) = record {
   status = 2;

@@ -1,4 +1,5 @@
 pub mod Causes
+pub mod Commands
 pub mod Endings
 pub mod Steps
 pub mod Texts

@@ -1,24 +1,17 @@
 -- How the steps of a command may end: for the contracts of private functions alone.
 use Rattle.std.specs.Prelude.{◌≡◌, ℕ, List, Result, Ok, Err}
-use Rattle.bid_rules.specs.declared.cases.Case.{Case}
 use Rattle.split_json.specs.Reading.{CaseData, case_in}
 use Rattle.split_top.specs.declared.command.Command.{Command}
 use Rattle.split_top.specs.declared.stop.Stop.{Stop}
 use Rattle.split_top.specs.declared.stop.Stop.TheVariants.{Void, OverLimit, BadCase, NoMemory}
-use Rattle.split_top.specs.Texts.{Holds, IsBestText, IsOutput, IsOverLimit, IsVoid, MakesCase}
-
--- with an answer of which this is so, or not, since the step count of the case is above its limit, or for want of memory
-abbrev pub IsSolved : {T : Type 0} → (T → Type 0) → Case → Result T Stop → Type 0
-IsSolved so case (Ok answer) = so answer
-IsSolved so case (Err (OverLimit limit)) = IsOverLimit case limit
-IsSolved so case (Err NoMemory) = Unit {0}
-IsSolved so case (Err other) = ⊥
+use Rattle.split_top.specs.Texts.{Holds, IsBestText, IsOutput, IsVoid, MakesCase}
+use Rattle.split_solve.specs.Solving.{IsAboveLimit}
 
 -- what facts and bids were read
 abbrev pub IsCaseEnding : Command → CaseData → Result (List ℕ) Stop → Type 0
 IsCaseEnding command given (Ok text) = IsBestText command text given
 IsCaseEnding command given (Err (Void missing)) = IsVoid missing given
-IsCaseEnding command given (Err (OverLimit limit)) = MakesCase given (λ case. IsOverLimit case limit)
+IsCaseEnding command given (Err (OverLimit limit)) = MakesCase given (λ case. IsAboveLimit case limit)
 IsCaseEnding command given (Err NoMemory) = Unit {0}
 IsCaseEnding command given (Err other) = ⊥
 
@@ -26,7 +19,7 @@ IsCaseEnding command given (Err other) = ⊥
 abbrev pub IsBodyEnding : Command → List ℕ → Result (List ℕ) Stop → Type 0
 IsBodyEnding command bytes (Ok text) = IsOutput command bytes text
 IsBodyEnding command bytes (Err (Void missing)) = Holds bytes (IsVoid missing)
-IsBodyEnding command bytes (Err (OverLimit limit)) = Holds bytes (λ given. MakesCase given (λ case. IsOverLimit case limit))
+IsBodyEnding command bytes (Err (OverLimit limit)) = Holds bytes (λ given. MakesCase given (λ case. IsAboveLimit case limit))
 IsBodyEnding command bytes (Err (BadCase fault)) = case_in bytes ≡ Err fault
 IsBodyEnding command bytes (Err NoMemory) = Unit {0}
 IsBodyEnding command bytes (Err other) = ⊥

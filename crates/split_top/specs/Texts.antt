@@ -4,13 +4,11 @@ use Rattle.std.specs.Fmt.{decimal}
 use Rattle.split_frac.specs.declared.frac.Frac.{Frac}
 use Rattle.split_frac.specs.Frac.{frac_text}
 use Rattle.bid_rules.specs.declared.cases.Case.{Case}
-use Rattle.bid_rules.specs.declared.cases.Case.TheVariants.{Fares, Goods, Rent}
 use Rattle.bid_rules.specs.declared.cases.Missing.{Missing}
 use Rattle.bid_rules.specs.Facts.{case_of}
 use Rattle.certificates.specs.Division.{IsDivisionOf}
 use Rattle.certificates.specs.declared.division.Division.{Division}
 use Rattle.certificates.specs.declared.division.Division.TheVariants as division
-use Rattle.nash_search.specs.Division as goods
 use Rattle.split_json.specs.Reading.{CaseData, case_in}
 use Rattle.split_text.specs.Texts.{word_line}
 use Rattle.split_reports.specs.Reports.{IsReport}
@@ -35,16 +33,10 @@ division_lines (division.Rent rent) = rent_lines rent.best.rooms.items rent.pric
 division_lines (division.Goods goods) = goods_lines goods.owners.items goods.steps
 division_lines (division.Fares fares) = fare_lines fares.route.items fares.fares.items
 
--- what each command writes of a case and its division: `solve` the two lines, `report` the report
+-- what each command writes of a case and its division, whatever the number of workers: `solve` the two lines, `report` the report
 abbrev pub IsTextOf : Command → CaseData → Case → Division → List ℕ → Type 0
-IsTextOf Solve given case division text = text ≡ division_lines division
-IsTextOf Report given case division text = IsReport given case division text
-
--- the case is of goods, and its step count is above its limit, which is this one
-abbrev pub IsOverLimit : Case → ℕ → Type 0
-IsOverLimit (Rent case) limit = ⊥
-IsOverLimit (Goods case) limit = goods.IsOverLimit case (record { limit = limit })
-IsOverLimit (Fares case) limit = ⊥
+IsTextOf (Solve workers) given case division text = text ≡ division_lines division
+IsTextOf (Report workers) given case division text = IsReport given case division text
 
 -- the facts and bids make a case of which this is so
 abbrev pub MakesCase : CaseData → (Case → Type 0) → Type 0

@@ -1,10 +1,12 @@
 ghost use Rattle.std.specs.Prelude.{◌≡◌, ◌≤◌, ℕ, List, Result, Ok, map, string_bytes, IfOk};
 ghost use Rattle.std.specs.Result.{result_map_both};
-ghost use Rattle.bid_rules.specs.Facts.{IsValidCase, case_of};
+ghost use Rattle.bid_rules.specs.Facts.{case_of};
 ghost use Rattle.split_top.specs.declared.stop.Stop.{Stop};
 ghost use Rattle.split_top.specs.Causes.{HasCauses, IsComplete};
 ghost use Rattle.split_top.specs.Endings.{owed};
-ghost use Rattle.split_top.specs.Steps.{IsBodyEnding, IsCaseEnding, IsSolved};
+ghost use Rattle.search_workers.specs.declared.limits.TheConstants.{MOST_WORKERS};
+ghost use Rattle.split_top.specs.Commands.{worker_count};
+ghost use Rattle.split_top.specs.Steps.{IsBodyEnding, IsCaseEnding};
 ghost use Rattle.split_top.specs.Texts.{IsTextOf};
 ghost use Rattle.split_top.specs.Told.{Ends, told};
 ghost use Rattle.split_json.specs.Reading.{IsReady, shown};
@@ -14,15 +16,15 @@ use crate::command::{Command, command_of};
 use crate::limits::LONGEST_INPUT;
 use crate::lines::division_lines;
 use crate::stop::Stop;
-use bid_rules::{Case, make_case};
+use bid_rules::Case;
 use certificates::Division;
-use nash_search::{search_alone, step_count_law};
-use rent_maximin::solve_rent;
-use shapley_core::solve_fares;
-use split_base::{Failed, NoMemory, ReadStop, Sink, Source, read_all, write_all};
+use nash_search::step_count_law;
+use split_base::{Failed, Gate, NoMemory, ReadStop, Sink, Source, read_all, write_all};
 use split_json::{CaseInput, read_case};
 use split_reports::report;
+use split_solve::{SolveFault, solve};
 use std::alloc::Global;
+use std::thread::Threads;
 
 /// The status with which the program ends.
 #[derive(Clone, Copy, Debug, PartialEq, Eq)]
@@ -33,9 +35,10 @@ pub struct Status {
 
 /// Does what the words ask for: reads the input, and writes what the command owes.
 ///
-/// Both commands read a case of at most `LONGEST_INPUT` bytes as JSON and find its best division. `solve 1` writes two lines: of a rent
-/// `rooms` and `prices`, of goods `owners` and `steps`, of fares `route` and `fares`. `report 1` writes the report, which tells
-/// each member what the division means for them.
+/// Both commands read a case of at most `LONGEST_INPUT` bytes as JSON and find its best division, the same for every number of
+/// workers. `solve WORKERS` writes two lines: of a rent `rooms` and `prices`, of goods `owners` and `steps`, of fares `route` and
+/// `fares`. `report WORKERS` writes the report, which tells each member what the division means for them. The gate is told when
+/// a worker enters and leaves a task of the search.
 ///
 /// | status | comes | line |
 /// |---|---|---|
@@ -49,11 +52,13 @@ pub struct Status {
 ///
 /// The tests come in the order of the work: words, reading, solving, writing. 6 stands in place of the status whose text could
 /// not be written, and 9 may come in place of any but 2. With status 2 the input is untouched, and else at most one byte more than `LONGEST_INPUT` was read.
-pub fn run<I: Source, O: Sink>(
+pub fn run<R: Threads + Sync, I: Source, O: Sink, G: Gate + Sync>(
     alloc: Global,
+    rt: &R,
     words: &[String],
     input: &mut I,
     output: &mut O,
+    gate: &G,
 ) -> Status
     // The command came to one of its endings, and wrote that ending's text with its status.
     ensures ending { (ending : Result (List ℕ) Stop)
@@ -66,7 +71,7 @@ pub fn run<I: Source, O: Sink>(
     ensures counts { (I.faults input.old ≤ I.faults input.new) × (O.faults output.old ≤ O.faults output.new) }
 {
     step_count_law();
-    let ending = decide(alloc, words, input);
+    let ending = decide(alloc, rt, words, input, gate);
     write_ending(output, &ending)
 }
 
@@ -98,7 +103,13 @@ fn write_text<O: Sink>(output: &mut O, text: &[u8], code: u8) -> Status
 }
 
 /// How the command ends, before anything is written.
-fn decide<I: Source>(alloc: Global, words: &[String], input: &mut I) -> Result<Vec<u8>, Stop>
+fn decide<R: Threads + Sync, I: Source, G: Gate + Sync>(
+    alloc: Global,
+    rt: &R,
+    words: &[String],
+    input: &mut I,
+    gate: &G,
+) -> Result<Vec<u8>, Stop>
     ensures ending { (owed (result_map_both (λ text. text.items) (λ stop. stop) result)).cause
         (map string_bytes words.now) (told I.left I.faults input.old input.new) }
     ensures count { I.faults input.old ≤ I.faults input.new }
@@ -107,7 +118,7 @@ fn decide<I: Source>(alloc: Global, words: &[String], input: &mut I) -> Result<V
         return Err(Stop::BadWords);
     };
     match read_all(alloc, input, LONGEST_INPUT) {
-        Ok(body) => body_output(alloc, command, &body),
+        Ok(body) => body_output(alloc, rt, command, &body, gate),
         Err(ReadStop::Fault) => Err(Stop::ReadFault),
         Err(ReadStop::TooLong) => Err(Stop::TooLong),
         Err(ReadStop::NoMemory) => Err(Stop::NoMemory),
@@ -115,47 +126,51 @@ fn decide<I: Source>(alloc: Global, words: &[String], input: &mut I) -> Result<V
 }
 
 /// How a command ends on an input that was read whole.
-fn body_output(alloc: Global, command: Command, body: &[u8]) -> Result<Vec<u8>, Stop>
+fn body_output<R: Threads + Sync, G: Gate + Sync>(
+    alloc: Global,
+    rt: &R,
+    command: Command,
+    body: &[u8],
+    gate: &G,
+) -> Result<Vec<u8>, Stop>
+    requires { (1 ≤ worker_count command) × (worker_count command ≤ MOST_WORKERS) }
     ensures { IsBodyEnding command body.now (result_map_both (λ text. text.items) (λ stop. stop) result) }
 {
     match read_case(alloc, body) {
-        Ok(Ok(input)) => case_output(alloc, command, &input),
+        Ok(Ok(input)) => case_output(alloc, rt, command, &input, gate),
         Ok(Err(fault)) => Err(Stop::BadCase { fault }),
         Err(NoMemory) => Err(Stop::NoMemory),
     }
 }
 
 /// How the facts and bids of a case end.
-fn case_output(alloc: Global, command: Command, input: &CaseInput) -> Result<Vec<u8>, Stop>
-    requires { IsReady (shown input.now) }
+fn case_output<R: Threads + Sync, G: Gate + Sync>(
+    alloc: Global,
+    rt: &R,
+    command: Command,
+    input: &CaseInput,
+    gate: &G,
+) -> Result<Vec<u8>, Stop>
+    requires input { IsReady (shown input.now) }
+    requires workers { (1 ≤ worker_count command) × (worker_count command ≤ MOST_WORKERS) }
     ensures { IsCaseEnding command (shown input.now) (result_map_both (λ text. text.items) (λ stop. stop) result) }
 {
-    let case = match make_case(&input.facts, input.bids.as_slice()) {
-        Ok(case) => case,
-        Err(missing) => return Err(Stop::Void { missing }),
-    };
-    let division = best_division(alloc, &case)?;
-    match division_text(alloc, command, input, &case, &division) {
-        Ok(text) => Ok(text),
-        Err(NoMemory) => Err(Stop::NoMemory),
-    }
-}
-
-/// The best division of a case.
-fn best_division(alloc: Global, case: &Case) -> Result<Division, Stop>
-    requires { IsValidCase case.now }
-    ensures { IsSolved (IsDivisionOf case.now) case.now result }
-{
-    match case {
-        Case::Rent(case) => Ok(Division::Rent(solve_rent(case))),
-        Case::Goods(case) => match search_alone(case) {
-            Ok(division) => Ok(Division::Goods(division)),
-            Err(over) => Err(Stop::OverLimit { limit: over.limit }),
-        },
-        Case::Fares(case) => match solve_fares(alloc, case) {
-            Ok(division) => Ok(Division::Fares(division)),
+    let workers = command.workers();
+    match solve(
+        alloc,
+        rt,
+        &input.facts,
+        input.bids.as_slice(),
+        workers,
+        gate,
+    ) {
+        Ok((case, division)) => match division_text(alloc, command, input, &case, &division) {
+            Ok(text) => Ok(text),
             Err(NoMemory) => Err(Stop::NoMemory),
         },
+        Err(SolveFault::Void { missing }) => Err(Stop::Void { missing }),
+        Err(SolveFault::OverLimit { limit }) => Err(Stop::OverLimit { limit }),
+        Err(SolveFault::NoMemory) => Err(Stop::NoMemory),
     }
 }
 
@@ -173,7 +188,7 @@ fn division_text(
     ensures { IfOk result (λ text. IsTextOf command (shown input.now) case.now division.now text.items) }
 {
     match command {
-        Command::Solve => division_lines(alloc, division),
-        Command::Report => report(alloc, input, case, division),
+        Command::Solve { .. } => division_lines(alloc, division),
+        Command::Report { .. } => report(alloc, input, case, division),
     }
 }

@@ -1,9 +1,10 @@
 // Commands over sources and sinks in memory.
 use super::*;
-use split_base::{MemSink, MemSource};
+use split_base::{MemSink, MemSource, Quiet};
 use std::alloc::{AllocError, Global};
 use std::process::Abort;
 use std::test::Fail;
+use std::thread::Threads;
 
 mod divisions;
 mod faults;
@@ -93,7 +94,7 @@ fn body_before(
 
 /// Over `body`, in pieces of these sizes, with these failing calls and this room: the status, and what was written.
 fn answer(
-    rt: &impl Abort,
+    rt: &(impl Abort + Threads + Sync),
     alloc: Global,
     words: &[&str],
     body: &[u8],
@@ -111,13 +112,13 @@ fn answer(
     let Ok(mut output) = MemSink::new(alloc, room, fails.1.to_vec(alloc)?) else {
         return Err(Fail::from("no memory"));
     };
-    let status = run(alloc, &given, &mut input, &mut output);
+    let status = run(alloc, rt, &given, &mut input, &mut output, &Quiet);
     Ok((status.code, output.bytes().to_vec(alloc)?))
 }
 
 /// Stops unless the command on the body, where no call fails, ends with this status and text.
 fn gives(
-    rt: &impl Abort,
+    rt: &(impl Abort + Threads + Sync),
     alloc: Global,
     command: &str,
     body: &[u8],
@@ -131,7 +132,13 @@ fn gives(
 }
 
 /// Stops unless `solve 1` on the body ends so.
-fn solves(rt: &impl Abort, alloc: Global, body: &[u8], code: u8, text: &str) -> Result<(), Fail> {
+fn solves(
+    rt: &(impl Abort + Threads + Sync),
+    alloc: Global,
+    body: &[u8],
+    code: u8,
+    text: &str,
+) -> Result<(), Fail> {
     gives(rt, alloc, "solve", body, code, text)
 }
 

@@ -1,9 +1,10 @@
 // A disk in memory.
 ghost use Rattle.std.specs.Prelude.{◌≡◌, ◌≤◌, ◌<◌, ◌↔◌, ◌⊎◌, ◌+◌, ◌-◌, ◌^◌, ◌++◌, [], min, ℕ, List, length, take, drop, replicate, vec_len, vec_capacity, IfOk, OnOk, OnErr, IsErr, IsTrue, MatchResult};
 ghost use Rattle.split_base.specs.Faults.{HasCause, HasRisen};
-ghost use Rattle.split_base.specs.Disk.{IsWritten, Only, Rests, MayTear};
+ghost use Rattle.split_base.specs.Disk.{IsWritten, IsSameOutside, IsStableTo, Only, Rests, MayTear};
 ghost use Rattle.split_base.specs.Past.{DiskState, Wrote, Synced, written, seen_of, images_at, moment_of, left_of, crashed, new_disk, IsDown, IsFull, after_call, after_fault, after_act};
 ghost use Rattle.split_base.specs.Replay.{played, acts_of, bytes_of};
+ghost use Rattle.split_base.specs.declared.memory.disk.TheConstants.{CALL_SIZE};
 
 use super::NoMemory;
 use super::calls::Calls;
@@ -125,15 +126,15 @@ impl MemDisk {
     }
 
     fn has_list(&self, count: usize) -> bool
-        ensures { IsTrue result ↔ (count + 32 ≤ self.now.list) }
+        ensures { IsTrue result ↔ (count + CALL_SIZE ≤ self.now.list) }
     {
         self.list >= CALL_SIZE && count <= self.list - CALL_SIZE
     }
 
     fn put(&mut self, place: u64, bytes: &[u8])
         requires room { place + length bytes.now ≤ self.old.room }
-        requires list { length bytes.now + 32 ≤ self.old.list }
-        ensures { self.new ≡ after_act self.old (Wrote place bytes.now) (length bytes.now + 32) }
+        requires list { length bytes.now + CALL_SIZE ≤ self.old.list }
+        ensures { self.new ≡ after_act self.old (Wrote place bytes.now) (length bytes.now + CALL_SIZE) }
     {
         write_within(&mut self.file, place as usize, bytes);
         extend_within(&mut self.bytes, bytes);
@@ -143,8 +144,8 @@ impl MemDisk {
     }
 
     fn settle(&mut self)
-        requires { 32 ≤ self.old.list }
-        ensures { self.new ≡ after_act self.old Synced 32 }
+        requires { CALL_SIZE ≤ self.old.list }
+        ensures { self.new ≡ after_act self.old Synced CALL_SIZE }
     {
         self.stable = self.bytes.len();
         self.acts.push_reserved(Call::Synced);
@@ -333,12 +334,13 @@ impl Disk for MemDisk {
         ensures least { OnOk result (place + length bytes.now ≤ 2 ^ 63) }
         ensures honest { Unit {0} }
         ensures written { OnOk result (IsWritten (seen_of self.old) place bytes.now (seen_of self.new)) }
+        ensures stays { (end : ℕ) → IsStableTo (images_at self.old) end → IsSameOutside place (length bytes.now) end (seen_of self.old) (seen_of self.new) }
         ensures tears { MayTear images_at moment_of left_of place (length bytes.now) self.old self.new }
 
         // It fails exactly where its number is listed, the disk has stopped, or it lacks room in the file or the list.
-        ensures fails { IsErr result ↔ (IsDown self.old ⊎ (self.old.room < place + length bytes.now) ⊎ IsFull self.old (length bytes.now + 32)) }
+        ensures fails { IsErr result ↔ (IsDown self.old ⊎ (self.old.room < place + length bytes.now) ⊎ IsFull self.old (length bytes.now + CALL_SIZE)) }
         ensures after { MatchResult result
-            (λ _. self.new ≡ after_act (after_call self.old) (Wrote place bytes.now) (length bytes.now + 32))
+            (λ _. self.new ≡ after_act (after_call self.old) (Wrote place bytes.now) (length bytes.now + CALL_SIZE))
             (λ _. self.new ≡ after_fault (after_call self.old)) }
     {
         if self.begin() || !self.has_room(place, bytes.len()) || !self.has_list(bytes.len()) {
@@ -355,9 +357,9 @@ impl Disk for MemDisk {
         ensures rests { Rests seen_of images_at moment_of left_of self.old self.new }
 
         // It fails exactly where its number is listed, the disk has stopped, or it lacks room in the list.
-        ensures fails { IsErr result ↔ (IsDown self.old ⊎ IsFull self.old 32) }
+        ensures fails { IsErr result ↔ (IsDown self.old ⊎ IsFull self.old CALL_SIZE) }
         ensures after { MatchResult result
-            (λ _. self.new ≡ after_act (after_call self.old) Synced 32)
+            (λ _. self.new ≡ after_act (after_call self.old) Synced CALL_SIZE)
             (λ _. self.new ≡ after_fault (after_call self.old)) }
     {
         if self.begin() || !self.has_list(0) {

@@ -179,3 +179,25 @@ fn names_the_members_who_lack_a_bid(rt: HostRuntime) -> Result<(), Fail> {
     }
     Ok(())
 }
+
+#[test]
+fn shares_alike_by_any_number_of_workers(rt: HostRuntime) -> Result<(), Fail> {
+    let alloc = rt.alloc();
+    let eight = body_with(
+        alloc,
+        &CLOCK,
+        &[
+            ("goods", EIGHT_GOODS),
+            ("limit", "41"),
+            ("bids", EIGHT_EQUAL),
+        ],
+    )?;
+    let text = "owners 1 1 1 1 2 2 2 2\nsteps 41\n";
+    for workers in ["1", "2", "8", "16"] {
+        let words = ["solve", workers];
+        let (status, written) = answer(&rt, alloc, &words, eight.as_bytes(), &[], (&[], &[]), 256)?;
+        assert!(rt; written.as_slice() == text.as_bytes(), "by {workers}");
+        assert_eq!(rt; status, 0);
+    }
+    Ok(())
+}

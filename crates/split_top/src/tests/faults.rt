@@ -8,7 +8,7 @@ fn tells_each_fault(rt: HostRuntime) -> Result<(), Fail> {
         (&[], &[], &[], 256, 2, "refused: words\n"),
         (&["solve", "17"], &[], &[], 256, 2, "refused: words\n"),
         (&["solve", "01"], &[], &[], 256, 2, "refused: words\n"),
-        (&["report", "2"], &[], &[], 256, 2, "refused: words\n"),
+        (&["report", "0"], &[], &[], 256, 2, "refused: words\n"),
         (&["report"], &[], &[], 256, 2, "refused: words\n"),
         (&["--help"], &[1], &[], 256, 2, "refused: words\n"),
         (&["--help"], &[], &[1], 256, 6, ""),

@@ -1,6 +1,6 @@
 use Rattle.std.proofs.Common.{arith}
 use Rattle.std.proofs.lemmas.Grind.{common_steps}
-use Rattle.bid_rules.proofs.Housemates.{values_more}
+use Rattle.bid_rules.proofs.GivenValues.{values_more}
 use Rattle.bid_rules.proofs.cases.values_of.Goals as goal
 
 pub loop-bid-preserved : goal.loop-bid-preserved

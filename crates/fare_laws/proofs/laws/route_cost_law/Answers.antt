@@ -22,9 +22,9 @@ pub returns-clause-some : goal.returns-clause-some
 returns-clause-some c case riders some = coalition_cost-some case riders some
 
 pub returns-clause-route_small : goal.returns-clause-route_small
-returns-clause-route_small c case from riders valid = route_small case (λ f t. c.leg_place_law.ensures.small case.facts f t valid.facts.million) from riders
+returns-clause-route_small c case from riders valid = route_small case (λ f t. c.leg_place_law.ensures.small case.facts f t valid.facts.cents) from riders
 
 pub returns-clause-coalition_small : goal.returns-clause-coalition_small
 returns-clause-coalition_small c case riders valid =
-    coalition_small case (λ f t. c.leg_place_law.ensures.small case.facts f t valid.facts.million)
-    (All-head (λ n. n ≤ MOST_FARE_CENTS) case.facts.flag (legs_in_order case.facts) valid.facts.million) riders
+    coalition_small case (λ f t. c.leg_place_law.ensures.small case.facts f t valid.facts.cents)
+    (All-head (λ n. n ≤ MOST_FARE_CENTS) case.facts.flag (legs_in_order case.facts) valid.facts.cents) riders

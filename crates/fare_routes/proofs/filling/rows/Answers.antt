@@ -1,9 +1,8 @@
-use Rattle.std.proofs.Common.{arith, ◌≡◌, ◌<◌, ◌*◌, ◌^◌, ◌%◌, ◌∙◌, refl, subst, sym, ap, length, map}
-use Rattle.std.proofs.lemmas.List.{length-append, length-map}
-use Rattle.std.proofs.lemmas.Nat.{one_shl, pow_pos}
+use Rattle.std.proofs.Common.{arith, ◌≡◌, ◌<◌, ◌*◌, ◌^◌, ◌%◌, ◌∙◌, ◌++◌, ◌∷◌, [], ℕ, List, subst, sym, ap, length, map}
+use Rattle.std.proofs.lemmas.List.{length-append, length-map, map-append}
+use Rattle.std.proofs.lemmas.Nat.{one_shl}
 use Rattle.bid_rules.specs.Coalitions.{riders_in}
-use Rattle.fare_routes.specs.Table.{ListsCosts, route_costs}
-use Rattle.fare_routes.proofs.TableRows.{rows_more}
+use Rattle.set_costs.specs.Table.{ListsCosts, route_costs}
 use Rattle.fare_routes.proofs.filling.rows.Goals as goal
 
 pub loop-init : goal.loop-init
@@ -12,11 +11,7 @@ loop-init c =
     let none = c.in-Ok.ensures.items in
     record {
       count = ap length none;
-      lists = subst (λ rows. ListsCosts case (map (λ row. row.items) rows)) (sym none) (record {
-        valid = c.requires;
-        few = (let power = pow_pos (length case.at.items) in omega (arith, power));
-        table = refl;
-      });
+      lists = subst (λ rows. ListsCosts case (map (λ row. row.items) rows)) (sym none) (c.rows_law.ensures.none case c.requires);
     }
 
 pub next_row-requires-clause-rows : goal.next_row-requires-clause-rows
@@ -42,9 +37,11 @@ loop-preserved c =
     let same = ap (λ n. 2 ^ n) c.len-sets.ensures.value in
     let test = c.loop-test.true in
     let more : length old < 2 ^ length case.at.items = omega (arith, power, same, test, c.loop.invariant.count) in
+    let row = c.next_row.ensures ∙ ap (λ rows. route_costs case (riders_in (length rows))) c.deref.ensures.value ∙ ap (λ n. route_costs case (riders_in n)) (sym (length-map old (λ row. row.items))) in
     record {
       count = (let long = ap length items ∙ length-append old _ in let count = c.loop.invariant.count in omega (arith, long, count));
-      lists = rows_more (λ row. row.items) case old new c.next_row.result (c.next_row.ensures ∙ ap (λ rows. route_costs case (riders_in (length rows))) c.deref.ensures.value) items more c.loop.invariant.lists;
+      lists = subst (ListsCosts case) (sym (ap (map (λ row. row.items)) items ∙ map-append (λ row. row.items) old _ ∙ ap (λ (r : List ℕ). map (λ row. row.items) old ++ r ∷ []) row))
+          (c.rows_law.ensures.more case (map (λ row. row.items) old) c.loop.invariant.lists (omega (arith, more, length-map old (λ row. row.items))));
     }
 
 pub returns : goal.returns

@@ -1,5 +1,5 @@
 use Rattle.std.proofs.Common.{◌≡◌, length, map}
-use Rattle.fare_routes.specs.Table.{ListsCosts}
+use Rattle.set_costs.specs.Table.{ListsCosts}
 use Rattle.fare_routes.proofs.filling.rows.Given as goal
 
 abbrev pub invariant-loop : goal.invariant-loop

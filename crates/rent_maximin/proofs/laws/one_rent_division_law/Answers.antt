@@ -5,7 +5,7 @@ use Rattle.bid_rules.specs.Maximin.{least_in_parts, value_step}
 use Rattle.bid_rules.specs.Rent.{room_count}
 use Rattle.bid_rules.specs.Walks.{AreGreatestWeights, AreRanks}
 use Rattle.split_lemmas.proofs.FractionLaws.{same_value}
-use Rattle.split_frac.specs.Frac.{pair_of}
+use Rattle.split_frac.specs.Frac.{fraction_of}
 use Rattle.rent_maximin.proofs.Divisions.{same_division, same_fractions}
 use Rattle.rent_maximin.proofs.laws.one_rent_division_law.Goals as goal
 
@@ -23,9 +23,9 @@ returns c case d e valid a b =
     let ranks = c.walk_law.ensures.one_ranks n (value_step case e.best.rooms.items) e.walks.weights.items e.walks.ranks.items d.walks.ranks.items b.ranks
     (subst (λ ws. AreRanks n (value_step case e.best.rooms.items) ws d.walks.ranks.items) weights (subst (λ rs. AreRanks n (value_step case rs) d.walks.weights.items d.walks.ranks.items) rooms a.ranks)) in
     let prices = same_fractions c.value_law.ensures.value d.prices.items e.prices.items
-    (c.best_rent_law.ensures.one_value case d.best.rooms.items e.best.rooms.items (map pair_of d.prices.items) (map pair_of e.prices.items) a.best b.best) in
-    let formula : IsQuotient (pair_of d.least) (least_in_parts case e.best.rooms.items e.walks.weights.items) n =
-    subst (λ ws. IsQuotient (pair_of d.least) (least_in_parts case e.best.rooms.items ws) n) weights (subst (λ rs. IsQuotient (pair_of d.least) (least_in_parts case rs d.walks.weights.items) n) rooms a.least_formula) in
+    (c.best_rent_law.ensures.one_value case d.best.rooms.items e.best.rooms.items (map fraction_of d.prices.items) (map fraction_of e.prices.items) a.best b.best) in
+    let formula : IsQuotient (fraction_of d.least) (least_in_parts case e.best.rooms.items e.walks.weights.items) n =
+    subst (λ ws. IsQuotient (fraction_of d.least) (least_in_parts case e.best.rooms.items ws) n) weights (subst (λ rs. IsQuotient (fraction_of d.least) (least_in_parts case rs d.walks.weights.items) n) rooms a.least_formula) in
     let some : 0 < n = omega (arith, few) in
-    let least = c.value_law.ensures.value d.least e.least (same_value (pair_of d.least) (pair_of e.least) (least_in_parts case e.best.rooms.items e.walks.weights.items) n some formula b.least_formula) in
+    let least = c.value_law.ensures.value d.least e.least (same_value (fraction_of d.least) (fraction_of e.least) (least_in_parts case e.best.rooms.items e.walks.weights.items) n some formula b.least_formula) in
     same_division d e rooms left right prices least weights ranks

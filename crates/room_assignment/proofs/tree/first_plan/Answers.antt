@@ -7,7 +7,7 @@ use Rattle.std.proofs.lemmas.List.FromFn.{length-range_with_len}
 use Rattle.room_assignment.specs.Tree.{IsMost}
 use Rattle.room_assignment.proofs.TreeLists.{first_matched}
 use Rattle.split_lemmas.proofs.ListPlaces.{push_place}
-use Rattle.split_lemmas.proofs.Totals.{range_more}
+use Rattle.split_lemmas.proofs.RangeSteps.{range_next}
 use Rattle.room_assignment.proofs.tree.first_plan.Goals as goal
 
 pub push-requires : goal.push-requires
@@ -23,7 +23,7 @@ loop-k-preserved c =
     let pushed = simp to_z-of_z at c.push-in-loop-k.ensures.items in
     let d = c.loop-k.invariant in
     record {
-      rooms = c.push.ensures.items ∙ ap (λ xs. xs ++ c.loop-k.k ∷ []) d.rooms ∙ sym (range_more c.loop-k.k);
+      rooms = c.push.ensures.items ∙ ap (λ xs. xs ++ c.loop-k.k ∷ []) d.rooms ∙ sym (range_next 0 c.loop-k.k c.loop-k.k (omega arith));
       lefts = ap length pushed ∙ length_push c.loop-k.left.items c.most.result ∙ ap (λ n. n + 1) d.lefts;
       rights = c.push-in-loop-k-2.ensures.items ∙ ap (λ xs. xs ++ pos 0 ∷ []) d.rights ∙ replicate_more c.loop-k.k (pos 0);
       left = rw pushed (push_place (IsMost c.args.keys.now) c.loop-k.k c.loop-k.left.items c.most.result d.lefts d.left c.most.ensures);

@@ -1,4 +1,5 @@
-use Rattle.sealed_core.proofs.Equality.{bids_decide, checked_decide, creations_decide, least_holder}
+use Rattle.sealed_core.proofs.Equality.{bids_decide, creations_decide, least_holder}
+use Rattle.sealed_core.proofs.BidRules.{allowed_is}
 use Rattle.sealed_core.proofs.laws.sameness_law.Goals as goal
 
 pub returns-clause-holder : goal.returns-clause-holder
@@ -10,5 +11,5 @@ returns-clause-creations c a b = creations_decide a b
 pub returns-clause-bids : goal.returns-clause-bids
 returns-clause-bids c a b = bids_decide a b
 
-pub returns-clause-checked : goal.returns-clause-checked
-returns-clause-checked c facts bid = checked_decide facts bid
+pub returns-clause-allowed : goal.returns-clause-allowed
+returns-clause-allowed c facts bid = allowed_is facts bid

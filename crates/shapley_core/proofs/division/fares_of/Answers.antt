@@ -1,10 +1,12 @@
-use Rattle.std.proofs.Common.{arith, ◌≡◌, ◌≤◌, ◌-◌, ◌+◌, ◌^◌, ◌∙◌, ℕ, [], ◌∷◌, All, ap, sym, subst, map, length, take, get_or}
+use Rattle.std.specs.Int.{w128}
+use Rattle.std.proofs.lemmas.Int.{ints}
+use Rattle.std.proofs.Common.{ℤ, unsigned_abs, to_z, of_z, arith, ◌≡◌, ◌≤◌, ◌-◌, ◌+◌, ◌^◌, ◌∙◌, ℕ, [], ◌∷◌, All, ap, sym, subst, map, length, take, get_or}
 use Rattle.std.specs.List.{AllZip, range_with_len}
 use Rattle.std.proofs.Math.Seq.{take-length}
 use Rattle.std.proofs.lemmas.List.{length-take, length-map, map-append}
 use Rattle.std.proofs.lemmas.List.Elements.{All-push}
 use Rattle.std.proofs.lemmas.Nat.{pow_pos}
-use Rattle.split_frac.specs.Frac.{pair_of}
+use Rattle.split_frac.specs.Frac.{fraction_of}
 use Rattle.bid_rules.specs.declared.cases.FareCase.{FareCase}
 use Rattle.bid_rules.specs.Coalitions.{riders_in}
 use Rattle.bid_rules.specs.Fares.{sum_of_marginal_costs}
@@ -12,12 +14,15 @@ use Rattle.bid_rules.specs.Fractions.{Fraction, IsQuotient}
 use Rattle.bid_rules.specs.Orders.{factorial}
 use Rattle.split_lemmas.proofs.Zipped.{AllZip-more, length-AllZip}
 use Rattle.shapley_core.specs.Division.{IsFareInRange}
-use Rattle.shapley_core.proofs.SetSums.{fits, ten_small}
 use Rattle.shapley_core.proofs.division.fares_of.Goals as goal
 
 -- the fare is the mean of the rider's marginal costs
 abbrev IsMean : FareCase → ℕ → ℕ → Fraction → Type 0
 IsMean case count rider fare = IsQuotient fare (sum_of_marginal_costs case rider) (factorial count)
+
+-- a sum within its range is kept whole
+whole_sum : (z : ℤ) → unsigned_abs z ≤ 39916800000000 → to_z w128 (of_z w128 z) ≡ z
+whole_sum z small = omega (arith, ints)
 
 pub sum_over_orders-requires-clause-low : goal.sum_over_orders-requires-clause-low
 sum_over_orders-requires-clause-low c =
@@ -25,9 +30,10 @@ sum_over_orders-requires-clause-low c =
     let P : ℕ → Type 0 = λ r. (1 ≤ r) × (r ≤ n) in
     let power = pow_pos n in
     let known = (c.coalition_law.ensures.within n (2 ^ n - 1)).0 (omega (arith, power)) in
-    let whole = c.as_slice-rider-items.ensures.value ∙ c.riders_of_set-riders.ensures ∙ ap riders_in c.all_riders-all.ensures in
+    let whole = c.as_slice-rider-items.ensures.value ∙ c.riders_of_set-riders.ensures ∙ ap riders_in c.all_riders.ensures in
     let all : All P c.as_slice-rider-items.result.now = subst (All P) (sym whole) known in
-    (all c.loop-rider.rider-index 0 c.loop-rider-test.true).0
+    let rider = all c.loop-rider.rider-index 0 c.loop-rider-test.true in
+    omega (arith, rider)
 
 pub sum_over_orders-requires-clause-high : goal.sum_over_orders-requires-clause-high
 sum_over_orders-requires-clause-high c =
@@ -35,15 +41,16 @@ sum_over_orders-requires-clause-high c =
     let P : ℕ → Type 0 = λ r. (1 ≤ r) × (r ≤ n) in
     let power = pow_pos n in
     let known = (c.coalition_law.ensures.within n (2 ^ n - 1)).0 (omega (arith, power)) in
-    let whole = c.as_slice-rider-items.ensures.value ∙ c.riders_of_set-riders.ensures ∙ ap riders_in c.all_riders-all.ensures in
+    let whole = c.as_slice-rider-items.ensures.value ∙ c.riders_of_set-riders.ensures ∙ ap riders_in c.all_riders.ensures in
     let all : All P c.as_slice-rider-items.result.now = subst (All P) (sym whole) known in
-    (all c.loop-rider.rider-index 0 c.loop-rider-test.true).1
+    let rider = all c.loop-rider.rider-index 0 c.loop-rider-test.true in
+    omega (arith, rider, c.requires.count)
 
 pub push-requires : goal.push-requires
 push-requires c =
     let fares = c.loop-rider.fares.items in
-    let same = length-AllZip (IsMean c.args.costs.now c.args.count) (take c.loop-rider.rider-index c.as_slice-rider-items.result.now) (map pair_of fares) c.loop-rider.invariant.means in
-    let pairs = length-map fares pair_of in
+    let same = length-AllZip (IsMean c.args.costs.now c.args.count) (take c.loop-rider.rider-index c.as_slice-rider-items.result.now) (map fraction_of fares) c.loop-rider.invariant.means in
+    let pairs = length-map fares fraction_of in
     let long = length-take c.loop-rider.rider-index c.as_slice-rider-items.result.now in
     let test = c.loop-rider-test.true in
     let few = c.as_slice-rider-items.ensures.fits in
@@ -57,12 +64,10 @@ loop-rider-preserved c =
     let fares = c.loop-rider.fares.items in
     let fare = c.mean.result in
     let i = c.loop-rider.rider-index in
-    let most = c.coalition_law.ensures.riders_count case c.requires.valid in
-    let told = fits c.in_ok-sum.sum (ten_small c.in_ok-sum.sum n c.in_ok-sum.ensures.small (omega (arith, most, c.requires.count))) in
-    let mean : IsMean case n (get_or riders i 0) (pair_of fare) = subst (λ z. IsQuotient (pair_of fare) z (factorial n)) (told ∙ c.in_ok-sum.ensures.value) c.mean.ensures.value in
+    let mean : IsMean case n (get_or riders i 0) (fraction_of fare) = subst (λ z. IsQuotient (fraction_of fare) z (factorial n)) (whole_sum c.sum_over_orders.result c.sum_over_orders.ensures.fits ∙ c.sum_over_orders.ensures.value) c.mean.ensures.value in
     record {
-      means = subst (λ ys. AllZip (IsMean case n) (take (i + 1) riders) ys) (sym (ap (map pair_of) c.push.ensures.items ∙ map-append pair_of fares (fare ∷ [])))
-          (AllZip-more (IsMean case n) riders (map pair_of fares) i 0 (pair_of fare) c.loop-rider-test.true c.loop-rider.invariant.means mean);
+      means = subst (λ ys. AllZip (IsMean case n) (take (i + 1) riders) ys) (sym (ap (map fraction_of) c.push.ensures.items ∙ map-append fraction_of fares (fare ∷ [])))
+          (AllZip-more (IsMean case n) riders (map fraction_of fares) i 0 (fraction_of fare) c.loop-rider-test.true c.loop-rider.invariant.means mean);
       ranges = subst (λ fs. All (IsFareInRange n) fs) (sym c.push.ensures.items) (All-push (IsFareInRange n) fares fare c.loop-rider.invariant.ranges c.mean.ensures.range);
     }
 
@@ -73,5 +78,5 @@ returns-clause-means c =
     let riders = c.as_slice-rider-items.result.now in
     let fares = c.loop-rider.fares.items in
     let end : length riders ≡ c.loop-rider.rider-index = (let high = c.loop-rider-test.false in let low = c.loop-rider.auto.rider-index-end in omega (arith, high, low)) in
-    let whole = c.as_slice-rider-items.ensures.value ∙ c.riders_of_set-riders.ensures ∙ ap riders_in c.all_riders-all.ensures ∙ c.coalition_law.ensures.all n ∙ ap (range_with_len 1) c.requires.count in
-    subst (λ xs. AllZip (IsMean case n) xs (map pair_of fares)) (ap (λ k. take k riders) (sym end) ∙ take-length riders ∙ whole) c.loop-rider.invariant.means
+    let whole = c.as_slice-rider-items.ensures.value ∙ c.riders_of_set-riders.ensures ∙ ap riders_in c.all_riders.ensures ∙ c.coalition_law.ensures.all n ∙ ap (range_with_len 1) c.requires.count in
+    subst (λ xs. AllZip (IsMean case n) xs (map fraction_of fares)) (ap (λ k. take k riders) (sym end) ∙ take-length riders ∙ whole) c.loop-rider.invariant.means

@@ -7,7 +7,7 @@ use Rattle.bid_rules.specs.Rent.{room_count}
 use Rattle.split_lemmas.proofs.RoomPlaces.{rooms_length}
 use Rattle.envy_check.specs.Envy.{ArePrices, IsAmount, IsEnvyTable, rows_of}
 use Rattle.split_frac.specs.declared.frac.Frac.{Frac}
-use Rattle.split_frac.specs.Frac.{pair_of}
+use Rattle.split_frac.specs.Frac.{fraction_of}
 use Rattle.split_reports.specs.Rent.{AreUtilities}
 use Rattle.split_reports.proofs.RentFigures.{best_prices, best_rooms, price_amounts, prices_listed, rooms_within}
 use Rattle.split_reports.proofs.rent.figures_of.Goals as goal
@@ -26,10 +26,10 @@ cent_plan-requires-clause-sum c =
     let division = c.args.division.now in
     let case = c.args.case.now in
     let whole : to_z w64 (of_z w64 c.from.result) ≡ pos case.facts.rent = omega (arith, ints) in
-    let listed = ap (λ (xs : List Frac). map pair_of xs) c.as_slice.ensures.value
+    let listed = ap (λ (xs : List Frac). map fraction_of xs) c.as_slice.ensures.value
     ∙ prices_listed division c.as_slice-rooms.result.now c.as_slice-prices.result.now c.prices_of_members-amounts.result.items c.as_slice-rooms.ensures.value c.as_slice-prices.ensures.value c.prices_of_members-amounts.ensures.prices in
-    let sum = c.best_rent_law.ensures.by_member case division.best.rooms.items (map pair_of division.prices.items) c.requires.division.best in
-    subst (λ z. IsQuotient (sum_of_fractions (map pair_of c.as_slice.result.now)) z 1) (sym whole) (subst (λ fs. IsQuotient (sum_of_fractions fs) (pos case.facts.rent) 1) (sym listed) sum)
+    let sum = c.best_rent_law.ensures.by_member case division.best.rooms.items (map fraction_of division.prices.items) c.requires.division.best in
+    subst (λ z. IsQuotient (sum_of_fractions (map fraction_of c.as_slice.result.now)) z 1) (sym whole) (subst (λ fs. IsQuotient (sum_of_fractions fs) (pos case.facts.rent) 1) (sym listed) sum)
 
 pub utilities_of-requires-clause-count : goal.utilities_of-requires-clause-count
 utilities_of-requires-clause-count c = ap length c.as_slice-rooms.ensures.value ∙ rooms_length (room_count c.args.case.now) c.args.division.now.best.rooms.items c.requires.division.best.priced.assignment
@@ -37,7 +37,7 @@ utilities_of-requires-clause-count c = ap length c.as_slice-rooms.ensures.value 
 pub utilities_of-requires-clause-rooms : goal.utilities_of-requires-clause-rooms
 utilities_of-requires-clause-rooms c =
     subst (λ (xs : List ℕ). All (λ room. (1 ≤ room) × (room ≤ room_count c.args.case.now)) xs) (sym c.as_slice-rooms.ensures.value)
-    (best_rooms c.args.case.now c.args.division.now.best.rooms.items (map pair_of c.args.division.now.prices.items) c.requires.division.best)
+    (best_rooms c.args.case.now c.args.division.now.best.rooms.items (map fraction_of c.args.division.now.prices.items) c.requires.division.best)
 
 pub utilities_of-requires-clause-prices : goal.utilities_of-requires-clause-prices
 utilities_of-requires-clause-prices c =
@@ -56,17 +56,17 @@ returns c =
     let rooms = c.as_slice-rooms.ensures.value in
     let prices = c.as_slice-prices.ensures.value in
     let whole : to_z w64 (of_z w64 c.from.result) ≡ pos case.facts.rent = omega (arith, ints) in
-    let listed = ap (λ (xs : List Frac). map pair_of xs) c.as_slice.ensures.value
+    let listed = ap (λ (xs : List Frac). map fraction_of xs) c.as_slice.ensures.value
     ∙ prices_listed division c.as_slice-rooms.result.now c.as_slice-prices.result.now c.prices_of_members-amounts.result.items rooms prices c.prices_of_members-amounts.ensures.prices in
-    let entries : List (List Fraction) = map (map pair_of) (map (λ row. row.items) c.envy_table.result.items) in
-    let table : rows_of c.envy_table.result ≡ map (map pair_of) (map (λ row. row.items) c.envy_table.result.items) = sym (map-map _ _ c.envy_table.result.items) in
+    let entries : List (List Fraction) = map (map fraction_of) (map (λ row. row.items) c.envy_table.result.items) in
+    let table : rows_of c.envy_table.result ≡ map (map fraction_of) (map (λ row. row.items) c.envy_table.result.items) = sym (map-map _ _ c.envy_table.result.items) in
     record {
       rooms = refl;
       prices = refl;
       least = refl;
       pays = c.cent_plan.ensures.plan ∙ ap (λ fs. cent_plan fs (to_z w64 (of_z w64 c.from.result))) listed ∙ ap (cent_plan _) whole;
-      utilities = subst (λ (xs : List ℕ). AreUtilities case xs (map pair_of division.prices.items) (map pair_of c.utilities_of.result.items)) rooms
-          (subst (λ (xs : List Frac). AreUtilities case c.as_slice-rooms.result.now (map pair_of xs) (map pair_of c.utilities_of.result.items)) prices c.utilities_of.ensures);
-      envy = subst (λ (xs : List ℕ). IsEnvyTable case xs (map pair_of division.prices.items) entries) rooms
-          (subst (λ (xs : List Frac). IsEnvyTable case c.as_slice-rooms.result.now (map pair_of xs) entries) prices (subst (IsEnvyTable case c.as_slice-rooms.result.now (map pair_of c.as_slice-prices.result.now)) table c.envy_table.ensures));
+      utilities = subst (λ (xs : List ℕ). AreUtilities case xs (map fraction_of division.prices.items) (map fraction_of c.utilities_of.result.items)) rooms
+          (subst (λ (xs : List Frac). AreUtilities case c.as_slice-rooms.result.now (map fraction_of xs) (map fraction_of c.utilities_of.result.items)) prices c.utilities_of.ensures);
+      envy = subst (λ (xs : List ℕ). IsEnvyTable case xs (map fraction_of division.prices.items) entries) rooms
+          (subst (λ (xs : List Frac). IsEnvyTable case c.as_slice-rooms.result.now (map fraction_of xs) entries) prices (subst (IsEnvyTable case c.as_slice-rooms.result.now (map fraction_of c.as_slice-prices.result.now)) table c.envy_table.ensures));
     }

@@ -1,6 +1,6 @@
 use Rattle.std.proofs.Common.{pos, refl}
 use Rattle.std.specs.Fmt.{decimal, signed_decimal}
-use Rattle.split_frac.specs.Frac.{frac_text, pair_of}
+use Rattle.split_frac.specs.Frac.{frac_text, fraction_of}
 use Rattle.split_text.proofs.NumberTexts.{natural_text, texts_of_pairs, whole_text}
 use Rattle.split_text.proofs.laws.number_law.Goals as goal
 
@@ -17,4 +17,4 @@ pub returns-clause-wholes : goal.returns-clause-wholes
 returns-clause-wholes c = texts_of_pairs signed_decimal (λ number. (number, 1)) whole_text
 
 pub returns-clause-fractions : goal.returns-clause-fractions
-returns-clause-fractions c = texts_of_pairs frac_text pair_of (λ number. refl)
+returns-clause-fractions c = texts_of_pairs frac_text fraction_of (λ number. refl)

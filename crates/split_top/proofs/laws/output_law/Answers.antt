@@ -2,6 +2,6 @@ use Rattle.split_top.proofs.OneOutput.{one_output}
 use Rattle.split_top.proofs.laws.output_law.Goals as goal
 
 pub returns : goal.returns
-returns c command bytes text other a b =
+returns c command other bytes text another same a b =
     one_output c.one_rent_division_law.ensures c.step_count_law.ensures.one_division c.division_law.ensures.fares c.division_law.ensures.route c.case_law.ensures.valid c.case_in_law.ensures
-    c.report_law.ensures command bytes text other a b
+    c.report_law.ensures command other bytes text another same a b

@@ -1,38 +1,35 @@
-use Rattle.std.proofs.Common.{◌≡◌, ◌⊎◌, inl, inr, ⊎_elim, ◌-◌, ◌≤◌, ℕ, List, [], length, take, drop, false, IsFalse, refl, rules, length-take, sym, ap, subst, ◌∙◌, arith}
-use Rattle.std.proofs.lemmas.Bool.{cases_lt}
+use Rattle.std.proofs.Common.{◌≡◌, inl, ℕ, List, [], length, take, drop, false, IsFalse, refl, rules, sym, ap, subst, ◌∙◌, arith}
+use Rattle.gate_log.specs.Ahead.{bytes_of}
 use Rattle.gate_log.specs.Faults.{IsHeaderFault}
-use Rattle.gate_log.specs.Log.{LogView, IsReading}
-use Rattle.gate_log.proofs.Reading.{header_read, header_fault, ahead_of_header}
+use Rattle.gate_log.specs.Log.{LogView, IsReading, secret_in}
+use Rattle.gate_log.proofs.Buffer.{first_piece}
+use Rattle.gate_log.proofs.Reading.{header_read, header_fault}
 use Rattle.gate_log.proofs.log.Log.start.Goals as goal
 
 pub returns-in-Ok-clause-reading : goal.returns-in-Ok-clause-reading
 returns-in-Ok-clause-reading g c honest =
-    let piece = c.read_at.new.into in
-    let count = c.in_ok-count.count in
-    let bytes = take count piece in
-    let file = g.D.Disk.seen c.read_at.new.self in
+    let bytes = c.bytes.result.now in
+    let file = g.D.Disk.seen c.read_on.new.disk in
     let synced = c.in_ok-sync.ensures.honest.0 honest in
     let sized = c.in_ok-size.ensures.honest.0 synced in
-    let same = (c.in_ok-count.ensures.rests sized).same in
-    let front : bytes ≡ take count file = c.in_ok-count.ensures.bytes sized ∙ ap (λ (l : List ℕ). take count l) (sym same) in
+    let same = (c.read_on.ensures.rests sized).same in
+    let front : bytes ≡ take 16384 file =
+    first_piece file (g.D.Disk.seen c.size.new.self) bytes (bytes_of c.new-ahead.result) (bytes_of c.read_on.new.self) c.new-ahead.ensures (c.in_ok-read_on.ensures.told sized) same c.bytes.ensures in
     let size : c.in_ok-size.size ≡ length file = c.in_ok-size.ensures.told synced ∙ sym (ap length (same ∙ (c.in_ok-size.ensures.rests synced).same)) in
-    let h = c.in-Ok.ensures.ok in
-    let long : 49 ≤ count = omega (arith, h.long, length-take count piece) in
     let unknown : IsFalse false = search rules in
-    let log : LogView = record { place = 49; version = c.in-Ok.version; at_end = false; size = c.in_ok-size.size; ahead = take (count - 49) (drop 49 piece) } in
-    let result = header_read file bytes count c.in-Ok.version front h log refl refl unknown size (ahead_of_header piece count long) in
-    subst (λ (s : List ℕ). IsReading file log s []) (sym c.read_secret-secret.ensures) result
+    let log : LogView = record { place = 49; version = c.in-Ok.version; at_end = false; size = c.in_ok-size.size; ahead = bytes_of c.pass.new.self } in
+    let ahead : bytes_of c.pass.new.self ≡ drop 49 bytes = c.pass.ensures ∙ ap (λ (l : List ℕ). drop 49 l) (sym c.bytes.ensures) in
+    let result = header_read file bytes 16384 c.in-Ok.version front c.in-Ok.ensures.ok log refl refl unknown size ahead in
+    let secret : secret_in bytes ≡ c.read_secret-secret.result = sym (c.read_secret-secret.ensures ∙ ap secret_in (c.bytes-in-Ok.ensures ∙ sym c.bytes.ensures)) in
+    subst (λ (s : List ℕ). IsReading file log s []) secret result
 
 pub returns-in-Err-clause-not_a_log : goal.returns-in-Err-clause-not_a_log
 returns-in-Err-clause-not_a_log g c honest place is =
-    let piece = c.read_at.new.into in
-    let count = c.in_ok-count.count in
-    let bytes = take count piece in
-    let file = g.D.Disk.seen c.read_at.new.self in
+    let bytes = c.bytes.result.now in
+    let file = g.D.Disk.seen c.read_on.new.disk in
     let sized = c.in_ok-size.ensures.honest.0 (c.in_ok-sync.ensures.honest.0 honest) in
-    let same = (c.in_ok-count.ensures.rests sized).same in
-    let front : bytes ≡ take count file = c.in_ok-count.ensures.bytes sized ∙ ap (λ (l : List ℕ). take count l) (sym same) in
-    let told = c.in_ok-count.ensures.told sized in
-    let far : (50 ≤ count) ⊎ (length file ≤ count) = ⊎_elim (λ lt. inr (omega (arith, lt, told, ap length same))) (λ le. inl le) (cases_lt count 50) in
+    let same = (c.read_on.ensures.rests sized).same in
+    let front : bytes ≡ take 16384 file =
+    first_piece file (g.D.Disk.seen c.size.new.self) bytes (bytes_of c.new-ahead.result) (bytes_of c.read_on.new.self) c.new-ahead.ensures (c.in_ok-read_on.ensures.told sized) same c.bytes.ensures in
     let at : c.in-Err.place ≡ place = cc is in
-    subst (λ (k : ℕ). IsHeaderFault k file) at (header_fault file bytes count c.in-Err.place front far c.in-Err.ensures.fault)
+    subst (λ (k : ℕ). IsHeaderFault k file) at (header_fault file bytes 16384 c.in-Err.place front (inl (omega arith)) c.in-Err.ensures.fault)

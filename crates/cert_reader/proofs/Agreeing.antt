@@ -1,0 +1,117 @@
+-- Counts that the first lines of a text fix are those of every text with these lines.
+use Rattle.std.proofs.Common.{◌≡◌, ℕ, pos, zero, suc, ◌<◌, ◌≤◌, List, [], ◌∷◌, ◌++◌, length, get_or, take, arith, refl, sym, ap, ◌∙◌, subst, length-take, true}
+use Rattle.std.proofs.lemmas.List.{append_cancel_left, get_or-take}
+use Rattle.bid_rules.specs.Fractions.{Fraction}
+use Rattle.split_text.specs.Texts.{line, numbers_text}
+use Rattle.cert_reader.specs.declared.forms.Counts.{Counts}
+use Rattle.cert_reader.specs.declared.forms.Counts.TheVariants.{Fares, Rent}
+use Rattle.cert_reader.specs.declared.forms.Word.{Word}
+use Rattle.cert_reader.specs.declared.forms.Word.TheVariants as word
+use Rattle.cert_reader.specs.Forms.{Form, Tree, fares_forms, forms_of, led_by, numbers_of, rent_forms}
+use Rattle.cert_reader.specs.Order.{AgreeUpTo, form_in}
+use Rattle.cert_reader.specs.Reading.{Begins}
+use Rattle.cert_reader.specs.Text.{CanSay, CanSayAll, Leads, Marks, Numbers, Said, said_text, text_of}
+use Rattle.cert_reader.specs.Words.{word_text}
+use Rattle.cert_reader.proofs.FormLines.{append_one_cancel}
+use Rattle.cert_reader.proofs.Fronts.{can_at, lines_once, said_once}
+use Rattle.cert_reader.proofs.Numbers.{numbers_apart}
+
+-- a line that says a count says one
+same_lead : (w : Word) (a b : ℕ) (x y : Said) → CanSay (led_by w a 1) x → CanSay (led_by w b 1) y → said_text (led_by w a 1) x ≡ said_text (led_by w b 1) y → a ≡ b
+unfolding line
+same_lead w a b (Numbers xs) (Numbers ys) p q e =
+    let same : xs ≡ ys = numbers_apart true true xs ys p.written q.written
+    (append_cancel_left (word_text w) (numbers_text xs) (numbers_text ys) (append_one_cancel (word_text w ++ numbers_text xs) (word_text w ++ numbers_text ys) 10 e)) in
+    twice ys (subst (Leads a) same p.first) q.first
+  where
+    twice : (ys : List Fraction) → Leads a ys → Leads b ys → a ≡ b
+    twice [] h g = absurd h
+    twice (y ∷ ys) h g = let e : pos a ≡ pos b = sym h.0 ∙ g.0 in cc
+same_lead w a b (Marks xs) y p q e = absurd p
+same_lead w a b (Numbers xs) (Marks ys) p q e = absurd q
+
+-- the lines of two kinds differ
+kinds_apart : (x y : Said) → CanSay (numbers_of word.KindRent 0) x → CanSay (numbers_of word.KindFares 0) y → said_text (numbers_of word.KindRent 0) x ≡ said_text (numbers_of word.KindFares 0) y → ⊥
+unfolding line
+kinds_apart (Numbers []) (Numbers []) p q e = let same = ap length e in omega arith
+kinds_apart (Numbers (x ∷ xs)) y p q e = let none = p.each in omega arith
+kinds_apart (Numbers []) (Numbers (y ∷ ys)) p q e = let none = q.each in omega arith
+kinds_apart (Marks xs) y p q e = absurd p
+kinds_apart (Numbers []) (Marks ys) p q e = absurd q
+
+-- where the lines at their places are the same, the counts agree
+record SameLine (c d : Counts) (i : ℕ) : Type 0 where
+  one : Said
+  other : Said
+  can : CanSay (form_in c i) one
+  could : CanSay (form_in d i) other
+  same : said_text (form_in c i) one ≡ said_text (form_in d i) other
+
+agree_from : (k : ℕ) (c d : Counts) → ((i : ℕ) → i < k → i < 4 → SameLine c d i) → AgreeUpTo k c d
+unfolding rent_forms fares_forms
+agree_from k (Rent n) (Rent m) same = λ far. (let s = same 2 far (omega arith) in same_lead word.Members n m s.one s.other s.can s.could s.same)
+agree_from k (Fares n p) (Fares m q) same = (
+  λ far. (let s = same 2 far (omega arith) in same_lead word.Riders n m s.one s.other s.can s.could s.same),
+  λ far. (let s = same 3 far (omega arith) in same_lead word.Places p q s.one s.other s.can s.could s.same),
+)
+agree_from zero (Rent n) (Fares m q) same = omega arith
+agree_from (suc zero) (Rent n) (Fares m q) same = omega arith
+agree_from (suc (suc k)) (Rent n) (Fares m q) same = absurd (let s = same 1 (omega arith) (omega arith) in kinds_apart s.one s.other s.can s.could s.same)
+agree_from zero (Fares n p) (Rent m) same = omega arith
+agree_from (suc zero) (Fares n p) (Rent m) same = omega arith
+agree_from (suc (suc k)) (Fares n p) (Rent m) same = absurd (let s = same 1 (omega arith) (omega arith) in kinds_apart s.other s.one s.could s.can (sym s.same))
+
+-- counts that agree have the same first forms
+pub fronts_same : (k : ℕ) (c d : Counts) → AgreeUpTo k c d → take k (forms_of c) ≡ take k (forms_of d)
+unfolding rent_forms fares_forms
+fronts_same zero c d h = refl
+fronts_same (suc zero) (Rent n) (Rent m) h = refl
+fronts_same (suc zero) (Rent n) (Fares m q) h = refl
+fronts_same (suc zero) (Fares n p) (Rent m) h = refl
+fronts_same (suc zero) (Fares n p) (Fares m q) h = refl
+fronts_same (suc (suc zero)) (Rent n) (Rent m) h = refl
+fronts_same (suc (suc zero)) (Fares n p) (Fares m q) h = refl
+fronts_same (suc (suc (suc zero))) (Rent n) (Rent m) h = ap (λ x. led_by word.Fairsplit 1 1 ∷ numbers_of word.KindRent 0 ∷ led_by word.Members x 1 ∷ []) (h (omega arith))
+fronts_same (suc (suc (suc zero))) (Fares n p) (Fares m q) h = ap (λ x. led_by word.Fairsplit 1 1 ∷ numbers_of word.KindFares 0 ∷ led_by word.Riders x 1 ∷ []) (h.0 (omega arith))
+fronts_same (suc (suc (suc (suc k)))) (Rent n) (Rent m) h = ap (λ x. take (suc (suc (suc (suc k)))) (forms_of (Rent x))) (h (omega arith))
+fronts_same (suc (suc (suc (suc k)))) (Fares n p) (Fares m q) h =
+    ap (λ x. take (suc (suc (suc (suc k)))) (forms_of (Fares x p))) (h.0 (omega arith)) ∙ ap (λ y. take (suc (suc (suc (suc k)))) (forms_of (Fares m y))) (h.1 (omega arith))
+fronts_same (suc (suc k)) (Rent n) (Fares m q) h = absurd (omega arith)
+fronts_same (suc (suc k)) (Fares n p) (Rent m) h = absurd (omega arith)
+
+-- and are the same from the fourth line on
+pub agree_whole : (k : ℕ) (c d : Counts) → 3 < k → AgreeUpTo k c d → c ≡ d
+agree_whole k (Rent n) (Rent m) far h = ap Rent (h (omega arith))
+agree_whole k (Fares n p) (Fares m q) far h = ap (λ x. Fares x p) (h.0 (omega arith)) ∙ ap (λ y. Fares m y) (h.1 far)
+agree_whole k (Rent n) (Fares m q) far h = absurd (omega arith)
+agree_whole k (Fares n p) (Rent m) far h = absurd (omega arith)
+
+-- two readings of as many lines at the front of the same bytes are one
+pub record OneFront (k : ℕ) (c d : Counts) (xs ys : List Said) (r s : List ℕ) : Type 0 where
+  pub agree : AgreeUpTo k c d
+  pub said : xs ≡ ys
+  pub rest : r ≡ s
+
+pub begins_once : (bytes : List ℕ) (k : ℕ) (c d : Counts) (xs ys : List Said) (r s : List ℕ) → Begins bytes k c xs r → Begins bytes k d ys s → OneFront k c d xs ys r s
+begins_once bytes k c d xs ys r s h g =
+    let fs = take k (forms_of c) in
+    let gs = take k (forms_of d) in
+    let many : length fs ≡ k = length_take k (forms_of c) h.within in
+    let others : length gs ≡ k = length_take k (forms_of d) g.within in
+    let both = lines_once fs gs xs ys r s h.fits g.fits (many ∙ sym others) (sym h.text ∙ g.text) in
+    let agree : AgreeUpTo k c d = agree_from k c d (λ i low few. record {
+      one = get_or xs i (Marks []);
+      other = get_or ys i (Marks []);
+      can = subst (λ f. CanSay f (get_or xs i (Marks []))) (get_or-take k (forms_of c) i Tree low) (can_at fs xs i h.fits (omega arith));
+      could = subst (λ f. CanSay f (get_or ys i (Marks []))) (get_or-take k (forms_of d) i Tree low) (can_at gs ys i g.fits (omega arith));
+      same = ap (λ f. said_text f (get_or xs i (Marks []))) (sym (get_or-take k (forms_of c) i Tree low)) ∙ both.0 i (omega arith) ∙ ap (λ f. said_text f (get_or ys i (Marks []))) (get_or-take k (forms_of d) i Tree low);
+    }) in
+    let forms : fs ≡ gs = fronts_same k c d agree in
+    record {
+      agree = agree;
+      said = said_once fs xs ys r s h.fits (subst (λ f. CanSayAll f ys) (sym forms) g.fits) (sym h.text ∙ g.text ∙ ap (λ f. text_of f ys ++ s) (sym forms));
+      rest = both.1;
+    }
+  where
+    length_take : (k : ℕ) (forms : List Form) → k ≤ length forms → length (take k forms) ≡ k
+    length_take k forms h = omega (arith, length-take {A = Form} k forms)

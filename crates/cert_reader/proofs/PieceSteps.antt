@@ -1,0 +1,118 @@
+-- What an answer on held bytes says of all bytes that were taken from the source.
+use Rattle.std.proofs.Common.{◌≡◌, ℕ, ◌+◌, ◌<◌, ◌≤◌, List, [], ◌∷◌, ◌++◌, length, map, arith, refl, sym, ap, ◌∙◌, subst, length-append, append_assoc, append-nil}
+use Rattle.std.specs.Prelude.{Option, Ok, Err}
+use Rattle.std.proofs.KnownBytes.{Consumes-trans}
+use Rattle.arrayvec.specs.declared.array_vec.ArrayVec.{ArrayVec}
+use Rattle.split_frac.specs.declared.frac.Frac.{Frac}
+use Rattle.split_frac.specs.Frac.{fraction_of}
+use Rattle.cert_reader.specs.declared.ends.ReadEnd.{ReadEnd}
+use Rattle.cert_reader.specs.declared.ends.ReadEnd.TheVariants.{NoMemory, NotText, ReadFault, TooLong}
+use Rattle.cert_reader.specs.declared.forms.Counts.{Counts}
+use Rattle.cert_reader.specs.Forms.{AreCounts, forms_of}
+use Rattle.cert_reader.specs.Order.{AgreeUpTo, HasNoLine, form_in}
+use Rattle.cert_reader.specs.Reading.{Begins, Goes, IsEnd, IsLineRead, IsRead, Reading}
+use Rattle.cert_reader.specs.Steps.{IsRefused, IsSettled}
+use Rattle.cert_reader.specs.Stream.{Hands, Held, IsStopped, taken_count}
+use Rattle.cert_reader.specs.Text.{CanSay, IsBrokenText, Numbers, Said, said_text}
+use Rattle.cert_reader.proofs.Beginnings.{begins_grown, begins_more, begins_others, broken_behind, none_behind}
+use Rattle.cert_reader.proofs.FormLines.{said_line}
+use Rattle.cert_reader.proofs.Handed.{hands_trans, stops_after}
+
+-- the reading of held bytes
+abbrev pub reading_of : Held → ℕ → Counts → Reading
+reading_of held lines counts = record { ahead = held.ahead; given = held.given; lines = lines; counts = counts }
+
+-- how many bytes were taken in all
+total_of : (a b : Held) (x y : Option (List ℕ)) (handed taken : List ℕ) (p : Hands a b x y handed) → length taken ≡ a.given + length a.ahead → length (taken ++ p.more) ≡ b.given + length b.ahead
+total_of a b x y handed taken p e =
+    let given = p.given in
+    let both : length a.ahead + length p.more ≡ length handed + length b.ahead = sym (length-append a.ahead p.more) ∙ ap length p.seam ∙ length-append handed b.ahead in
+    let all : length (taken ++ p.more) ≡ length taken + length p.more = length-append taken p.more in
+    omega (arith, given, both, all, e)
+
+-- a line was handed out
+line_read : (a b : Held) (x y : Option (List ℕ)) (lines : ℕ) (known counts : Counts) (last : Said) (taken : List ℕ) (said : List Said) → AreCounts counts → AgreeUpTo lines known counts → lines < length (forms_of counts)
+    → CanSay (form_in counts lines) last → (p : Hands a b x y (said_text (form_in counts lines) last)) → IsRead (reading_of a lines known) taken said → IsRead (reading_of b (lines + 1) counts) (taken ++ p.more) (said ++ last ∷ [])
+line_read a b x y lines known counts last taken said are agree within can p h = record {
+  begins = begins_more (taken ++ p.more) (a.ahead ++ p.more) b.ahead lines counts said last
+      (begins_others (taken ++ p.more) (a.ahead ++ p.more) lines known counts said (begins_grown taken p.more a.ahead lines known said h.begins) are agree (omega arith)) within can p.seam;
+  total = total_of a b x y (said_text (form_in counts lines) last) taken p h.total;
+}
+
+-- the reading stopped
+stop_end : (a : Held) (x y : Option (List ℕ)) (lines : ℕ) (known : Counts) (end : ReadEnd) → IsStopped a x y end → Goes (reading_of a lines known) x y (λ taken said. IsEnd end y taken)
+stop_end a x y lines known (NotText line) (more, took, at) = absurd at
+stop_end a x y lines known NoMemory (more, took, at) = absurd at
+stop_end a x y lines known TooLong (more, took, at) = (more, took, λ taken said h. (let total = h.total in let all : length (taken ++ more) ≡ length taken + length more = length-append taken more in omega (arith, total, all, at)))
+stop_end a x y lines known ReadFault (more, took, at) = (more, took, λ taken said h. (let total = h.total in let all : length (taken ++ more) ≡ length taken + length more = length-append taken more in omega (arith, total, all, at)))
+
+-- a line is broken
+pub refused_end : (a b : Held) (x y : Option (List ℕ)) (lines : ℕ) (known : Counts) (none : List ℕ → Type 0) (end : ReadEnd) → taken_count b ≤ 4000000
+    → ((text : List ℕ) → none text → HasNoLine lines known text × (lines ≡ length (forms_of known) → text ≡ [] → ⊥))
+    → IsRefused a b x y (lines + 1) none end → Goes (reading_of a lines known) x y (λ taken said. IsEnd end y taken)
+refused_end a b x y lines known none (NotText line) few never (is, (text, p, ahead, at, no_line)) = (
+  p.more,
+  p.took,
+  λ taken said h. (
+    subst (IsBrokenText (taken ++ p.more)) (sym is)
+        (broken_behind (taken ++ p.more) text lines known said
+        (subst (Begins (taken ++ p.more) lines known said) (p.seam ∙ ap (λ xs. text ++ xs) ahead ∙ append-nil text) (begins_grown taken p.more a.ahead lines known said h.begins))
+        (never text no_line).1 (never text no_line).0),
+    (let total = total_of a b x y text taken p h.total in omega arith),
+    at,
+  ),
+)
+refused_end a b x y lines known none TooLong few never stop = stop_end a x y lines known TooLong stop
+refused_end a b x y lines known none ReadFault few never stop = stop_end a x y lines known ReadFault stop
+refused_end a b x y lines known none NoMemory few never stop = stop_end a x y lines known NoMemory stop
+
+-- one line more, or a broken one
+pub settled_line : (a b : Held) (x y : Option (List ℕ)) (lines : ℕ) (known counts : Counts) (numbers : ArrayVec Frac 24 (Unit {0})) → IsSettled a b x y lines known (Ok (counts, numbers))
+    → Goes (reading_of a lines known) x y (λ taken said. IsLineRead (reading_of a lines known) (reading_of b (lines + 1) counts) y taken said (Ok numbers))
+settled_line a b x y lines known counts numbers (are, agree, within, can, p) =
+    (p.more, p.took, λ taken said h. (refl, agree, line_read a b x y lines known counts (Numbers (map fraction_of numbers.items)) taken said are agree within can p h))
+
+pub settled_end : (a b : Held) (x y : Option (List ℕ)) (lines : ℕ) (known : Counts) (end : ReadEnd) → taken_count b ≤ 4000000 → lines < length (forms_of known) → IsSettled a b x y lines known (Err end)
+    → Goes (reading_of a lines known) x y (λ taken said. IsEnd end y taken)
+settled_end a b x y lines known end few within stop = refused_end a b x y lines known (HasNoLine lines known) end few (λ text no_line. (no_line, λ all none. omega arith)) stop
+
+-- what goes on behind what was read
+pub goes_after : (a b : Reading) (x y z : Option (List ℕ)) (next : List Said → List Said) (P : List ℕ → List Said → Type 0) → Goes a x y (λ taken said. IsRead b taken (next said)) → Goes b y z P → Goes a x z (λ taken said. P taken (next said))
+goes_after a b x y z next P (more, took, read) (others, took_others, then) =
+    (more ++ others, Consumes-trans x y z more others took took_others, λ taken said h. subst (λ bytes. P bytes (next said)) (append_assoc taken more others) (then (taken ++ more) (next said) (read taken said h)))
+
+-- and what holds of it
+pub goes_so : (a : Reading) (x y : Option (List ℕ)) (P Q : List ℕ → List Said → Type 0) → ((taken : List ℕ) (said : List Said) → P taken said → Q taken said) → Goes a x y P → Goes a x y Q
+goes_so a x y P Q so (more, took, then) = (more, took, λ taken said h. so (taken ++ more) said (then taken said h))
+
+-- a line that was read took bytes
+pub line_given : (a b : Held) (x y : Option (List ℕ)) (lines : ℕ) (known counts : Counts) (numbers : ArrayVec Frac 24 (Unit {0})) → IsSettled a b x y lines known (Ok (counts, numbers)) → a.given < b.given
+line_given a b x y lines known counts numbers (are, agree, within, can, p) =
+    let line = said_line (form_in counts lines) (Numbers (map fraction_of numbers.items)) can in
+    let given = p.given in
+    let long = ap length line.ended in
+    omega (arith, given, long, length-append line.front (10 ∷ []))
+
+-- a byte behind the last line breaks the text
+pub refused_behind_all : (a b c : Held) (x y z : Option (List ℕ)) (lines : ℕ) (known : Counts) (byte : ℕ) (end : ReadEnd) → taken_count c ≤ 4000000 → lines ≡ length (forms_of known) → Hands a b x y (byte ∷ [])
+    → IsRefused b c y z (lines + 1) (λ _. Unit {0}) end → Goes (reading_of a lines known) x z (λ taken said. IsEnd end z taken)
+refused_behind_all a b c x y z lines known byte (NotText line) few all p (is, (text, q, ahead, at, _)) =
+    refused_end a c x z lines known (λ bytes. bytes ≡ byte ∷ text) (NotText line) few (λ bytes e. (none_behind lines known bytes all, λ _ none. cc (e, none)))
+    (is, (byte ∷ text, hands_trans a b c x y z (byte ∷ []) text p q, ahead, at, refl))
+refused_behind_all a b c x y z lines known byte TooLong few all p stop = stop_end a x z lines known TooLong (stops_after a b x y z (byte ∷ []) TooLong p stop)
+refused_behind_all a b c x y z lines known byte ReadFault few all p stop = stop_end a x z lines known ReadFault (stops_after a b x y z (byte ∷ []) ReadFault p stop)
+refused_behind_all a b c x y z lines known byte NoMemory few all p stop = stop_end a x z lines known NoMemory (stops_after a b x y z (byte ∷ []) NoMemory p stop)
+
+-- the same of a reading that is given by its fields
+pub settled_line_at : (r : Reading) (a b : Held) (x y : Option (List ℕ)) (lines : ℕ) (known counts : Counts) (numbers : ArrayVec Frac 24 (Unit {0})) → reading_of a lines known ≡ r → IsSettled a b x y lines known (Ok (counts, numbers))
+    → Goes r x y (λ taken said. IsLineRead r (reading_of b (lines + 1) counts) y taken said (Ok numbers))
+settled_line_at r a b x y lines known counts numbers e settled =
+    subst (λ s. Goes s x y (λ taken said. IsLineRead s (reading_of b (lines + 1) counts) y taken said (Ok numbers))) e (settled_line a b x y lines known counts numbers settled)
+
+pub settled_end_at : (r : Reading) (a b : Held) (x y : Option (List ℕ)) (lines : ℕ) (known : Counts) (end : ReadEnd) → reading_of a lines known ≡ r → taken_count b ≤ 4000000 → lines < length (forms_of known)
+    → IsSettled a b x y lines known (Err end) → Goes r x y (λ taken said. IsEnd end y taken)
+settled_end_at r a b x y lines known end e few within stop = subst (λ s. Goes s x y (λ taken said. IsEnd end y taken)) e (settled_end a b x y lines known end few within stop)
+
+pub refused_behind_all_at : (r : Reading) (a b c : Held) (x y z : Option (List ℕ)) (lines : ℕ) (known : Counts) (byte : ℕ) (end : ReadEnd) → reading_of a lines known ≡ r → taken_count c ≤ 4000000 → lines ≡ length (forms_of known)
+    → Hands a b x y (byte ∷ []) → IsRefused b c y z (lines + 1) (λ _. Unit {0}) end → Goes r x z (λ taken said. IsEnd end z taken)
+refused_behind_all_at r a b c x y z lines known byte end e few all p stop = subst (λ s. Goes s x z (λ taken said. IsEnd end z taken)) e (refused_behind_all a b c x y z lines known byte end few all p stop)

@@ -1,0 +1,20 @@
+-- What was handed out of the line so far.
+use Rattle.std.proofs.Common.{◌≡◌, ℕ, ◌+◌, ◌-◌, ◌<◌, ◌≤◌, List, length, true, false}
+use Rattle.cert_reader.specs.Stream.{Hands, IsPlain}
+use Rattle.cert_reader.specs.declared.limits.TheConstants.{LONGEST_LINE, MOST_BYTES}
+use Rattle.cert_reader.proofs.stream.Bytes.next_line.Given as goal
+
+abbrev pub invariant-line : goal.invariant-line
+invariant-line g l = record {
+  text : List ℕ;
+  plain : IsPlain text;
+  handed : Hands l.initial.self l.self (g.S.Source.left l.initial.source) (g.S.Source.left l.source) text;
+  kept : l.long ≡ false → l.self.line ≡ text;
+  over : l.long ≡ true → LONGEST_LINE < length text;
+  short : length l.self.line ≤ LONGEST_LINE;
+  faults : g.S.Source.faults l.source ≡ g.S.Source.faults l.initial.source;
+  beside : g.S.Source.beside l.source ≡ g.S.Source.beside l.initial.source;
+}
+
+abbrev pub decreases-line : goal.decreases-line
+decreases-line g l = MOST_BYTES + 1 - l.self.given

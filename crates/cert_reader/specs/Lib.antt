@@ -1,0 +1,13 @@
+pub mod Sets
+pub mod Numbers
+pub mod Words
+pub mod Kinds
+pub mod Forms
+pub mod Text
+pub mod Views
+pub mod Order
+pub mod Steps
+pub mod Reading
+pub mod Gathered
+pub mod Cuts
+pub mod Stream

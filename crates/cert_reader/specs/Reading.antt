@@ -1,0 +1,74 @@
+-- How far a certificate text was read, and what an answer says of the bytes that were taken from the source.
+use Rattle.std.specs.Prelude.{◌≡◌, ℕ, pos, ◌+◌, ◌<◌, ◌≤◌, List, [], ◌∷◌, ◌++◌, length, map, take, Option, Result, Ok, Err, ⊤}
+use Rattle.std.specs.Io.KnownBytes.{Consumes, IsAtEnd}
+use Rattle.arrayvec.specs.declared.array_vec.ArrayVec.{ArrayVec}
+use Rattle.split_frac.specs.declared.frac.Frac.{Frac}
+use Rattle.split_frac.specs.Frac.{fraction_of}
+use Rattle.cert_reader.specs.declared.ends.ReadEnd.{ReadEnd}
+use Rattle.cert_reader.specs.declared.ends.ReadEnd.TheVariants.{NoMemory, NotText, ReadFault, TooLong}
+use Rattle.cert_reader.specs.declared.forms.Counts.{Counts}
+use Rattle.cert_reader.specs.declared.limits.TheConstants.{MOST_BYTES}
+use Rattle.cert_reader.specs.declared.pieces.Piece.{Piece}
+use Rattle.cert_reader.specs.declared.pieces.Piece.TheVariants.{Done, Kind, Line}
+use Rattle.cert_reader.specs.Forms.{AreCounts, forms_of}
+use Rattle.cert_reader.specs.Kinds.{kind_of}
+use Rattle.cert_reader.specs.Order.{AgreeUpTo}
+use Rattle.cert_reader.specs.Text.{CanSayAll, IsBrokenText, IsText, Numbers, Said, text_of}
+use Rattle.cert_reader.specs.Views.{says}
+
+-- the bytes begin with the first k lines of a text with these counts, which say this, and the rest follows
+pub record Begins (bytes : List ℕ) (k : ℕ) (counts : Counts) (said : List Said) (rest : List ℕ) : Type 0 where
+  pub are_counts : AreCounts counts
+  pub within : k ≤ length (forms_of counts)
+  pub fits : CanSayAll (take k (forms_of counts)) said
+  pub text : bytes ≡ text_of (take k (forms_of counts)) said ++ rest
+
+-- a text that is being read: the bytes that are held, how many bytes the lines before them have, how many lines these are, and the counts so far;
+-- of what no line has fixed yet the counts have the least
+pub record Reading : Type 0 where
+  pub ahead : List ℕ
+  pub given : ℕ
+  pub lines : ℕ
+  pub counts : Counts
+
+-- the bytes taken from the source are lines that say this and what is held behind them
+pub record IsRead (reading : Reading) (taken : List ℕ) (said : List Said) : Type 0 where
+  pub begins : Begins taken reading.lines reading.counts said reading.ahead
+  pub total : length taken ≡ reading.given + length reading.ahead
+
+-- a line is still to come
+abbrev pub IsOpen : Reading → Type 0
+IsOpen reading = reading.lines < length (forms_of reading.counts)
+
+-- why there is no certificate, of all bytes that were taken
+abbrev pub IsEnd : ReadEnd → Option (List ℕ) → List ℕ → Type 0
+IsEnd (NotText line) left taken = IsBrokenText taken line × (length taken ≤ MOST_BYTES) × IsAtEnd left
+IsEnd TooLong left taken = length taken ≡ MOST_BYTES + 1
+IsEnd ReadFault left taken = length taken ≤ MOST_BYTES
+IsEnd NoMemory left taken = length taken ≤ MOST_BYTES
+
+-- the source gave more bytes, and this holds of all that were taken and what the lines before say
+abbrev pub Goes : Reading → Option (List ℕ) → Option (List ℕ) → (List ℕ → List Said → Type 0) → Type 0
+Goes reading before after P = (more : List ℕ) × Consumes before after more × ((taken : List ℕ) (said : List Said) → IsRead reading taken said → P (taken ++ more) said)
+
+-- what a piece says. The kind comes first, of two lines; each line behind it is one piece, with its numbers; the last line, `end`, is none
+abbrev pub IsPiece : Reading → Reading → Option (List ℕ) → List ℕ → List Said → Piece → Type 0
+IsPiece old new left taken said (Kind kind) = (old.lines ≡ 0) × (new.lines ≡ 2) × (kind ≡ kind_of new.counts) × IsRead new taken (says (pos 1 ∷ []) ∷ says [] ∷ [])
+IsPiece old new left taken said (Line numbers) =
+    (0 < old.lines) × (new.lines ≡ old.lines + 1) × AgreeUpTo old.lines old.counts new.counts × IsRead new taken (said ++ Numbers (map fraction_of numbers.items) ∷ [])
+IsPiece old new left taken said Done = (old.lines + 1 ≡ length (forms_of new.counts)) × IsText taken new.counts (said ++ says [] ∷ []) × (length taken ≤ MOST_BYTES) × IsAtEnd left
+
+abbrev pub IsAnswer : Reading → Reading → Option (List ℕ) → List ℕ → List Said → Result Piece ReadEnd → Type 0
+IsAnswer old new left taken said (Ok piece) = IsPiece old new left taken said piece
+IsAnswer old new left taken said (Err end) = IsEnd end left taken
+
+-- a line was read, or none of any text can follow
+abbrev pub IsLineRead : Reading → Reading → Option (List ℕ) → List ℕ → List Said → Result (ArrayVec Frac 24 (Unit {0})) ReadEnd → Type 0
+IsLineRead old new left taken said (Ok numbers) =
+    (new.lines ≡ old.lines + 1) × AgreeUpTo old.lines old.counts new.counts × IsRead new taken (said ++ Numbers (map fraction_of numbers.items) ∷ [])
+IsLineRead old new left taken said (Err end) = IsEnd end left taken
+
+-- all lines were read: nothing follows them, and they are a text; or it does
+abbrev pub IsFinished : Reading → Option (List ℕ) → List ℕ → List Said → Result ⊤ ReadEnd → Type 0
+IsFinished reading left taken said (Ok done) = IsText taken reading.counts said × (length taken ≤ MOST_BYTES) × IsAtEnd left
+IsFinished reading left taken said (Err end) = IsEnd end left taken

@@ -1,0 +1,55 @@
+-- What stands between a source and the lines that were read from it.
+use Rattle.std.specs.Prelude.{◌≡◌, ◌≢◌, ℕ, ◌+◌, ◌<◌, ◌≤◌, List, [], ◌∷◌, ◌++◌, length, slice_index, Option, Result, Ok, Err}
+use Rattle.std.specs.Io.KnownBytes.{Consumes, IsAtEnd}
+use Rattle.split_base.specs.Faults.{counted}
+use Rattle.cert_reader.specs.declared.limits.TheConstants.{LONGEST_LINE, MOST_BYTES}
+use Rattle.cert_reader.specs.declared.ends.ReadEnd.{ReadEnd}
+use Rattle.cert_reader.specs.declared.ends.ReadEnd.TheVariants.{NoMemory, NotText, ReadFault, TooLong}
+use Rattle.cert_reader.specs.declared.stream.Cut.{Cut}
+use Rattle.cert_reader.specs.declared.stream.Cut.TheVariants.{Line, Long, Unended}
+
+-- the bytes that were taken from the source and not handed out yet, how many were handed out, and the line that was read last
+pub record Held : Type 0 where
+  pub ahead : List ℕ
+  pub given : ℕ
+  pub line : List ℕ
+
+-- how many bytes were taken from the source
+abbrev pub taken_count : Held → ℕ
+taken_count held = held.given + length held.ahead
+
+-- these bytes were handed out: they and what is held now are what was held before and what was taken from the source
+pub record Hands (before after : Held) (left_before left_after : Option (List ℕ)) (handed : List ℕ) : Type 0 where
+  pub more : List ℕ
+  pub took : Consumes left_before left_after more
+  pub seam : before.ahead ++ more ≡ handed ++ after.ahead
+  pub given : after.given ≡ before.given + length handed
+
+-- how many bytes in all may have been taken where the reading stops: exactly one more than a text has where it is too long, never more after a fault
+abbrev pub IsStopAt : ReadEnd → ℕ → Type 0
+IsStopAt TooLong total = total ≡ MOST_BYTES + 1
+IsStopAt ReadFault total = total ≤ MOST_BYTES
+IsStopAt (NotText line) total = ⊥
+IsStopAt NoMemory total = ⊥
+
+-- the reading stopped for this reason
+abbrev pub IsStopped : Held → Option (List ℕ) → Option (List ℕ) → ReadEnd → Type 0
+IsStopped held before after stop = (more : List ℕ) × Consumes before after more × IsStopAt stop (taken_count held + length more)
+
+-- what the source's count of faults is then: one more after a failed read, which is not tried again, and else the same
+abbrev pub faults_after : {T : Type 0} → ℕ → Result T ReadEnd → ℕ
+faults_after before (Ok answer) = before
+faults_after before (Err ReadFault) = counted before
+faults_after before (Err TooLong) = before
+faults_after before (Err (NotText line)) = before
+faults_after before (Err NoMemory) = before
+
+-- no LF
+pub record IsPlain (text : List ℕ) : Type 0 where
+  pub none : (k : ℕ) → k < length text → slice_index text k ≢ 10
+
+-- what was handed out: a line, one that is longer than any of a text, or what stands at the end without LF
+abbrev pub IsCut : Held → Held → Option (List ℕ) → Option (List ℕ) → Cut → Type 0
+IsCut before after left left_after Line = IsPlain after.line × Hands before after left left_after (after.line ++ 10 ∷ [])
+IsCut before after left left_after Long = (text : List ℕ) × (LONGEST_LINE < length text) × IsPlain text × Hands before after left left_after (text ++ 10 ∷ [])
+IsCut before after left left_after Unended = (text : List ℕ) × IsPlain text × Hands before after left left_after text × (after.ahead ≡ []) × IsAtEnd left_after

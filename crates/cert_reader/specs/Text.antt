@@ -1,0 +1,78 @@
+-- Certificate text: the lines of its forms, with what they say; and the first broken line of bytes that are none.
+use Rattle.std.specs.Prelude.{◌≡◌, ℕ, ℤ, pos, ◌<◌, ◌≤◌, ◌⊎◌, List, [], ◌∷◌, ◌++◌, length, map, take, All, codes, IfSome}
+use Rattle.bid_rules.specs.Fractions.{Fraction}
+use Rattle.split_text.specs.Texts.{line, numbers_text}
+use Rattle.cert_reader.specs.declared.forms.Counts.{Counts}
+use Rattle.cert_reader.specs.declared.forms.LineForm.{LineForm}
+use Rattle.cert_reader.specs.Forms.{AreCounts, Form, Line, Tree, forms_of}
+use Rattle.cert_reader.specs.Numbers.{IsNumber}
+use Rattle.cert_reader.specs.Words.{word_text}
+
+-- what a line says: its numbers, or the characters of a tree
+pub data Said : Type 0 where
+  Numbers : List Fraction → Said
+  Marks : List ℕ → Said
+
+-- whole numbers, as fractions over 1
+abbrev pub wholes : List ℤ → List Fraction
+wholes numbers = map (λ number. (number, 1)) numbers
+
+-- the first number is this whole one
+abbrev pub Leads : ℕ → List Fraction → Type 0
+Leads n [] = ⊥
+Leads n (number ∷ numbers) = (number.0 ≡ pos n) × (number.1 ≡ 1)
+
+-- the numbers that a line of the form can have
+pub record HasNumbers (form : LineForm) (numbers : List Fraction) : Type 0 where
+  pub each : length numbers ≡ form.count
+  pub written : All (IsNumber form.whole) numbers
+  pub first : IfSome form.lead (λ n. Leads n numbers)
+
+-- a character of a tree: `+`, `-` or `=`
+abbrev pub IsMark : ℕ → Type 0
+IsMark mark = (mark ≡ 43) ⊎ (mark ≡ 45) ⊎ (mark ≡ 61)
+
+-- a line of this form can say this
+abbrev pub CanSay : Form → Said → Type 0
+CanSay (Line form) (Numbers numbers) = HasNumbers form numbers
+CanSay Tree (Marks marks) = (1 ≤ length marks) × All IsMark marks
+CanSay form said = ⊥
+
+-- so do lines of these forms
+abbrev pub CanSayAll : List Form → List Said → Type 0
+CanSayAll [] [] = Unit {0}
+CanSayAll (form ∷ forms) (said ∷ more) = CanSay form said × CanSayAll forms more
+CanSayAll forms said = ⊥
+
+-- the line of the form that says this, and LF
+abbrev pub said_text : Form → Said → List ℕ
+said_text (Line form) (Numbers numbers) = line (word_text form.word ++ numbers_text numbers)
+said_text Tree (Marks marks) = line (codes "tree " ++ marks)
+said_text form said = []
+
+-- lines one after another
+abbrev pub text_of : List Form → List Said → List ℕ
+text_of (form ∷ forms) (said ∷ more) = said_text form said ++ text_of forms more
+text_of forms said = []
+
+-- the bytes are a certificate text with these counts whose lines say this
+pub record IsText (bytes : List ℕ) (counts : Counts) (said : List Said) : Type 0 where
+  pub are_counts : AreCounts counts
+  pub fits : CanSayAll (forms_of counts) said
+  pub text : bytes ≡ text_of (forms_of counts) said
+
+-- the first k lines of the bytes are the first k lines of some certificate text
+pub record HasFront (bytes : List ℕ) (k : ℕ) : Type 0 where
+  pub counts : Counts
+  pub said : List Said
+  pub are_counts : AreCounts counts
+  pub fits : CanSayAll (forms_of counts) said
+  pub within : k ≤ length said
+  pub rest : List ℕ
+  pub front : bytes ≡ text_of (take k (forms_of counts)) (take k said) ++ rest
+
+-- the bytes are no certificate text, and k is the least number such that their first k lines are not those of any
+pub record IsBrokenText (bytes : List ℕ) (k : ℕ) : Type 0 where
+  pub no_text : (counts : Counts) (said : List Said) → IsText bytes counts said → ⊥
+  pub broken : HasFront bytes k → ⊥
+  pub least : (j : ℕ) → j < k → HasFront bytes j

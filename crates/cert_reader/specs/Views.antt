@@ -1,0 +1,98 @@
+-- What certificates say, as lists: the words in which their rules are stated, and the lines that say it.
+use Rattle.std.specs.Prelude.{ℕ, ℤ, pos, List, [], ◌∷◌, ◌++◌, length, map, take, drop}
+use Rattle.std.specs.List.{enumerate_from}
+use Rattle.bid_rules.specs.Fractions.{Fraction}
+use Rattle.split_frac.specs.Frac.{fraction_of}
+use Rattle.cert_reader.specs.declared.certificate.Certificate.{Certificate}
+use Rattle.cert_reader.specs.declared.certificate.Certificate.TheVariants as certificate
+use Rattle.cert_reader.specs.declared.certificate.FaresText.{FaresText}
+use Rattle.cert_reader.specs.declared.certificate.RentText.{RentText}
+use Rattle.cert_reader.specs.declared.forms.Counts.{Counts}
+use Rattle.cert_reader.specs.declared.forms.Counts.TheVariants as count
+use Rattle.cert_reader.specs.Sets.{set_sizes}
+use Rattle.cert_reader.specs.Text.{Numbers, Said, wholes}
+
+-- a certificate of a rent: the values by member and room, rooms by member, dual numbers by member and by room, walks, ranks by member, prices by room
+pub record RentView : Type 0 where
+  pub rent : ℤ
+  pub values : List (List ℤ)
+  pub rooms : List ℤ
+  pub left : List ℤ
+  pub right : List ℤ
+  pub walks : List ℤ
+  pub ranks : List ℤ
+  pub prices : List Fraction
+
+-- a certificate of fares: the legs from the origin and from each place, members and places by rider, the lines of the sets in order with the set's own
+-- number left out, the route, fares by rider
+pub record FaresView : Type 0 where
+  pub places : ℕ
+  pub flag : ℤ
+  pub legs : List (List ℤ)
+  pub who : List ℤ
+  pub at : List ℤ
+  pub sets : List (List ℤ)
+  pub route : List ℤ
+  pub fares : List Fraction
+
+-- a certificate of either kind
+pub data View : Type 0 where
+  OfRent : RentView → View
+  OfFares : FaresView → View
+
+-- a line that says whole numbers
+abbrev pub says : List ℤ → Said
+says numbers = Numbers (wholes numbers)
+
+-- what the lines say, from the first to `end`
+abbrev pub rent_said : RentView → List Said
+rent_said view = says (pos 1 ∷ []) ∷ says [] ∷ says (pos (length view.rooms) ∷ []) ∷ says (view.rent ∷ [])
+    ∷ (map says view.values ++ (says view.rooms ∷ says view.left ∷ says view.right ∷ says view.walks ∷ says view.ranks ∷ Numbers view.prices ∷ says [] ∷ []))
+
+abbrev pub fares_said : FaresView → List Said
+fares_said view = says (pos 1 ∷ []) ∷ says [] ∷ says (pos (length view.who) ∷ []) ∷ says (pos view.places ∷ []) ∷ says (view.flag ∷ [])
+    ∷ (map says view.legs ++ (says view.who ∷ says view.at
+    ∷ (map (λ row. says (pos row.0 ∷ row.1)) (enumerate_from 1 view.sets) ++ (says view.route ∷ Numbers view.fares ∷ says [] ∷ []))))
+
+abbrev pub said_of : View → List Said
+said_of (OfRent view) = rent_said view
+said_of (OfFares view) = fares_said view
+
+-- what the head of the text counts
+abbrev pub counts_of : View → Counts
+counts_of (OfRent view) = count.Rent (length view.rooms)
+counts_of (OfFares view) = count.Fares (length view.who) view.places
+
+-- a list cut into pieces of these lengths
+abbrev pub cut_into : List ℕ → List ℤ → List (List ℤ)
+cut_into [] numbers = []
+cut_into (size ∷ sizes) numbers = take size numbers ∷ cut_into sizes (drop size numbers)
+
+-- a certificate that was read
+abbrev pub rent_view : RentText → RentView
+rent_view text = record {
+  rent = text.rent;
+  values = map (λ row. row.items) text.values.items;
+  rooms = text.rooms.items;
+  left = text.left.items;
+  right = text.right.items;
+  walks = text.walks.items;
+  ranks = text.ranks.items;
+  prices = map fraction_of text.prices.items;
+}
+
+abbrev pub fares_view : FaresText → FaresView
+fares_view text = record {
+  places = text.places;
+  flag = text.flag;
+  legs = map (λ row. row.items) text.legs.items;
+  who = text.who.items;
+  at = text.at.items;
+  sets = cut_into (set_sizes (length text.who.items)) text.table;
+  route = text.route.items;
+  fares = map fraction_of text.fares.items;
+}
+
+abbrev pub view_of : Certificate → View
+view_of (certificate.Rent text) = OfRent (rent_view text)
+view_of (certificate.Fares text) = OfFares (fares_view text)

@@ -1,0 +1,79 @@
+// What a certificate says.
+ghost use Rattle.std.specs.Prelude.{◌≡◌, ◌+◌, ◌≤◌, All, length};
+ghost use Rattle.std.proofs.Props.{props};
+ghost use Rattle.bid_rules.specs.declared.limits.TheConstants.{MOST_PLACES};
+ghost use Rattle.cert_reader.specs.Numbers.{AreShort, AreSmall, IsSmall, table_size};
+
+use crate::table::Table;
+use arrayvec::ArrayVec;
+use bid_rules::limits::{LEG_ROW_ROOM, MEMBER_ROOM, PLACE_ROOM, RIDER_ROOM};
+use split_frac::Frac;
+
+/// A certificate text that was read: the numbers of its lines. Whether they show a best division is for its rules to say.
+#[derive(Debug, Drop)]
+pub enum Certificate {
+    Rent(RentText),
+    Fares(FaresText),
+}
+
+/// What a certificate of a rent says. Lists are by member, `right` and `prices` by room.
+///
+/// There are as many members as rooms, 1 to 12. The numbers have at most 25 digits, and the fractions denominators up to 4294967295.
+#[derive(Debug, Drop)]
+pub struct RentText {
+    pub rent: i128,
+    pub values: ArrayVec<ArrayVec<i128, MEMBER_ROOM>, MEMBER_ROOM>,
+    pub rooms: ArrayVec<i128, MEMBER_ROOM>,
+    pub left: ArrayVec<i128, MEMBER_ROOM>,
+    pub right: ArrayVec<i128, MEMBER_ROOM>,
+    pub walks: ArrayVec<i128, MEMBER_ROOM>,
+    pub ranks: ArrayVec<i128, MEMBER_ROOM>,
+    pub prices: ArrayVec<Frac, MEMBER_ROOM>,
+    pub ghost some: { 1 ≤ length rooms.items },
+    pub ghost members: { length values.items ≡ length rooms.items },
+    pub ghost columns: { All (λ row. length row.items ≡ length rooms.items) values.items } by { Prim.hlevel props },
+    pub ghost lefts: { length left.items ≡ length rooms.items },
+    pub ghost rights: { length right.items ≡ length rooms.items },
+    pub ghost each_walk: { length walks.items ≡ length rooms.items },
+    pub ghost each_rank: { length ranks.items ≡ length rooms.items },
+    pub ghost each_price: { length prices.items ≡ length rooms.items },
+    pub ghost rent_small: { IsSmall rent },
+    pub ghost values_small: { All (λ row. AreSmall row.items) values.items } by { Prim.hlevel props },
+    pub ghost rooms_small: { AreSmall rooms.items } by { Prim.hlevel props },
+    pub ghost left_small: { AreSmall left.items } by { Prim.hlevel props },
+    pub ghost right_small: { AreSmall right.items } by { Prim.hlevel props },
+    pub ghost walks_small: { AreSmall walks.items } by { Prim.hlevel props },
+    pub ghost ranks_small: { AreSmall ranks.items } by { Prim.hlevel props },
+    pub ghost prices_short: { AreShort prices.items } by { Prim.hlevel props },
+}
+
+/// What a certificate of fares says: the legs from the origin and from each place, by place, and lists by rider.
+///
+/// There are 1 to 12 places and 1 to 10 riders. The numbers have at most 25 digits, and the fractions denominators up to 4294967295.
+#[derive(Debug, Drop)]
+pub struct FaresText {
+    pub places: u8,
+    pub flag: i128,
+    pub legs: ArrayVec<ArrayVec<i128, PLACE_ROOM>, LEG_ROW_ROOM>,
+    pub who: ArrayVec<i128, RIDER_ROOM>,
+    pub at: ArrayVec<i128, RIDER_ROOM>,
+    pub table: Table,
+    pub route: ArrayVec<i128, RIDER_ROOM>,
+    pub fares: ArrayVec<Frac, RIDER_ROOM>,
+    pub ghost places_low: { 1 ≤ places },
+    pub ghost places_high: { places ≤ MOST_PLACES },
+    pub ghost rows: { length legs.items ≡ places + 1 },
+    pub ghost columns: { All (λ row. length row.items ≡ places) legs.items } by { Prim.hlevel props },
+    pub ghost some: { 1 ≤ length who.items },
+    pub ghost each_at: { length at.items ≡ length who.items },
+    pub ghost table_whole: { length table ≡ table_size (length who.items) },
+    pub ghost each_route: { length route.items ≡ length who.items },
+    pub ghost each_fare: { length fares.items ≡ length who.items },
+    pub ghost flag_small: { IsSmall flag },
+    pub ghost legs_small: { All (λ row. AreSmall row.items) legs.items } by { Prim.hlevel props },
+    pub ghost who_small: { AreSmall who.items } by { Prim.hlevel props },
+    pub ghost at_small: { AreSmall at.items } by { Prim.hlevel props },
+    pub ghost table_small: { AreSmall table } by { Prim.hlevel props },
+    pub ghost route_small: { AreSmall route.items } by { Prim.hlevel props },
+    pub ghost fares_short: { AreShort fares.items } by { Prim.hlevel props },
+}

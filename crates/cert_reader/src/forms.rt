@@ -1,0 +1,105 @@
+// The words of lines and their forms, and what the lines at the head of a text count.
+ghost use Rattle.std.specs.Prelude.{◌≡◌};
+ghost use Rattle.cert_reader.specs.Kinds.{kind_of};
+ghost use Rattle.cert_reader.specs.Words.{word_text};
+
+/// The word with which a line begins. The line of a kind has no numbers, so the kind is part of its word.
+#[derive(Clone, Copy, Debug, PartialEq, Eq)]
+pub enum Word {
+    Fairsplit,
+    KindRent,
+    KindFares,
+    Members,
+    Riders,
+    Places,
+    Rent,
+    Flag,
+    Values,
+    Legs,
+    Who,
+    At,
+    Set,
+    Rooms,
+    Left,
+    Right,
+    Walks,
+    Ranks,
+    Prices,
+    Route,
+    Fares,
+    End,
+}
+
+impl Word {
+    /// The word as it stands in a text.
+    pub fn as_str(self) -> &'static str
+        ensures { result.now ≡ word_text self }
+    {
+        match self {
+            Word::Fairsplit => "fairsplit",
+            Word::KindRent => "kind rent",
+            Word::KindFares => "kind fares",
+            Word::Members => "members",
+            Word::Riders => "riders",
+            Word::Places => "places",
+            Word::Rent => "rent",
+            Word::Flag => "flag",
+            Word::Values => "values",
+            Word::Legs => "legs",
+            Word::Who => "who",
+            Word::At => "at",
+            Word::Set => "set",
+            Word::Rooms => "rooms",
+            Word::Left => "left",
+            Word::Right => "right",
+            Word::Walks => "walks",
+            Word::Ranks => "ranks",
+            Word::Prices => "prices",
+            Word::Route => "route",
+            Word::Fares => "fares",
+            Word::End => "end",
+        }
+    }
+}
+
+/// The form of a line of numbers.
+#[derive(Clone, Copy, Debug, PartialEq, Eq)]
+pub struct LineForm {
+    /// The word in front.
+    pub word: Word,
+    /// The first number, where the text before the line fixes it.
+    pub lead: Option<u64>,
+    /// How many numbers follow the word, the first one counted too.
+    pub count: usize,
+    /// Whether they are whole numbers; else they may be fractions.
+    pub whole: bool,
+}
+
+/// What the lines at the head of a text count: they fix which lines follow.
+#[derive(Clone, Copy, Debug, PartialEq, Eq)]
+pub enum Counts {
+    /// A text of kind rent.
+    Rent {
+        /// How many members and rooms, 1 to 12.
+        members: u8,
+    },
+    /// A text of kind fares.
+    Fares {
+        /// How many riders, 1 to 10.
+        riders: u8,
+        /// How many places, 1 to 12.
+        places: u8,
+    },
+}
+
+impl Counts {
+    /// The number of the kind: 1 for a rent, 3 for fares.
+    pub fn kind(self) -> u8
+        ensures { result ≡ kind_of self }
+    {
+        match self {
+            Counts::Rent { .. } => 1,
+            Counts::Fares { .. } => 3,
+        }
+    }
+}

@@ -1,0 +1,280 @@
+// The forms of lines in their order, and what a line leaves open of those behind it.
+ghost use Rattle.std.specs.Prelude.{◌≡◌, ◌+◌, ◌-◌, ◌^◌, ◌<◌, ◌≤◌, List, length, map, slice_index_or, MatchOption};
+ghost use Rattle.bid_rules.specs.declared.limits.TheConstants.{MOST_MEMBERS, MOST_PLACES, MOST_RIDERS};
+ghost use Rattle.split_frac.specs.Frac.{fraction_of};
+ghost use Rattle.cert_reader.specs.declared.forms.Counts.{Counts};
+ghost use Rattle.cert_reader.specs.declared.limits.TheConstants.{LINE_ROOM};
+ghost use Rattle.cert_reader.specs.Forms.{AreCounts, Line, Tree, fares_forms, fares_head, fares_tail, forms_of, fractions_of, led_by, numbers_of, rent_forms, rent_head, rent_tail};
+ghost use Rattle.cert_reader.specs.Order.{AgreeUpTo, IsLineOf, choice_count, choice_of, form_in};
+ghost use Rattle.cert_reader.specs.Sets.{starts};
+ghost use Rattle.cert_reader.specs.Text.{Numbers, Said};
+
+use crate::forms::{Counts, LineForm, Word};
+use crate::line::{LineNumbers, read_line};
+use bid_rules::limits::{MOST_MEMBERS, MOST_PLACES, MOST_RIDERS};
+
+/// From how many starts the routes of a set of riders may go: so many numbers the line of the set has behind its own.
+pub fn start_count(riders: u8, set: u32) -> usize
+    requires { riders ≤ MOST_RIDERS }
+    ensures value { result ≡ length (starts riders set) }
+    ensures small { result ≤ riders + 1 }
+{
+    let mut count = 1;
+    for bit in 0..riders {
+        if (set >> bit) % 2 == 0 {
+            count += 1;
+        }
+    }
+    count
+}
+
+/// A word and so many whole numbers.
+fn numbers(word: Word, count: u8) -> LineForm
+    ensures form { Line result ≡ numbers_of word count }
+    ensures count { result.count ≡ count }
+{
+    LineForm {
+        word,
+        lead: None,
+        count: usize::from(count),
+        whole: true,
+    }
+}
+
+/// A word and so many fractions.
+fn fractions(word: Word, count: u8) -> LineForm
+    ensures form { Line result ≡ fractions_of word count }
+    ensures count { result.count ≡ count }
+{
+    LineForm {
+        word,
+        lead: None,
+        count: usize::from(count),
+        whole: false,
+    }
+}
+
+/// A word and so many whole numbers, of which the first is set.
+fn led(word: Word, lead: u64, count: usize) -> LineForm
+    ensures form { Line result ≡ led_by word lead count }
+    ensures count { result.count ≡ count }
+{
+    LineForm {
+        word,
+        lead: Some(lead),
+        count,
+        whole: true,
+    }
+}
+
+/// The first lines of a rent.
+fn rent_head_form(members: u8, index: u32) -> LineForm
+    requires { index < 4 }
+    ensures form { slice_index_or (rent_head members) index Tree ≡ Line result }
+    ensures short { result.count ≤ 1 }
+{
+    match index {
+        0 => led(Word::Fairsplit, 1, 1),
+        1 => numbers(Word::KindRent, 0),
+        2 => led(Word::Members, u64::from(members), 1),
+        _ => numbers(Word::Rent, 1),
+    }
+}
+
+/// The last lines of a rent.
+fn rent_tail_form(members: u8, index: u32) -> LineForm
+    requires { index < 7 }
+    ensures form { slice_index_or (rent_tail members) index Tree ≡ Line result }
+    ensures short { result.count ≤ members }
+{
+    match index {
+        0 => numbers(Word::Rooms, members),
+        1 => numbers(Word::Left, members),
+        2 => numbers(Word::Right, members),
+        3 => numbers(Word::Walks, members),
+        4 => numbers(Word::Ranks, members),
+        5 => fractions(Word::Prices, members),
+        _ => numbers(Word::End, 0),
+    }
+}
+
+/// A line of a rent.
+fn rent_form(members: u8, index: u32) -> LineForm
+    requires members { members ≤ MOST_MEMBERS }
+    requires index { index < length (rent_forms members) }
+    ensures form { slice_index_or (rent_forms members) index Tree ≡ Line result }
+    ensures short { result.count ≤ LINE_ROOM }
+{
+    if index < 4 {
+        return rent_head_form(members, index);
+    }
+    let rooms = 4 + members as u32;
+    if index < rooms {
+        return numbers(Word::Values, members);
+    }
+    rent_tail_form(members, index - rooms)
+}
+
+/// The first lines of fares.
+fn fares_head_form(riders: u8, places: u8, index: u32) -> LineForm
+    requires { index < 5 }
+    ensures form { slice_index_or (fares_head riders places) index Tree ≡ Line result }
+    ensures short { result.count ≤ 1 }
+{
+    match index {
+        0 => led(Word::Fairsplit, 1, 1),
+        1 => numbers(Word::KindFares, 0),
+        2 => led(Word::Riders, u64::from(riders), 1),
+        3 => led(Word::Places, u64::from(places), 1),
+        _ => numbers(Word::Flag, 1),
+    }
+}
+
+/// The last lines of fares.
+fn fares_tail_form(riders: u8, index: u32) -> LineForm
+    requires { index < 3 }
+    ensures form { slice_index_or (fares_tail riders) index Tree ≡ Line result }
+    ensures short { result.count ≤ riders }
+{
+    match index {
+        0 => numbers(Word::Route, riders),
+        1 => fractions(Word::Fares, riders),
+        _ => numbers(Word::End, 0),
+    }
+}
+
+/// How many sets of riders there are, but for the empty one.
+fn set_count(riders: u8) -> u32
+    requires { riders ≤ MOST_RIDERS }
+    ensures { result ≡ 2 ^ riders - 1 }
+{
+    (1 << riders) - 1
+}
+
+/// A line of fares.
+fn fares_form(riders: u8, places: u8, index: u32) -> LineForm
+    requires riders { riders ≤ MOST_RIDERS }
+    requires places { places ≤ MOST_PLACES }
+    requires index { index < length (fares_forms riders places) }
+    ensures form { slice_index_or (fares_forms riders places) index Tree ≡ Line result }
+    ensures short { result.count ≤ LINE_ROOM }
+{
+    if index < 5 {
+        return fares_head_form(riders, places, index);
+    }
+    let who = 6 + places as u32;
+    if index < who {
+        return numbers(Word::Legs, places);
+    }
+    if index == who {
+        return numbers(Word::Who, riders);
+    }
+    if index == who + 1 {
+        return numbers(Word::At, riders);
+    }
+    let sets = set_count(riders);
+    if index < who + 2 + sets {
+        let set = index - who - 1;
+        return led(Word::Set, set as u64, start_count(riders, set) + 1);
+    }
+    fares_tail_form(riders, index - who - 2 - sets)
+}
+
+/// The form of a line, counted from 0.
+pub(crate) fn form_at(counts: Counts, index: u32) -> LineForm
+    requires counts { AreCounts counts }
+    requires index { index < length (forms_of counts) }
+    ensures form { form_in counts index ≡ Line result }
+    ensures short { result.count ≤ LINE_ROOM }
+{
+    match counts {
+        Counts::Rent { members } => rent_form(members, index),
+        Counts::Fares { riders, places } => fares_form(riders, places, index),
+    }
+}
+
+/// How many lines a text with these counts has.
+pub(crate) fn line_count(counts: Counts) -> u32
+    requires { AreCounts counts }
+    ensures value { result ≡ length (forms_of counts) }
+    ensures few { result ≤ 1046 }
+    ensures some { 4 < result }
+{
+    match counts {
+        Counts::Rent { members } => 11 + members as u32,
+        Counts::Fares { riders, places } => 11 + places as u32 + set_count(riders),
+    }
+}
+
+/// How many ways a line leaves open what the lines before it don't fix.
+fn choices(index: u32, known: Counts) -> u8
+    ensures value { result ≡ choice_count index known }
+    ensures small { result ≤ 12 }
+{
+    match (index, known) {
+        (1, _) => 2,
+        (2, Counts::Rent { .. }) => MOST_MEMBERS,
+        (2, Counts::Fares { .. }) => MOST_RIDERS,
+        (3, Counts::Fares { .. }) => MOST_PLACES,
+        _ => 1,
+    }
+}
+
+/// The counts that one of the ways stands for.
+fn chosen(index: u32, known: Counts, choice: u8) -> Counts
+    requires { choice < 12 }
+    ensures { result ≡ choice_of index known choice }
+{
+    match (index, known) {
+        (1, _) => {
+            if choice == 0 {
+                Counts::Rent { members: 1 }
+            } else {
+                Counts::Fares {
+                    riders: 1,
+                    places: 1,
+                }
+            }
+        }
+        (2, Counts::Rent { .. }) => Counts::Rent {
+            members: choice + 1,
+        },
+        (2, Counts::Fares { .. }) => Counts::Fares {
+            riders: choice + 1,
+            places: 1,
+        },
+        (3, Counts::Fares { riders, .. }) => Counts::Fares {
+            riders,
+            places: choice + 1,
+        },
+        _ => known,
+    }
+}
+
+/// The numbers of the line, where it has the form of its place.
+fn read_at(line: &[u8], index: u32, counts: Counts) -> Option<LineNumbers>
+    requires counts { AreCounts counts }
+    requires index { index < length (forms_of counts) }
+    ensures { MatchOption result
+        ((said : Said) → IsLineOf (form_in counts index) said line.now → ⊥)
+        (λ numbers. IsLineOf (form_in counts index) (Numbers (map fraction_of numbers.items)) line.now) }
+{
+    read_line(line, form_at(counts, index))
+}
+
+/// The numbers of the line, where it has the form of its place for some counts that agree with those known so far; and such counts.
+pub(crate) fn settle(line: &[u8], index: u32, known: Counts) -> Option<(Counts, LineNumbers)>
+    requires known { AreCounts known }
+    requires index { index < length (forms_of known) }
+    ensures { MatchOption result
+        ((counts : Counts) (said : Said) → AreCounts counts → AgreeUpTo index known counts → IsLineOf (form_in counts index) said line.now → ⊥)
+        (λ found. AreCounts found.0 × AgreeUpTo index known found.0 × (index < length (forms_of found.0)) × IsLineOf (form_in found.0 index) (Numbers (map fraction_of found.1.items)) line.now) }
+{
+    for choice in 0..choices(index, known) {
+        let counts = chosen(index, known, choice);
+        if let Some(numbers) = read_at(line, index, counts) {
+            return Some((counts, numbers));
+        }
+    }
+    None
+}

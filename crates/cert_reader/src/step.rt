@@ -1,0 +1,58 @@
+// One line of a text from a source, and the end of a text that is none.
+ghost use Rattle.std.specs.Prelude.{◌≡◌, ◌+◌, ◌<◌, ◌≤◌, ◌∷◌, ◌++◌, ℕ, List, length, IsErrOf, Err};
+ghost use Rattle.split_base.specs.Faults.{HasRisen};
+ghost use Rattle.cert_reader.specs.Forms.{AreCounts, forms_of};
+ghost use Rattle.cert_reader.specs.Steps.{IsRefused, IsSettled};
+ghost use Rattle.cert_reader.specs.Stream.{faults_after, taken_count};
+ghost use Rattle.cert_reader.specs.declared.limits.TheConstants.{MOST_BYTES};
+
+use crate::ends::ReadEnd;
+use crate::forms::Counts;
+use crate::line::LineNumbers;
+use crate::order::settle;
+use crate::stream::{Bytes, Cut};
+use split_base::Source;
+
+/// Reads on to the end behind a broken line.
+pub(crate) fn refuse<S: Source>(bytes: &mut Bytes, source: &mut S, line: u32) -> ReadEnd
+    ensures end { IsRefused bytes.old bytes.new (S.left source.old) (S.left source.new) line (λ _. Unit {0}) result }
+    ensures few { taken_count bytes.new ≤ MOST_BYTES }
+    ensures memory { result ≡ ReadEnd.NoMemory → ⊥ }
+    ensures faults { S.faults source.new ≡ faults_after {T = ℕ} (S.faults source.old) (Err result) }
+    ensures fault { result ≡ ReadEnd.ReadFault → HasRisen (S.faults source.old) (S.faults source.new) }
+    ensures count { S.faults source.old ≤ S.faults source.new }
+    ensures beside { S.beside source.new ≡ S.beside source.old }
+{
+    match bytes.drain(source) {
+        Ok(()) => ReadEnd::NotText { line },
+        Err(stop) => stop,
+    }
+}
+
+/// Takes the next line, where it may follow so many lines, and gives the counts with which it does and its numbers. Else reads on to the end.
+pub(crate) fn next_settled<S: Source>(
+    bytes: &mut Bytes,
+    source: &mut S,
+    index: u32,
+    known: Counts,
+) -> Result<(Counts, LineNumbers), ReadEnd>
+    requires known { AreCounts known }
+    requires index { index < length (forms_of known) }
+    ensures line { IsSettled bytes.old bytes.new (S.left source.old) (S.left source.new) index known result }
+    ensures few { taken_count bytes.new ≤ MOST_BYTES }
+    ensures memory { IsErrOf result ReadEnd.NoMemory → ⊥ }
+    ensures faults { S.faults source.new ≡ faults_after (S.faults source.old) result }
+    ensures fault { IsErrOf result ReadEnd.ReadFault → HasRisen (S.faults source.old) (S.faults source.new) }
+    ensures count { S.faults source.old ≤ S.faults source.new }
+    ensures beside { S.beside source.new ≡ S.beside source.old }
+{
+    match bytes.next_line(source) {
+        Err(stop) => Err(stop),
+        Ok(Cut::Line) => match settle(bytes.line(), index, known) {
+            Some(found) => Ok(found),
+            None => Err(refuse(bytes, source, index + 1)),
+        },
+        Ok(Cut::Long) => Err(refuse(bytes, source, index + 1)),
+        Ok(Cut::Unended) => Err(ReadEnd::NotText { line: index + 1 }),
+    }
+}

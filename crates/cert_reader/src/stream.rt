@@ -1,0 +1,205 @@
+// The bytes of a source one by one, and its lines, in fixed memory.
+ghost use Rattle.std.specs.Prelude.{◌≡◌, ℕ, List, ◌+◌, ◌≤◌, length, IfOk, IfErr, IfNone, OnOk, IsErrOf, MatchOption, [], ◌∷◌, option_to_list, ◌++◌};
+ghost use Rattle.std.specs.Bool.{MatchBool};
+ghost use Rattle.std.specs.Io.KnownBytes.{Consumes, IsAtEnd};
+ghost use Rattle.split_base.specs.Faults.{HasRisen};
+ghost use Rattle.cert_reader.specs.Stream.{Hands, IsCut, IsStopped, faults_after, taken_count};
+ghost use Rattle.cert_reader.specs.declared.limits.TheConstants.{LONGEST_LINE, MOST_BYTES};
+
+use crate::ends::ReadEnd;
+use crate::limits::{LONGEST_LINE, MOST_BYTES, PIECE_BYTES};
+use arrayvec::ArrayVec;
+use split_base::Source;
+use std::marker::Model;
+
+/// What was handed out as the next line.
+#[derive(Clone, Copy, Debug, PartialEq, Eq)]
+pub(crate) enum Cut {
+    /// A line, which is kept.
+    Line,
+    /// A line that is longer than any of a certificate text.
+    Long,
+    /// What stands at the end without LF, maybe nothing.
+    Unended,
+}
+
+/// The bytes of a source, of which at most 4,000,000 are taken.
+#[derive(Debug, Drop)]
+pub(crate) struct Bytes {
+    piece: [u8; PIECE_BYTES],
+    from: usize,
+    to: usize,
+    total: usize,
+    line: ArrayVec<u8, LONGEST_LINE>,
+}
+
+impl Model for Bytes {
+    ghost use Rattle.std.specs.Prelude.{◌-◌, ◌≤◌, take, drop};
+    ghost use Rattle.cert_reader.specs.Stream.{Held};
+    ghost use Rattle.cert_reader.specs.declared.limits.TheConstants.{MOST_BYTES};
+
+    ghost Value = { Held };
+
+    ghost view = { λ s. record {
+      ahead = take (s.to - s.from) (drop s.from s.piece);
+      given = s.total - (s.to - s.from);
+      line = s.line.items;
+    } };
+
+    ghost invariant = { λ s. (s.from ≤ s.to) × (s.to ≤ 4096) × (s.to - s.from ≤ s.total) × (s.total ≤ MOST_BYTES) };
+}
+
+impl Bytes {
+    /// Nothing was taken yet.
+    pub(crate) fn new() -> Self
+        ensures { result ≡ record { ahead = []; given = 0; line = [] } }
+    {
+        Bytes {
+            piece: [0; PIECE_BYTES],
+            from: 0,
+            to: 0,
+            total: 0,
+            line: ArrayVec::new(),
+        }
+    }
+
+    /// Takes the next bytes from the source, where none are held.
+    fn refill<S: Source>(&mut self, source: &mut S) -> Result<(), ReadEnd>
+        requires { self.old.ahead ≡ [] }
+        ensures bytes { OnOk result (Consumes (S.left source.old) (S.left source.new) self.new.ahead) }
+        ensures end { OnOk result (self.new.ahead ≡ [] → IsAtEnd (S.left source.new)) }
+        ensures given { OnOk result (self.new.given ≡ self.old.given) }
+        ensures line { OnOk result (self.new.line ≡ self.old.line) }
+        ensures few { taken_count self.new ≤ MOST_BYTES }
+        ensures stopped { IfErr result (λ stop. IsStopped self.old (S.left source.old) (S.left source.new) stop) }
+        ensures memory { IsErrOf result ReadEnd.NoMemory → ⊥ }
+        ensures faults { S.faults source.new ≡ faults_after (S.faults source.old) result }
+        ensures fault { IsErrOf result ReadEnd.ReadFault → HasRisen (S.faults source.old) (S.faults source.new) }
+        ensures count { S.faults source.old ≤ S.faults source.new }
+        ensures beside { S.beside source.new ≡ S.beside source.old }
+    {
+        let room = self.piece.len().min(MOST_BYTES + 1 - self.total);
+        let Ok(count) = source.read(&mut self.piece[..room]) else {
+            return Err(ReadEnd::ReadFault);
+        };
+        self.from = 0;
+        self.to = 0;
+        if self.total + count > MOST_BYTES {
+            return Err(ReadEnd::TooLong);
+        }
+        self.to = count;
+        self.total += count;
+        Ok(())
+    }
+
+    /// A byte that is held.
+    fn take_byte(&mut self) -> Option<u8>
+        ensures byte { MatchOption result
+            ((self.old.ahead ≡ []) × (self.new ≡ self.old))
+            (λ byte. (self.old.ahead ≡ byte ∷ self.new.ahead) × (self.new.given ≡ self.old.given + 1) × (self.new.line ≡ self.old.line)) }
+        ensures few { taken_count self.new ≤ MOST_BYTES }
+    {
+        if self.from == self.to {
+            return None;
+        }
+        let byte = self.piece[self.from];
+        self.from += 1;
+        Some(byte)
+    }
+
+    /// The next byte, or none at the end.
+    pub(crate) fn next_byte<S: Source>(&mut self, source: &mut S) -> Result<Option<u8>, ReadEnd>
+        ensures byte { IfOk result (λ byte. Hands self.old self.new (S.left source.old) (S.left source.new) (option_to_list byte)) }
+        ensures end { IfOk result (λ byte. IfNone byte ((self.new.ahead ≡ []) × IsAtEnd (S.left source.new))) }
+        ensures line { OnOk result (self.new.line ≡ self.old.line) }
+        ensures few { taken_count self.new ≤ MOST_BYTES }
+        ensures stopped { IfErr result (λ stop. IsStopped self.old (S.left source.old) (S.left source.new) stop) }
+        ensures memory { IsErrOf result ReadEnd.NoMemory → ⊥ }
+        ensures faults { S.faults source.new ≡ faults_after (S.faults source.old) result }
+        ensures fault { IsErrOf result ReadEnd.ReadFault → HasRisen (S.faults source.old) (S.faults source.new) }
+        ensures count { S.faults source.old ≤ S.faults source.new }
+        ensures beside { S.beside source.new ≡ S.beside source.old }
+    {
+        match self.take_byte() {
+            Some(byte) => Ok(Some(byte)),
+            None => match self.refill(source) {
+                Ok(()) => Ok(self.take_byte()),
+                Err(stop) => Err(stop),
+            },
+        }
+    }
+
+    /// Puts a byte behind the line, where there is room.
+    fn keep(&mut self, byte: u8) -> bool
+        ensures line { MatchBool result (self.new.line ≡ self.old.line ++ byte ∷ []) ((self.new.line ≡ self.old.line) × (LONGEST_LINE ≤ length self.old.line)) }
+        ensures ahead { self.new.ahead ≡ self.old.ahead }
+        ensures given { self.new.given ≡ self.old.given }
+        ensures short { length self.new.line ≤ LONGEST_LINE }
+        ensures few { taken_count self.new ≤ MOST_BYTES }
+    {
+        self.line.try_push(byte).is_ok()
+    }
+
+    /// Forgets the line that was read last.
+    fn clear(&mut self)
+        ensures { self.new ≡ record self.old { line = [] } }
+    {
+        self.line.clear();
+    }
+
+    /// The bytes of the line that was read last.
+    pub(crate) fn line(&self) -> &[u8]
+        ensures { result.now ≡ self.now.line }
+    {
+        &self.line
+    }
+
+    /// Reads a line, and keeps it without its LF.
+    pub(crate) fn next_line<S: Source>(&mut self, source: &mut S) -> Result<Cut, ReadEnd>
+        ensures cut { IfOk result (λ cut. IsCut self.old self.new (S.left source.old) (S.left source.new) cut) }
+        ensures few { taken_count self.new ≤ MOST_BYTES }
+        ensures stopped { IfErr result (λ stop. IsStopped self.old (S.left source.old) (S.left source.new) stop) }
+        ensures memory { IsErrOf result ReadEnd.NoMemory → ⊥ }
+        ensures faults { S.faults source.new ≡ faults_after (S.faults source.old) result }
+        ensures fault { IsErrOf result ReadEnd.ReadFault → HasRisen (S.faults source.old) (S.faults source.new) }
+        ensures count { S.faults source.old ≤ S.faults source.new }
+        ensures beside { S.beside source.new ≡ S.beside source.old }
+    {
+        self.clear();
+        let mut long = false;
+        'line: loop {
+            match self.next_byte(source) {
+                Err(stop) => return Err(stop),
+                Ok(None) => return Ok(Cut::Unended),
+                Ok(Some(byte)) => {
+                    if byte == b'\n' {
+                        return Ok(if long { Cut::Long } else { Cut::Line });
+                    }
+                    if !self.keep(byte) {
+                        long = true;
+                    }
+                }
+            }
+        }
+    }
+
+    /// Reads to the end, and drops what is read.
+    pub(crate) fn drain<S: Source>(&mut self, source: &mut S) -> Result<(), ReadEnd>
+        ensures end { OnOk result ((text : List ℕ) × Hands self.old self.new (S.left source.old) (S.left source.new) text × (self.new.ahead ≡ []) × IsAtEnd (S.left source.new)) }
+        ensures few { taken_count self.new ≤ MOST_BYTES }
+        ensures stopped { IfErr result (λ stop. IsStopped self.old (S.left source.old) (S.left source.new) stop) }
+        ensures memory { IsErrOf result ReadEnd.NoMemory → ⊥ }
+        ensures faults { S.faults source.new ≡ faults_after (S.faults source.old) result }
+        ensures fault { IsErrOf result ReadEnd.ReadFault → HasRisen (S.faults source.old) (S.faults source.new) }
+        ensures count { S.faults source.old ≤ S.faults source.new }
+        ensures beside { S.beside source.new ≡ S.beside source.old }
+    {
+        'bytes: loop {
+            match self.next_byte(source) {
+                Err(stop) => return Err(stop),
+                Ok(None) => return Ok(()),
+                Ok(Some(_)) => {}
+            }
+        }
+    }
+}

@@ -1,0 +1,35 @@
+// The table of a certificate of fares.
+ghost use Rattle.std.specs.Prelude.{◌≡◌};
+
+use std::marker::Model;
+
+/// The numbers of all `set` lines in order, the set's own number at the front of each line left out: set by set what its route costs from
+/// the origin and from the place of each rider who is not in it. There are at most 6,133.
+#[derive(Debug, Drop)]
+pub struct Table {
+    numbers: Vec<i128>,
+}
+
+impl Model for Table {
+    ghost use Rattle.std.specs.Prelude.{ℤ, List};
+
+    ghost Value = { List ℤ };
+
+    ghost view = { λ s. s.numbers.items };
+}
+
+impl Table {
+    /// A table of these numbers.
+    pub(crate) fn new(numbers: Vec<i128>) -> Self
+        ensures { result ≡ numbers.items }
+    {
+        Table { numbers }
+    }
+
+    /// The numbers.
+    pub fn numbers(&self) -> &[i128]
+        ensures { result.now ≡ self.now }
+    {
+        &self.numbers
+    }
+}

@@ -1,0 +1,29 @@
+// What holds of canonical certificates, for all cases: each law is the contract of a function that does nothing.
+ghost use Rattle.std.specs.Prelude.{◌≡◌, ◌≤◌, ℕ, List, length};
+ghost use Rattle.bid_rules.specs.declared.cases.Case.{Case};
+ghost use Rattle.bid_rules.specs.Facts.{IsValidCase};
+ghost use Rattle.cert_reader.specs.declared.limits.TheConstants.{MOST_BYTES};
+ghost use Rattle.certificates.specs.Canonical.{IsCanonical, IsCertificate};
+
+use fare_laws::{coalition_law, orders_law, route_cost_law};
+use fare_lines::fare_lines_law;
+use rent_lines::rent_lines_law;
+use rent_maximin::{division_range_law, one_rent_division_law};
+use shapley_core::division_law;
+
+/// The canonical certificate of a case is a certificate: certificate text whose rules all hold. It has at most 4,000,000 bytes, and
+/// a case has one.
+pub fn certificate_law()
+    ensures certificate { (case : Case) (text : List ℕ) → IsValidCase case → IsCanonical case text → IsCertificate text }
+    ensures short { (case : Case) (text : List ℕ) → IsValidCase case → IsCanonical case text → length text ≤ MOST_BYTES }
+    ensures one { (case : Case) (text other : List ℕ) → IsValidCase case → IsCanonical case text → IsCanonical case other → text ≡ other }
+{
+    coalition_law();
+    division_law();
+    division_range_law();
+    fare_lines_law();
+    one_rent_division_law();
+    orders_law();
+    rent_lines_law();
+    route_cost_law();
+}

@@ -1,0 +1,67 @@
+// The table of a certificate of fares: what the routes of all sets of riders cost.
+ghost use Rattle.std.specs.Prelude.{◌≡◌, ◌++◌, ◌∷◌, ◌<◌, ◌≤◌, ◌^◌, flat_map, length, map, pos, OnOk, string_bytes};
+ghost use Rattle.bid_rules.specs.declared.limits.TheConstants.{MOST_RIDERS};
+ghost use Rattle.cert_reader.specs.declared.forms.Word.TheVariants as word;
+ghost use Rattle.cert_reader.specs.Sets.{sets_of, starts};
+ghost use Rattle.cert_reader.specs.Text.{wholes};
+ghost use Rattle.certificates.specs.Lines.{number_line};
+ghost use Rattle.fare_lines.specs.Lines.{cost_line};
+
+use crate::lines::push_cents;
+use arrayvec::ArrayVec;
+use bid_rules::limits::RIDER_ROOM;
+use cert_reader::Word;
+use fare_laws::coalition_law;
+use fare_routes::Costs;
+use split_base::NoMemory;
+
+/// Room for the origin and each rider.
+const START_ROOM: usize = RIDER_ROOM + 1;
+
+/// Room for the number of a set and an entry a start.
+const SET_ROOM: usize = START_ROOM + 1;
+
+/// The starts of a set: the origin, which is 0, and the riders of 1 to `count` who are not in it, in rising order.
+fn starts_of(count: u8, set: u16) -> ArrayVec<u8, START_ROOM>
+    requires { count ≤ MOST_RIDERS }
+    ensures { result.items ≡ starts count set }
+{
+    let mut starts = ArrayVec::new();
+    starts.push(0);
+    for bit in 0..count {
+        if (set >> bit) % 2 != 1 {
+            starts.push(bit + 1);
+        }
+    }
+    starts
+}
+
+/// The numbers of the line of a set: its own number, and what its route costs from each of its starts.
+fn set_numbers(costs: &Costs, count: u8, set: u16) -> ArrayVec<u32, SET_ROOM>
+    requires count { count ≡ length costs.now.at.items }
+    requires few { count ≤ MOST_RIDERS }
+    requires set { set < 2 ^ count }
+    ensures { map pos result.items ≡ pos set ∷ cost_line costs.now set }
+{
+    coalition_law();
+    let starts = starts_of(count, set);
+    let mut numbers = ArrayVec::new();
+    numbers.push(u32::from(set));
+    for at in starts.as_slice() {
+        numbers.push(costs.entry(*at, set));
+    }
+    numbers
+}
+
+/// Appends a line for each set of riders, by the numbers of the sets.
+pub(crate) fn push_sets(text: &mut String, costs: &Costs, count: u8) -> Result<(), NoMemory>
+    requires count { count ≡ length costs.now.at.items }
+    requires few { count ≤ MOST_RIDERS }
+    ensures { OnOk result (string_bytes text.new ≡ string_bytes text.old ++ flat_map (λ set. number_line word.Set (wholes (pos set ∷ cost_line costs.now set))) (sets_of count)) }
+{
+    let end: u16 = 1 << count;
+    for set in 1..end {
+        push_cents(text, Word::Set, set_numbers(costs, count, set).as_slice())?;
+    }
+    Ok(())
+}

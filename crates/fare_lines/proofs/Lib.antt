@@ -1,0 +1,4 @@
+pub mod Members
+pub mod Starts
+pub mod Costs
+pub mod Passes

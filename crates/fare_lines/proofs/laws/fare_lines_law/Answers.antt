@@ -1,0 +1,19 @@
+use Rattle.fare_lines.proofs.Costs.{SetFacts}
+use Rattle.fare_lines.proofs.Passes.{RouteFacts, fares_pass, printed_is}
+use Rattle.fare_lines.proofs.laws.fare_lines_law.Goals as goal
+
+pub returns-clause-case : goal.returns-clause-case
+returns-clause-case c = printed_is
+
+pub returns-clause-passes : goal.returns-clause-passes
+returns-clause-passes c case division valid is =
+    let sets : SetFacts = record {
+      bits = c.coalition_law.ensures.bits;
+      within = c.coalition_law.ensures.within;
+      number = c.without_rider_law.ensures.number;
+      apart = c.without_rider_law.ensures.apart;
+      none = c.route_set_law.ensures.none;
+      recurrence = c.route_set_law.ensures.recurrence;
+    } in
+    let routes : RouteFacts = record { listed = c.orders_law.ensures.listed; only = c.lowest_route_law.ensures.only } in
+    fares_pass sets routes case division valid is

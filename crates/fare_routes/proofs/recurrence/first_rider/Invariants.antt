@@ -1,6 +1,0 @@
-use Rattle.fare_laws.specs.Entries.{cost_by}
-use Rattle.fare_routes.proofs.FirstRiders.{IsFound}
-use Rattle.fare_routes.proofs.recurrence.first_rider.Given as goal
-
-abbrev pub invariant-loop-place : goal.invariant-loop-place
-invariant-loop-place l = IsFound (cost_by l.case l.from l.set) l.rider-items l.place l.first l.least

@@ -1,0 +1,66 @@
+-- Starts of a set, found one after another.
+use Rattle.std.proofs.Common.{◌≡◌, ◌≢◌, ℕ, ℤ, pos, suc, ◌+◌, ◌-◌, ◌<◌, ◌≤◌, ◌==◌, All, Bool, List, [], ◌∷◌, ◌++◌, length, map, get_or, not, true, false, cond, arith, sym, ap, ◌∙◌, append-nil}
+use Rattle.std.specs.Int.{bit_at}
+use Rattle.std.specs.List.{filter, range_with_len}
+use Rattle.std.proofs.lemmas.Bool.Decides.{nat_tests}
+use Rattle.std.proofs.lemmas.List.{length_push, get_or-map, get_or_default, length-map, same_lists}
+use Rattle.std.proofs.lemmas.List.Elements.{All-cons, All-head, All-nil, All-tail, filter-append}
+use Rattle.std.proofs.lemmas.List.FromFn.{get_or-range_with_len, length-range_with_len}
+use Rattle.cert_reader.specs.Sets.{starts}
+use Rattle.bid_rules.specs.Coalitions.{has_rider}
+use Rattle.split_lemmas.proofs.RangeSteps.{range_next}
+
+abbrev pub free : ℕ → ℕ → List ℕ
+free set n = filter (λ rider. not (has_rider set rider)) (range_with_len 1 n)
+
+free_more : (set n : ℕ) → free set (n + 1) ≡ free set n ++ cond (not (bit_at set n == 1)) ((n + 1) ∷ []) []
+free_more set n =
+    let p = λ (rider : ℕ). not (has_rider set rider) in
+    let before : n + 1 - 1 ≡ n = omega arith in
+    ap (filter p) (range_next 1 n (n + 1) (omega arith))
+    ∙ filter-append p (range_with_len 1 n) ((n + 1) ∷ [])
+    ∙ ap (λ k. filter p (range_with_len 1 n) ++ cond (not (bit_at set k == 1)) ((n + 1) ∷ []) []) before
+
+pub start_with : (set n : ℕ) (old new : List ℕ) → bit_at set n ≢ 1 → new ≡ old ++ (n + 1) ∷ [] → old ≡ 0 ∷ free set n → new ≡ 0 ∷ free set (n + 1)
+start_with set n old new h e is =
+    let test : not (bit_at set n == 1) ≡ true = unset (bit_at set n) h in
+    e ∙ ap (λ xs. xs ++ (n + 1) ∷ []) is ∙ sym (ap (λ xs. 0 ∷ xs) (free_more set n ∙ ap (λ b. free set n ++ cond b ((n + 1) ∷ []) []) test))
+  where
+    unset : (b : ℕ) → (b ≡ 1 → ⊥) → not (b == 1) ≡ true
+    unset b g = grind (arith, nat_tests)
+
+pub start_without : (set n : ℕ) (old : List ℕ) → bit_at set n ≡ 1 → old ≡ 0 ∷ free set n → old ≡ 0 ∷ free set (n + 1)
+start_without set n old h is =
+    is ∙ ap (λ xs. 0 ∷ xs) (sym (append-nil (free set n)) ∙ sym (free_more set n ∙ ap (λ b. free set n ++ cond (not (b == 1)) ((n + 1) ∷ []) []) h))
+
+-- the starts among the first riders
+pub record Upto (set n : ℕ) (xs : List ℕ) : Type 0 where
+  pub few : length xs ≤ n + 1
+  pub items : xs ≡ 0 ∷ free set n
+
+pub upto_with : (set n : ℕ) (old new : List ℕ) → bit_at set n ≢ 1 → new ≡ old ++ (n + 1) ∷ [] → Upto set n old → Upto set (n + 1) new
+upto_with set n old new h e u = record { few = omega (arith, u.few, ap length e, length_push old (n + 1)); items = start_with set n old new h e u.items }
+
+pub upto_without : (set n : ℕ) (old : List ℕ) → bit_at set n ≡ 1 → Upto set n old → Upto set (n + 1) old
+upto_without set n old h u = record { few = omega (arith, u.few); items = start_without set n old h u.items }
+
+free_within : (n : ℕ) (p : ℕ → Bool) (xs : List ℕ) → All (λ x. x ≤ n) xs → All (λ x. x ≤ n) (filter p xs)
+free_within n p [] h = All-nil (λ x. x ≤ n)
+free_within n p (x ∷ xs) h = by (p x) (free_within n p xs (All-tail (λ y. y ≤ n) x xs h))
+  where
+    by : (b : Bool) → All (λ y. y ≤ n) (filter p xs) → All (λ y. y ≤ n) (cond b (x ∷ filter p xs) (filter p xs))
+    by true rest = All-cons (λ y. y ≤ n) x (filter p xs) (All-head (λ y. y ≤ n) x xs h) rest
+    by false rest = rest
+
+-- each start is the origin or one of the riders
+pub starts_within : (n set : ℕ) → All (λ at. at ≤ n) (starts n set)
+starts_within n set = All-cons (λ at. at ≤ n) 0 (free set n) (omega arith)
+    (free_within n (λ rider. not (has_rider set rider)) (range_with_len 1 n) (λ k d l. let count = length-range_with_len 1 n in let at = get_or-range_with_len 1 n k d (omega arith) in omega arith))
+
+-- a list that is made from another
+pub made : (line : List ℤ) (xs ys : List ℕ) (g : ℕ → ℤ) → xs ≡ ys → length line ≡ length xs → ((i : ℕ) → i < length line → get_or line i (pos 0) ≡ g (get_or xs i 0)) → line ≡ map g ys
+made line xs ys g e long h = same_lists line (map g xs) (long ∙ sym (length-map xs g)) (λ k d l.
+    get_or_default line k d (pos 0) l ∙ h k l ∙ sym (get_or-map g xs k 0 d (omega (arith, long)))) ∙ ap (map g) e
+
+pub read_at : (line : List ℤ) (xs ys : List ℕ) (g : ℕ → ℤ) (i : ℕ) → xs ≡ ys → i < length xs → line ≡ map g ys → get_or line i (pos 0) ≡ g (get_or xs i 0)
+read_at line xs ys g i e l is = ap (λ zs. get_or zs i (pos 0)) (is ∙ ap (map g) (sym e)) ∙ get_or-map g xs i 0 (pos 0) l

@@ -1,0 +1,5 @@
+pub mod Entries
+pub mod Head
+pub mod Printed
+pub mod Rules
+pub mod State

@@ -1,0 +1,20 @@
+-- What a state stands for, after the head and some lines of sets.
+use Rattle.std.specs.Prelude.{◌≡◌, ◌⊎◌, ℕ, ℤ, ◌+◌, List, length, map}
+use Rattle.set_costs.specs.Table.{ListsCosts}
+use Rattle.cert_reader.specs.Views.{FaresView}
+use Rattle.fare_rules.specs.Head.{AreCostLines, HasOtherLine}
+use Rattle.fare_rules.specs.Rules.{HasCase}
+use Rattle.fare_rules.specs.Printed.{printed_case}
+use Rattle.fare_rules.specs.declared.state.FaresState.{FaresState}
+use Rattle.fare_rules.specs.declared.state.FaresState.TheVariants.{Broken, Filling}
+
+-- the rows are those of the first sets of a valid case
+abbrev pub IsState : FaresState → Type 0
+IsState (Broken rule) = Unit {0}
+IsState (Filling case rows) = ListsCosts case (map (λ row. row.items) rows.items)
+
+-- the text has no case, or some line so far is another than its set's; else the rows are those of the empty set and of the sets so far
+abbrev pub StandsFor : FaresView → List (List ℤ) → FaresState → Type 0
+StandsFor view taken (Broken rule) = ((rule ≡ 1) × (HasCase view → ⊥)) ⊎ ((rule ≡ 2) × HasCase view × HasOtherLine (printed_case view) (length view.at) taken)
+StandsFor view taken (Filling case rows) =
+    HasCase view × (case ≡ printed_case view) × ListsCosts case (map (λ row. row.items) rows.items) × (length rows.items ≡ length taken + 1) × AreCostLines case (length view.at) taken

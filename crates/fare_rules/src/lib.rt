@@ -1,0 +1,17 @@
+//! The rules of a certificate of fares, judged line by line in fixed memory: where all hold, the printed fares are the Shapley
+//! value and the printed route is the least of the cheapest.
+#![tactic(auto)]
+
+mod case;
+mod ending;
+mod fares;
+mod laws;
+mod lines;
+mod route;
+mod state;
+#[cfg(test)]
+mod tests;
+
+pub use case::PrintedRow;
+pub use laws::fares_certificate_law;
+pub use state::{FaresState, end_fares, start_fares, take_set};

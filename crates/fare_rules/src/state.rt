@@ -1,0 +1,148 @@
+// The judge of a certificate of fares, which takes the lines of sets one at a time, in fixed memory.
+ghost use Rattle.std.specs.Prelude.{◌≡◌, ℕ, ℤ, ◌+◌, ◌^◌, ◌<◌, ◌≤◌, List, [], ◌∷◌, ◌++◌, length, map, IsTrue, ◌↔◌};
+ghost use Rattle.bid_rules.specs.declared.cases.FareCase.{FareCase};
+ghost use Rattle.cert_reader.specs.Numbers.{AreShort};
+ghost use Rattle.cert_reader.specs.Views.{FaresView};
+ghost use Rattle.fare_rules.specs.Head.{AreCostLines, HasHead, cost_line, head_of};
+ghost use Rattle.fare_rules.specs.Entries.{HasLines};
+ghost use Rattle.fare_rules.specs.Rules.{HasCase, fares_rule};
+ghost use Rattle.fare_rules.specs.State.{IsState, StandsFor};
+ghost use Rattle.fare_rules.specs.Printed.{printed_case};
+ghost use Rattle.set_costs.specs.Table.{HoldsCosts, ListsCosts};
+ghost use Rattle.split_frac.specs.Frac.{fraction_of};
+ghost use Rattle.verdicts.specs.Verdicts.{IsVerdict};
+
+use crate::case::{PrintedRow, case_of};
+use crate::ending::verdict_of;
+use crate::lines::is_line;
+use arrayvec::ArrayVec;
+use bid_rules::FareCase;
+use bid_rules::limits::{LEG_ROW_ROOM, RIDER_ROOM};
+use fare_laws::{coalition_law, route_set_law, without_rider_law};
+use set_costs::{Row, SET_ROOM, next_row, rows_law};
+use split_frac::Frac;
+use verdicts::Verdict;
+
+/// What routes of sets of riders cost, row by row.
+type Rows = ArrayVec<Row, SET_ROOM>;
+
+/// Where the judge of a certificate of fares stands, after the head and some lines of sets.
+#[derive(Drop)]
+pub enum FaresState {
+    /// A rule is broken: the first where the head prints no case, or the second where a line so far is not as it is to be.
+    Broken {
+        /// The rule, from 1.
+        rule: u8,
+    },
+    /// None of these is broken so far.
+    Filling {
+        /// The printed case.
+        case: FareCase,
+        /// What the routes of the empty set and of the sets so far cost.
+        rows: Rows,
+    },
+}
+
+/// Begins with the head of a certificate: the number of places, the flag fall, the legs from the origin and from each place, and by
+/// rider the member and the place.
+pub fn start_fares(
+    places: u8,
+    flag: i128,
+    legs: &[PrintedRow],
+    who: &[i128],
+    at: &[i128],
+) -> FaresState
+    requires legs { length legs.now ≤ LEG_ROW_ROOM }
+    requires who { length who.now ≤ RIDER_ROOM }
+    requires at { length at.now ≤ RIDER_ROOM }
+    ensures state { IsState result }
+    ensures stands { StandsFor (head_of places flag (map (λ row. row.items) legs.now) who.now at.now) [] result }
+{
+    rows_law();
+    coalition_law();
+    let Some(case) = case_of(places, flag, legs, who, at) else {
+        return FaresState::Broken { rule: 1 };
+    };
+    let mut rows = Rows::new();
+    rows.push(next_row(&case, &[]));
+    FaresState::Filling { case, rows }
+}
+
+/// Adds the row of the next set, and answers whether the line is as it is to be.
+fn push_row(case: &FareCase, rows: &mut Rows, line: &[i128]) -> bool
+    requires lists { ListsCosts case.now (map (λ row. row.items) rows.old.items) }
+    requires more { length rows.old.items < 2 ^ length case.now.at.items }
+    ensures line { IsTrue result ↔ line.now ≡ cost_line case.now (length case.now.at.items) (length rows.old.items) }
+    ensures lists { ListsCosts case.now (map (λ row. row.items) rows.new.items) }
+    ensures count { length rows.new.items ≡ length rows.old.items + 1 }
+{
+    rows_law();
+    coalition_law();
+    let row = next_row(case, rows.as_slice());
+    let is_kept = is_line(row.as_slice(), case.at.len() as u8, rows.len() as u16, line);
+    rows.push(row);
+    is_kept
+}
+
+/// Takes the line of the next set, and answers whether it is as it is to be. Where all sets have had theirs, nothing is done.
+fn fill(case: &FareCase, rows: &mut Rows, line: &[i128]) -> bool
+    requires { ListsCosts case.now (map (λ row. row.items) rows.old.items) }
+    ensures lists { ListsCosts case.now (map (λ row. row.items) rows.new.items) }
+    ensures line { length rows.old.items < 2 ^ length case.now.at.items → IsTrue result ↔ line.now ≡ cost_line case.now (length case.now.at.items) (length rows.old.items) }
+    ensures count { length rows.old.items < 2 ^ length case.now.at.items → length rows.new.items ≡ length rows.old.items + 1 }
+{
+    rows_law();
+    coalition_law();
+    if rows.len() >= 1 << case.at.len() {
+        return true;
+    }
+    push_row(case, rows, line)
+}
+
+/// Takes the line of the next set, its own number left out.
+pub fn take_set(state: &mut FaresState, line: &[i128])
+    requires { IsState state.old }
+    ensures state { IsState state.new }
+    ensures stands { (view : FaresView) (taken : List (List ℤ)) → StandsFor view taken state.old → length taken + 1 < 2 ^ length view.at → StandsFor view (taken ++ line.now ∷ []) state.new }
+{
+    let is_kept = match state {
+        FaresState::Filling { case, rows } => fill(case, rows, line),
+        FaresState::Broken { .. } => true,
+    };
+    if !is_kept {
+        *state = FaresState::Broken { rule: 2 };
+    }
+}
+
+/// The verdict, where all sets have had their lines: by the printed route, riders from 1 in the order in which they get off, and the
+/// printed fares, by rider in cents.
+pub fn end_fares(state: &FaresState, route: &[i128], fares: &[Frac]) -> Verdict
+    requires state { IsState state.now }
+    requires short { AreShort fares.now }
+    ensures { (view : FaresView) → StandsFor view view.sets state.now → length view.sets + 1 ≡ 2 ^ length view.at → view.route ≡ route.now → view.fares ≡ map fraction_of fares.now
+        → length view.route ≡ length view.at → length view.fares ≡ length view.at → IsVerdict (fares_rule view) 5 result }
+{
+    without_rider_law();
+    coalition_law();
+    route_set_law();
+    match state {
+        FaresState::Broken { rule } => Verdict::No { rule: *rule },
+        FaresState::Filling { case, rows } => end_filling(case, rows.as_slice(), route, fares),
+    }
+}
+
+/// The verdict where no line is broken. Where lists have other lengths than the text's, which none has, it is of no text.
+fn end_filling(case: &FareCase, rows: &[Row], route: &[i128], fares: &[Frac]) -> Verdict
+    requires rows { ListsCosts case.now (map (λ row. row.items) rows.now) }
+    requires short { AreShort fares.now }
+    ensures { length rows.now ≡ 2 ^ length case.now.at.items → length route.now ≡ length case.now.at.items → length fares.now ≡ length case.now.at.items
+        → (view : FaresView) → HasCase view → case.now ≡ printed_case view → HasLines (printed_case view) (length view.at) view.sets → view.route ≡ route.now
+        → view.fares ≡ map fraction_of fares.now → IsVerdict (fares_rule view) 5 result }
+{
+    coalition_law();
+    let count = case.at.len();
+    if rows.len() != 1 << count || route.len() != count || fares.len() != count {
+        return Verdict::No { rule: 2 };
+    }
+    verdict_of(case, rows, route, fares)
+}

@@ -1,0 +1,85 @@
+use Rattle.std.proofs.Common.{List, ℕ, map, sym, subst}
+use Rattle.split_base.specs.Moments.{joined, rests_leave}
+use Rattle.host_journal.specs.Spelling.{spelling}
+use Rattle.host_journal.specs.Journal.{HoldsFrom, HoldsOne, IsOpened}
+use Rattle.host_journal.proofs.Replay.{log_of_read, still_one, opened_of}
+use Rattle.host_journal.proofs.opening.open_host.Goals as goal
+
+pub returns-in_err-to_version_two-clause-any_moment : goal.returns-in_err-to_version_two-clause-any_moment
+returns-in_err-to_version_two-clause-any_moment g c honest secret lists each =
+    let (sec, events, r) = c.in_ok-host.ensures.whole honest in
+    let old = c.args.disk.now in
+    let mid = c.read_host.new.disk in
+    let file = g.D.Disk.seen mid in
+    let log = c.in_ok-host.log in
+    let h = c.in_ok-host.host.content in
+    let rests = c.read_host.ensures.rests honest in
+    let still = c.read_host.ensures.honest.0 honest in
+    let is_log = log_of_read file (g.D.Disk.images mid) log h sec events (c.in_ok-host.ensures.one honest) r in
+    let here : HoldsOne secret lists file = subst (HoldsOne secret lists) (sym rests.same) (each (g.D.Disk.seen old) (g.met.D.Disk.seen_is_image old honest)) in
+    let from = still_one c.journal_law.ensures.one_meaning file log h sec secret events lists r here in
+    let first = rests_leave g.D.Disk.moment g.D.Disk.left_since g.D.Disk.seen g.D.Disk.images old mid (HoldsOne secret lists) rests (λ f left. g.met.D.Disk.only_now old f honest left) each in
+    joined g.D.Disk.moment g.D.Disk.left_since old mid c.to_version_two.new.disk (HoldsOne secret lists) (HoldsFrom log.version sec (map spelling events)) (HoldsOne secret lists) first
+    (c.to_version_two.ensures.any_moment still sec (map spelling events) is_log) (λ f p. p) from
+
+pub returns-in_err-to_version_two-clause-after : goal.returns-in_err-to_version_two-clause-after
+returns-in_err-to_version_two-clause-after g c honest secret lists each f now =
+    let (sec, events, r) = c.in_ok-host.ensures.whole honest in
+    let old = c.args.disk.now in
+    let mid = c.read_host.new.disk in
+    let file = g.D.Disk.seen mid in
+    let log = c.in_ok-host.log in
+    let h = c.in_ok-host.host.content in
+    let rests = c.read_host.ensures.rests honest in
+    let still = c.read_host.ensures.honest.0 honest in
+    let is_log = log_of_read file (g.D.Disk.images mid) log h sec events (c.in_ok-host.ensures.one honest) r in
+    let here : HoldsOne secret lists file = subst (HoldsOne secret lists) (sym rests.same) (each (g.D.Disk.seen old) (g.met.D.Disk.seen_is_image old honest)) in
+    let from = still_one c.journal_law.ensures.one_meaning file log h sec secret events lists r here in
+    from f (c.to_version_two.ensures.after still sec (map spelling events) is_log f now)
+
+pub returns-clause-any_moment : goal.returns-clause-any_moment
+returns-clause-any_moment g c honest secret lists each =
+    let (sec, events, r) = c.in_ok-host.ensures.whole honest in
+    let old = c.args.disk.now in
+    let mid = c.read_host.new.disk in
+    let file = g.D.Disk.seen mid in
+    let log = c.in_ok-host.log in
+    let h = c.in_ok-host.host.content in
+    let rests = c.read_host.ensures.rests honest in
+    let still = c.read_host.ensures.honest.0 honest in
+    let is_log = log_of_read file (g.D.Disk.images mid) log h sec events (c.in_ok-host.ensures.one honest) r in
+    let here : HoldsOne secret lists file = subst (HoldsOne secret lists) (sym rests.same) (each (g.D.Disk.seen old) (g.met.D.Disk.seen_is_image old honest)) in
+    let from = still_one c.journal_law.ensures.one_meaning file log h sec secret events lists r here in
+    let first = rests_leave g.D.Disk.moment g.D.Disk.left_since g.D.Disk.seen g.D.Disk.images old mid (HoldsOne secret lists) rests (λ f left. g.met.D.Disk.only_now old f honest left) each in
+    joined g.D.Disk.moment g.D.Disk.left_since old mid c.to_version_two.new.disk (HoldsOne secret lists) (HoldsFrom log.version sec (map spelling events)) (HoldsOne secret lists) first
+    (c.to_version_two.ensures.any_moment still sec (map spelling events) is_log) (λ f p. p) from
+
+pub returns-clause-after : goal.returns-clause-after
+returns-clause-after g c honest secret lists each f now =
+    let (sec, events, r) = c.in_ok-host.ensures.whole honest in
+    let old = c.args.disk.now in
+    let mid = c.read_host.new.disk in
+    let file = g.D.Disk.seen mid in
+    let log = c.in_ok-host.log in
+    let h = c.in_ok-host.host.content in
+    let rests = c.read_host.ensures.rests honest in
+    let still = c.read_host.ensures.honest.0 honest in
+    let is_log = log_of_read file (g.D.Disk.images mid) log h sec events (c.in_ok-host.ensures.one honest) r in
+    let here : HoldsOne secret lists file = subst (HoldsOne secret lists) (sym rests.same) (each (g.D.Disk.seen old) (g.met.D.Disk.seen_is_image old honest)) in
+    let from = still_one c.journal_law.ensures.one_meaning file log h sec secret events lists r here in
+    from f (c.to_version_two.ensures.after still sec (map spelling events) is_log f now)
+
+pub returns-clause-opened : goal.returns-clause-opened
+returns-clause-opened g c honest =
+    let (sec, events, r) = c.in_ok-host.ensures.whole honest in
+    let mid = c.read_host.new.disk in
+    let new = c.to_version_two.new.disk in
+    let file = g.D.Disk.seen mid in
+    let log = c.in_ok-host.log in
+    let h = c.in_ok-host.host.content in
+    let raised = c.to_version_two.new.log in
+    let still = c.read_host.ensures.honest.0 honest in
+    let is_log = log_of_read file (g.D.Disk.images mid) log h sec events (c.in_ok-host.ensures.one honest) r in
+    let now = g.met.D.Disk.seen_is_image new (c.to_version_two.ensures.honest.0 still) in
+    let opened = opened_of file (g.D.Disk.seen new) (g.D.Disk.images new) log raised h sec events r c.in_ok-to_version_two.ensures.version now (c.in_ok-to_version_two.ensures.raised still sec (map spelling events) is_log) in
+    subst (λ (f : List ℕ). IsOpened f (g.D.Disk.seen new) (g.D.Disk.images new) raised h) (c.read_host.ensures.rests honest).same opened

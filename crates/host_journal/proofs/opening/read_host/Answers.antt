@@ -1,0 +1,17 @@
+use Rattle.std.proofs.Common.{inr, [], rules}
+use Rattle.host_journal.specs.Journal.{IsReplaying}
+use Rattle.host_journal.proofs.Replay.{starts_empty}
+use Rattle.host_journal.proofs.opening.read_host.Goals as goal
+
+pub returns-in_err-replay-clause-not_a_log : goal.returns-in_err-replay-clause-not_a_log
+returns-in_err-replay-clause-not_a_log g c honest place is =
+    let file = g.D.Disk.seen c.start.new.disk in
+    let r : IsReplaying file c.in_ok-log.log c.new-host.result.content c.in_ok-log.secret [] = starts_empty file c.in_ok-log.log c.new-host.result.content c.in_ok-log.secret (c.in_ok-log.ensures.reading honest) c.new-host.ensures in
+    inr (c.in_err-replay.ensures.not_a_log (c.in_ok-log.ensures.honest.0 honest) c.in_ok-log.secret [] r place (search rules))
+
+pub returns-clause-whole : goal.returns-clause-whole
+returns-clause-whole g c honest =
+    let file = g.D.Disk.seen c.start.new.disk in
+    let r : IsReplaying file c.in_ok-log.log c.new-host.result.content c.in_ok-log.secret [] = starts_empty file c.in_ok-log.log c.new-host.result.content c.in_ok-log.secret (c.in_ok-log.ensures.reading honest) c.new-host.ensures in
+    let (all, read) = c.in_ok-replay.ensures.whole (c.in_ok-log.ensures.honest.0 honest) c.in_ok-log.secret [] r in
+    (c.in_ok-log.secret, all, read)

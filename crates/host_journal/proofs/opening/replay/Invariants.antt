@@ -1,0 +1,18 @@
+-- So far no byte was changed, and the events up to the log's gate were applied.
+use Rattle.std.proofs.Common.{◌≤◌, ◌-◌, ◌^◌, ◌↔◌, List, ℕ}
+use Rattle.split_base.specs.Disk.{Rests}
+use Rattle.sealed_core.specs.Host.{EventView}
+use Rattle.host_journal.specs.Journal.{IsReplaying}
+use Rattle.host_journal.proofs.opening.replay.Given as goal
+
+abbrev pub invariant-loop-body : goal.invariant-loop-body
+invariant-loop-body g l = record {
+  count : g.D.Disk.faults l.initial.disk ≤ g.D.Disk.faults l.disk;
+  honest : g.D.Disk.is_honest l.initial.disk ↔ g.D.Disk.is_honest l.disk;
+  rests : g.D.Disk.is_honest l.initial.disk → Rests g.D.Disk.seen g.D.Disk.images g.D.Disk.moment g.D.Disk.left_since l.initial.disk l.disk;
+  replaying : g.D.Disk.is_honest l.initial.disk → (secret : List ℕ) (events : List EventView) → IsReplaying (g.D.Disk.seen l.initial.disk) l.initial.log l.initial.host.content secret events
+      → (all : List EventView) × IsReplaying (g.D.Disk.seen l.disk) l.log l.host.content secret all;
+}
+
+abbrev pub decreases-loop-body : goal.decreases-loop-body
+decreases-loop-body g l = 2 ^ 63 - l.log.place

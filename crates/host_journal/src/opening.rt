@@ -1,0 +1,170 @@
+// Opening a journal as a host.
+ghost use Rattle.std.specs.Prelude.{◌≡◌, ◌≢◌, ◌⊎◌, ◌↔◌, ◌<◌, ◌≤◌, ◌+◌, ◌^◌, ◌++◌, [], ◌∷◌, List, ℕ, IfOk, IfErr, OnOk, OnErr, IsTrue, IsFalse, Ok, Err};
+ghost use Rattle.split_base.specs.Faults.{HasCause, HasRisen};
+ghost use Rattle.split_base.specs.Disk.{Each, Only, Rests, LeavesOnly};
+ghost use Rattle.gate_log.specs.Records.{place_after};
+ghost use Rattle.gate_log.specs.Log.{IsLogOf};
+ghost use Rattle.sealed_core.specs.Host.{CanApply, EventView, apply, event_view};
+ghost use Rattle.host_journal.specs.Spelling.{IsOfVersion, Spells};
+ghost use Rattle.host_journal.specs.Journal.{HasEvents, HoldsFrom, HoldsOne, IsFaultBehindEvents, IsFirstFault, IsNoEvent, IsOpened, IsReplaying, IsReplayed};
+
+use crate::read_event;
+use gate_log::{Log, LogFault, journal_law};
+use sealed_core::{Event, Host, apply, can_apply, reserve};
+use split_base::Disk;
+use std::alloc::Global;
+
+/// Opens a journal: reads the whole file, applies each of its events in turn from the empty host on,
+/// and then raises a journal of version 1 to version 2. It gives the host of the events, and the log
+/// at its end.
+///
+/// - `Disk` comes only where the disk's count of faults has risen. The file stands for the events for
+///   which it stood, in either version.
+/// - `NotALog` comes exactly where the file has a fault, with the place of its first. A body that is
+///   no event of the file's version, or none that may be applied at its turn, is a fault at its gate's
+///   place.
+/// - `NoMemory` comes for want of memory.
+///
+/// After `NotALog` and `NoMemory` the file is as it was: it is raised only after it was read whole.
+pub fn open_host<D: Disk>(alloc: Global, disk: &mut D) -> Result<(Host, Log), LogFault>
+    ensures count { D.faults disk.old ≤ D.faults disk.new }
+    ensures disk { result ≡ Err LogFault.Disk → HasRisen (D.faults disk.old) (D.faults disk.new) }
+    ensures honest { D.is_honest disk.old ↔ D.is_honest disk.new }
+    ensures version { IfOk result (λ opened. opened.1.version ≡ 2) }
+    ensures at_end { IfOk result (λ opened. IsTrue opened.1.at_end) }
+
+    // After Ok there is one image, and host and log are those of its events.
+    ensures one { D.is_honest disk.old → IfOk result (λ _. Only (D.seen disk.new) (D.images disk.new)) }
+    ensures opened { D.is_honest disk.old → IfOk result (λ opened. IsOpened (D.seen disk.old) (D.seen disk.new) (D.images disk.new) opened.1 opened.0.content) }
+    ensures not_a_log { D.is_honest disk.old → (place : ℕ) → result ≡ Err (LogFault.NotALog place) → IsFirstFault place (D.seen disk.new) }
+
+    // A byte changes only where the whole file was read and stands for events of version 1.
+    ensures kept { D.is_honest disk.old → IfErr result (λ e. e ≢ LogFault.Disk → Rests D.seen D.images D.moment D.left_since disk.old disk.new) }
+    ensures raised_whole { D.is_honest disk.old → Rests D.seen D.images D.moment D.left_since disk.old disk.new
+        ⊎ ((secret : List ℕ) × (events : List EventView) × HasEvents 1 secret events (D.seen disk.old)) }
+
+    // Where each image stands for one of some lists of events, it does so at each moment.
+    ensures any_moment { D.is_honest disk.old → (secret : List ℕ) (lists : List (List EventView)) → Each (D.images disk.old) (HoldsOne secret lists)
+        → LeavesOnly D.moment D.left_since disk.old disk.new (HoldsOne secret lists) }
+    ensures after { D.is_honest disk.old → (secret : List ℕ) (lists : List (List EventView)) → Each (D.images disk.old) (HoldsOne secret lists)
+        → Each (D.images disk.new) (HoldsOne secret lists) }
+{
+    journal_law();
+    let (host, mut log) = read_host(alloc, disk)?;
+    to_version_two(&mut log, disk)?;
+    Ok((host, log))
+}
+
+// Reads the whole file, which changes no byte of it.
+fn read_host<D: Disk>(alloc: Global, disk: &mut D) -> Result<(Host, Log), LogFault>
+    ensures count { D.faults disk.old ≤ D.faults disk.new }
+    ensures disk { result ≡ Err LogFault.Disk → HasRisen (D.faults disk.old) (D.faults disk.new) }
+    ensures honest { D.is_honest disk.old ↔ D.is_honest disk.new }
+    ensures rests { D.is_honest disk.old → Rests D.seen D.images D.moment D.left_since disk.old disk.new }
+    ensures at_end { IfOk result (λ read. IsTrue read.1.at_end) }
+    ensures one { D.is_honest disk.old → IfOk result (λ _. Only (D.seen disk.new) (D.images disk.new)) }
+    ensures whole { D.is_honest disk.old → IfOk result (λ read. (secret : List ℕ) × (events : List EventView) × IsReplayed (D.seen disk.new) read.1 read.0.content secret events) }
+    ensures not_a_log { D.is_honest disk.old → (place : ℕ) → result ≡ Err (LogFault.NotALog place) → IsFirstFault place (D.seen disk.new) }
+{
+    let (mut log, secret) = Log::start(disk)?;
+    let mut host = Host::new(alloc, secret);
+    replay(alloc, &mut host, &mut log, disk)?;
+    Ok((host, log))
+}
+
+// Applies the events of the records from the log's gate on, up to the closed gate.
+fn replay<D: Disk>(
+    alloc: Global,
+    host: &mut Host,
+    log: &mut Log,
+    disk: &mut D,
+) -> Result<(), LogFault>
+    ensures count { D.faults disk.old ≤ D.faults disk.new }
+    ensures disk { result ≡ Err LogFault.Disk → HasRisen (D.faults disk.old) (D.faults disk.new) }
+    ensures honest { D.is_honest disk.old ↔ D.is_honest disk.new }
+    ensures rests { D.is_honest disk.old → Rests D.seen D.images D.moment D.left_since disk.old disk.new }
+    ensures at_end { OnOk result (IsTrue log.new.at_end) }
+    ensures whole { D.is_honest disk.old → (secret : List ℕ) (events : List EventView) → IsReplaying (D.seen disk.old) log.old host.old.content secret events
+        → OnOk result ((all : List EventView) × IsReplayed (D.seen disk.new) log.new host.new.content secret all) }
+    ensures not_a_log { D.is_honest disk.old → (secret : List ℕ) (events : List EventView) → IsReplaying (D.seen disk.old) log.old host.old.content secret events
+        → (place : ℕ) → result ≡ Err (LogFault.NotALog place) → IsFaultBehindEvents place (D.seen disk.new) }
+{
+    let mut body = Vec::new(alloc);
+    while replay_one(host, log, disk, &mut body)? {}
+    Ok(())
+}
+
+// Applies the event of the record at the log's gate, or answers false where the gate is closed.
+fn replay_one<D: Disk>(
+    host: &mut Host,
+    log: &mut Log,
+    disk: &mut D,
+    body: &mut Vec<u8>,
+) -> Result<bool, LogFault>
+    ensures count { D.faults disk.old ≤ D.faults disk.new }
+    ensures disk { result ≡ Err LogFault.Disk → HasRisen (D.faults disk.old) (D.faults disk.new) }
+    ensures honest { D.is_honest disk.old ↔ D.is_honest disk.new }
+    ensures rests { D.is_honest disk.old → Rests D.seen D.images D.moment D.left_since disk.old disk.new }
+    ensures moves { IfOk result (λ more. IsTrue more → (log.old.place < log.new.place) × (log.new.place < 2 ^ 63)) }
+    ensures at_end { IfOk result (λ more. IsFalse more → IsTrue log.new.at_end) }
+    ensures goes_on { D.is_honest disk.old → (secret : List ℕ) (events : List EventView) → IsReplaying (D.seen disk.old) log.old host.old.content secret events
+        → IfOk result (λ more. IsTrue more → (e : EventView) × IsReplaying (D.seen disk.new) log.new host.new.content secret (events ++ e ∷ [])) }
+    ensures end { D.is_honest disk.old → (secret : List ℕ) (events : List EventView) → IsReplaying (D.seen disk.old) log.old host.old.content secret events
+        → IfOk result (λ more. IsFalse more → IsReplayed (D.seen disk.new) log.new host.new.content secret events) }
+    ensures not_a_log { D.is_honest disk.old → (secret : List ℕ) (events : List EventView) → IsReplaying (D.seen disk.old) log.old host.old.content secret events
+        → (place : ℕ) → result ≡ Err (LogFault.NotALog place) → IsFaultBehindEvents place (D.seen disk.new) }
+{
+    let gate = log.place();
+    if !log.next(disk, body)? {
+        return Ok(false);
+    }
+    take_up(host, log.version(), gate, body)?;
+    Ok(true)
+}
+
+// Applies the event that a body spells, of a record whose gate is at this place.
+fn take_up(host: &mut Host, version: u8, gate: u64, body: &[u8]) -> Result<(), LogFault>
+    ensures applied { OnOk result ((e : EventView) × Spells e body.now × IsOfVersion version e × CanApply host.old.content e × (host.new.content ≡ apply host.old.content e)) }
+    ensures no_disk { result ≢ Err LogFault.Disk }
+    ensures not_a_log { (place : ℕ) → result ≡ Err (LogFault.NotALog place) → (place ≡ gate) × IsNoEvent version host.old.content body.now }
+{
+    let Some(event) = read_event(body) else {
+        return Err(LogFault::NotALog { place: gate });
+    };
+    if !is_of_version(version, &event) || !can_apply(host, &event) {
+        return Err(LogFault::NotALog { place: gate });
+    }
+    reserve(host)?;
+    apply(host, event);
+    Ok(())
+}
+
+// A withdrawal is of version 2 alone.
+fn is_of_version(version: u8, event: &Event) -> bool
+    ensures { IsTrue result ↔ IsOfVersion version (event_view event.now) }
+{
+    version == 2 || !matches!(event, Event::Withdraw { .. })
+}
+
+// Raises a journal of version 1, and leaves one of version 2 as it is.
+fn to_version_two<D: Disk>(log: &mut Log, disk: &mut D) -> Result<(), LogFault>
+    requires { IsTrue log.old.at_end }
+    ensures cause { HasCause (D.faults disk.old) (D.faults disk.new) result }
+    ensures only_disk { IfErr result (λ e. e ≡ LogFault.Disk) }
+    ensures honest { D.is_honest disk.old ↔ D.is_honest disk.new }
+    ensures version { OnOk result (log.new.version ≡ 2) }
+    ensures at_end { OnOk result (IsTrue log.new.at_end) }
+    ensures changed { (log.old.version ≡ 1) ⊎ (disk.new ≡ disk.old) }
+    ensures one { D.is_honest disk.old → Only (D.seen disk.old) (D.images disk.old) → OnOk result (Only (D.seen disk.new) (D.images disk.new)) }
+    ensures raised { D.is_honest disk.old → (secret : List ℕ) (bodies : List (List ℕ)) → IsLogOf (D.images disk.old) log.old secret bodies
+        → OnOk result (IsLogOf (D.images disk.new) log.new secret bodies) }
+    ensures any_moment { D.is_honest disk.old → (secret : List ℕ) (bodies : List (List ℕ)) → IsLogOf (D.images disk.old) log.old secret bodies
+        → LeavesOnly D.moment D.left_since disk.old disk.new (HoldsFrom log.old.version secret bodies) }
+    ensures after { D.is_honest disk.old → (secret : List ℕ) (bodies : List (List ℕ)) → IsLogOf (D.images disk.old) log.old secret bodies
+        → Each (D.images disk.new) (HoldsFrom log.old.version secret bodies) }
+{
+    if log.version() == 2 {
+        return Ok(());
+    }
+    log.raise(disk)
+}

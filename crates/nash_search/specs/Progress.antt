@@ -1,0 +1,38 @@
+-- What a search has counted and found so far: in the first tasks of a row, and in the blocks before the next one.
+use Rattle.std.specs.Prelude.{◌≡◌, ℕ, ◌+◌, ◌*◌, ◌<◌, ◌≤◌, Option, Bool, true, false}
+use Rattle.bid_rules.specs.declared.goods.GoodsCase.{GoodsCase}
+use Rattle.bid_rules.specs.declared.pair.Pair.{Pair}
+use Rattle.nash_bounds.specs.Blocks.{tasks_before}
+use Rattle.nash_bounds.specs.Counted.{count_tasks, counted_of_tasks}
+use Rattle.nash_bounds.specs.Serving.{Serves}
+use Rattle.nash_bounds.specs.Start.{IsStartValue}
+use Rattle.nash_bounds.specs.Steps.{best_before, pair_kept, steps_before}
+use Rattle.nash_bounds.specs.Tasks.{tasks_of}
+use Rattle.nash_bounds.specs.declared.limits.TheConstants.{BLOCK_TASKS}
+use Rattle.nash_search.specs.Best.{IsFoundBest, IsKept, list_of}
+use Rattle.nash_search.specs.declared.progress.Progress.{Progress}
+use Rattle.nash_search.specs.declared.tally.Tally.{Tally}
+
+-- all counted prefixes of the first n tasks of a row are counted, and the best of the counted allocations is found
+pub record IsRow (case : GoodsCase) (floor : Pair) (above : Option Pair) (from n : ℕ) (tally : Tally) : Type 0 where
+  pub count : tally.nodes ≡ count_tasks case floor above from n
+  pub found : IsFoundBest case (counted_of_tasks case floor above from n) tally.best
+
+-- after one task more: no more are counted than are allowed, and so all; or one more than are allowed
+abbrev pub AfterTask : GoodsCase → Pair → Option Pair → ℕ → ℕ → ℕ → Tally → Bool → Type 0
+AfterTask case floor above from n allowance tally true = (tally.nodes ≤ allowance) × IsRow case floor above from (n + 1) tally
+AfterTask case floor above from n allowance tally false = (tally.nodes ≡ allowance + 1) × (tally.nodes ≤ count_tasks case floor above from (n + 1))
+
+-- the blocks before the next one are searched: their steps are counted and within the limit, and what is found serves for the best of all
+-- their allocations
+pub record IsProgress (case : GoodsCase) (progress : Progress) : Type 0 where
+  pub near : BLOCK_TASKS * progress.block < tasks_of case + BLOCK_TASKS
+  pub start : IsStartValue case progress.floor
+  pub steps : progress.nodes ≡ steps_before case progress.floor (tasks_before case progress.block)
+  pub within : progress.nodes ≤ case.facts.limit
+  pub serves : Serves case progress.floor (list_of progress.best) (best_before case (tasks_before case progress.block))
+  pub kept : IsKept case progress.best
+
+-- the pair that the counted prefixes of the next block exceed
+abbrev pub pair_so_far : GoodsCase → Progress → Option Pair
+pair_so_far case progress = pair_kept case (list_of progress.best)

@@ -1,0 +1,15 @@
+-- The case and the rooms that a certificate of a rent prints.
+use Rattle.std.specs.Prelude.{ℕ, List, length, map, unsigned_abs}
+use Rattle.bid_rules.specs.declared.rents.RentCase.{RentCase}
+use Rattle.cert_reader.specs.Views.{RentView}
+
+-- the rent and the values without a sign, for as many members as rooms
+abbrev pub printed_case : RentView → RentCase
+printed_case view = record {
+  facts = record { members = length view.rooms; rent = unsigned_abs view.rent };
+  values = record { items = map (λ row. record { items = map unsigned_abs row }) view.values };
+}
+
+-- the rooms by member, without a sign
+abbrev pub printed_rooms : RentView → List ℕ
+printed_rooms view = map unsigned_abs view.rooms

@@ -1,0 +1,56 @@
+-- The seven rules that a certificate of a rent keeps: they show its rooms and prices best (Gal, Mash, Procaccia and Zick 2016).
+use Rattle.std.specs.Prelude.{◌≡◌, ℕ, zero, suc, ℤ, pos, ◌-◌, ◌<◌, ◌≤◌, ◌≤ℤ◌, ◌+ℤ◌, ◌⊎◌, List, All, slice_index}
+use Rattle.bid_rules.specs.declared.rents.RentCase.{RentCase}
+use Rattle.bid_rules.specs.Keys.{key}
+use Rattle.bid_rules.specs.Maximin.{AreMaximinPrices, value_step}
+use Rattle.bid_rules.specs.Rent.{IsAssignment, IsValidRentCase, price_of, room_count}
+use Rattle.bid_rules.specs.Walks.{weight_at}
+use Rattle.cert_reader.specs.Views.{RentView}
+use Rattle.rent_rules.specs.Printed.{printed_case, printed_rooms}
+
+-- the rent and the values are 0 or more, and make a case: 2 to 12 members, a rent in range, and values of each member that sum to it
+pub record HasCase (view : RentView) : Type 0 where
+  pub rent : pos 0 ≤ℤ view.rent
+  pub values : All (λ row. All (λ value. pos 0 ≤ℤ value) row) view.values
+  pub valid : IsValidRentCase (printed_case view)
+
+-- the rooms by member are the rooms 1 to n in some order
+pub record HasRooms (view : RentView) : Type 0 where
+  pub positive : All (λ room. pos 1 ≤ℤ room) view.rooms
+  pub assignment : IsAssignment (printed_case view) (printed_rooms view)
+
+-- the dual numbers together are at least each key
+abbrev pub AreAbove : RentCase → List ℤ → List ℤ → Type 0
+AreAbove case left right = (member room : ℕ) → member < room_count case → 1 ≤ room → room ≤ room_count case
+    → key case member room ≤ℤ (weight_at left member +ℤ price_of right room)
+
+-- and reach the key of each member's own room
+abbrev pub AreReached : RentCase → List ℕ → List ℤ → List ℤ → Type 0
+AreReached case rooms left right = (member : ℕ) → member < room_count case
+    → weight_at left member +ℤ price_of right (slice_index rooms member) ≡ key case member (slice_index rooms member)
+
+-- the walks are 0 or more, and no step from one to another exceeds the other
+pub record AreSettled (case : RentCase) (rooms : List ℕ) (walks : List ℤ) : Type 0 where
+  pub low : (to : ℕ) → to < room_count case → pos 0 ≤ℤ weight_at walks to
+  pub steps : (from to : ℕ) → from < room_count case → to < room_count case → (weight_at walks from +ℤ value_step case rooms from to) ≤ℤ weight_at walks to
+
+-- a step from a member of the rank below leads to the walk
+abbrev pub IsLed : RentCase → List ℕ → List ℤ → List ℤ → ℕ → ℕ → Type 0
+IsLed case rooms walks ranks to from = (weight_at ranks from +ℤ pos 1 ≡ weight_at ranks to) × (weight_at walks to ≡ weight_at walks from +ℤ value_step case rooms from to)
+
+-- a rank is 0 and so is the walk, or the rank is 1 to n - 1, and a step from a member of the rank below leads to the walk
+abbrev pub AreRanked : RentCase → List ℕ → List ℤ → List ℤ → Type 0
+AreRanked case rooms walks ranks = (to : ℕ) → to < room_count case
+    → ((weight_at ranks to ≡ pos 0) × (weight_at walks to ≡ pos 0))
+    ⊎ ((pos 1 ≤ℤ weight_at ranks to) × (weight_at ranks to ≤ℤ pos (room_count case - 1)) × ((from : ℕ) × (from < room_count case) × IsLed case rooms walks ranks to from))
+
+-- the rule of a number, from 1 to 7
+abbrev pub rent_rule : RentView → ℕ → Type 0
+rent_rule view zero = Unit {0}
+rent_rule view (suc zero) = HasCase view
+rent_rule view (suc (suc zero)) = HasRooms view
+rent_rule view (suc (suc (suc zero))) = AreAbove (printed_case view) view.left view.right
+rent_rule view (suc (suc (suc (suc zero)))) = AreReached (printed_case view) (printed_rooms view) view.left view.right
+rent_rule view (suc (suc (suc (suc (suc zero))))) = AreSettled (printed_case view) (printed_rooms view) view.walks
+rent_rule view (suc (suc (suc (suc (suc (suc zero)))))) = AreRanked (printed_case view) (printed_rooms view) view.walks view.ranks
+rent_rule view (suc (suc (suc (suc (suc (suc (suc number))))))) = AreMaximinPrices (printed_case view) (printed_rooms view) view.walks view.prices

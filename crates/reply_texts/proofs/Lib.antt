@@ -1,0 +1,10 @@
+pub mod After
+pub mod Answered
+pub mod GoodsObjects
+pub mod KeyTexts
+pub mod Literals
+pub mod Payments
+pub mod PlainTexts
+pub mod Ranges
+pub mod Routes
+pub mod Sealed

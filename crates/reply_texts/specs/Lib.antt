@@ -1,0 +1,6 @@
+pub mod Divisions
+pub mod Refusals
+pub mod Replies
+pub mod Sealing
+pub mod Telling
+pub mod Values

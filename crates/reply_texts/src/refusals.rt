@@ -1,0 +1,224 @@
+// What refusals say: those of the host, and those of the service around it.
+ghost use Rattle.std.specs.Prelude.{◌≡◌, codes, IfOk, false};
+ghost use Rattle.serde_json.specs.Data.{object, member, no_members};
+ghost use Rattle.serde_json.specs.View.{view};
+ghost use Rattle.serde_json.specs.Written.{compact_text};
+ghost use Rattle.reply_texts.specs.Refusals.{of_refusal, of_service_refusal, refusal_row, service_row};
+ghost use Rattle.reply_texts.specs.Values.{list_by, of_number, of_text};
+
+use crate::values::{numbers, written};
+use bid_rules::Missing;
+use sealed_core::Refusal;
+use serde_json::{Value, json};
+use split_base::NoMemory;
+use std::alloc::{AllocError, Global};
+
+/// Why the service around a host refuses a request, where the host itself doesn't. Of several causes of the heads and routes the first is
+/// told, in the order `BadHead` to `Method`.
+#[derive(Debug, Drop, PartialEq, Eq)]
+pub enum ServiceRefusal {
+    /// The bytes are no head of a request.
+    BadHead,
+    /// The clock failed at this request.
+    ClockFault,
+    /// HTTP/1.1 without exactly one Host, or HTTP/1.0 with two or more.
+    BadHost,
+    /// A Transfer-Encoding stands.
+    Framing,
+    /// Two or more Content-Length stand, or the value is no number.
+    BadLength,
+    /// A POST without Content-Length.
+    LengthMissing,
+    /// The body is longer than a body may be.
+    BodyTooLarge,
+    /// No route matches the path.
+    NoRoute,
+    /// The route hasn't the method.
+    Method,
+    /// The disk failed in this request.
+    StoreFault,
+    /// The file is no journal at this place, in bytes from 0.
+    StoreDamaged { place: u64 },
+    /// Bids are missing: there is nothing to divide. With the members who lack one.
+    Void { missing: Missing },
+    /// The search would take more steps than the case allows. With its limit.
+    StepLimit { limit: u32 },
+    /// Memory ran out.
+    Memory,
+}
+
+impl ServiceRefusal {
+    /// The HTTP status of the reply.
+    pub fn status(&self) -> u16
+        ensures { result ≡ (service_row self.now).0 }
+    {
+        match self {
+            ServiceRefusal::BadHead => 400,
+            ServiceRefusal::ClockFault => 503,
+            ServiceRefusal::BadHost => 400,
+            ServiceRefusal::Framing => 501,
+            ServiceRefusal::BadLength => 400,
+            ServiceRefusal::LengthMissing => 411,
+            ServiceRefusal::BodyTooLarge => 413,
+            ServiceRefusal::NoRoute => 404,
+            ServiceRefusal::Method => 405,
+            ServiceRefusal::StoreFault => 503,
+            ServiceRefusal::StoreDamaged { .. } => 503,
+            ServiceRefusal::Void { .. } => 409,
+            ServiceRefusal::StepLimit { .. } => 422,
+            ServiceRefusal::Memory => 503,
+        }
+    }
+
+    /// The code that the reply names.
+    pub fn code(&self) -> &'static str
+        ensures { result.now ≡ (service_row self.now).1 }
+    {
+        match self {
+            ServiceRefusal::BadHead => "bad_head",
+            ServiceRefusal::ClockFault => "clock_fault",
+            ServiceRefusal::BadHost => "bad_host",
+            ServiceRefusal::Framing => "framing",
+            ServiceRefusal::BadLength => "bad_length",
+            ServiceRefusal::LengthMissing => "length_missing",
+            ServiceRefusal::BodyTooLarge => "body_too_large",
+            ServiceRefusal::NoRoute => "no_route",
+            ServiceRefusal::Method => "method",
+            ServiceRefusal::StoreFault => "store_fault",
+            ServiceRefusal::StoreDamaged { .. } => "store_damaged",
+            ServiceRefusal::Void { .. } => "void",
+            ServiceRefusal::StepLimit { .. } => "step_limit",
+            ServiceRefusal::Memory => "memory",
+        }
+    }
+}
+
+/// The HTTP status of a refusal of the host.
+pub(crate) fn refusal_status(refusal: Refusal) -> u16
+    ensures { result ≡ (refusal_row refusal).0 }
+{
+    match refusal {
+        Refusal::NoInstance => 404,
+        Refusal::NoKey => 403,
+        Refusal::WrongKey => 403,
+        Refusal::Role => 403,
+        Refusal::BadJson => 400,
+        Refusal::BadField { .. } => 422,
+        Refusal::TagTaken => 409,
+        Refusal::HostFull => 409,
+        Refusal::Closed => 409,
+        Refusal::Turn { .. } => 409,
+        Refusal::TurnsUsed => 409,
+        Refusal::NotAll => 409,
+        Refusal::NotClosed => 409,
+        Refusal::NoBid => 409,
+    }
+}
+
+fn refusal_code(refusal: Refusal) -> &'static str
+    ensures { result.now ≡ (refusal_row refusal).1 }
+{
+    match refusal {
+        Refusal::NoInstance => "no_instance",
+        Refusal::NoKey => "no_key",
+        Refusal::WrongKey => "wrong_key",
+        Refusal::Role => "role",
+        Refusal::BadJson => "bad_json",
+        Refusal::BadField { .. } => "bad_field",
+        Refusal::TagTaken => "tag_taken",
+        Refusal::HostFull => "host_full",
+        Refusal::Closed => "closed",
+        Refusal::Turn { .. } => "turn",
+        Refusal::TurnsUsed => "turns_used",
+        Refusal::NotAll => "not_all",
+        Refusal::NotClosed => "open",
+        Refusal::NoBid => "no_bid",
+    }
+}
+
+/// A code alone.
+fn coded(alloc: Global, code: &str) -> Result<Value, AllocError>
+    ensures { IfOk result (λ v. view v ≡ object (member (codes "code") (of_text code.now) no_members)) }
+{
+    json!(in alloc; {"code": code})
+}
+
+fn with_field(alloc: Global, code: &str, field: &str) -> Result<Value, AllocError>
+    ensures { IfOk result (λ v. view v ≡ object (member (codes "code") (of_text code.now) (member (codes "field") (of_text field.now) no_members))) }
+{
+    json!(in alloc; {"code": code, "field": field})
+}
+
+fn with_kept(alloc: Global, code: &str, kept: u8) -> Result<Value, AllocError>
+    ensures { IfOk result (λ v. view v ≡ object (member (codes "code") (of_text code.now) (member (codes "kept") (of_number kept) no_members))) }
+{
+    json!(in alloc; {"code": code, "kept": kept})
+}
+
+fn with_limit(alloc: Global, code: &str, limit: u32) -> Result<Value, AllocError>
+    ensures { IfOk result (λ v. view v ≡ object (member (codes "code") (of_text code.now) (member (codes "limit") (of_number limit) no_members))) }
+{
+    json!(in alloc; {"code": code, "limit": limit})
+}
+
+fn with_missing(alloc: Global, code: &str, missing: &Missing) -> Result<Value, AllocError>
+    ensures { IfOk result (λ v. view v ≡ object (member (codes "code") (of_text code.now) (member (codes "missing") (list_by of_number missing.now.members.items) no_members))) }
+{
+    let members = numbers(alloc, missing.members.as_slice())?;
+    json!(in alloc; {"code": code, "missing": members})
+}
+
+fn with_place(alloc: Global, code: &str, place: u64) -> Result<Value, AllocError>
+    ensures { IfOk result (λ v. view v ≡ object (member (codes "code") (of_text code.now) (member (codes "place") (of_number place) no_members))) }
+{
+    json!(in alloc; {"code": code, "place": place})
+}
+
+#[tactic(auto, unfolding(crate::specs::Refusals::of_refusal))]
+pub(crate) fn refusal_value(alloc: Global, refusal: Refusal) -> Result<Value, AllocError>
+    ensures { IfOk result (λ v. view v ≡ of_refusal refusal) }
+{
+    let code = refusal_code(refusal);
+    match refusal {
+        Refusal::BadField { name } => with_field(alloc, code, name.name()),
+        Refusal::Turn { kept } => with_kept(alloc, code, kept),
+        _ => coded(alloc, code),
+    }
+}
+
+#[tactic(auto, unfolding(crate::specs::Refusals::of_service_refusal))]
+fn service_refusal_value(alloc: Global, refusal: &ServiceRefusal) -> Result<Value, AllocError>
+    ensures { IfOk result (λ v. view v ≡ of_service_refusal refusal.now) }
+{
+    let code = refusal.code();
+    match refusal {
+        ServiceRefusal::StoreDamaged { place } => with_place(alloc, code, *place),
+        ServiceRefusal::Void { missing } => with_missing(alloc, code, missing),
+        ServiceRefusal::StepLimit { limit } => with_limit(alloc, code, *limit),
+        _ => coded(alloc, code),
+    }
+}
+
+fn service_text(alloc: Global, refusal: &ServiceRefusal) -> Result<Vec<u8>, AllocError>
+    ensures { IfOk result (λ text. text.items ≡ compact_text (of_service_refusal refusal.now)) }
+{
+    let value = service_refusal_value(alloc, refusal)?;
+    written(alloc, &value)
+}
+
+/// The text of a refusal of the service. `NoMemory` where memory ran out.
+pub fn service_refusal_text(alloc: Global, refusal: &ServiceRefusal) -> Result<Vec<u8>, NoMemory>
+    ensures { IfOk result (λ text. text.items ≡ compact_text (of_service_refusal refusal.now)) }
+{
+    match service_text(alloc, refusal) {
+        Ok(text) => Ok(text),
+        Err(_) => Err(NoMemory),
+    }
+}
+
+/// The text of the reply where memory ran out. It takes no memory.
+pub fn memory_text() -> &'static [u8]
+    ensures { result.now ≡ compact_text (of_service_refusal ServiceRefusal.Memory) }
+{
+    b"{\"code\":\"memory\"}"
+}

@@ -1,0 +1,40 @@
+-- What each step on a desk tells the seat that takes it.
+use Rattle.std.specs.Prelude.{◌≡◌, ℕ, ◌+◌, ◌*◌, ◌<◌, ◌≤◌, All}
+use Rattle.std.specs.List.{range_with_len, sum_by}
+use Rattle.atomic_table.specs.Table.{Me, Step}
+use Rattle.search_workers.specs.declared.limits.TheConstants.{LONGEST_PIECE, MOST_REPORTED}
+use Rattle.search_workers.specs.declared.view.DeskView.{DeskView}
+use Rattle.search_workers.specs.Views.{drawn, told}
+
+-- what a seat is to its desk: its view, and no slots
+abbrev pub SeatState : Type 0
+SeatState = Me (Unit {0}) DeskView
+
+-- the old word joins the tickets, and is above all that were there
+abbrev pub Draws : Step (Unit {0}) → SeatState → ℕ → SeatState → Type 0
+Draws step seat found after = (after ≡ (drawn seat.0 found, seat.1)) × All (λ ticket. ticket < found) seat.0.tickets
+
+-- what a report of so many prefixes tells, where the node word was as it was found: no more than is left is reported so far, or no more than
+-- that and a piece for each worker
+pub record Tells (view : DeskView) (count found : ℕ) (after : DeskView) : Type 0 where
+  pub told : after ≡ told view count found
+  pub within : found + count ≤ view.left → after.reported ≤ view.left
+  pub most : after.reported ≤ view.left + LONGEST_PIECE * view.workers
+  pub small : after.reported ≤ MOST_REPORTED
+  pub found_small : found ≤ MOST_REPORTED
+
+-- the operand joins what is reported
+abbrev pub Reports : Step (Unit {0}) → SeatState → ℕ → SeatState → Type 0
+Reports step seat found after = Tells seat.0 step.first found after.0 × (after.1 ≡ seat.1)
+
+-- the view that stands for all workers has all tickets and reports
+pub record HasAll (view : DeskView) (tickets_drawn : ℕ) : Type 0 where
+  pub all_tickets : (weight : ℕ → ℕ) → sum_by weight view.tickets ≡ sum_by weight (range_with_len 0 tickets_drawn)
+  pub over : 1 ≤ view.stops → view.left < view.reported
+  pub under : view.stops ≡ 0 → view.reported ≤ view.left
+  pub most : view.reported ≤ view.left + LONGEST_PIECE * view.stops
+  pub few : view.stops ≤ view.allot
+
+-- the ticket word is seen by the seat that stands for all workers
+abbrev pub Learns : Step (Unit {0}) → SeatState → ℕ → SeatState → Type 0
+Learns step seat found after = (after ≡ seat) × HasAll seat.0 found

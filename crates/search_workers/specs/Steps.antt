@@ -1,0 +1,29 @@
+-- What the four kinds of step make of a desk.
+use Rattle.std.specs.Prelude.{ℕ, ◌+◌, ◌++◌, [], ◌∷◌, slice_set}
+use Rattle.search_workers.specs.declared.view.DeskView.{DeskView}
+use Rattle.search_workers.specs.Desks.{DeskState, node_word, ticket_word}
+use Rattle.search_workers.specs.Views.{drawn, fewer, fresh, joined, spent, told}
+
+-- the view at a place draws the next ticket
+abbrev pub after_draw : DeskState → ℕ → DeskView → DeskState
+after_draw state place view = record {
+  words = slice_set state.words 0 (ticket_word state + 1);
+  homes = state.homes;
+  views = slice_set state.views place (drawn view (ticket_word state));
+}
+
+-- the view at a place reports so many prefixes
+abbrev pub after_report : DeskState → ℕ → DeskView → ℕ → DeskState
+after_report state place view count = record {
+  words = slice_set state.words 1 (node_word state + count);
+  homes = state.homes;
+  views = slice_set state.views place (told view count (node_word state));
+}
+
+-- a worker of the view at a place gets a view of its own
+abbrev pub after_split : DeskState → ℕ → DeskView → DeskState
+after_split state place view = record { words = state.words; homes = state.homes; views = slice_set state.views place (fewer view) ++ fresh view ∷ [] }
+
+-- the view at a place takes in that at another, which is spent
+abbrev pub after_join : DeskState → ℕ → DeskView → ℕ → DeskView → DeskState
+after_join state place view from other = record { words = state.words; homes = state.homes; views = slice_set (slice_set state.views place (joined view other)) from spent }

@@ -1,0 +1,149 @@
+ghost use Rattle.std.specs.Prelude.{◌≡◌, ◌+◌, ◌*◌, ◌<◌, ◌≤◌, IfOk};
+ghost use Rattle.bid_rules.specs.Goods.{IsValidGoodsCase};
+ghost use Rattle.nash_bounds.specs.Tasks.{tasks_of};
+ghost use Rattle.nash_search.specs.Tables.{AreTables};
+ghost use Rattle.search_workers.specs.BlockEnds.{EndsBlock};
+
+use crate::crew::{gather, run_workers, seat_workers};
+use crate::desk::open_desk;
+use crate::limits::MOST_WORKERS;
+use crate::view::DeskSize;
+use crate::worker::BlockRule;
+use bid_rules::GoodsCase;
+use bid_rules::limits::MOST_STEPS;
+use nash_bounds::limits::BLOCK_TASKS;
+use nash_bounds::{Pair, tasks_in_row_law};
+use nash_search::{Found, Tables, Tally, search_by, tasks_in_block};
+use split_base::Gate;
+use std::alloc::{AllocError, Global};
+use std::thread::Threads;
+
+/// How the search of a block ended.
+#[derive(Debug, Drop, PartialEq, Eq)]
+pub enum BlockEnd {
+    /// All counted prefixes of the block's tasks are counted: how many, and the best allocation among them, `None` where none is one.
+    Done { nodes: u32, best: Option<Found> },
+    /// They are more than were left, and so many of them are counted.
+    Over { nodes: u32 },
+}
+
+/// A block by the calling thread alone.
+fn walk_alone<G: Gate>(
+    case: &GoodsCase,
+    tables: &Tables,
+    rule: &BlockRule,
+    workers: u8,
+    gate: &G,
+) -> BlockEnd
+    requires case { IsValidGoodsCase case.now }
+    requires tables { AreTables case.now tables.now }
+    requires block { BLOCK_TASKS * rule.now.block < tasks_of case.now }
+    requires left { rule.now.left ≤ MOST_STEPS }
+    requires workers { 1 ≤ workers }
+    ensures { EndsBlock case.now rule.now.floor rule.now.above rule.now.block rule.now.left workers result }
+{
+    tasks_in_row_law();
+    let tasks = tasks_in_block(case, rule.block);
+    let from = BLOCK_TASKS * rule.block;
+    let mut tally = Tally::new();
+    'tasks: for place in 0..tasks {
+        let task = from + place;
+        let left = rule.left - tally.nodes;
+        gate.enter(task);
+        let end = search_by(case, tables, task, rule.floor, rule.above, left);
+        gate.leave(task);
+        if !tally.add(end) {
+            return BlockEnd::Over { nodes: tally.nodes };
+        }
+    }
+    BlockEnd::Done {
+        nodes: tally.nodes,
+        best: tally.best,
+    }
+}
+
+/// A block by workers who draw its tasks at a desk, or no memory for the desk or its seats.
+fn share<R: Threads + Sync, G: Gate + Sync>(
+    alloc: Global,
+    rt: &R,
+    case: &GoodsCase,
+    tables: &Tables,
+    rule: &BlockRule,
+    workers: u8,
+    gate: &G,
+) -> Result<BlockEnd, AllocError>
+    requires case { IsValidGoodsCase case.now }
+    requires tables { AreTables case.now tables.now }
+    requires block { BLOCK_TASKS * rule.now.block < tasks_of case.now }
+    requires left { rule.now.left ≤ MOST_STEPS }
+    requires workers { (1 ≤ workers) × (workers ≤ MOST_WORKERS) }
+    ensures { IfOk result (EndsBlock case.now rule.now.floor rule.now.above rule.now.block rule.now.left workers) }
+{
+    let size = DeskSize {
+        left: rule.left,
+        workers,
+    };
+    let (desk, seat) = open_desk(alloc, &size)?;
+    let mut crew = seat_workers(alloc, &desk, seat, workers, rule.left)?;
+    let seats = crew.as_mut_slice();
+    run_workers(rt, seats, case, tables, rule, workers, &desk, gate);
+    Ok(gather(&desk, crew, case, rule, workers))
+}
+
+/// What `run_block` does, by the case's tables.
+pub(crate) fn run_by<R: Threads + Sync, G: Gate + Sync>(
+    alloc: Global,
+    rt: &R,
+    case: &GoodsCase,
+    tables: &Tables,
+    rule: &BlockRule,
+    workers: u8,
+    gate: &G,
+) -> BlockEnd
+    requires case { IsValidGoodsCase case.now }
+    requires tables { AreTables case.now tables.now }
+    requires block { BLOCK_TASKS * rule.now.block < tasks_of case.now }
+    requires left { rule.now.left ≤ MOST_STEPS }
+    requires workers { (1 ≤ workers) × (workers ≤ MOST_WORKERS) }
+    ensures { EndsBlock case.now rule.now.floor rule.now.above rule.now.block rule.now.left workers result }
+{
+    if workers == 1 {
+        return walk_alone(case, tables, rule, workers, gate);
+    }
+    match share(alloc, rt, case, tables, rule, workers, gate) {
+        Ok(end) => end,
+        Err(AllocError) => walk_alone(case, tables, rule, workers, gate),
+    }
+}
+
+/// Searches a block by several workers, who draw its tasks and share the budget `left`, at most `MOST_STEPS`.
+///
+/// Those prefixes of the tasks are counted whose bound is at least `floor` and, where `above` is there, greater than it. `Over` comes exactly
+/// where they are more than `left`. The end is the same for every number of workers and whoever walks which task, but for the number that
+/// `Over` gives. One worker, or where no memory is found for the desk or its seats, the calling thread walks the block alone.
+pub fn run_block<R: Threads + Sync, G: Gate + Sync>(
+    alloc: Global,
+    rt: &R,
+    case: &GoodsCase,
+    block: u32,
+    floor: Pair,
+    above: Option<Pair>,
+    left: u32,
+    workers: u8,
+    gate: &G,
+) -> BlockEnd
+    requires case { IsValidGoodsCase case.now }
+    requires block { BLOCK_TASKS * block < tasks_of case.now }
+    requires left { left ≤ MOST_STEPS }
+    requires workers { (1 ≤ workers) × (workers ≤ MOST_WORKERS) }
+    ensures { EndsBlock case.now floor above block left workers result }
+{
+    let tables = Tables::of(case);
+    let rule = BlockRule {
+        block,
+        floor,
+        above,
+        left,
+    };
+    run_by(alloc, rt, case, &tables, &rule, workers, gate)
+}

@@ -1,0 +1,25 @@
+//! The search for the allocation with the greatest Nash welfare, by several workers: it gives what one thread gives.
+//!
+//! The workers of a block draw tasks at a desk and share one budget of counted prefixes.
+#![tactic(auto)]
+
+mod block;
+mod blocks;
+mod crew;
+mod desk;
+mod desk_laws;
+pub mod limits;
+mod plays;
+mod view;
+mod worker;
+
+pub use block::{BlockEnd, run_block};
+pub use blocks::search;
+pub use desk::{Desk, DeskSeat, draw, join_desk, learn, open_desk, report, split_desk};
+pub use desk_laws::{draw_law, join_law, report_law, split_law};
+pub use plays::DeskRule;
+pub use view::{DeskSize, DeskView};
+pub use worker::{Walked, work};
+
+#[cfg(test)]
+mod tests;

@@ -1,0 +1,12 @@
+// The limits of workers and their desk. Each number of them stands here and nowhere else.
+use bid_rules::limits::MOST_STEPS;
+use nash_bounds::limits::BLOCK_TASKS;
+
+/// The most workers that share a search.
+pub const MOST_WORKERS: u8 = 16;
+/// The most tickets of one worker: one for each task of a block, and one past the last.
+pub const MOST_TICKETS: u32 = BLOCK_TASKS + 1;
+/// The most prefixes that a worker counts between two reports.
+pub const LONGEST_PIECE: u16 = 256;
+/// The most that a desk's node word shows: each worker may report once where it is above what is left.
+pub const MOST_REPORTED: u32 = MOST_STEPS + LONGEST_PIECE as u32 * MOST_WORKERS as u32;

@@ -1,0 +1,5 @@
+pub mod FirstRiders
+pub mod LeastRoutes
+pub mod SetBits
+pub mod SetSums
+pub mod TableRows

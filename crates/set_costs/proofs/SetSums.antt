@@ -1,0 +1,102 @@
+-- Sums over the riders of a set, and their sizes.
+use Rattle.std.proofs.Common.{◌≡◌, ◌≢◌, ℕ, zero, suc, ℤ, pos, ◌+◌, ◌-◌, ◌*◌, ◌^◌, ◌<◌, ◌≤◌, ◌+ℤ◌, ◌-ℤ◌, ◌*ℤ◌, List, [], ◌∷◌, ◌++◌, length, take, get_or, Contains, arith, ap, ◌∙◌, subst, sym, ⊎_elim, unsigned_abs, to_z, of_z}
+use Rattle.std.specs.Int.{w128}
+use Rattle.std.specs.List.{range_with_len}
+use Rattle.std.proofs.lemmas.Bool.{cases_lt}
+use Rattle.std.proofs.lemmas.List.{get_or_append_left, get_or-append-add, length-append}
+use Rattle.std.proofs.lemmas.List.FromFn.{length-range_with_len, get_or-range_with_len}
+use Rattle.bid_rules.specs.declared.cases.FareCase.{FareCase}
+use Rattle.bid_rules.specs.Coalitions.{riders_in}
+use Rattle.bid_rules.specs.Sums.{total}
+use Rattle.fare_laws.specs.MarginalSums.{marginal_sum}
+use Rattle.set_costs.specs.Sums.{ListsSums}
+use Rattle.std.proofs.Math.Nat.{mul-le-mul, mul-le-mul_right}
+use Rattle.std.proofs.lemmas.Int.{ints, unsigned_abs-mul}
+use Rattle.bid_rules.specs.Orders.{factorial}
+use Rattle.split_lemmas.proofs.Factorials.{factorial_rises}
+
+-- a number up to a limit, once for each order of at most nine
+pub times_small : (z : ℤ) (others : ℕ) → unsigned_abs z ≤ 11000000 → others ≤ 9 → unsigned_abs (z *ℤ pos (factorial others)) ≤ 3991680000000
+times_small z others small few = subst (λ n. n ≤ 3991680000000) (sym (unsigned_abs-mul z (pos (factorial others)))) (mul-le-mul small (factorial_rises others 9 few))
+
+-- a sum over the orders of at most nine
+pub sum_small : (z : ℤ) (others : ℕ) → unsigned_abs z ≤ 1000000 * (others + 1) * factorial others → others ≤ 9 → unsigned_abs z ≤ 3991680000000
+sum_small z others small few =
+    let most : 1000000 * (others + 1) * factorial others ≤ 11000000 * 362880 = mul-le-mul (let h : 1000000 * (others + 1) ≤ 11000000 = omega (arith, few) in h) (factorial_rises others 9 few) in
+    omega (arith, small, most)
+
+-- a sum over the orders of at most ten
+pub sum_of_ten : (z : ℤ) (n : ℕ) → unsigned_abs z ≤ 1000000 * (n + 1) * factorial n → n ≤ 10 → unsigned_abs z ≤ 11000000 * factorial n
+sum_of_ten z n small few =
+    let most : 1000000 * (n + 1) * factorial n ≤ 11000000 * factorial n = mul-le-mul_right (factorial n) (let h : 1000000 * (n + 1) ≤ 11000000 = omega (arith, few) in h) in
+    omega (arith, small, most)
+
+-- and its size in numbers
+pub ten_small : (z : ℤ) (n : ℕ) → unsigned_abs z ≤ 11000000 * factorial n → n ≤ 10 → unsigned_abs z ≤ 39916800000000
+ten_small z n small few = let most = factorial_rises n 10 few in omega (arith, small, most)
+
+-- such a number fits
+pub fits : (z : ℤ) → unsigned_abs z ≤ 39916800000000 → to_z w128 (of_z w128 z) ≡ z
+fits z small = omega (arith, ints)
+
+-- a number as the code keeps it
+abbrev kept : ℤ → ℤ
+kept z = to_z w128 (of_z w128 z)
+
+-- the difference of two costs, once for each order of the others, as the code makes it
+pub added_is : (x y k : ℤ) (a b others : ℕ) → x ≡ pos a → y ≡ pos b → k ≡ pos (factorial others) → a ≤ 11000000 → b ≤ 11000000 → others ≤ 9
+    → (kept (kept (kept x -ℤ kept y) *ℤ kept k) ≡ (pos a -ℤ pos b) *ℤ pos (factorial others)) × (unsigned_abs (kept (kept (kept x -ℤ kept y) *ℤ kept k)) ≤ 3991680000000)
+added_is x y k a b others e f g high low few =
+    let most : factorial others ≤ 362880 = factorial_rises others 9 few in
+    let inner : kept (pos a -ℤ pos b) ≡ pos a -ℤ pos b = fits (pos a -ℤ pos b) (omega (arith, ints, high, low)) in
+    let sized : unsigned_abs ((pos a -ℤ pos b) *ℤ pos (factorial others)) ≤ 3991680000000 = times_small (pos a -ℤ pos b) others (omega (arith, ints, high, low)) few in
+    let first : kept x ≡ pos a = ap kept e ∙ fits (pos a) (omega (arith, ints, high)) in
+    let second : kept y ≡ pos b = ap kept f ∙ fits (pos b) (omega (arith, ints, low)) in
+    let third : kept k ≡ pos (factorial others) = ap kept g ∙ fits (pos (factorial others)) (omega (arith, ints, most)) in
+    let whole : kept (kept (kept x -ℤ kept y) *ℤ kept k) ≡ (pos a -ℤ pos b) *ℤ pos (factorial others) =
+    ap (λ z. kept (kept (z -ℤ kept y) *ℤ kept k)) first ∙ ap (λ z. kept (kept (pos a -ℤ z) *ℤ kept k)) second ∙ ap (λ z. kept (kept (pos a -ℤ pos b) *ℤ z)) third
+    ∙ ap (λ z. kept (z *ℤ pos (factorial others))) inner ∙ fits ((pos a -ℤ pos b) *ℤ pos (factorial others)) (omega (arith, sized)) in
+    (whole, subst (λ z. unsigned_abs z ≤ 3991680000000) (sym whole) sized)
+
+-- another than the first of a list is behind it
+pub behind_other : (x y : ℕ) (xs : List ℕ) → x ≢ y → Contains (x ∷ xs) y → Contains xs y
+behind_other x y xs apart (zero, l, e) = absurd (apart e)
+behind_other x y xs apart (suc k, l, e) = (k, omega arith, e)
+
+-- a sum over one more element
+pub total_more : {X : Type 0} (f : X → ℤ) (xs : List X) (k : ℕ) (d : X) → k < length xs → total f (take (suc k) xs) ≡ total f (take k xs) +ℤ f (get_or xs k d)
+total_more f [] k d l = absurd (omega arith)
+total_more f (x ∷ xs) zero d l = omega (arith, ints)
+total_more f (x ∷ xs) (suc k) d l = let rest = total_more f xs k d (omega (arith, l)) in omega (arith, ints, rest)
+
+-- the sum so far with one more element, as the code makes it
+pub next_total : (f : ℕ → ℤ) (xs : List ℕ) (k : ℕ) (s z : ℤ) → k < length xs → length xs ≤ 10 → unsigned_abs s ≤ 3991680000000 * k → unsigned_abs z ≤ 3991680000000 → z ≡ f (get_or xs k 0)
+    → s ≡ total f (take k xs)
+    → (to_z w128 (of_z w128 (s +ℤ to_z w128 (of_z w128 z))) ≡ total f (take (k + 1) xs)) × (unsigned_abs (to_z w128 (of_z w128 (s +ℤ to_z w128 (of_z w128 z)))) ≤ 3991680000000 * (k + 1))
+next_total f xs k s z l few small part value whole =
+    let next : k + 1 ≡ suc k = omega arith in
+    let plain : to_z w128 (of_z w128 (s +ℤ to_z w128 (of_z w128 z))) ≡ s +ℤ z = omega (arith, ints) in
+    let sized : unsigned_abs (s +ℤ z) ≤ 3991680000000 * (k + 1) = omega (arith, ints) in (
+      plain ∙ ap (λ a. a +ℤ z) whole ∙ ap (λ b. total f (take k xs) +ℤ b) value ∙ sym (total_more f xs k 0 l) ∙ ap (λ n. total f (take n xs)) (sym next),
+      subst (λ a. unsigned_abs a ≤ 3991680000000 * (k + 1)) (sym plain) sized,
+    )
+
+-- one more set has its sum
+pub lists_more : (case : FareCase) (rider : ℕ) (old new : List ℤ) (z : ℤ) → new ≡ old ++ z ∷ [] → (Contains (riders_in (length old)) rider → z ≡ marginal_sum case rider (riders_in (length old)))
+    → ListsSums case rider old → ListsSums case rider new
+lists_more case rider old new z is value lists set l there = ⊎_elim
+    (λ before. ap (λ (zs : List ℤ). get_or zs set (pos 0)) is ∙ get_or_append_left old (z ∷ []) (pos 0) set before ∙ lists set before there)
+    (λ after.
+    let here : set ≡ length old = (let long = ap length is ∙ length-append old (z ∷ []) in omega (arith, l, long, after)) in
+    let end : length old ≡ length old + 0 = omega arith in
+    ap (λ (zs : List ℤ). get_or zs set (pos 0)) is ∙ ap (λ n. get_or (old ++ z ∷ []) n (pos 0)) (here ∙ end) ∙ get_or-append-add old (z ∷ []) 0 (pos 0)
+    ∙ value (subst (λ s. Contains (riders_in s) rider) here there) ∙ ap (λ s. marginal_sum case rider (riders_in s)) (sym here))
+    (cases_lt set (length old))
+
+-- each rider is in the set of all
+pub rider_of_all : (n rider : ℕ) → riders_in (2 ^ n - 1) ≡ range_with_len 1 n → 1 ≤ rider → rider ≤ n → Contains (riders_in (2 ^ n - 1)) rider
+rider_of_all n rider all low high = subst (λ xs. Contains xs rider) (sym all) (
+  rider - 1,
+  omega (arith, length-range_with_len 1 n, low, high),
+  (let at = get_or-range_with_len 1 n (rider - 1) rider (omega (arith, low, high)) in omega (arith, at, low)),
+)

@@ -1,0 +1,15 @@
+//! What sets of riders cost, by the recursion over sets, in whatever memory the rows of the table lie.
+#![tactic(auto)]
+
+mod costs;
+mod laws;
+mod recurrence;
+mod riders;
+mod rows;
+mod sums;
+
+pub use costs::SetCosts;
+pub use laws::rows_law;
+pub use riders::{riders_of_set, without};
+pub use rows::{Row, next_row};
+pub use sums::{SET_ROOM, all_riders, factorial};

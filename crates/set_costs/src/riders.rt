@@ -1,0 +1,34 @@
+// Sets of riders as numbers: the sum of 2^(i-1) over the riders i of the set.
+ghost use Rattle.std.specs.Prelude.{◌≡◌, ◌<◌, ◌≤◌, ◌^◌, Contains};
+ghost use Rattle.bid_rules.specs.Coalitions.{riders_in};
+ghost use Rattle.fare_laws.specs.Entries.{without as set_without};
+
+use bid_rules::limits::{MOST_RIDERS, RiderList};
+use fare_laws::{coalition_law, without_rider_law};
+
+/// The riders of a set of the first `count` riders, in rising order.
+pub fn riders_of_set(count: u8, set: u16) -> RiderList
+    requires few { count ≤ MOST_RIDERS }
+    requires set { set < 2 ^ count }
+    ensures { result.items ≡ riders_in set }
+{
+    coalition_law();
+    let mut riders = RiderList::new();
+    for bit in 0..count {
+        if (set >> bit) % 2 == 1 {
+            riders.push(bit + 1);
+        }
+    }
+    riders
+}
+
+/// The set without a rider of it.
+pub fn without(set: u16, rider: u8) -> u16
+    requires rider { Contains (riders_in set) rider }
+    requires high { rider ≤ MOST_RIDERS }
+    ensures { result ≡ set_without set rider }
+{
+    coalition_law();
+    without_rider_law();
+    set - (1 << (rider - 1))
+}

@@ -1,0 +1,31 @@
+// The rows of a table of route costs, in the order of the numbers of their sets, so that each set comes after its parts.
+ghost use Rattle.std.specs.Prelude.{◌≡◌, ◌<◌, ◌^◌, length, map};
+ghost use Rattle.bid_rules.specs.Coalitions.{riders_in};
+ghost use Rattle.set_costs.specs.Table.{ListsCosts, route_costs};
+
+use crate::recurrence::{cheapest, start};
+use arrayvec::ArrayVec;
+use bid_rules::FareCase;
+use bid_rules::limits::RIDER_ROOM;
+use fare_laws::coalition_law;
+
+/// Room for an entry a place of departure: the origin, and the place of each rider.
+pub const DEPARTURE_ROOM: usize = RIDER_ROOM + 1;
+
+/// What the riders of a set cost in cents from each place of departure: from the origin, then from each rider's place.
+pub type Row = ArrayVec<u32, DEPARTURE_ROOM>;
+
+/// The row of the next set, where the rows of the sets below it are given: what its route costs from each place of departure.
+pub fn next_row(case: &FareCase, rows: &[Row]) -> Row
+    requires rows { ListsCosts case.now (map (λ row. row.items) rows.now) }
+    requires more { length rows.now < 2 ^ length case.now.at.items }
+    ensures { result.items ≡ route_costs case.now (riders_in (length rows.now)) }
+{
+    coalition_law();
+    let set = rows.len() as u16;
+    let mut row = Row::new();
+    for at in 0..=case.at.len() as u8 {
+        row.push(cheapest(case, rows, start(case, at), set));
+    }
+    row
+}

@@ -1,0 +1,14 @@
+mod BodyLemmas
+mod CarryLemmas
+mod FieldLemmas
+mod Finds
+mod HeadLemmas
+mod LawLemmas
+mod LiteralSeek
+mod NumberLemmas
+mod OptionLemmas
+mod PathLemmas
+mod PieceLemmas
+mod ReplyLemmas
+mod Segments
+mod StatusLemmas

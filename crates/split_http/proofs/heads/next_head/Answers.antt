@@ -1,0 +1,5 @@
+use Rattle.split_http.proofs.HeadLemmas.{taken}
+use Rattle.split_http.proofs.heads.next_head.Goals as goal
+
+pub returns-in-Found-clause-says : goal.returns-in-Found-clause-says
+returns-in-Found-clause-says g c = taken _ _ _ _ _ c.in-Found.ensures.same c.take_head.ensures

@@ -1,0 +1,15 @@
+use Rattle.std.proofs.Common.{◌≤◌, ◌++◌, length, sym, ap, ◌∙◌, arith}
+use Rattle.httparse.specs.Grammar.{print_request}
+use Rattle.split_http.specs.declared.limits.TheConstants.{MAX_HEAD}
+use Rattle.split_http.proofs.HeadLemmas.{same_text}
+use Rattle.split_http.proofs.heads.take_head.Goals as goal
+
+-- the head that was found, what it says, and what stands behind it
+pub returns-in-Ok : goal.returns-in-Ok
+returns-in-Ok c =
+    let found = c.requires.head in
+    let h = found.0 in
+    let at = found.1 in
+    let short : length (print_request h) ≤ MAX_HEAD = omega (arith, at.len, c.requires.within.section.len_fits, c.as_slice.ensures.most) in
+    let said = rw (c.as_slice.ensures.bytes, same_text _ _ _ h at) at c.in-Ok.ensures in
+    (h, record { valid = at.reads.0; few = found.2; short = short }, said, at.reads.1 ∙ ap (λ rest. print_request h ++ rest) (sym c.take_front.ensures))

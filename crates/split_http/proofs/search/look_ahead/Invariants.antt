@@ -1,0 +1,18 @@
+-- The carry and the link hold what they held, and no head stands in the carry.
+use Rattle.std.proofs.Common.{◌≡◌, ◌+◌, ◌<◌, length}
+use Rattle.std.specs.Io.KnownBytes.{Keeps, prepend_known}
+use Rattle.split_http.specs.declared.limits.TheConstants.{MAX_HEAD}
+use Rattle.split_http.specs.Search.{HasNone}
+use Rattle.split_http.proofs.search.look_ahead.Given as goal
+
+abbrev pub invariant-loop-room : goal.invariant-loop-room
+invariant-loop-room g l = record {
+  room : l.room + length l.carry ≡ MAX_HEAD;
+  none : 0 < length l.carry → HasNone l.carry;
+  same : Keeps (prepend_known l.initial.carry (g.S.Source.left l.initial.source)) (prepend_known l.carry (g.S.Source.left l.source));
+  count : g.S.Source.faults l.source ≡ g.S.Source.faults l.initial.source;
+  beside : g.S.Source.beside l.source ≡ g.S.Source.beside l.initial.source;
+}
+
+abbrev pub decreases-loop-room : goal.decreases-loop-room
+decreases-loop-room g l = l.room

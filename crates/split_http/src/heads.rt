@@ -1,0 +1,74 @@
+// The next head of a link.
+ghost use Rattle.std.specs.Prelude.{◌≡◌, ◌≤◌, length};
+ghost use Rattle.std.specs.Io.KnownBytes.{prepend_known};
+ghost use Rattle.split_base.specs.Faults.{HasRisen};
+ghost use Rattle.split_http.specs.Search.{IsFoundAt};
+ghost use Rattle.split_http.specs.Turns.{HeadSays, IsTaken, faults_of};
+
+use crate::carry::Carry;
+use crate::head::{Head, head_at};
+use crate::search::{Ahead, ROOM, look_ahead};
+use httparse::spans::{EMPTY_HEADER_SPAN, HeaderSpan, RequestSpans};
+use split_base::{NoMemory, Source};
+use std::alloc::Global;
+
+/// What comes where a head would begin.
+#[derive(Debug, Drop)]
+pub enum HeadTurn {
+    /// A head.
+    Head(Head),
+    /// Bytes that begin with no head.
+    BadHead,
+    /// Nothing is left.
+    End,
+    /// A read failed.
+    LinkFault,
+    /// There was no memory for the head's path.
+    NoMemory,
+}
+
+/// Reads the next head of a link, and takes it off its bytes. These are the carry's and then those
+/// that the link has left; what is answered and what is left depends on them alone, and not on the
+/// pieces in which they come.
+///
+/// - `BadHead` comes exactly where bytes are left, and no first part of them is the head of a
+///   request as `httparse` reads it (RFC 9112), of at most 8,192 bytes and with at most 64 fields.
+/// - `End` comes exactly where nothing is left.
+/// - `LinkFault` comes only where the link's count of faults has risen.
+/// - `NoMemory` comes for want of memory alone.
+///
+/// After anything but a head the connection takes no further request.
+pub fn next_head<S: Source>(alloc: Global, link: &mut S, carry: &mut Carry) -> HeadTurn
+    ensures says { HeadSays (prepend_known carry.old (S.left link.old)) (prepend_known carry.new (S.left link.new)) result }
+    ensures cause { result ≡ HeadTurn.LinkFault → HasRisen (S.faults link.old) (S.faults link.new) }
+    ensures count { S.faults link.new ≡ faults_of (S.faults link.old) result }
+    ensures beside { S.beside link.new ≡ S.beside link.old }
+{
+    let mut fields = [EMPTY_HEADER_SPAN; ROOM];
+    match look_ahead(link, carry, &mut fields) {
+        Ahead::Found(spans) => take_head(alloc, carry, &fields, &spans),
+        Ahead::Bad => HeadTurn::BadHead,
+        Ahead::End => HeadTurn::End,
+        Ahead::Fault => HeadTurn::LinkFault,
+    }
+}
+
+// Takes the head that was found off the carry.
+fn take_head(
+    alloc: Global,
+    carry: &mut Carry,
+    fields: &[HeaderSpan; ROOM],
+    spans: &RequestSpans,
+) -> HeadTurn
+    requires { IsFoundAt carry.old fields.now spans.now }
+    ensures { IsTaken carry.old carry.new result }
+{
+    let fields = &fields[..spans.headers];
+    match head_at(alloc, carry.as_slice(), fields, spans) {
+        Ok(head) => {
+            carry.take_front(spans.len);
+            HeadTurn::Head(head)
+        }
+        Err(NoMemory) => HeadTurn::NoMemory,
+    }
+}

@@ -1,0 +1,28 @@
+// Limits of messages, the last moment of a reply, and the numbers of the refusals of a head.
+
+/// The most bytes of a head, with the empty lines before it and the one that ends it.
+pub const MAX_HEAD: usize = 8192;
+
+/// The most fields of a head.
+pub const MAX_FIELDS: usize = 64;
+
+/// The most bytes of a body.
+pub const MAX_BODY: u32 = 65_536;
+
+/// The last second that a date can tell, the end of the year 9999.
+pub const LAST_MOMENT: u64 = 253_402_300_799;
+
+/// A head of HTTP/1.1 without exactly one Host, or of HTTP/1.0 with two or more.
+pub const BAD_HOST: u8 = 3;
+
+/// A head with a Transfer-Encoding, which the host doesn't take.
+pub const FRAMING: u8 = 4;
+
+/// A head with two Content-Length fields or more, or whose value is not one or more digits.
+pub const BAD_LENGTH: u8 = 5;
+
+/// A POST without Content-Length.
+pub const LENGTH_MISSING: u8 = 6;
+
+/// A body of more than 65,536 bytes.
+pub const BODY_TOO_LARGE: u8 = 7;

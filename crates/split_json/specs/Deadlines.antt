@@ -1,0 +1,16 @@
+-- The second of a deadline's text.
+use Rattle.std.specs.Prelude.{ℕ, ◌/◌, ℤ, pos, negsuc, List, Option, Some, None, Result, Ok, Err}
+use Rattle.jiff.specs.Words.{Error, parse_timestamp}
+
+-- the whole seconds of an instant, in nanoseconds since 1970, that isn't before 1970
+abbrev pub second_of : ℤ → Option ℕ
+second_of (pos nanoseconds) = Some (nanoseconds / 1000000000)
+second_of (negsuc n) = None
+
+abbrev pub second_if_read : Result ℤ Error → Option ℕ
+second_if_read (Ok instant) = second_of instant
+second_if_read (Err e) = None
+
+-- the second of a text that `jiff` reads as a timestamp, a fraction dropped
+abbrev pub deadline_of : List ℕ → Option ℕ
+deadline_of text = second_if_read (parse_timestamp text)

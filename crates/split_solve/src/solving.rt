@@ -1,0 +1,86 @@
+ghost use Rattle.std.specs.Prelude.{◌≡◌, ℕ, ◌<◌, ◌≤◌, ◌↔◌, All, Err, IfSome, Ok, length};
+ghost use Rattle.bid_rules.specs.declared.cases.Case.TheVariants as case;
+ghost use Rattle.bid_rules.specs.declared.cases.Missing.{Missing};
+ghost use Rattle.bid_rules.specs.declared.goods.GoodsCase.{GoodsCase};
+ghost use Rattle.bid_rules.specs.Facts.{AreMissing, IsCheckedBid, IsCheckedFacts, IsValidCase, case_of, member_count};
+ghost use Rattle.nash_search.specs.Division.{HasSteps};
+ghost use Rattle.split_solve.specs.Solving.{IsDivided, IsOver, IsSolved, IsVoid};
+
+use bid_rules::{Bid, Case, Facts, Missing, case_law, make_case};
+use certificates::Division;
+use nash_search::limit_law;
+use rent_maximin::solve_rent;
+use search_workers::limits::MOST_WORKERS;
+use search_workers::search;
+use shapley_core::solve_fares;
+use split_base::{Gate, NoMemory};
+use std::alloc::Global;
+use std::thread::Threads;
+
+/// Why facts and bids have no division.
+#[derive(Debug, Drop, PartialEq, Eq)]
+pub enum SolveFault {
+    /// They make no case, for want of the bids of these members: on a rent where any is missing, on goods and fares where all are.
+    Void { missing: Missing },
+    /// They make a case of goods whose step count is above its limit, which is this one.
+    OverLimit { limit: u32 },
+    /// They make a case of fares, and memory ran out.
+    NoMemory,
+}
+
+/// The case that checked facts and checked bids make, and its best division.
+///
+/// The bids are by member, `None` where one has not bid. Of a rent the division has the maximin prices, of goods the greatest Nash welfare, of
+/// fares the Shapley values, with the tie rules of each. Goods are searched by 1 to `MOST_WORKERS` workers, who take no part in the answer.
+pub fn solve<R: Threads + Sync, G: Gate + Sync>(
+    alloc: Global,
+    rt: &R,
+    facts: &Facts,
+    bids: &[Option<Bid>],
+    workers: u8,
+    gate: &G,
+) -> Result<(Case, Division), SolveFault>
+    requires facts { IsCheckedFacts facts.now }
+    requires count { length bids.now ≡ member_count facts.now }
+    requires bids { All (λ bid. IfSome bid (IsCheckedBid facts.now)) bids.now }
+    requires workers { (1 ≤ workers) × (workers ≤ MOST_WORKERS) }
+    ensures solved { IsSolved facts.now bids.now result }
+    ensures void { IsVoid result ↔ AreMissing facts.now bids.now }
+    ensures over { (goods : GoodsCase) (steps : ℕ) → case_of facts.now bids.now ≡ Ok (case.Goods goods) → HasSteps goods steps → IsOver result ↔ (goods.facts.limit < steps) }
+{
+    case_law();
+    limit_law();
+    let case = match make_case(facts, bids) {
+        Ok(case) => case,
+        Err(missing) => return Err(SolveFault::Void { missing }),
+    };
+    match best_division(alloc, rt, &case, workers, gate) {
+        Ok(division) => Ok((case, division)),
+        Err(fault) => Err(fault),
+    }
+}
+
+/// The best division of a case.
+fn best_division<R: Threads + Sync, G: Gate + Sync>(
+    alloc: Global,
+    rt: &R,
+    case: &Case,
+    workers: u8,
+    gate: &G,
+) -> Result<Division, SolveFault>
+    requires case { IsValidCase case.now }
+    requires workers { (1 ≤ workers) × (workers ≤ MOST_WORKERS) }
+    ensures { IsDivided case.now result }
+{
+    match case {
+        Case::Rent(case) => Ok(Division::Rent(solve_rent(case))),
+        Case::Goods(case) => match search(alloc, rt, case, workers, gate) {
+            Ok(division) => Ok(Division::Goods(division)),
+            Err(over) => Err(SolveFault::OverLimit { limit: over.limit }),
+        },
+        Case::Fares(case) => match solve_fares(alloc, case) {
+            Ok(division) => Ok(Division::Fares(division)),
+            Err(NoMemory) => Err(SolveFault::NoMemory),
+        },
+    }
+}

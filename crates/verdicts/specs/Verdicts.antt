@@ -1,0 +1,13 @@
+-- The verdict of rules that are asked in order: yes where all hold, else the first that fails.
+use Rattle.std.specs.Prelude.{ℕ, ◌+◌, ◌<◌, ◌≤◌}
+use Rattle.verdicts.specs.declared.verdict.Verdict.{Verdict}
+use Rattle.verdicts.specs.declared.verdict.Verdict.TheVariants.{Yes, No}
+
+-- the rules below this one, from 1 on, hold
+abbrev pub AreKept : (ℕ → Type 0) → ℕ → Type 0
+AreKept rule end = (number : ℕ) → 1 ≤ number → number < end → rule number
+
+-- of so many rules all hold; or those before a rule hold, and it does not
+abbrev pub IsVerdict : (ℕ → Type 0) → ℕ → Verdict → Type 0
+IsVerdict rule count Yes = AreKept rule (count + 1)
+IsVerdict rule count (No number) = (1 ≤ number) × (number ≤ count) × AreKept rule number × (rule number → ⊥)
