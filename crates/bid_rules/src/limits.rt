@@ -13,6 +13,8 @@ pub const MOST_PLACES: u8 = 12;
 pub const MOST_GOODS: u8 = 24;
 /// The greatest rent, in cents.
 pub const MOST_RENT: u32 = 10_000_000;
+/// The farthest from 0 that an exact amount of cents lies: a price, a fare or what somebody would have.
+pub const MOST_AMOUNT: u64 = 1_000_000_000_000;
 /// The greatest flag fall and the greatest leg, in cents.
 pub const MOST_FARE_CENTS: u32 = 1_000_000;
 /// The points that each player spreads over the goods.

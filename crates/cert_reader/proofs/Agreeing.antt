@@ -1,13 +1,13 @@
 -- Counts that the first lines of a text fix are those of every text with these lines.
-use Rattle.std.proofs.Common.{◌≡◌, ℕ, pos, zero, suc, ◌<◌, ◌≤◌, List, [], ◌∷◌, ◌++◌, length, get_or, take, arith, refl, sym, ap, ◌∙◌, subst, length-take, true}
+use Rattle.std.proofs.Common.{◌≡◌, ℕ, pos, zero, suc, ◌<◌, ◌≤◌, List, [], ◌∷◌, ◌++◌, length, get_or, take, arith, refl, sym, ap, ◌∙◌, subst, length-take, append-nil, true}
 use Rattle.std.proofs.lemmas.List.{append_cancel_left, get_or-take}
 use Rattle.bid_rules.specs.Fractions.{Fraction}
 use Rattle.split_text.specs.Texts.{line, numbers_text}
 use Rattle.cert_reader.specs.declared.forms.Counts.{Counts}
-use Rattle.cert_reader.specs.declared.forms.Counts.TheVariants.{Fares, Rent}
+use Rattle.cert_reader.specs.declared.forms.Counts.TheVariants.{Fares, Goods, Rent}
 use Rattle.cert_reader.specs.declared.forms.Word.{Word}
 use Rattle.cert_reader.specs.declared.forms.Word.TheVariants as word
-use Rattle.cert_reader.specs.Forms.{Form, Tree, fares_forms, forms_of, led_by, numbers_of, rent_forms}
+use Rattle.cert_reader.specs.Forms.{Form, Tree, fares_forms, forms_of, goods_forms, led_by, numbers_of, rent_forms}
 use Rattle.cert_reader.specs.Order.{AgreeUpTo, form_in}
 use Rattle.cert_reader.specs.Reading.{Begins}
 use Rattle.cert_reader.specs.Text.{CanSay, CanSayAll, Leads, Marks, Numbers, Said, said_text, text_of}
@@ -31,13 +31,24 @@ same_lead w a b (Marks xs) y p q e = absurd p
 same_lead w a b (Numbers xs) (Marks ys) p q e = absurd q
 
 -- the lines of two kinds differ
-kinds_apart : (x y : Said) → CanSay (numbers_of word.KindRent 0) x → CanSay (numbers_of word.KindFares 0) y → said_text (numbers_of word.KindRent 0) x ≡ said_text (numbers_of word.KindFares 0) y → ⊥
+kinds_apart : (v w : Word) (x y : Said) → (word_text v ≡ word_text w → ⊥) → CanSay (numbers_of v 0) x → CanSay (numbers_of w 0) y → said_text (numbers_of v 0) x ≡ said_text (numbers_of w 0) y → ⊥
 unfolding line
-kinds_apart (Numbers []) (Numbers []) p q e = let same = ap length e in omega arith
-kinds_apart (Numbers (x ∷ xs)) y p q e = let none = p.each in omega arith
-kinds_apart (Numbers []) (Numbers (y ∷ ys)) p q e = let none = q.each in omega arith
-kinds_apart (Marks xs) y p q e = absurd p
-kinds_apart (Numbers []) (Marks ys) p q e = absurd q
+kinds_apart v w (Numbers []) (Numbers []) other p q e =
+    other (sym (append-nil (word_text v)) ∙ append_one_cancel (word_text v ++ []) (word_text w ++ []) 10 e ∙ append-nil (word_text w))
+kinds_apart v w (Numbers (x ∷ xs)) y other p q e = let none = p.each in omega arith
+kinds_apart v w (Numbers []) (Numbers (y ∷ ys)) other p q e = let none = q.each in omega arith
+kinds_apart v w (Marks xs) y other p q e = absurd p
+kinds_apart v w (Numbers []) (Marks ys) other p q e = absurd q
+
+-- their sixth letters do
+rent_or_goods : word_text word.KindRent ≡ word_text word.KindGoods → ⊥
+rent_or_goods e = let sixth = ap (λ letters. get_or letters 5 0) e in omega arith
+
+rent_or_fares : word_text word.KindRent ≡ word_text word.KindFares → ⊥
+rent_or_fares e = let sixth = ap (λ letters. get_or letters 5 0) e in omega arith
+
+goods_or_fares : word_text word.KindGoods ≡ word_text word.KindFares → ⊥
+goods_or_fares e = let sixth = ap (λ letters. get_or letters 5 0) e in omega arith
 
 -- where the lines at their places are the same, the counts agree
 record SameLine (c d : Counts) (i : ℕ) : Type 0 where
@@ -48,43 +59,77 @@ record SameLine (c d : Counts) (i : ℕ) : Type 0 where
   same : said_text (form_in c i) one ≡ said_text (form_in d i) other
 
 agree_from : (k : ℕ) (c d : Counts) → ((i : ℕ) → i < k → i < 4 → SameLine c d i) → AgreeUpTo k c d
-unfolding rent_forms fares_forms
+unfolding rent_forms goods_forms fares_forms
 agree_from k (Rent n) (Rent m) same = λ far. (let s = same 2 far (omega arith) in same_lead word.Members n m s.one s.other s.can s.could s.same)
+agree_from k (Goods n p) (Goods m q) same = (
+  λ far. (let s = same 2 far (omega arith) in same_lead word.Players n m s.one s.other s.can s.could s.same),
+  λ far. (let s = same 3 far (omega arith) in same_lead word.Goods p q s.one s.other s.can s.could s.same),
+)
 agree_from k (Fares n p) (Fares m q) same = (
   λ far. (let s = same 2 far (omega arith) in same_lead word.Riders n m s.one s.other s.can s.could s.same),
   λ far. (let s = same 3 far (omega arith) in same_lead word.Places p q s.one s.other s.can s.could s.same),
 )
+agree_from zero (Rent n) (Goods m q) same = omega arith
+agree_from (suc zero) (Rent n) (Goods m q) same = omega arith
+agree_from (suc (suc k)) (Rent n) (Goods m q) same = absurd (let s = same 1 (omega arith) (omega arith) in kinds_apart word.KindRent word.KindGoods s.one s.other rent_or_goods s.can s.could s.same)
 agree_from zero (Rent n) (Fares m q) same = omega arith
 agree_from (suc zero) (Rent n) (Fares m q) same = omega arith
-agree_from (suc (suc k)) (Rent n) (Fares m q) same = absurd (let s = same 1 (omega arith) (omega arith) in kinds_apart s.one s.other s.can s.could s.same)
+agree_from (suc (suc k)) (Rent n) (Fares m q) same = absurd (let s = same 1 (omega arith) (omega arith) in kinds_apart word.KindRent word.KindFares s.one s.other rent_or_fares s.can s.could s.same)
+agree_from zero (Goods n p) (Rent m) same = omega arith
+agree_from (suc zero) (Goods n p) (Rent m) same = omega arith
+agree_from (suc (suc k)) (Goods n p) (Rent m) same = absurd (let s = same 1 (omega arith) (omega arith) in kinds_apart word.KindGoods word.KindRent s.one s.other (λ e. rent_or_goods (sym e)) s.can s.could s.same)
+agree_from zero (Goods n p) (Fares m q) same = omega arith
+agree_from (suc zero) (Goods n p) (Fares m q) same = omega arith
+agree_from (suc (suc k)) (Goods n p) (Fares m q) same = absurd (let s = same 1 (omega arith) (omega arith) in kinds_apart word.KindGoods word.KindFares s.one s.other goods_or_fares s.can s.could s.same)
 agree_from zero (Fares n p) (Rent m) same = omega arith
 agree_from (suc zero) (Fares n p) (Rent m) same = omega arith
-agree_from (suc (suc k)) (Fares n p) (Rent m) same = absurd (let s = same 1 (omega arith) (omega arith) in kinds_apart s.other s.one s.could s.can (sym s.same))
+agree_from (suc (suc k)) (Fares n p) (Rent m) same = absurd (let s = same 1 (omega arith) (omega arith) in kinds_apart word.KindFares word.KindRent s.one s.other (λ e. rent_or_fares (sym e)) s.can s.could s.same)
+agree_from zero (Fares n p) (Goods m q) same = omega arith
+agree_from (suc zero) (Fares n p) (Goods m q) same = omega arith
+agree_from (suc (suc k)) (Fares n p) (Goods m q) same = absurd (let s = same 1 (omega arith) (omega arith) in kinds_apart word.KindFares word.KindGoods s.one s.other (λ e. goods_or_fares (sym e)) s.can s.could s.same)
 
 -- counts that agree have the same first forms
 pub fronts_same : (k : ℕ) (c d : Counts) → AgreeUpTo k c d → take k (forms_of c) ≡ take k (forms_of d)
-unfolding rent_forms fares_forms
+unfolding rent_forms goods_forms fares_forms
 fronts_same zero c d h = refl
 fronts_same (suc zero) (Rent n) (Rent m) h = refl
+fronts_same (suc zero) (Rent n) (Goods m q) h = refl
 fronts_same (suc zero) (Rent n) (Fares m q) h = refl
+fronts_same (suc zero) (Goods n p) (Rent m) h = refl
+fronts_same (suc zero) (Goods n p) (Goods m q) h = refl
+fronts_same (suc zero) (Goods n p) (Fares m q) h = refl
 fronts_same (suc zero) (Fares n p) (Rent m) h = refl
+fronts_same (suc zero) (Fares n p) (Goods m q) h = refl
 fronts_same (suc zero) (Fares n p) (Fares m q) h = refl
 fronts_same (suc (suc zero)) (Rent n) (Rent m) h = refl
+fronts_same (suc (suc zero)) (Goods n p) (Goods m q) h = refl
 fronts_same (suc (suc zero)) (Fares n p) (Fares m q) h = refl
 fronts_same (suc (suc (suc zero))) (Rent n) (Rent m) h = ap (λ x. led_by word.Fairsplit 1 1 ∷ numbers_of word.KindRent 0 ∷ led_by word.Members x 1 ∷ []) (h (omega arith))
+fronts_same (suc (suc (suc zero))) (Goods n p) (Goods m q) h = ap (λ x. led_by word.Fairsplit 1 1 ∷ numbers_of word.KindGoods 0 ∷ led_by word.Players x 1 ∷ []) (h.0 (omega arith))
 fronts_same (suc (suc (suc zero))) (Fares n p) (Fares m q) h = ap (λ x. led_by word.Fairsplit 1 1 ∷ numbers_of word.KindFares 0 ∷ led_by word.Riders x 1 ∷ []) (h.0 (omega arith))
 fronts_same (suc (suc (suc (suc k)))) (Rent n) (Rent m) h = ap (λ x. take (suc (suc (suc (suc k)))) (forms_of (Rent x))) (h (omega arith))
+fronts_same (suc (suc (suc (suc k)))) (Goods n p) (Goods m q) h =
+    ap (λ x. take (suc (suc (suc (suc k)))) (forms_of (Goods x p))) (h.0 (omega arith)) ∙ ap (λ y. take (suc (suc (suc (suc k)))) (forms_of (Goods m y))) (h.1 (omega arith))
 fronts_same (suc (suc (suc (suc k)))) (Fares n p) (Fares m q) h =
     ap (λ x. take (suc (suc (suc (suc k)))) (forms_of (Fares x p))) (h.0 (omega arith)) ∙ ap (λ y. take (suc (suc (suc (suc k)))) (forms_of (Fares m y))) (h.1 (omega arith))
+fronts_same (suc (suc k)) (Rent n) (Goods m q) h = absurd (omega arith)
 fronts_same (suc (suc k)) (Rent n) (Fares m q) h = absurd (omega arith)
+fronts_same (suc (suc k)) (Goods n p) (Rent m) h = absurd (omega arith)
+fronts_same (suc (suc k)) (Goods n p) (Fares m q) h = absurd (omega arith)
 fronts_same (suc (suc k)) (Fares n p) (Rent m) h = absurd (omega arith)
+fronts_same (suc (suc k)) (Fares n p) (Goods m q) h = absurd (omega arith)
 
 -- and are the same from the fourth line on
 pub agree_whole : (k : ℕ) (c d : Counts) → 3 < k → AgreeUpTo k c d → c ≡ d
 agree_whole k (Rent n) (Rent m) far h = ap Rent (h (omega arith))
+agree_whole k (Goods n p) (Goods m q) far h = ap (λ x. Goods x p) (h.0 (omega arith)) ∙ ap (λ y. Goods m y) (h.1 far)
 agree_whole k (Fares n p) (Fares m q) far h = ap (λ x. Fares x p) (h.0 (omega arith)) ∙ ap (λ y. Fares m y) (h.1 far)
+agree_whole k (Rent n) (Goods m q) far h = absurd (omega arith)
 agree_whole k (Rent n) (Fares m q) far h = absurd (omega arith)
+agree_whole k (Goods n p) (Rent m) far h = absurd (omega arith)
+agree_whole k (Goods n p) (Fares m q) far h = absurd (omega arith)
 agree_whole k (Fares n p) (Rent m) far h = absurd (omega arith)
+agree_whole k (Fares n p) (Goods m q) far h = absurd (omega arith)
 
 -- two readings of as many lines at the front of the same bytes are one
 pub record OneFront (k : ℕ) (c d : Counts) (xs ys : List Said) (r s : List ℕ) : Type 0 where

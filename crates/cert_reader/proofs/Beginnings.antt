@@ -50,13 +50,14 @@ begins_more bytes rest more k counts said last h within can e =
     }
 
 -- the last line, where there is one
-pub record OneLess (bytes : List ℕ) (k : ℕ) (counts : Counts) (rest : List ℕ) : Type 0 where
+pub record OneLess (bytes : List ℕ) (k : ℕ) (counts : Counts) (all : List Said) (rest : List ℕ) : Type 0 where
   pub said : List Said
   pub last : Said
+  pub whole : all ≡ said ++ last ∷ []
   pub begins : Begins bytes k counts said (said_text (form_in counts k) last ++ rest)
   pub can : CanSay (form_in counts k) last
 
-pub begins_last : (bytes rest : List ℕ) (k : ℕ) (counts : Counts) (said : List Said) → Begins bytes (k + 1) counts said rest → OneLess bytes k counts rest
+pub begins_last : (bytes rest : List ℕ) (k : ℕ) (counts : Counts) (said : List Said) → Begins bytes (k + 1) counts said rest → OneLess bytes k counts said rest
 begins_last bytes rest k counts said h =
     let forms = forms_of counts in
     let within : k < length forms = (let w = h.within in omega arith) in
@@ -65,6 +66,7 @@ begins_last bytes rest k counts said h =
     record {
       said = s.front;
       last = s.last;
+      whole = s.whole;
       can = s.can;
       begins = record {
         are_counts = h.are_counts;

@@ -79,11 +79,15 @@ word_misses : (w : Word) → misses 10 (word_text w) ≡ true
 unfolding misses
 word_misses word.Fairsplit = refl
 word_misses word.KindRent = refl
+word_misses word.KindGoods = refl
 word_misses word.KindFares = refl
 word_misses word.Members = refl
+word_misses word.Players = refl
 word_misses word.Riders = refl
+word_misses word.Goods = refl
 word_misses word.Places = refl
 word_misses word.Rent = refl
+word_misses word.Limit = refl
 word_misses word.Flag = refl
 word_misses word.Values = refl
 word_misses word.Legs = refl
@@ -96,6 +100,9 @@ word_misses word.Right = refl
 word_misses word.Walks = refl
 word_misses word.Ranks = refl
 word_misses word.Prices = refl
+word_misses word.Owners = refl
+word_misses word.Steps = refl
+word_misses word.Tree = refl
 word_misses word.Route = refl
 word_misses word.Fares = refl
 word_misses word.End = refl
@@ -105,7 +112,7 @@ unfolding misses
 tree_misses = refl
 
 word_short : (w : Word) → length (word_text w) ≤ 10
-word_short w = elim w as (λ v. length (word_text v) ≤ 10) [ word.Fairsplit ↦ omega arith | word.KindRent ↦ omega arith | word.KindFares ↦ omega arith | word.Members ↦ omega arith | word.Riders ↦ omega arith | word.Places ↦ omega arith | word.Rent ↦ omega arith | word.Flag ↦ omega arith | word.Values ↦ omega arith | word.Legs ↦ omega arith | word.Who ↦ omega arith | word.At ↦ omega arith | word.Set ↦ omega arith | word.Rooms ↦ omega arith | word.Left ↦ omega arith | word.Right ↦ omega arith | word.Walks ↦ omega arith | word.Ranks ↦ omega arith | word.Prices ↦ omega arith | word.Route ↦ omega arith | word.Fares ↦ omega arith | word.End ↦ omega arith ]
+word_short w = elim w as (λ v. length (word_text v) ≤ 10) [ word.Fairsplit ↦ omega arith | word.KindRent ↦ omega arith | word.KindGoods ↦ omega arith | word.KindFares ↦ omega arith | word.Members ↦ omega arith | word.Players ↦ omega arith | word.Riders ↦ omega arith | word.Goods ↦ omega arith | word.Places ↦ omega arith | word.Rent ↦ omega arith | word.Limit ↦ omega arith | word.Flag ↦ omega arith | word.Values ↦ omega arith | word.Legs ↦ omega arith | word.Who ↦ omega arith | word.At ↦ omega arith | word.Set ↦ omega arith | word.Rooms ↦ omega arith | word.Left ↦ omega arith | word.Right ↦ omega arith | word.Walks ↦ omega arith | word.Ranks ↦ omega arith | word.Prices ↦ omega arith | word.Owners ↦ omega arith | word.Steps ↦ omega arith | word.Tree ↦ omega arith | word.Route ↦ omega arith | word.Fares ↦ omega arith | word.End ↦ omega arith ]
 
 numbers_plain : (whole : Bool) (ns : List Fraction) → All (IsNumber whole) ns → Avoids 10 (numbers_text ns)
 numbers_plain whole [] h = record { none = λ k l e. omega arith }
@@ -114,12 +121,13 @@ numbers_plain whole (n ∷ ns) h =
     (avoids_append 10 (32 ∷ []) (pair_text n) (avoids_one 10 32 (λ e. omega arith)) (number_avoids 10 whole n (All-head (IsNumber whole) n ns h) (omega arith)))
     (numbers_plain whole ns (All-tail (IsNumber whole) n ns h))
 
+-- a mark is no LF
+pub mark_plain : (m : ℕ) → IsMark m → m ≢ 10
+mark_plain m is e = ⊎_elim (λ (a : m ≡ 43). omega arith) (λ (b : (m ≡ 45) ⊎ (m ≡ 61)). ⊎_elim (λ (c : m ≡ 45). omega arith) (λ (d : m ≡ 61). omega arith) b) is
+
 marks_plain : (marks : List ℕ) → All IsMark marks → Avoids 10 marks
 marks_plain [] h = record { none = λ k l e. omega arith }
-marks_plain (m ∷ ms) h = avoids_append 10 (m ∷ []) ms (avoids_one 10 m (other m (All-head IsMark m ms h))) (marks_plain ms (All-tail IsMark m ms h))
-  where
-    other : (m : ℕ) → IsMark m → m ≢ 10
-    other m is e = ⊎_elim (λ (a : m ≡ 43). omega arith) (λ (b : (m ≡ 45) ⊎ (m ≡ 61)). ⊎_elim (λ (c : m ≡ 45). omega arith) (λ (d : m ≡ 61). omega arith) b) is
+marks_plain (m ∷ ms) h = avoids_append 10 (m ∷ []) ms (avoids_one 10 m (mark_plain m (All-head IsMark m ms h))) (marks_plain ms (All-tail IsMark m ms h))
 
 -- a line has one LF, at its end
 pub record PlainLine (text : List ℕ) : Type 0 where

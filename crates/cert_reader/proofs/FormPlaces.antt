@@ -7,7 +7,7 @@ use Rattle.std.proofs.Math.ListN.{get_or-append}
 use Rattle.cert_reader.specs.declared.forms.Counts.{Counts}
 use Rattle.cert_reader.specs.declared.forms.Counts.TheVariants as count
 use Rattle.cert_reader.specs.declared.forms.Word.TheVariants as word
-use Rattle.cert_reader.specs.Forms.{AreCounts, Form, fares_forms, fares_head, fares_tail, forms_of, numbers_of, rent_forms, rent_head, rent_tail, rider_forms, set_form}
+use Rattle.cert_reader.specs.Forms.{AreCounts, Form, fares_forms, fares_head, fares_tail, forms_of, goods_forms, goods_head, goods_tail, numbers_of, rent_forms, rent_head, rent_tail, rider_forms, set_form}
 use Rattle.cert_reader.specs.Sets.{sets_of}
 
 -- each place of a repeated form has it
@@ -44,6 +44,34 @@ pub rent_in_tail : (n i j : ℕ) (d : Form) → 4 + n + j ≡ i → get_or (rent
 rent_in_tail n i j d e =
     let many : length (replicate n (numbers_of word.Values n)) ≡ n = length-replicate n (numbers_of word.Values n) in
     behind_rent_head n i (n + j) d (omega arith) ∙ skip (replicate n (numbers_of word.Values n)) (rent_tail n) (n + j) j d (omega (arith, many))
+
+-- how many lines goods have
+values_many : (n goods : ℕ) → length (replicate n (numbers_of word.Values goods)) ≡ n
+values_many n goods = length-replicate n (numbers_of word.Values goods)
+
+pub length_goods : (n goods : ℕ) → length (goods_forms n goods) ≡ 10 + n
+unfolding goods_forms
+length_goods n goods = omega (arith, length-append (replicate n (numbers_of word.Values goods)) (goods_tail goods), values_many n goods)
+
+-- the head of goods, the lines of values, and the rest
+pub goods_in_head : (n goods i : ℕ) (d : Form) → i < 6 → get_or (goods_forms n goods) i d ≡ get_or (goods_head n goods) i d
+unfolding goods_forms
+goods_in_head n goods i d h = get_or-append (goods_head n goods) (replicate n (numbers_of word.Values goods) ++ goods_tail goods) d i h
+
+behind_goods_head : (n goods i j : ℕ) (d : Form) → 6 + j ≡ i → get_or (goods_forms n goods) i d ≡ get_or (replicate n (numbers_of word.Values goods) ++ goods_tail goods) j d
+unfolding goods_forms
+behind_goods_head n goods i j d e = skip (goods_head n goods) (replicate n (numbers_of word.Values goods) ++ goods_tail goods) i j d e
+
+pub goods_in_values : (n goods i : ℕ) (d : Form) → 6 ≤ i → i < 6 + n → get_or (goods_forms n goods) i d ≡ numbers_of word.Values goods
+goods_in_values n goods i d low high =
+    let j : ℕ = i - 6 in
+    let many = values_many n goods in
+    behind_goods_head n goods i j d (omega arith) ∙ get_or-append (replicate n (numbers_of word.Values goods)) (goods_tail goods) d j (omega arith)
+    ∙ get_or-replicate n (numbers_of word.Values goods) j d (omega arith)
+
+pub goods_in_tail : (n goods i j : ℕ) (d : Form) → 6 + n + j ≡ i → get_or (goods_forms n goods) i d ≡ get_or (goods_tail goods) j d
+goods_in_tail n goods i j d e =
+    behind_goods_head n goods i (n + j) d (omega arith) ∙ skip (replicate n (numbers_of word.Values goods)) (goods_tail goods) (n + j) j d (omega (arith, values_many n goods))
 
 -- how many lines of sets, and how many lines of fares there are
 length_sets : (n : ℕ) → length (map (set_form n) (sets_of n)) ≡ 2 ^ n - 1
@@ -112,9 +140,11 @@ sets_few n h = pow-le-pow_right {n = 2} (omega arith) {i = n} {j = 10} h
 -- a text has more than four lines
 pub lines_some : (counts : Counts) → 4 < length (forms_of counts)
 lines_some (count.Rent n) = let long = length_rent n in omega arith
+lines_some (count.Goods n goods) = let long = length_goods n goods in omega arith
 lines_some (count.Fares n places) = let long = length_fares n places in omega arith
 
 -- and at most 1046
 pub lines_few : (counts : Counts) → AreCounts counts → length (forms_of counts) ≤ 1046
 lines_few (count.Rent n) are = let long = length_rent n in let few = are.1 in omega arith
+lines_few (count.Goods n goods) are = let long = length_goods n goods in let few = are.1 in omega arith
 lines_few (count.Fares n places) are = let long = length_fares n places in let few = sets_few n are.1 in let near = are.3 in omega arith

@@ -1,5 +1,5 @@
 -- What the gathered lines of a text say, line by line.
-use Rattle.std.proofs.Common.{◌≡◌, ℕ, suc, ◌+◌, ◌<◌, ◌≤◌, List, [], ◌∷◌, ◌++◌, length, map, get_or, take, drop, All, true, false, arith, sym, ap, ◌∙◌, subst, length-append, take-append-drop, drop-drop, drop-cons, length-take}
+use Rattle.std.proofs.Common.{◌≡◌, ℕ, pos, suc, ◌+◌, ◌<◌, ◌≤◌, List, [], ◌∷◌, ◌++◌, length, map, get_or, take, drop, All, true, false, arith, sym, ap, ◌∙◌, subst, length-append, take-append-drop, drop-drop, drop-cons, length-take}
 use Rattle.std.proofs.lemmas.List.{drop_all, get_or-drop, get_or-map, get_or-take, get_or_default, length-drop, length-map}
 use Rattle.std.proofs.Math.ListN.{get_or-append}
 use Rattle.bid_rules.specs.Fractions.{Fraction}
@@ -11,7 +11,7 @@ use Rattle.cert_reader.specs.Forms.{Form, forms_of, fractions_of, numbers_of}
 use Rattle.cert_reader.specs.Gathered.{AreWhole, Gathered, line_said, numbers_at, text_said}
 use Rattle.cert_reader.specs.Numbers.{AreShort, IsNumber}
 use Rattle.cert_reader.specs.Order.{form_in}
-use Rattle.cert_reader.specs.Text.{CanSay, CanSayAll, Marks, Numbers}
+use Rattle.cert_reader.specs.Text.{CanSay, CanSayAll, Marks, Numbers, Said}
 use Rattle.cert_reader.specs.Views.{says}
 use Rattle.cert_reader.proofs.Fronts.{can_at, can_many}
 
@@ -19,24 +19,33 @@ use Rattle.cert_reader.proofs.Fronts.{can_at, can_many}
 abbrev pub no_line : Gathered
 no_line = record { items = [] }
 
--- there are three lines more than were gathered
-pub lines_many : (counts : Counts) (lines : List Gathered) → CanSayAll (forms_of counts) (text_said lines) → length lines + 3 ≡ length (forms_of counts)
-lines_many counts lines h =
-    let many = can_many (forms_of counts) (text_said lines) h in
-    let both : length (map line_said lines ++ says [] ∷ []) ≡ length (map line_said lines) + 1 = length-append (map line_said lines) (says [] ∷ []) in
+-- there are two lines more than were gathered, and those behind them
+pub lines_before_many : (counts : Counts) (lines : List Gathered) (behind : List Said) → CanSayAll (forms_of counts) (says (pos 1 ∷ []) ∷ says [] ∷ (map line_said lines ++ behind)) → length lines + 2 + length behind ≡ length (forms_of counts)
+lines_before_many counts lines behind h =
+    let many = can_many (forms_of counts) (says (pos 1 ∷ []) ∷ says [] ∷ (map line_said lines ++ behind)) h in
+    let both : length (map line_said lines ++ behind) ≡ length (map line_said lines) + length behind = length-append (map line_said lines) behind in
     let each : length (map line_said lines) ≡ length lines = length-map lines line_said in
     omega (arith, many, both, each)
 
 -- each gathered line says what its form allows
-pub line_can : (counts : Counts) (lines : List Gathered) (i place : ℕ) → CanSayAll (forms_of counts) (text_said lines) → place ≡ 2 + i → i < length lines → CanSay (form_in counts place) (Numbers (numbers_at lines i))
-line_can counts lines i place h is low =
-    let many = lines_many counts lines h in
+pub line_before_can : (counts : Counts) (lines : List Gathered) (behind : List Said) (i place : ℕ) → CanSayAll (forms_of counts) (says (pos 1 ∷ []) ∷ says [] ∷ (map line_said lines ++ behind)) → place ≡ 2 + i → i < length lines
+    → CanSay (form_in counts place) (Numbers (numbers_at lines i))
+line_before_can counts lines behind i place h is low =
+    let many = lines_before_many counts lines behind h in
     let next : place ≡ suc (suc i) = omega arith in
-    let can : CanSay (form_in counts (suc (suc i))) (get_or (map line_said lines ++ says [] ∷ []) i (Marks [])) = can_at (forms_of counts) (text_said lines) (suc (suc i)) h (omega arith) in
+    let can : CanSay (form_in counts (suc (suc i))) (get_or (map line_said lines ++ behind) i (Marks [])) =
+    can_at (forms_of counts) (says (pos 1 ∷ []) ∷ says [] ∷ (map line_said lines ++ behind)) (suc (suc i)) h (omega arith) in
     let each : length (map line_said lines) ≡ length lines = length-map lines line_said in
-    let same : get_or (map line_said lines ++ says [] ∷ []) i (Marks []) ≡ Numbers (numbers_at lines i) =
-    get_or-append (map line_said lines) (says [] ∷ []) (Marks []) i (omega arith) ∙ get_or-map line_said lines i no_line (Marks []) low in
+    let same : get_or (map line_said lines ++ behind) i (Marks []) ≡ Numbers (numbers_at lines i) =
+    get_or-append (map line_said lines) behind (Marks []) i (omega arith) ∙ get_or-map line_said lines i no_line (Marks []) low in
     subst (λ p. CanSay (form_in counts p) (Numbers (numbers_at lines i))) (sym next) (subst (CanSay (form_in counts (suc (suc i)))) same can)
+
+-- the same where `end` alone stands behind them
+pub lines_many : (counts : Counts) (lines : List Gathered) → CanSayAll (forms_of counts) (text_said lines) → length lines + 3 ≡ length (forms_of counts)
+lines_many counts lines h = let many = lines_before_many counts lines (says [] ∷ []) h in omega arith
+
+pub line_can : (counts : Counts) (lines : List Gathered) (i place : ℕ) → CanSayAll (forms_of counts) (text_said lines) → place ≡ 2 + i → i < length lines → CanSay (form_in counts place) (Numbers (numbers_at lines i))
+line_can counts lines i place h is low = line_before_can counts lines (says [] ∷ []) i place h is low
 
 -- a line of whole numbers
 pub whole_said : (form : Form) (word : Word) (count : ℕ) (numbers : List Fraction) → form ≡ numbers_of word count → CanSay form (Numbers numbers) → AreWhole count numbers

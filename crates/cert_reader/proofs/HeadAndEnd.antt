@@ -1,5 +1,5 @@
 -- What the first two lines and the last line of every text say.
-use Rattle.std.proofs.Common.{◌≡◌, ℕ, pos, ◌+◌, ◌-◌, List, [], ◌∷◌, ◌++◌, length, map, get_or, take, arith, refl, ap, ◌∙◌, subst, length-append}
+use Rattle.std.proofs.Common.{◌≡◌, ℕ, pos, ◌+◌, ◌-◌, List, [], ◌∷◌, ◌++◌, length, map, get_or, take, arith, refl, sym, ap, ◌∙◌, subst, length-append}
 use Rattle.std.specs.Prelude.{Option, Ok, Err}
 use Rattle.std.proofs.Math.Seq.{get_or-append_seam}
 use Rattle.arrayvec.specs.declared.array_vec.ArrayVec.{ArrayVec}
@@ -7,17 +7,17 @@ use Rattle.split_frac.specs.declared.frac.Frac.{Frac}
 use Rattle.split_frac.specs.Frac.{fraction_of}
 use Rattle.cert_reader.specs.declared.ends.ReadEnd.{ReadEnd}
 use Rattle.cert_reader.specs.declared.forms.Counts.{Counts}
-use Rattle.cert_reader.specs.declared.forms.Counts.TheVariants.{Fares, Rent}
+use Rattle.cert_reader.specs.declared.forms.Counts.TheVariants.{Fares, Goods, Rent}
 use Rattle.cert_reader.specs.declared.forms.Word.{Word}
 use Rattle.cert_reader.specs.declared.forms.Word.TheVariants as word
 use Rattle.cert_reader.specs.declared.pieces.Piece.TheVariants.{Done, Kind}
-use Rattle.cert_reader.specs.Forms.{Tree, fares_forms, forms_of, led_by, numbers_of, rent_forms}
+use Rattle.cert_reader.specs.Forms.{Tree, fares_forms, forms_of, goods_forms, led_by, numbers_of, rent_forms}
 use Rattle.cert_reader.specs.Kinds.{kind_of}
-use Rattle.cert_reader.specs.Order.{form_in}
+use Rattle.cert_reader.specs.Order.{AgreeUpTo, form_in}
 use Rattle.cert_reader.specs.Reading.{Goes, IsAnswer, IsEnd, IsFinished, IsLineRead, IsRead, Reading}
 use Rattle.cert_reader.specs.Text.{CanSay, CanSayAll, IsText, Marks, Numbers, Said}
 use Rattle.cert_reader.specs.Views.{says}
-use Rattle.cert_reader.proofs.FormPlaces.{fares_in_tail, length_fares, length_rent, lines_some, rent_in_tail}
+use Rattle.cert_reader.proofs.FormPlaces.{fares_in_tail, goods_in_tail, length_fares, length_goods, length_rent, lines_some, rent_in_tail}
 use Rattle.cert_reader.proofs.Fronts.{can_at, can_many}
 use Rattle.cert_reader.proofs.PieceSteps.{goes_after, goes_so}
 
@@ -42,13 +42,15 @@ two_said w (x ∷ y ∷ []) h = ap (λ a. a ∷ y ∷ []) (one_said word.Fairspl
 two_said w (x ∷ y ∷ z ∷ said) h = absurd h.1.1
 
 head_said : (counts : Counts) (said : List Said) → CanSayAll (take 2 (forms_of counts)) said → said ≡ says (pos 1 ∷ []) ∷ says [] ∷ []
-unfolding rent_forms fares_forms
+unfolding rent_forms goods_forms fares_forms
 head_said (Rent n) said h = two_said word.KindRent said h
+head_said (Goods n goods) said h = two_said word.KindGoods said h
 head_said (Fares n places) said h = two_said word.KindFares said h
 
 -- the end
 end_form : (counts : Counts) → form_in counts (length (forms_of counts) - 1) ≡ numbers_of word.End 0
 end_form (Rent n) = let long = length_rent n in rent_in_tail n (length (rent_forms n) - 1) 6 Tree (omega arith)
+end_form (Goods n goods) = let long = length_goods n goods in goods_in_tail n goods (length (goods_forms n goods) - 1) 3 Tree (omega arith)
 end_form (Fares n places) = let long = length_fares n places in fares_in_tail n places (length (fares_forms n places) - 1) 2 Tree (omega arith)
 
 end_said : (counts : Counts) (said : List Said) (last : Said) → CanSayAll (forms_of counts) (said ++ last ∷ []) → last ≡ says []
@@ -88,14 +90,19 @@ kind_unread a b c x y z first end p q =
     (goes_so a x y (λ taken said. IsLineRead a b y taken said (Ok first)) (λ taken said. IsRead b taken (said ++ Numbers (map fraction_of first.items) ∷ [])) (λ taken said h. h.2) p) q
 
 -- the last line was read, and nothing follows
-pub done_read : (a b c : Reading) (x y z : Option (List ℕ)) (last : ArrayVec Frac 24 (Unit {0})) → a.lines + 1 ≡ length (forms_of c.counts)
+pub done_read : (a b c : Reading) (x y z : Option (List ℕ)) (last : ArrayVec Frac 24 (Unit {0})) → a.lines + 1 ≡ length (forms_of c.counts) → c.counts ≡ b.counts
     → Goes a x y (λ taken said. IsLineRead a b y taken said (Ok last)) → Goes b y z (λ taken said. IsFinished c z taken said (Ok tt))
     → Goes a x z (λ taken said. IsAnswer a c z taken said (Ok Done))
-done_read a b c x y z last all p q =
-    goes_so a x z (λ taken said. IsFinished c z taken (said ++ Numbers (map fraction_of last.items) ∷ []) (Ok tt)) (λ taken said. IsAnswer a c z taken said (Ok Done))
-    (λ taken said h. (all, subst (λ l. IsText taken c.counts (said ++ l ∷ [])) (end_said c.counts said (Numbers (map fraction_of last.items)) h.0.fits) h.0, h.1, h.2))
-    (goes_after a b x y z (λ said. said ++ Numbers (map fraction_of last.items) ∷ []) (λ taken said. IsFinished c z taken said (Ok tt))
-    (goes_so a x y (λ taken said. IsLineRead a b y taken said (Ok last)) (λ taken said. IsRead b taken (said ++ Numbers (map fraction_of last.items) ∷ [])) (λ taken said h. h.2) p) q)
+done_read a b c x y z last all same p q =
+    let told = goes_after a b x y z (λ said. said ++ Numbers (map fraction_of last.items) ∷ []) (λ taken said. IsFinished c z taken said (Ok tt))
+    (goes_so a x y (λ taken said. IsLineRead a b y taken said (Ok last)) (λ taken said. IsRead b taken (said ++ Numbers (map fraction_of last.items) ∷ [])) (λ taken said h. h.2) p) q in (
+      told.0,
+      told.1,
+      λ taken said h. (
+          let end = told.2 taken said h in
+          (all, subst (AgreeUpTo a.lines a.counts) (sym same) (p.2 taken said h).1, subst (λ l. IsText (taken ++ told.0) c.counts (said ++ l ∷ [])) (end_said c.counts said (Numbers (map fraction_of last.items)) end.0.fits) end.0, end.1, end.2)
+          ),
+    )
 
 -- or something does
 pub done_unread : (a b : Reading) (x y z : Option (List ℕ)) (last : ArrayVec Frac 24 (Unit {0})) (end : ReadEnd)

@@ -6,11 +6,13 @@ use Rattle.std.proofs.lemmas.List.{length-map}
 use Rattle.std.proofs.lemmas.List.FromFn.{length-enumerate_from}
 use Rattle.bid_rules.specs.Fractions.{Fraction}
 use Rattle.cert_reader.specs.declared.forms.Counts.{Counts}
-use Rattle.cert_reader.specs.declared.forms.Counts.TheVariants.{Fares, Rent}
+use Rattle.cert_reader.specs.declared.forms.Counts.TheVariants.{Fares, Goods, Rent}
 use Rattle.cert_reader.specs.Forms.{forms_of}
 use Rattle.cert_reader.specs.Reading.{IsRead, Reading}
-use Rattle.cert_reader.specs.Text.{CanSayAll, IsBrokenText, IsText, Numbers, Said, wholes}
-use Rattle.cert_reader.specs.Views.{FaresView, OfFares, OfRent, RentView, View, counts_of, said_of, says}
+use Rattle.cert_reader.specs.GoodsViews.{GoodsView}
+use Rattle.cert_reader.specs.Shapes.{HasRows}
+use Rattle.cert_reader.specs.Text.{CanSayAll, IsBrokenText, IsText, Marks, Numbers, Said, wholes}
+use Rattle.cert_reader.specs.Views.{FaresView, OfFares, OfGoods, OfRent, RentView, View, counts_of, said_of, says}
 use Rattle.cert_reader.proofs.Agreeing.{agree_whole, begins_once}
 use Rattle.cert_reader.proofs.Beginnings.{begins_less, text_begins}
 use Rattle.cert_reader.proofs.FormPlaces.{lines_some}
@@ -101,12 +103,26 @@ made_fares : (a b : FaresView) → a.places ≡ b.places → a.flag ≡ b.flag �
     → make_fares a.places a.flag a.legs a.who a.at a.sets a.route a.fares ≡ make_fares b.places b.flag b.legs b.who b.at b.sets b.route b.fares
 made_fares a b e f g h i j k l = cc
 
+make_goods : ℕ → ℤ → List ℤ → List (List ℤ) → List ℤ → ℤ → List ℕ → GoodsView
+make_goods goods limit who values owners steps marks = record { goods = goods; limit = limit; who = who; values = values; owners = owners; steps = steps; marks = marks }
+
+made_goods : (a b : GoodsView) → a.goods ≡ b.goods → a.limit ≡ b.limit → a.who ≡ b.who → a.values ≡ b.values → a.owners ≡ b.owners → a.steps ≡ b.steps → a.marks ≡ b.marks
+    → make_goods a.goods a.limit a.who a.values a.owners a.steps a.marks ≡ make_goods b.goods b.limit b.who b.values b.owners b.steps b.marks
+made_goods a b e f g h i j k = cc
+
 first_of : List ℤ → ℤ
 first_of xs = get_or xs 0 (pos 0)
 
 -- the line at a place
 line_at : List Said → ℕ → List Fraction
 line_at said k = numbers_of_said (get_or said k (Numbers []))
+
+marks_at : List Said → ℕ → List ℕ
+marks_at said k = marks_in (get_or said k (Marks []))
+  where
+    marks_in : Said → List ℕ
+    marks_in (Marks marks) = marks
+    marks_in said = []
 
 -- rents that say the same are the same
 rent_once : (a b : RentView) → said_of (OfRent a) ≡ said_of (OfRent b) → a ≡ b
@@ -125,6 +141,16 @@ rent_once a b e =
         let front = length-append (map says a.values) (says a.rooms ∷ says a.left ∷ says a.right ∷ says a.walks ∷ says a.ranks ∷ Numbers a.prices ∷ says [] ∷ []) in
         let other = length-append (map says b.values) (says b.rooms ∷ says b.left ∷ says b.right ∷ says b.walks ∷ says b.ranks ∷ Numbers b.prices ∷ says [] ∷ []) in
         omega (arith, long, front, other, length-map a.values says, length-map b.values says)
+
+-- and so are goods with as many lines of values
+goods_once : (a b : GoodsView) → a.goods ≡ b.goods → length a.values ≡ length b.values → said_of (OfGoods a) ≡ said_of (OfGoods b) → a ≡ b
+unfolding make_goods line_at marks_at numbers_of_said first_of
+goods_once a b goods values e =
+    let behind = rows_once a.values b.values _ _ values (ap (drop 6) e) in
+    made_goods a b goods
+    (ap first_of (wholes_once (a.limit ∷ []) (b.limit ∷ []) (ap (λ l. line_at l 4) e))) (wholes_once a.who b.who (ap (λ l. line_at l 5) e)) behind.0
+    (wholes_once a.owners b.owners (ap (λ l. line_at l 0) behind.1)) (ap first_of (wholes_once (a.steps ∷ []) (b.steps ∷ []) (ap (λ l. line_at l 1) behind.1)))
+    (ap (λ l. marks_at l 2) behind.1)
 
 -- and so are fares with as many legs
 fares_once : (a b : FaresView) → a.places ≡ b.places → length a.legs ≡ length b.legs → said_of (OfFares a) ≡ said_of (OfFares b) → a ≡ b
@@ -150,21 +176,32 @@ fares_once a b places legs e =
     lengths : length (set_lines a ++ tail_lines a) ≡ length (set_lines b ++ tail_lines b) → length a.sets ≡ length b.sets
     lengths long = omega (arith, long, many a, many b)
 
--- a view that has a row of legs from the origin and from each place
-unfoldable pub IsShaped : View → Type 0
-IsShaped (OfRent view) = Unit {0}
-IsShaped (OfFares view) = length view.legs ≡ view.places + 1
+-- what counts count
+first_count : Counts → ℕ
+first_count (Rent n) = n
+first_count (Goods n goods) = n
+first_count (Fares n places) = n
 
-pub view_once : (bytes : List ℕ) (a b : View) → IsShaped a → IsShaped b → IsText bytes (counts_of a) (said_of a) → IsText bytes (counts_of b) (said_of b) → b ≡ a
-unfolding IsShaped
+second_count : Counts → ℕ
+second_count (Rent n) = 0
+second_count (Goods n goods) = goods
+second_count (Fares n places) = places
+
+-- a text has one view
+pub view_once : (bytes : List ℕ) (a b : View) → HasRows a → HasRows b → IsText bytes (counts_of a) (said_of a) → IsText bytes (counts_of b) (said_of b) → b ≡ a
+unfolding first_count second_count
 view_once bytes (OfRent a) (OfRent b) p q h g = ap OfRent (sym (rent_once a b (sym (text_once bytes (counts_of (OfRent a)) (counts_of (OfRent b)) (said_of (OfRent a)) (said_of (OfRent b)) h g).1)))
+view_once bytes (OfGoods a) (OfGoods b) p q h g =
+    let same = text_once bytes (counts_of (OfGoods a)) (counts_of (OfGoods b)) (said_of (OfGoods a)) (said_of (OfGoods b)) h g in
+    let players : length a.who ≡ length b.who = sym (ap first_count same.0) in
+    ap OfGoods (sym (goods_once a b (sym (ap second_count same.0)) (p ∙ players ∙ sym q) (sym same.1)))
 view_once bytes (OfFares a) (OfFares b) p q h g =
     let same = text_once bytes (counts_of (OfFares a)) (counts_of (OfFares b)) (said_of (OfFares a)) (said_of (OfFares b)) h g in
-    let places : a.places ≡ b.places = sym (ap places_in same.0) in
+    let places : a.places ≡ b.places = sym (ap second_count same.0) in
     ap OfFares (sym (fares_once a b places (p ∙ ap (λ n. n + 1) places ∙ sym q) (sym same.1)))
-  where
-    places_in : Counts → ℕ
-    places_in (Fares n places) = places
-    places_in (Rent n) = 0
+view_once bytes (OfRent a) (OfGoods b) p q h g = absurd (let same = text_once bytes (counts_of (OfRent a)) (counts_of (OfGoods b)) (said_of (OfRent a)) (said_of (OfGoods b)) h g in cc (same.0))
 view_once bytes (OfRent a) (OfFares b) p q h g = absurd (let same = text_once bytes (counts_of (OfRent a)) (counts_of (OfFares b)) (said_of (OfRent a)) (said_of (OfFares b)) h g in cc (same.0))
+view_once bytes (OfGoods a) (OfRent b) p q h g = absurd (let same = text_once bytes (counts_of (OfGoods a)) (counts_of (OfRent b)) (said_of (OfGoods a)) (said_of (OfRent b)) h g in cc (same.0))
+view_once bytes (OfGoods a) (OfFares b) p q h g = absurd (let same = text_once bytes (counts_of (OfGoods a)) (counts_of (OfFares b)) (said_of (OfGoods a)) (said_of (OfFares b)) h g in cc (same.0))
 view_once bytes (OfFares a) (OfRent b) p q h g = absurd (let same = text_once bytes (counts_of (OfFares a)) (counts_of (OfRent b)) (said_of (OfFares a)) (said_of (OfRent b)) h g in cc (same.0))
+view_once bytes (OfFares a) (OfGoods b) p q h g = absurd (let same = text_once bytes (counts_of (OfFares a)) (counts_of (OfGoods b)) (said_of (OfFares a)) (said_of (OfGoods b)) h g in cc (same.0))

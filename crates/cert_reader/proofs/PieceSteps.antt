@@ -1,5 +1,5 @@
 -- What an answer on held bytes says of all bytes that were taken from the source.
-use Rattle.std.proofs.Common.{◌≡◌, ℕ, ◌+◌, ◌<◌, ◌≤◌, List, [], ◌∷◌, ◌++◌, length, map, arith, refl, sym, ap, ◌∙◌, subst, length-append, append_assoc, append-nil}
+use Rattle.std.proofs.Common.{◌≡◌, ℕ, ◌+◌, ◌<◌, ◌≤◌, List, [], ◌∷◌, ◌++◌, length, map, take, Bool, false, arith, refl, sym, ap, ◌∙◌, subst, length-append, append_assoc, append-nil}
 use Rattle.std.specs.Prelude.{Option, Ok, Err}
 use Rattle.std.proofs.KnownBytes.{Consumes-trans}
 use Rattle.arrayvec.specs.declared.array_vec.ArrayVec.{ArrayVec}
@@ -13,17 +13,37 @@ use Rattle.cert_reader.specs.Order.{AgreeUpTo, HasNoLine, form_in}
 use Rattle.cert_reader.specs.Reading.{Begins, Goes, IsEnd, IsLineRead, IsRead, Reading}
 use Rattle.cert_reader.specs.Steps.{IsRefused, IsSettled}
 use Rattle.cert_reader.specs.Stream.{Hands, Held, IsStopped, taken_count}
-use Rattle.cert_reader.specs.Text.{CanSay, IsBrokenText, Numbers, Said, said_text}
+use Rattle.cert_reader.specs.Text.{CanSay, IsBrokenText, Numbers, Said, said_text, text_of}
 use Rattle.cert_reader.proofs.Beginnings.{begins_grown, begins_more, begins_others, broken_behind, none_behind}
 use Rattle.cert_reader.proofs.FormLines.{said_line}
 use Rattle.cert_reader.proofs.Handed.{hands_trans, stops_after}
 
--- the reading of held bytes
+-- the reading of held bytes, behind whole lines or within a tree
+abbrev pub reading_at : Held → ℕ → Counts → Bool → Reading
+reading_at held lines counts in_tree = record { ahead = held.ahead; given = held.given; lines = lines; counts = counts; in_tree = in_tree }
+
 abbrev pub reading_of : Held → ℕ → Counts → Reading
-reading_of held lines counts = record { ahead = held.ahead; given = held.given; lines = lines; counts = counts }
+reading_of held lines counts = reading_at held lines counts false
+
+-- which of both a reading is
+pub reading_is : (r : Reading) (held : Held) (lines : ℕ) (counts : Counts) (in_tree is : Bool) → reading_at held lines counts in_tree ≡ r → r.in_tree ≡ is → reading_at held lines counts is ≡ r
+reading_is r held lines counts in_tree is e at = subst (λ b. reading_at held lines counts b ≡ r) (ap (λ s. s.in_tree) e ∙ at) e
+
+-- whole lines that were read are the first of the bytes taken
+pub whole_begins : (held : Held) (lines : ℕ) (counts : Counts) (taken : List ℕ) (said : List Said) → IsRead (reading_of held lines counts) taken said → Begins taken lines counts said held.ahead
+whole_begins held lines counts taken said h = subst (λ bytes. Begins bytes lines counts said held.ahead) (sym h.is_taken) h.begins
+
+pub begins_whole : (held : Held) (lines : ℕ) (counts : Counts) (taken : List ℕ) (said : List Said) → Begins taken lines counts said held.ahead → length taken ≡ held.given + length held.ahead
+    → IsRead (reading_of held lines counts) taken said
+begins_whole held lines counts taken said h total = record {
+  front = text_of (take lines (forms_of counts)) said;
+  is_taken = h.text;
+  begins = subst (λ bytes. Begins bytes lines counts said held.ahead) h.text h;
+  total = total;
+}
 
 -- how many bytes were taken in all
-total_of : (a b : Held) (x y : Option (List ℕ)) (handed taken : List ℕ) (p : Hands a b x y handed) → length taken ≡ a.given + length a.ahead → length (taken ++ p.more) ≡ b.given + length b.ahead
+pub total_of : (a b : Held) (x y : Option (List ℕ)) (handed taken : List ℕ) (p : Hands a b x y handed) → length taken ≡ a.given + length a.ahead → length (taken ++ p.more) ≡ b.given + length b.ahead
 total_of a b x y handed taken p e =
     let given = p.given in
     let both : length a.ahead + length p.more ≡ length handed + length b.ahead = sym (length-append a.ahead p.more) ∙ ap length p.seam ∙ length-append handed b.ahead in
@@ -33,18 +53,17 @@ total_of a b x y handed taken p e =
 -- a line was handed out
 line_read : (a b : Held) (x y : Option (List ℕ)) (lines : ℕ) (known counts : Counts) (last : Said) (taken : List ℕ) (said : List Said) → AreCounts counts → AgreeUpTo lines known counts → lines < length (forms_of counts)
     → CanSay (form_in counts lines) last → (p : Hands a b x y (said_text (form_in counts lines) last)) → IsRead (reading_of a lines known) taken said → IsRead (reading_of b (lines + 1) counts) (taken ++ p.more) (said ++ last ∷ [])
-line_read a b x y lines known counts last taken said are agree within can p h = record {
-  begins = begins_more (taken ++ p.more) (a.ahead ++ p.more) b.ahead lines counts said last
-      (begins_others (taken ++ p.more) (a.ahead ++ p.more) lines known counts said (begins_grown taken p.more a.ahead lines known said h.begins) are agree (omega arith)) within can p.seam;
-  total = total_of a b x y (said_text (form_in counts lines) last) taken p h.total;
-}
+line_read a b x y lines known counts last taken said are agree within can p h = begins_whole b (lines + 1) counts (taken ++ p.more) (said ++ last ∷ [])
+    (begins_more (taken ++ p.more) (a.ahead ++ p.more) b.ahead lines counts said last
+    (begins_others (taken ++ p.more) (a.ahead ++ p.more) lines known counts said (begins_grown taken p.more a.ahead lines known said (whole_begins a lines known taken said h)) are agree (omega arith)) within can p.seam)
+    (total_of a b x y (said_text (form_in counts lines) last) taken p h.total)
 
 -- the reading stopped
-stop_end : (a : Held) (x y : Option (List ℕ)) (lines : ℕ) (known : Counts) (end : ReadEnd) → IsStopped a x y end → Goes (reading_of a lines known) x y (λ taken said. IsEnd end y taken)
-stop_end a x y lines known (NotText line) (more, took, at) = absurd at
-stop_end a x y lines known NoMemory (more, took, at) = absurd at
-stop_end a x y lines known TooLong (more, took, at) = (more, took, λ taken said h. (let total = h.total in let all : length (taken ++ more) ≡ length taken + length more = length-append taken more in omega (arith, total, all, at)))
-stop_end a x y lines known ReadFault (more, took, at) = (more, took, λ taken said h. (let total = h.total in let all : length (taken ++ more) ≡ length taken + length more = length-append taken more in omega (arith, total, all, at)))
+pub stop_end : (a : Held) (x y : Option (List ℕ)) (lines : ℕ) (known : Counts) (in_tree : Bool) (end : ReadEnd) → IsStopped a x y end → Goes (reading_at a lines known in_tree) x y (λ taken said. IsEnd end y taken)
+stop_end a x y lines known in_tree (NotText line) (more, took, at) = absurd at
+stop_end a x y lines known in_tree NoMemory (more, took, at) = absurd at
+stop_end a x y lines known in_tree TooLong (more, took, at) = (more, took, λ taken said h. (let total = h.total in let all : length (taken ++ more) ≡ length taken + length more = length-append taken more in omega (arith, total, all, at)))
+stop_end a x y lines known in_tree ReadFault (more, took, at) = (more, took, λ taken said h. (let total = h.total in let all : length (taken ++ more) ≡ length taken + length more = length-append taken more in omega (arith, total, all, at)))
 
 -- a line is broken
 pub refused_end : (a b : Held) (x y : Option (List ℕ)) (lines : ℕ) (known : Counts) (none : List ℕ → Type 0) (end : ReadEnd) → taken_count b ≤ 4000000
@@ -56,15 +75,15 @@ refused_end a b x y lines known none (NotText line) few never (is, (text, p, ahe
   λ taken said h. (
     subst (IsBrokenText (taken ++ p.more)) (sym is)
         (broken_behind (taken ++ p.more) text lines known said
-        (subst (Begins (taken ++ p.more) lines known said) (p.seam ∙ ap (λ xs. text ++ xs) ahead ∙ append-nil text) (begins_grown taken p.more a.ahead lines known said h.begins))
+        (subst (Begins (taken ++ p.more) lines known said) (p.seam ∙ ap (λ xs. text ++ xs) ahead ∙ append-nil text) (begins_grown taken p.more a.ahead lines known said (whole_begins a lines known taken said h)))
         (never text no_line).1 (never text no_line).0),
     (let total = total_of a b x y text taken p h.total in omega arith),
     at,
   ),
 )
-refused_end a b x y lines known none TooLong few never stop = stop_end a x y lines known TooLong stop
-refused_end a b x y lines known none ReadFault few never stop = stop_end a x y lines known ReadFault stop
-refused_end a b x y lines known none NoMemory few never stop = stop_end a x y lines known NoMemory stop
+refused_end a b x y lines known none TooLong few never stop = stop_end a x y lines known false TooLong stop
+refused_end a b x y lines known none ReadFault few never stop = stop_end a x y lines known false ReadFault stop
+refused_end a b x y lines known none NoMemory few never stop = stop_end a x y lines known false NoMemory stop
 
 -- one line more, or a broken one
 pub settled_line : (a b : Held) (x y : Option (List ℕ)) (lines : ℕ) (known counts : Counts) (numbers : ArrayVec Frac 24 (Unit {0})) → IsSettled a b x y lines known (Ok (counts, numbers))
@@ -99,20 +118,23 @@ pub refused_behind_all : (a b c : Held) (x y z : Option (List ℕ)) (lines : ℕ
 refused_behind_all a b c x y z lines known byte (NotText line) few all p (is, (text, q, ahead, at, _)) =
     refused_end a c x z lines known (λ bytes. bytes ≡ byte ∷ text) (NotText line) few (λ bytes e. (none_behind lines known bytes all, λ _ none. cc (e, none)))
     (is, (byte ∷ text, hands_trans a b c x y z (byte ∷ []) text p q, ahead, at, refl))
-refused_behind_all a b c x y z lines known byte TooLong few all p stop = stop_end a x z lines known TooLong (stops_after a b x y z (byte ∷ []) TooLong p stop)
-refused_behind_all a b c x y z lines known byte ReadFault few all p stop = stop_end a x z lines known ReadFault (stops_after a b x y z (byte ∷ []) ReadFault p stop)
-refused_behind_all a b c x y z lines known byte NoMemory few all p stop = stop_end a x z lines known NoMemory (stops_after a b x y z (byte ∷ []) NoMemory p stop)
+refused_behind_all a b c x y z lines known byte TooLong few all p stop = stop_end a x z lines known false TooLong (stops_after a b x y z (byte ∷ []) TooLong p stop)
+refused_behind_all a b c x y z lines known byte ReadFault few all p stop = stop_end a x z lines known false ReadFault (stops_after a b x y z (byte ∷ []) ReadFault p stop)
+refused_behind_all a b c x y z lines known byte NoMemory few all p stop = stop_end a x z lines known false NoMemory (stops_after a b x y z (byte ∷ []) NoMemory p stop)
 
 -- the same of a reading that is given by its fields
-pub settled_line_at : (r : Reading) (a b : Held) (x y : Option (List ℕ)) (lines : ℕ) (known counts : Counts) (numbers : ArrayVec Frac 24 (Unit {0})) → reading_of a lines known ≡ r → IsSettled a b x y lines known (Ok (counts, numbers))
-    → Goes r x y (λ taken said. IsLineRead r (reading_of b (lines + 1) counts) y taken said (Ok numbers))
-settled_line_at r a b x y lines known counts numbers e settled =
-    subst (λ s. Goes s x y (λ taken said. IsLineRead s (reading_of b (lines + 1) counts) y taken said (Ok numbers))) e (settled_line a b x y lines known counts numbers settled)
+pub settled_line_at : (r : Reading) (a b : Held) (x y : Option (List ℕ)) (lines : ℕ) (known counts : Counts) (in_tree : Bool) (numbers : ArrayVec Frac 24 (Unit {0})) → reading_at a lines known in_tree ≡ r → r.in_tree ≡ false
+    → IsSettled a b x y lines known (Ok (counts, numbers)) → Goes r x y (λ taken said. IsLineRead r (reading_at b (lines + 1) counts in_tree) y taken said (Ok numbers))
+settled_line_at r a b x y lines known counts in_tree numbers e whole settled =
+    subst (λ t. Goes r x y (λ taken said. IsLineRead r (reading_at b (lines + 1) counts t) y taken said (Ok numbers))) (sym (ap (λ s. s.in_tree) e ∙ whole))
+    (subst (λ s. Goes s x y (λ taken said. IsLineRead s (reading_of b (lines + 1) counts) y taken said (Ok numbers))) (reading_is r a lines known in_tree false e whole) (settled_line a b x y lines known counts numbers settled))
 
-pub settled_end_at : (r : Reading) (a b : Held) (x y : Option (List ℕ)) (lines : ℕ) (known : Counts) (end : ReadEnd) → reading_of a lines known ≡ r → taken_count b ≤ 4000000 → lines < length (forms_of known)
-    → IsSettled a b x y lines known (Err end) → Goes r x y (λ taken said. IsEnd end y taken)
-settled_end_at r a b x y lines known end e few within stop = subst (λ s. Goes s x y (λ taken said. IsEnd end y taken)) e (settled_end a b x y lines known end few within stop)
+pub settled_end_at : (r : Reading) (a b : Held) (x y : Option (List ℕ)) (lines : ℕ) (known : Counts) (in_tree : Bool) (end : ReadEnd) → reading_at a lines known in_tree ≡ r → r.in_tree ≡ false → taken_count b ≤ 4000000
+    → lines < length (forms_of known) → IsSettled a b x y lines known (Err end) → Goes r x y (λ taken said. IsEnd end y taken)
+settled_end_at r a b x y lines known in_tree end e whole few within stop =
+    subst (λ s. Goes s x y (λ taken said. IsEnd end y taken)) (reading_is r a lines known in_tree false e whole) (settled_end a b x y lines known end few within stop)
 
-pub refused_behind_all_at : (r : Reading) (a b c : Held) (x y z : Option (List ℕ)) (lines : ℕ) (known : Counts) (byte : ℕ) (end : ReadEnd) → reading_of a lines known ≡ r → taken_count c ≤ 4000000 → lines ≡ length (forms_of known)
-    → Hands a b x y (byte ∷ []) → IsRefused b c y z (lines + 1) (λ _. Unit {0}) end → Goes r x z (λ taken said. IsEnd end z taken)
-refused_behind_all_at r a b c x y z lines known byte end e few all p stop = subst (λ s. Goes s x z (λ taken said. IsEnd end z taken)) e (refused_behind_all a b c x y z lines known byte end few all p stop)
+pub refused_behind_all_at : (r : Reading) (a b c : Held) (x y z : Option (List ℕ)) (lines : ℕ) (known : Counts) (in_tree : Bool) (byte : ℕ) (end : ReadEnd) → reading_at a lines known in_tree ≡ r → r.in_tree ≡ false
+    → taken_count c ≤ 4000000 → lines ≡ length (forms_of known) → Hands a b x y (byte ∷ []) → IsRefused b c y z (lines + 1) (λ _. Unit {0}) end → Goes r x z (λ taken said. IsEnd end z taken)
+refused_behind_all_at r a b c x y z lines known in_tree byte end e whole few all p stop =
+    subst (λ s. Goes s x z (λ taken said. IsEnd end z taken)) (reading_is r a lines known in_tree false e whole) (refused_behind_all a b c x y z lines known byte end few all p stop)

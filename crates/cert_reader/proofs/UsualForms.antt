@@ -1,30 +1,32 @@
 -- Every form of a text has some line, and none but short ones.
-use Rattle.std.proofs.Common.{◌≡◌, ℕ, pos, zero, suc, ◌+◌, ◌-◌, ◌^◌, ◌<◌, ◌≤◌, List, [], ◌∷◌, ◌++◌, length, map, get_or, drop, All, Bool, true, false, replicate, arith, refl, subst}
+use Rattle.std.proofs.Common.{◌≡◌, ℕ, pos, zero, suc, ◌+◌, ◌-◌, ◌^◌, ◌<◌, ◌≤◌, List, [], ◌∷◌, ◌++◌, length, map, get_or, drop, All, Bool, true, false, replicate, arith, refl, inl}
 use Rattle.std.specs.List.{range_with_len}
 use Rattle.std.proofs.Math.Nat.{one-dvd}
 use Rattle.std.proofs.lemmas.Int.{ints}
 use Rattle.std.proofs.lemmas.List.{length-replicate}
-use Rattle.std.proofs.lemmas.List.Elements.{All-cons, All-replicate}
+use Rattle.std.proofs.lemmas.List.Elements.{All-cons, All-nil, All-replicate}
 use Rattle.bid_rules.specs.Fractions.{Fraction}
 use Rattle.cert_reader.specs.declared.forms.Counts.{Counts}
-use Rattle.cert_reader.specs.declared.forms.Counts.TheVariants.{Fares, Rent}
-use Rattle.cert_reader.specs.declared.forms.LineForm.{LineForm}
+use Rattle.cert_reader.specs.declared.forms.Counts.TheVariants.{Fares, Goods, Rent}
 use Rattle.cert_reader.specs.declared.forms.Word.{Word}
 use Rattle.cert_reader.specs.declared.forms.Word.TheVariants as word
-use Rattle.cert_reader.specs.Forms.{AreCounts, Form, Line, Tree, fares_forms, forms_of, fractions_of, led_by, numbers_of, rent_forms, set_form}
+use Rattle.cert_reader.specs.Forms.{AreCounts, Form, Line, Tree, fares_forms, forms_of, fractions_of, goods_forms, led_by, numbers_of, rent_forms, set_form}
 use Rattle.cert_reader.specs.Numbers.{IsNumber}
 use Rattle.cert_reader.specs.Order.{IsLineOf, form_in}
 use Rattle.cert_reader.specs.Sets.{sets_of, starts}
-use Rattle.cert_reader.specs.Text.{CanSay, CanSayAll, Numbers, Said}
+use Rattle.cert_reader.specs.Text.{CanSay, CanSayAll, IsMark, Marks, Numbers, Said}
 use Rattle.cert_reader.proofs.FormLines.{line_short}
 use Rattle.cert_reader.proofs.FormPlaces.{sets_few}
 use Rattle.cert_reader.proofs.Starts.{starts_few}
 
+-- how many numbers a line has; a tree has none
+abbrev pub count_in : Form → ℕ
+count_in (Line form) = form.count
+count_in Tree = 0
+
 -- a form of at most 24 numbers, of which some line exists
 pub record Usual (form : Form) : Type 0 where
-  pub line : LineForm
-  pub is : form ≡ Line line
-  pub short : line.count ≤ 24
+  pub short : count_in form ≤ 24
   pub said : Said
   pub can : CanSay form said
 
@@ -51,15 +53,13 @@ zeros : (whole : Bool) (n : ℕ) → All (IsNumber whole) (replicate n (pos 0, 1
 zeros whole n = All-replicate (IsNumber whole) n (pos 0, 1) (number_written whole 0 (omega arith))
 
 usual_numbers : (w : Word) (n : ℕ) → n ≤ 24 → Usual (numbers_of w n)
-usual_numbers w n few = record { line = record { word = w; lead = _; count = n; whole = true }; is = refl; short = few; said = Numbers (replicate n (pos 0, 1)); can = record { each = length-replicate n (pos 0, 1); written = zeros true n; first = tt } }
+usual_numbers w n few = record { short = few; said = Numbers (replicate n (pos 0, 1)); can = record { each = length-replicate n (pos 0, 1); written = zeros true n; first = tt } }
 
 usual_fractions : (w : Word) (n : ℕ) → n ≤ 24 → Usual (fractions_of w n)
-usual_fractions w n few = record { line = record { word = w; lead = _; count = n; whole = false }; is = refl; short = few; said = Numbers (replicate n (pos 0, 1)); can = record { each = length-replicate n (pos 0, 1); written = zeros false n; first = tt } }
+usual_fractions w n few = record { short = few; said = Numbers (replicate n (pos 0, 1)); can = record { each = length-replicate n (pos 0, 1); written = zeros false n; first = tt } }
 
 usual_led : (w : Word) (lead n : ℕ) → lead < 10 ^ 25 → n < 24 → Usual (led_by w lead (n + 1))
 usual_led w lead n small few = record {
-  line = record { word = w; lead = _; count = n + 1; whole = true };
-  is = refl;
   short = omega arith;
   said = Numbers ((pos lead, 1) ∷ replicate n (pos 0, 1));
   can = record {
@@ -72,6 +72,10 @@ usual_led w lead n small few = record {
     the_zero : Fraction
     the_zero = (pos 0, 1)
 
+-- the line of a tree, be it of one mark
+usual_tree : Usual Tree
+usual_tree = record { short = omega arith; said = Marks (43 ∷ []); can = (omega arith, All-cons IsMark 43 [] (inl refl) (All-nil IsMark)) }
+
 -- the lines of sets
 usual_sets : (n first many : ℕ) → n ≤ 10 → first + many ≤ 1024 → AreUsual (map (set_form n) (range_with_len first many))
 unfolding AreUsual
@@ -83,7 +87,7 @@ usual_sets n first (suc many) few small = (
 
 -- all forms of a text
 pub usual_forms : (counts : Counts) → AreCounts counts → AreUsual (forms_of counts)
-unfolding AreUsual rent_forms fares_forms
+unfolding AreUsual rent_forms goods_forms fares_forms
 usual_forms (Rent n) are =
     let few = are.1 in (
       usual_led word.Fairsplit 1 0 (omega arith) (omega arith),
@@ -106,6 +110,30 @@ usual_forms (Rent n) are =
                       (usual_fractions word.Prices n (omega arith), (usual_numbers word.End 0 (omega arith), tt)),
                     ),
                   ),
+                ),
+              ),
+            ),
+          ),
+        ),
+      ),
+    )
+usual_forms (Goods n goods) are =
+    let few = are.1 in
+    let near = are.3 in (
+      usual_led word.Fairsplit 1 0 (omega arith) (omega arith),
+      (
+        usual_numbers word.KindGoods 0 (omega arith),
+        (
+          usual_led word.Players n 0 (omega arith) (omega arith),
+          (
+            usual_led word.Goods goods 0 (omega arith) (omega arith),
+            (
+              usual_numbers word.Limit 1 (omega arith),
+              (
+                usual_numbers word.Who n (omega arith),
+                usual-append (replicate n (numbers_of word.Values goods)) _ (usual-replicate n (numbers_of word.Values goods) (usual_numbers word.Values goods (omega arith))) (
+                  usual_numbers word.Owners goods (omega arith),
+                  (usual_numbers word.Steps 1 (omega arith), (usual_tree, (usual_numbers word.End 0 (omega arith), tt))),
                 ),
               ),
             ),
@@ -159,8 +187,10 @@ unfolding AreUsual
 some_said [] h = ([], tt)
 some_said (f ∷ forms) h = (h.0.said ∷ (some_said forms h.1).0, (h.0.can, (some_said forms h.1).1))
 
--- a line of a text is within the longest
-pub short_in : (counts : Counts) (i : ℕ) (said : Said) (text : List ℕ) → AreCounts counts → i < length (forms_of counts) → IsLineOf (form_in counts i) said text → length text ≤ 1024
-short_in counts i said text are within is =
-    let usual = usual_at (forms_of counts) i (usual_forms counts are) within in
-    line_short usual.line said text usual.short (subst (λ form. IsLineOf form said text) usual.is is)
+-- a line of numbers of a text is within the longest
+pub short_in : (counts : Counts) (i : ℕ) (said : Said) (text : List ℕ) → AreCounts counts → i < length (forms_of counts) → (form_in counts i ≡ Tree → ⊥) → IsLineOf (form_in counts i) said text → length text ≤ 1024
+short_in counts i said text are within line is = within_longest (form_in counts i) (usual_at (forms_of counts) i (usual_forms counts are) within).short line is
+  where
+    within_longest : (form : Form) → count_in form ≤ 24 → (form ≡ Tree → ⊥) → IsLineOf form said text → length text ≤ 1024
+    within_longest (Line form) short line is = line_short form said text short is
+    within_longest Tree short line is = absurd (line refl)

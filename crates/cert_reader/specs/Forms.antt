@@ -1,6 +1,6 @@
 -- Which lines follow one another in a certificate text.
 use Rattle.std.specs.Prelude.{ℕ, ◌+◌, ◌≤◌, List, [], ◌∷◌, ◌++◌, length, map, replicate, true, false, Some, None}
-use Rattle.bid_rules.specs.declared.limits.TheConstants.{MOST_MEMBERS, MOST_PLACES, MOST_RIDERS}
+use Rattle.bid_rules.specs.declared.limits.TheConstants.{MOST_GOODS, MOST_MEMBERS, MOST_PLACES, MOST_RIDERS}
 use Rattle.cert_reader.specs.declared.forms.Counts.{Counts}
 use Rattle.cert_reader.specs.declared.forms.Counts.TheVariants as count
 use Rattle.cert_reader.specs.declared.forms.LineForm.{LineForm}
@@ -35,6 +35,16 @@ rent_tail n = numbers_of word.Rooms n ∷ numbers_of word.Left n ∷ numbers_of 
 unfoldable pub rent_forms : ℕ → List Form
 rent_forms n = rent_head n ++ (replicate n (numbers_of word.Values n) ++ rent_tail n)
 
+-- the lines of goods for n players and so many goods: the head, a line of values a player, and the rest, where the tree stands
+abbrev pub goods_head : ℕ → ℕ → List Form
+goods_head n goods = led_by word.Fairsplit 1 1 ∷ numbers_of word.KindGoods 0 ∷ led_by word.Players n 1 ∷ led_by word.Goods goods 1 ∷ numbers_of word.Limit 1 ∷ numbers_of word.Who n ∷ []
+
+abbrev pub goods_tail : ℕ → List Form
+goods_tail goods = numbers_of word.Owners goods ∷ numbers_of word.Steps 1 ∷ Tree ∷ numbers_of word.End 0 ∷ []
+
+unfoldable pub goods_forms : ℕ → ℕ → List Form
+goods_forms n goods = goods_head n goods ++ (replicate n (numbers_of word.Values goods) ++ goods_tail goods)
+
 -- the lines of fares for n riders and so many places: the head, the legs from the origin and from each place, who gets off where, a line a set, and the rest
 abbrev pub fares_head : ℕ → ℕ → List Form
 fares_head n places = led_by word.Fairsplit 1 1 ∷ numbers_of word.KindFares 0 ∷ led_by word.Riders n 1 ∷ led_by word.Places places 1 ∷ numbers_of word.Flag 1 ∷ []
@@ -55,9 +65,11 @@ fares_forms n places = fares_head n places ++ (replicate (places + 1) (numbers_o
 -- all lines of a text for these counts
 abbrev pub forms_of : Counts → List Form
 forms_of (count.Rent n) = rent_forms n
+forms_of (count.Goods n goods) = goods_forms n goods
 forms_of (count.Fares n places) = fares_forms n places
 
 -- the counts that a text can have
 abbrev pub AreCounts : Counts → Type 0
 AreCounts (count.Rent n) = (1 ≤ n) × (n ≤ MOST_MEMBERS)
+AreCounts (count.Goods n goods) = (1 ≤ n) × (n ≤ MOST_MEMBERS) × (1 ≤ goods) × (goods ≤ MOST_GOODS)
 AreCounts (count.Fares n places) = (1 ≤ n) × (n ≤ MOST_RIDERS) × (1 ≤ places) × (places ≤ MOST_PLACES)

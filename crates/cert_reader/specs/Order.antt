@@ -1,8 +1,8 @@
 -- Which line stands where, and what of it the lines before it leave open.
 use Rattle.std.specs.Prelude.{◌≡◌, ℕ, zero, suc, ◌+◌, ◌<◌, ◌≤◌, List, [], ◌∷◌, ◌++◌, length, slice_index_or}
-use Rattle.bid_rules.specs.declared.limits.TheConstants.{MOST_MEMBERS, MOST_PLACES, MOST_RIDERS}
+use Rattle.bid_rules.specs.declared.limits.TheConstants.{MOST_GOODS, MOST_MEMBERS, MOST_PLACES, MOST_RIDERS}
 use Rattle.cert_reader.specs.declared.forms.Counts.{Counts}
-use Rattle.cert_reader.specs.declared.forms.Counts.TheVariants.{Fares, Rent}
+use Rattle.cert_reader.specs.declared.forms.Counts.TheVariants.{Fares, Goods, Rent}
 use Rattle.cert_reader.specs.Forms.{AreCounts, Form, Tree, forms_of}
 use Rattle.cert_reader.specs.Text.{CanSay, Said, said_text}
 
@@ -14,26 +14,32 @@ form_in counts index = slice_index_or (forms_of counts) index Tree
 abbrev pub IsLineOf : Form → Said → List ℕ → Type 0
 IsLineOf form said line = CanSay form said × (line ++ 10 ∷ [] ≡ said_text form said)
 
--- what the first k lines fix of these counts is the same: the kind in the second line, a count in the third, and the places in the fourth
+-- what the first k lines fix of these counts is the same: the kind in the second line, a count in the third, and the goods or the places in the fourth
 abbrev pub AgreeUpTo : ℕ → Counts → Counts → Type 0
 AgreeUpTo k (Rent n) (Rent m) = 2 < k → n ≡ m
+AgreeUpTo k (Goods n goods) (Goods m others) = (2 < k → n ≡ m) × (3 < k → goods ≡ others)
 AgreeUpTo k (Fares n places) (Fares m others) = (2 < k → n ≡ m) × (3 < k → places ≡ others)
 AgreeUpTo k a b = k ≤ 1
 
--- how many ways a line leaves open what the lines before it don't fix: two kinds, or the counts of a range
+-- how many ways a line leaves open what the lines before it don't fix: three kinds, or the counts of a range
 abbrev pub choice_count : ℕ → Counts → ℕ
-choice_count (suc zero) known = 2
+choice_count (suc zero) known = 3
 choice_count (suc (suc zero)) (Rent n) = MOST_MEMBERS
+choice_count (suc (suc zero)) (Goods n goods) = MOST_MEMBERS
 choice_count (suc (suc zero)) (Fares n places) = MOST_RIDERS
+choice_count (suc (suc (suc zero))) (Goods n goods) = MOST_GOODS
 choice_count (suc (suc (suc zero))) (Fares n places) = MOST_PLACES
 choice_count index known = 1
 
 -- the counts that each of the ways stands for; of what no line has fixed yet they have the least
 abbrev pub choice_of : ℕ → Counts → ℕ → Counts
 choice_of (suc zero) known zero = Rent 1
-choice_of (suc zero) known (suc choice) = Fares 1 1
+choice_of (suc zero) known (suc zero) = Goods 1 1
+choice_of (suc zero) known (suc (suc choice)) = Fares 1 1
 choice_of (suc (suc zero)) (Rent n) choice = Rent (choice + 1)
+choice_of (suc (suc zero)) (Goods n goods) choice = Goods (choice + 1) 1
 choice_of (suc (suc zero)) (Fares n places) choice = Fares (choice + 1) 1
+choice_of (suc (suc (suc zero))) (Goods n goods) choice = Goods n (choice + 1)
 choice_of (suc (suc (suc zero))) (Fares n places) choice = Fares n (choice + 1)
 choice_of index known choice = known
 

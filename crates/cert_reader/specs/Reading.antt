@@ -1,5 +1,5 @@
 -- How far a certificate text was read, and what an answer says of the bytes that were taken from the source.
-use Rattle.std.specs.Prelude.{◌≡◌, ℕ, pos, ◌+◌, ◌<◌, ◌≤◌, List, [], ◌∷◌, ◌++◌, length, map, take, Option, Result, Ok, Err, ⊤}
+use Rattle.std.specs.Prelude.{◌≡◌, ℕ, pos, ◌+◌, ◌-◌, ◌<◌, ◌≤◌, List, [], ◌∷◌, ◌++◌, length, map, take, Bool, cond, Option, Some, None, Result, Ok, Err, ⊤}
 use Rattle.std.specs.Io.KnownBytes.{Consumes, IsAtEnd}
 use Rattle.arrayvec.specs.declared.array_vec.ArrayVec.{ArrayVec}
 use Rattle.split_frac.specs.declared.frac.Frac.{Frac}
@@ -9,11 +9,11 @@ use Rattle.cert_reader.specs.declared.ends.ReadEnd.TheVariants.{NoMemory, NotTex
 use Rattle.cert_reader.specs.declared.forms.Counts.{Counts}
 use Rattle.cert_reader.specs.declared.limits.TheConstants.{MOST_BYTES}
 use Rattle.cert_reader.specs.declared.pieces.Piece.{Piece}
-use Rattle.cert_reader.specs.declared.pieces.Piece.TheVariants.{Done, Kind, Line}
-use Rattle.cert_reader.specs.Forms.{AreCounts, forms_of}
+use Rattle.cert_reader.specs.declared.pieces.Piece.TheVariants.{Done, Kind, Line, Mark}
+use Rattle.cert_reader.specs.Forms.{AreCounts, Tree, forms_of}
 use Rattle.cert_reader.specs.Kinds.{kind_of}
-use Rattle.cert_reader.specs.Order.{AgreeUpTo}
-use Rattle.cert_reader.specs.Text.{CanSayAll, IsBrokenText, IsText, Numbers, Said, text_of}
+use Rattle.cert_reader.specs.Order.{AgreeUpTo, form_in}
+use Rattle.cert_reader.specs.Text.{CanSayAll, IsBrokenText, IsText, Marks, Numbers, Said, text_of}
 use Rattle.cert_reader.specs.Views.{says}
 
 -- the bytes begin with the first k lines of a text with these counts, which say this, and the rest follows
@@ -24,17 +24,34 @@ pub record Begins (bytes : List ℕ) (k : ℕ) (counts : Counts) (said : List Sa
   pub text : bytes ≡ text_of (take k (forms_of counts)) said ++ rest
 
 -- a text that is being read: the bytes that are held, how many bytes the lines before them have, how many lines these are, and the counts so far;
--- of what no line has fixed yet the counts have the least
+-- of what no line has fixed yet the counts have the least. The last of the lines may be a tree that is being read, of which more marks may follow
 pub record Reading : Type 0 where
   pub ahead : List ℕ
   pub given : ℕ
   pub lines : ℕ
   pub counts : Counts
+  pub in_tree : Bool
 
--- the bytes taken from the source are lines that say this and what is held behind them
+-- what the last line still lacks: its LF, where it is a tree that is being read
+abbrev pub lacking : Reading → List ℕ
+lacking reading = cond reading.in_tree (10 ∷ []) []
+
+-- the bytes taken from the source are lines that say this, but for what the last one lacks, and what is held behind them
 pub record IsRead (reading : Reading) (taken : List ℕ) (said : List Said) : Type 0 where
-  pub begins : Begins taken reading.lines reading.counts said reading.ahead
+  pub front : List ℕ
+  pub is_taken : taken ≡ front ++ reading.ahead
+  pub begins : Begins (front ++ (lacking reading ++ reading.ahead)) reading.lines reading.counts said reading.ahead
   pub total : length taken ≡ reading.given + length reading.ahead
+
+-- what lines say with one mark more: behind those of the tree that is their last line, or as the first of a tree behind them
+abbrev pub with_mark : List Said → ℕ → List Said
+with_mark [] mark = Marks (mark ∷ []) ∷ []
+with_mark (Marks marks ∷ []) mark = Marks (marks ++ mark ∷ []) ∷ []
+with_mark (line ∷ lines) mark = line ∷ with_mark lines mark
+
+-- so many lines end with a tree
+abbrev pub EndsInTree : ℕ → Counts → Type 0
+EndsInTree lines counts = (0 < lines) × (form_in counts (lines - 1) ≡ Tree)
 
 -- a line is still to come
 abbrev pub IsOpen : Reading → Type 0
@@ -51,12 +68,15 @@ IsEnd NoMemory left taken = length taken ≤ MOST_BYTES
 abbrev pub Goes : Reading → Option (List ℕ) → Option (List ℕ) → (List ℕ → List Said → Type 0) → Type 0
 Goes reading before after P = (more : List ℕ) × Consumes before after more × ((taken : List ℕ) (said : List Said) → IsRead reading taken said → P (taken ++ more) said)
 
--- what a piece says. The kind comes first, of two lines; each line behind it is one piece, with its numbers; the last line, `end`, is none
+-- what a piece says. The kind comes first, of two lines; each line behind it is one piece, with its numbers, but that a tree has one piece a mark; the
+-- last line, `end`, is none
 abbrev pub IsPiece : Reading → Reading → Option (List ℕ) → List ℕ → List Said → Piece → Type 0
 IsPiece old new left taken said (Kind kind) = (old.lines ≡ 0) × (new.lines ≡ 2) × (kind ≡ kind_of new.counts) × IsRead new taken (says (pos 1 ∷ []) ∷ says [] ∷ [])
 IsPiece old new left taken said (Line numbers) =
     (0 < old.lines) × (new.lines ≡ old.lines + 1) × AgreeUpTo old.lines old.counts new.counts × IsRead new taken (said ++ Numbers (map fraction_of numbers.items) ∷ [])
-IsPiece old new left taken said Done = (old.lines + 1 ≡ length (forms_of new.counts)) × IsText taken new.counts (said ++ says [] ∷ []) × (length taken ≤ MOST_BYTES) × IsAtEnd left
+IsPiece old new left taken said (Mark mark) = (0 < old.lines) × (new.counts ≡ old.counts) × IsRead new taken (with_mark said mark)
+IsPiece old new left taken said Done =
+    (old.lines + 1 ≡ length (forms_of new.counts)) × AgreeUpTo old.lines old.counts new.counts × IsText taken new.counts (said ++ says [] ∷ []) × (length taken ≤ MOST_BYTES) × IsAtEnd left
 
 abbrev pub IsAnswer : Reading → Reading → Option (List ℕ) → List ℕ → List Said → Result Piece ReadEnd → Type 0
 IsAnswer old new left taken said (Ok piece) = IsPiece old new left taken said piece
@@ -67,6 +87,17 @@ abbrev pub IsLineRead : Reading → Reading → Option (List ℕ) → List ℕ �
 IsLineRead old new left taken said (Ok numbers) =
     (new.lines ≡ old.lines + 1) × AgreeUpTo old.lines old.counts new.counts × IsRead new taken (said ++ Numbers (map fraction_of numbers.items) ∷ [])
 IsLineRead old new left taken said (Err end) = IsEnd end left taken
+
+-- a mark was read of a tree, whether its first or one more, or no line of any text goes on so
+abbrev pub IsMarkRead : Reading → Reading → Option (List ℕ) → List ℕ → List Said → Result ℕ ReadEnd → Type 0
+IsMarkRead old new left taken said (Ok mark) = (new.counts ≡ old.counts) × IsRead new taken (with_mark said mark)
+IsMarkRead old new left taken said (Err end) = IsEnd end left taken
+
+-- a mark more was read of a tree, or the LF behind its marks
+abbrev pub IsTreeRead : Reading → Reading → Option (List ℕ) → List ℕ → List Said → Result (Option ℕ) ReadEnd → Type 0
+IsTreeRead old new left taken said (Ok (Some mark)) = (new.counts ≡ old.counts) × IsRead new taken (with_mark said mark)
+IsTreeRead old new left taken said (Ok None) = IsRead new taken said
+IsTreeRead old new left taken said (Err end) = IsEnd end left taken
 
 -- all lines were read: nothing follows them, and they are a text; or it does
 abbrev pub IsFinished : Reading → Option (List ℕ) → List ℕ → List Said → Result ⊤ ReadEnd → Type 0

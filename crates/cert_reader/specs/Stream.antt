@@ -1,5 +1,5 @@
 -- What stands between a source and the lines that were read from it.
-use Rattle.std.specs.Prelude.{◌≡◌, ◌≢◌, ℕ, ◌+◌, ◌<◌, ◌≤◌, List, [], ◌∷◌, ◌++◌, length, slice_index, Option, Result, Ok, Err}
+use Rattle.std.specs.Prelude.{◌≡◌, ◌≢◌, ℕ, ◌+◌, ◌<◌, ◌≤◌, List, [], ◌∷◌, ◌++◌, length, take, slice_index, Option, Result, Ok, Err}
 use Rattle.std.specs.Io.KnownBytes.{Consumes, IsAtEnd}
 use Rattle.split_base.specs.Faults.{counted}
 use Rattle.cert_reader.specs.declared.limits.TheConstants.{LONGEST_LINE, MOST_BYTES}
@@ -7,6 +7,8 @@ use Rattle.cert_reader.specs.declared.ends.ReadEnd.{ReadEnd}
 use Rattle.cert_reader.specs.declared.ends.ReadEnd.TheVariants.{NoMemory, NotText, ReadFault, TooLong}
 use Rattle.cert_reader.specs.declared.stream.Cut.{Cut}
 use Rattle.cert_reader.specs.declared.stream.Cut.TheVariants.{Line, Long, Unended}
+use Rattle.cert_reader.specs.declared.stream.Front.{Front}
+use Rattle.cert_reader.specs.declared.stream.Front.TheVariants.{Ended, Other, Whole}
 
 -- the bytes that were taken from the source and not handed out yet, how many were handed out, and the line that was read last
 pub record Held : Type 0 where
@@ -53,3 +55,10 @@ abbrev pub IsCut : Held → Held → Option (List ℕ) → Option (List ℕ) →
 IsCut before after left left_after Line = IsPlain after.line × Hands before after left left_after (after.line ++ 10 ∷ [])
 IsCut before after left left_after Long = (text : List ℕ) × (LONGEST_LINE < length text) × IsPlain text × Hands before after left left_after (text ++ 10 ∷ [])
 IsCut before after left left_after Unended = (text : List ℕ) × IsPlain text × Hands before after left left_after text × (after.ahead ≡ []) × IsAtEnd left_after
+
+-- how much of these bytes was handed out: all of them; some, and then another byte than the next of them; or some, and then the input had ended
+abbrev pub IsFrontTaken : Held → Held → Option (List ℕ) → Option (List ℕ) → List ℕ → Front → Type 0
+IsFrontTaken before after left left_after front Whole = Hands before after left left_after front
+IsFrontTaken before after left left_after front Other =
+    (count : ℕ) × (byte : ℕ) × (count < length front) × (byte ≢ slice_index front count) × Hands before after left left_after (take count front ++ byte ∷ [])
+IsFrontTaken before after left left_after front Ended = (count : ℕ) × Hands before after left left_after (take count front) × (after.ahead ≡ []) × IsAtEnd left_after

@@ -1,9 +1,11 @@
 -- Certificate text: the lines of its forms, with what they say; and the first broken line of bytes that are none.
-use Rattle.std.specs.Prelude.{◌≡◌, ℕ, ℤ, pos, ◌<◌, ◌≤◌, ◌⊎◌, List, [], ◌∷◌, ◌++◌, length, map, take, All, codes, IfSome}
+use Rattle.std.specs.Prelude.{◌≡◌, ◌≢◌, ℕ, ℤ, pos, ◌<◌, ◌≤◌, ◌⊎◌, List, [], ◌∷◌, ◌++◌, length, map, take, All, IfSome}
 use Rattle.bid_rules.specs.Fractions.{Fraction}
 use Rattle.split_text.specs.Texts.{line, numbers_text}
 use Rattle.cert_reader.specs.declared.forms.Counts.{Counts}
 use Rattle.cert_reader.specs.declared.forms.LineForm.{LineForm}
+use Rattle.cert_reader.specs.declared.forms.Word.TheVariants as word
+use Rattle.cert_reader.specs.declared.marks.TheConstants.{ANSWER_LEAF, INNER_NODE, LEFT_OUT}
 use Rattle.cert_reader.specs.Forms.{AreCounts, Form, Line, Tree, forms_of}
 use Rattle.cert_reader.specs.Numbers.{IsNumber}
 use Rattle.cert_reader.specs.Words.{word_text}
@@ -30,7 +32,11 @@ pub record HasNumbers (form : LineForm) (numbers : List Fraction) : Type 0 where
 
 -- a character of a tree: `+`, `-` or `=`
 abbrev pub IsMark : ℕ → Type 0
-IsMark mark = (mark ≡ 43) ⊎ (mark ≡ 45) ⊎ (mark ≡ 61)
+IsMark mark = (mark ≡ INNER_NODE) ⊎ (mark ≡ LEFT_OUT) ⊎ (mark ≡ ANSWER_LEAF)
+
+-- only such characters: one that is neither `+` nor `-` is `=`
+abbrev pub AreMarks : List ℕ → Type 0
+AreMarks marks = All (λ mark. mark ≢ INNER_NODE → mark ≢ LEFT_OUT → mark ≡ ANSWER_LEAF) marks
 
 -- a line of this form can say this
 abbrev pub CanSay : Form → Said → Type 0
@@ -47,7 +53,7 @@ CanSayAll forms said = ⊥
 -- the line of the form that says this, and LF
 abbrev pub said_text : Form → Said → List ℕ
 said_text (Line form) (Numbers numbers) = line (word_text form.word ++ numbers_text numbers)
-said_text Tree (Marks marks) = line (codes "tree " ++ marks)
+said_text Tree (Marks marks) = line (word_text word.Tree ++ 32 ∷ marks)
 said_text form said = []
 
 -- lines one after another

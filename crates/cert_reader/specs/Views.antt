@@ -6,11 +6,13 @@ use Rattle.split_frac.specs.Frac.{fraction_of}
 use Rattle.cert_reader.specs.declared.certificate.Certificate.{Certificate}
 use Rattle.cert_reader.specs.declared.certificate.Certificate.TheVariants as certificate
 use Rattle.cert_reader.specs.declared.certificate.FaresText.{FaresText}
+use Rattle.cert_reader.specs.declared.certificate.GoodsText.{GoodsText}
 use Rattle.cert_reader.specs.declared.certificate.RentText.{RentText}
 use Rattle.cert_reader.specs.declared.forms.Counts.{Counts}
 use Rattle.cert_reader.specs.declared.forms.Counts.TheVariants as count
+use Rattle.cert_reader.specs.GoodsViews.{GoodsView}
 use Rattle.cert_reader.specs.Sets.{set_sizes}
-use Rattle.cert_reader.specs.Text.{Numbers, Said, wholes}
+use Rattle.cert_reader.specs.Text.{Marks, Numbers, Said, wholes}
 
 -- a certificate of a rent: the values by member and room, rooms by member, dual numbers by member and by room, walks, ranks by member, prices by room
 pub record RentView : Type 0 where
@@ -35,9 +37,10 @@ pub record FaresView : Type 0 where
   pub route : List ℤ
   pub fares : List Fraction
 
--- a certificate of either kind
+-- a certificate of some kind
 pub data View : Type 0 where
   OfRent : RentView → View
+  OfGoods : GoodsView → View
   OfFares : FaresView → View
 
 -- a line that says whole numbers
@@ -49,6 +52,10 @@ abbrev pub rent_said : RentView → List Said
 rent_said view = says (pos 1 ∷ []) ∷ says [] ∷ says (pos (length view.rooms) ∷ []) ∷ says (view.rent ∷ [])
     ∷ (map says view.values ++ (says view.rooms ∷ says view.left ∷ says view.right ∷ says view.walks ∷ says view.ranks ∷ Numbers view.prices ∷ says [] ∷ []))
 
+abbrev pub goods_said : GoodsView → List Said
+goods_said view = says (pos 1 ∷ []) ∷ says [] ∷ says (pos (length view.who) ∷ []) ∷ says (pos view.goods ∷ []) ∷ says (view.limit ∷ []) ∷ says view.who
+    ∷ (map says view.values ++ (says view.owners ∷ says (view.steps ∷ []) ∷ Marks view.marks ∷ says [] ∷ []))
+
 abbrev pub fares_said : FaresView → List Said
 fares_said view = says (pos 1 ∷ []) ∷ says [] ∷ says (pos (length view.who) ∷ []) ∷ says (pos view.places ∷ []) ∷ says (view.flag ∷ [])
     ∷ (map says view.legs ++ (says view.who ∷ says view.at
@@ -56,11 +63,13 @@ fares_said view = says (pos 1 ∷ []) ∷ says [] ∷ says (pos (length view.who
 
 abbrev pub said_of : View → List Said
 said_of (OfRent view) = rent_said view
+said_of (OfGoods view) = goods_said view
 said_of (OfFares view) = fares_said view
 
 -- what the head of the text counts
 abbrev pub counts_of : View → Counts
 counts_of (OfRent view) = count.Rent (length view.rooms)
+counts_of (OfGoods view) = count.Goods (length view.who) view.goods
 counts_of (OfFares view) = count.Fares (length view.who) view.places
 
 -- a list cut into pieces of these lengths
@@ -81,6 +90,17 @@ rent_view text = record {
   prices = map fraction_of text.prices.items;
 }
 
+abbrev pub goods_view : GoodsText → GoodsView
+goods_view text = record {
+  goods = text.goods;
+  limit = text.limit;
+  who = text.who.items;
+  values = map (λ row. row.items) text.values.items;
+  owners = text.owners.items;
+  steps = text.steps;
+  marks = text.tree;
+}
+
 abbrev pub fares_view : FaresText → FaresView
 fares_view text = record {
   places = text.places;
@@ -95,4 +115,5 @@ fares_view text = record {
 
 abbrev pub view_of : Certificate → View
 view_of (certificate.Rent text) = OfRent (rent_view text)
+view_of (certificate.Goods text) = OfGoods (goods_view text)
 view_of (certificate.Fares text) = OfFares (fares_view text)

@@ -2,16 +2,18 @@
 ghost use Rattle.std.specs.Prelude.{◌≡◌, ℕ, ◌≤◌, IfOk, length};
 ghost use Rattle.cert_reader.specs.declared.forms.Counts.{Counts};
 ghost use Rattle.cert_reader.specs.declared.forms.Counts.TheVariants as count;
-ghost use Rattle.cert_reader.specs.Forms.{AreCounts, fares_forms, forms_of, rent_forms};
-ghost use Rattle.cert_reader.specs.Gathered.{text_said};
+ghost use Rattle.cert_reader.specs.Forms.{AreCounts, fares_forms, forms_of, goods_forms, rent_forms};
+ghost use Rattle.cert_reader.specs.Gathered.{text_said, tree_said, whole_said};
 ghost use Rattle.cert_reader.specs.Text.{CanSayAll};
-ghost use Rattle.cert_reader.specs.Views.{counts_of, fares_said, fares_view, rent_said, rent_view, said_of, view_of};
+ghost use Rattle.cert_reader.specs.Views.{counts_of, fares_said, fares_view, goods_said, goods_view, rent_said, rent_view, said_of, view_of};
 
-use crate::certificate::{Certificate, FaresText, RentText};
+use crate::certificate::{Certificate, FaresText, GoodsText, RentText};
 use crate::forms::Counts;
 use crate::line::LineNumbers;
+use crate::order::set_count;
 use crate::rows::{fractions_at, number_at, push_rows, row_at, rows_of};
 use crate::table::Table;
+use crate::tree::Tree;
 use split_base::NoMemory;
 use std::alloc::Global;
 
@@ -40,5 +42,90 @@ pub fn rent_text(members: u8, lines: &[LineNumbers]) -> RentText
         walks,
         ranks,
         prices,
+    }
+}
+
+/// The certificate of goods whose lines, between the head of two and the tree, and whose tree were read. It takes no memory.
+pub fn goods_text(players: u8, goods: u8, lines: &[LineNumbers], marks: Vec<u8>) -> GoodsText
+    requires counts { AreCounts (count.Goods players goods) }
+    requires lines { CanSayAll (goods_forms players goods) (tree_said lines.now marks.items) }
+    ensures said { goods_said (goods_view result) ≡ tree_said lines.now marks.items }
+    ensures players { length result.who.items ≡ players }
+    ensures goods { result.goods ≡ goods }
+{
+    let first = 4 + players as usize;
+    let limit = number_at(lines, 2);
+    let who = row_at(lines, 3);
+    let values = rows_of(&lines[4..first]);
+    let owners = row_at(lines, first);
+    let steps = number_at(lines, first + 1);
+    GoodsText {
+        goods,
+        limit,
+        who,
+        values,
+        owners,
+        steps,
+        tree: Tree::new(marks),
+    }
+}
+
+/// The certificate of fares whose lines, between the head of two and `end`, were read. It takes memory for the table alone.
+pub fn fares_text(
+    alloc: Global,
+    riders: u8,
+    places: u8,
+    lines: &[LineNumbers],
+) -> Result<FaresText, NoMemory>
+    requires counts { AreCounts (count.Fares riders places) }
+    requires lines { CanSayAll (fares_forms riders places) (text_said lines.now) }
+    ensures said { IfOk result (λ text. fares_said (fares_view text) ≡ text_said lines.now) }
+    ensures riders { IfOk result (λ text. length text.who.items ≡ riders) }
+    ensures places { IfOk result (λ text. text.places ≡ places) }
+{
+    let first = 4 + places as usize;
+    let sets = first + 2;
+    let last = sets + set_count(riders) as usize;
+    let mut numbers = Vec::new(alloc);
+    push_rows(&mut numbers, &lines[sets..last])?;
+    let flag = number_at(lines, 2);
+    let legs = rows_of(&lines[3..first]);
+    let who = row_at(lines, first);
+    let at = row_at(lines, first + 1);
+    let route = row_at(lines, last);
+    let fares = fractions_at(lines, last + 1);
+    Ok(FaresText {
+        places,
+        flag,
+        legs,
+        who,
+        at,
+        table: Table::new(numbers),
+        route,
+        fares,
+    })
+}
+
+/// The certificate whose lines, between the head of two and `end`, were read, the tree of goods apart from the others.
+pub(crate) fn certificate_of(
+    alloc: Global,
+    counts: Counts,
+    lines: &[LineNumbers],
+    marks: Vec<u8>,
+) -> Result<Certificate, NoMemory>
+    requires counts { AreCounts counts }
+    requires lines { CanSayAll (forms_of counts) (whole_said lines.now marks.items) }
+    ensures said { IfOk result (λ certificate. said_of (view_of certificate) ≡ whole_said lines.now marks.items) }
+    ensures counts { IfOk result (λ certificate. counts_of (view_of certificate) ≡ counts) }
+{
+    match counts {
+        Counts::Rent { members } => Ok(Certificate::Rent(rent_text(members, lines))),
+        Counts::Goods { players, goods } => Ok(Certificate::Goods(goods_text(
+            players, goods, lines, marks,
+        ))),
+        Counts::Fares { riders, places } => match fares_text(alloc, riders, places, lines) {
+            Ok(text) => Ok(Certificate::Fares(text)),
+            Err(NoMemory) => Err(NoMemory),
+        },
     }
 }

@@ -1,18 +1,21 @@
 // What a certificate says.
 ghost use Rattle.std.specs.Prelude.{◌≡◌, ◌+◌, ◌≤◌, All, length};
 ghost use Rattle.std.proofs.Props.{props};
-ghost use Rattle.bid_rules.specs.declared.limits.TheConstants.{MOST_PLACES};
+ghost use Rattle.bid_rules.specs.declared.limits.TheConstants.{MOST_GOODS, MOST_PLACES};
 ghost use Rattle.cert_reader.specs.Numbers.{AreShort, AreSmall, IsSmall, table_size};
+ghost use Rattle.cert_reader.specs.Text.{AreMarks};
 
 use crate::table::Table;
+use crate::tree::Tree;
 use arrayvec::ArrayVec;
-use bid_rules::limits::{LEG_ROW_ROOM, MEMBER_ROOM, PLACE_ROOM, RIDER_ROOM};
+use bid_rules::limits::{ITEM_ROOM, LEG_ROW_ROOM, MEMBER_ROOM, PLACE_ROOM, RIDER_ROOM};
 use split_frac::Frac;
 
 /// A certificate text that was read: the numbers of its lines. Whether they show a best division is for its rules to say.
 #[derive(Debug, Drop)]
 pub enum Certificate {
     Rent(RentText),
+    Goods(GoodsText),
     Fares(FaresText),
 }
 
@@ -45,6 +48,33 @@ pub struct RentText {
     pub ghost walks_small: { AreSmall walks.items } by { Prim.hlevel props },
     pub ghost ranks_small: { AreSmall ranks.items } by { Prim.hlevel props },
     pub ghost prices_short: { AreShort prices.items } by { Prim.hlevel props },
+}
+
+/// What a certificate of goods says: the members who are players, their points by player and good, owners by good, and the tree.
+///
+/// There are 1 to 12 players and 1 to 24 goods. The numbers have at most 25 digits, and the tree has a mark.
+#[derive(Debug, Drop)]
+pub struct GoodsText {
+    pub goods: u8,
+    pub limit: i128,
+    pub who: ArrayVec<i128, MEMBER_ROOM>,
+    pub values: ArrayVec<ArrayVec<i128, ITEM_ROOM>, MEMBER_ROOM>,
+    pub owners: ArrayVec<i128, ITEM_ROOM>,
+    pub steps: i128,
+    pub tree: Tree,
+    pub ghost goods_low: { 1 ≤ goods },
+    pub ghost goods_high: { goods ≤ MOST_GOODS },
+    pub ghost some: { 1 ≤ length who.items },
+    pub ghost players: { length values.items ≡ length who.items },
+    pub ghost columns: { All (λ row. length row.items ≡ goods) values.items } by { Prim.hlevel props },
+    pub ghost each_good: { length owners.items ≡ goods },
+    pub ghost limit_small: { IsSmall limit },
+    pub ghost who_small: { AreSmall who.items } by { Prim.hlevel props },
+    pub ghost values_small: { All (λ row. AreSmall row.items) values.items } by { Prim.hlevel props },
+    pub ghost owners_small: { AreSmall owners.items } by { Prim.hlevel props },
+    pub ghost steps_small: { IsSmall steps },
+    pub ghost tree_some: { 1 ≤ length tree },
+    pub ghost tree_marks: { AreMarks tree } by { Prim.hlevel props },
 }
 
 /// What a certificate of fares says: the legs from the origin and from each place, by place, and lists by rider.

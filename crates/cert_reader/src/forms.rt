@@ -8,11 +8,15 @@ ghost use Rattle.cert_reader.specs.Words.{word_text};
 pub enum Word {
     Fairsplit,
     KindRent,
+    KindGoods,
     KindFares,
     Members,
+    Players,
     Riders,
+    Goods,
     Places,
     Rent,
+    Limit,
     Flag,
     Values,
     Legs,
@@ -25,6 +29,9 @@ pub enum Word {
     Walks,
     Ranks,
     Prices,
+    Owners,
+    Steps,
+    Tree,
     Route,
     Fares,
     End,
@@ -38,11 +45,15 @@ impl Word {
         match self {
             Word::Fairsplit => "fairsplit",
             Word::KindRent => "kind rent",
+            Word::KindGoods => "kind goods",
             Word::KindFares => "kind fares",
             Word::Members => "members",
+            Word::Players => "players",
             Word::Riders => "riders",
+            Word::Goods => "goods",
             Word::Places => "places",
             Word::Rent => "rent",
+            Word::Limit => "limit",
             Word::Flag => "flag",
             Word::Values => "values",
             Word::Legs => "legs",
@@ -55,6 +66,9 @@ impl Word {
             Word::Walks => "walks",
             Word::Ranks => "ranks",
             Word::Prices => "prices",
+            Word::Owners => "owners",
+            Word::Steps => "steps",
+            Word::Tree => "tree",
             Word::Route => "route",
             Word::Fares => "fares",
             Word::End => "end",
@@ -83,6 +97,13 @@ pub enum Counts {
         /// How many members and rooms, 1 to 12.
         members: u8,
     },
+    /// A text of kind goods.
+    Goods {
+        /// How many players, 1 to 12.
+        players: u8,
+        /// How many goods, 1 to 24.
+        goods: u8,
+    },
     /// A text of kind fares.
     Fares {
         /// How many riders, 1 to 10.
@@ -93,12 +114,13 @@ pub enum Counts {
 }
 
 impl Counts {
-    /// The number of the kind: 1 for a rent, 3 for fares.
+    /// The number of the kind: 1 for a rent, 2 for goods, 3 for fares.
     pub fn kind(self) -> u8
         ensures { result ≡ kind_of self }
     {
         match self {
             Counts::Rent { .. } => 1,
+            Counts::Goods { .. } => 2,
             Counts::Fares { .. } => 3,
         }
     }

@@ -8,20 +8,30 @@ mod forms;
 mod laws;
 pub mod limits;
 mod line;
+pub mod marks;
 mod number;
 mod order;
 mod pieces;
+mod read;
 mod rows;
 mod step;
 mod stream;
 mod table;
+mod tree;
+mod tree_line;
 
-pub use building::rent_text;
-pub use certificate::{Certificate, FaresText, RentText};
+pub use building::{fares_text, goods_text, rent_text};
+pub use certificate::{Certificate, FaresText, GoodsText, RentText};
 pub use ends::ReadEnd;
 pub use forms::{Counts, LineForm, Word};
 pub use laws::text_law;
 pub use line::LineNumbers;
 pub use order::start_count;
 pub use pieces::{Piece, Pieces};
+pub use read::read_certificate;
+pub use rows::{number_at, row_at, rows_of, whole_row};
 pub use table::Table;
+pub use tree::Tree;
+
+#[cfg(test)]
+mod tests;

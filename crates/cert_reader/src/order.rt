@@ -1,17 +1,18 @@
 // The forms of lines in their order, and what a line leaves open of those behind it.
-ghost use Rattle.std.specs.Prelude.{◌≡◌, ◌+◌, ◌-◌, ◌^◌, ◌<◌, ◌≤◌, List, length, map, slice_index_or, MatchOption};
-ghost use Rattle.bid_rules.specs.declared.limits.TheConstants.{MOST_MEMBERS, MOST_PLACES, MOST_RIDERS};
+ghost use Rattle.std.specs.Prelude.{◌≡◌, ◌+◌, ◌-◌, ◌^◌, ◌<◌, ◌≤◌, List, length, map, slice_index_or, ◌↔◌, IsTrue, MatchOption};
+ghost use Rattle.bid_rules.specs.declared.limits.TheConstants.{MOST_GOODS, MOST_MEMBERS, MOST_PLACES, MOST_RIDERS};
 ghost use Rattle.split_frac.specs.Frac.{fraction_of};
 ghost use Rattle.cert_reader.specs.declared.forms.Counts.{Counts};
+ghost use Rattle.cert_reader.specs.declared.forms.Counts.TheVariants as count;
 ghost use Rattle.cert_reader.specs.declared.limits.TheConstants.{LINE_ROOM};
-ghost use Rattle.cert_reader.specs.Forms.{AreCounts, Line, Tree, fares_forms, fares_head, fares_tail, forms_of, fractions_of, led_by, numbers_of, rent_forms, rent_head, rent_tail};
+ghost use Rattle.cert_reader.specs.Forms.{AreCounts, Line, Tree, fares_forms, fares_head, fares_tail, forms_of, fractions_of, goods_forms, goods_head, goods_tail, led_by, numbers_of, rent_forms, rent_head, rent_tail};
 ghost use Rattle.cert_reader.specs.Order.{AgreeUpTo, IsLineOf, choice_count, choice_of, form_in};
 ghost use Rattle.cert_reader.specs.Sets.{starts};
 ghost use Rattle.cert_reader.specs.Text.{Numbers, Said};
 
 use crate::forms::{Counts, LineForm, Word};
 use crate::line::{LineNumbers, read_line};
-use bid_rules::limits::{MOST_MEMBERS, MOST_PLACES, MOST_RIDERS};
+use bid_rules::limits::{MOST_GOODS, MOST_MEMBERS, MOST_PLACES, MOST_RIDERS};
 
 /// From how many starts the routes of a set of riders may go: so many numbers the line of the set has behind its own.
 pub fn start_count(riders: u8, set: u32) -> usize
@@ -115,6 +116,55 @@ fn rent_form(members: u8, index: u32) -> LineForm
     rent_tail_form(members, index - rooms)
 }
 
+/// The first lines of goods.
+fn goods_head_form(players: u8, goods: u8, index: u32) -> LineForm
+    requires { index < 6 }
+    ensures form { slice_index_or (goods_head players goods) index Tree ≡ Line result }
+    ensures short { result.count ≤ players + 1 }
+{
+    match index {
+        0 => led(Word::Fairsplit, 1, 1),
+        1 => numbers(Word::KindGoods, 0),
+        2 => led(Word::Players, u64::from(players), 1),
+        3 => led(Word::Goods, u64::from(goods), 1),
+        4 => numbers(Word::Limit, 1),
+        _ => numbers(Word::Who, players),
+    }
+}
+
+/// The last lines of goods, but for the tree.
+fn goods_tail_form(goods: u8, index: u32) -> LineForm
+    requires index { index < 4 }
+    requires line { index ≡ 2 → ⊥ }
+    ensures form { slice_index_or (goods_tail goods) index Tree ≡ Line result }
+    ensures short { result.count ≤ goods + 1 }
+{
+    match index {
+        0 => numbers(Word::Owners, goods),
+        1 => numbers(Word::Steps, 1),
+        _ => numbers(Word::End, 0),
+    }
+}
+
+/// A line of goods, but for the tree.
+fn goods_form(players: u8, goods: u8, index: u32) -> LineForm
+    requires players { players ≤ MOST_MEMBERS }
+    requires goods { goods ≤ MOST_GOODS }
+    requires index { index < length (goods_forms players goods) }
+    requires line { index ≡ 8 + players → ⊥ }
+    ensures form { slice_index_or (goods_forms players goods) index Tree ≡ Line result }
+    ensures short { result.count ≤ LINE_ROOM }
+{
+    if index < 6 {
+        return goods_head_form(players, goods, index);
+    }
+    let owners = 6 + players as u32;
+    if index < owners {
+        return numbers(Word::Values, goods);
+    }
+    goods_tail_form(goods, index - owners)
+}
+
 /// The first lines of fares.
 fn fares_head_form(riders: u8, places: u8, index: u32) -> LineForm
     requires { index < 5 }
@@ -144,7 +194,7 @@ fn fares_tail_form(riders: u8, index: u32) -> LineForm
 }
 
 /// How many sets of riders there are, but for the empty one.
-fn set_count(riders: u8) -> u32
+pub(crate) fn set_count(riders: u8) -> u32
     requires { riders ≤ MOST_RIDERS }
     ensures { result ≡ 2 ^ riders - 1 }
 {
@@ -180,15 +230,29 @@ fn fares_form(riders: u8, places: u8, index: u32) -> LineForm
     fares_tail_form(riders, index - who - 2 - sets)
 }
 
-/// The form of a line, counted from 0.
+/// Whether the line of a tree stands at a place, counted from 0.
+pub(crate) fn is_tree(counts: Counts, index: u32) -> bool
+    requires { index < length (forms_of counts) }
+    ensures { IsTrue result ↔ form_in counts index ≡ Tree }
+{
+    match counts {
+        Counts::Rent { .. } => false,
+        Counts::Goods { players, .. } => index == 8 + players as u32,
+        Counts::Fares { .. } => false,
+    }
+}
+
+/// The form of a line of numbers, counted from 0.
 pub(crate) fn form_at(counts: Counts, index: u32) -> LineForm
     requires counts { AreCounts counts }
     requires index { index < length (forms_of counts) }
+    requires line { form_in counts index ≡ Tree → ⊥ }
     ensures form { form_in counts index ≡ Line result }
     ensures short { result.count ≤ LINE_ROOM }
 {
     match counts {
         Counts::Rent { members } => rent_form(members, index),
+        Counts::Goods { players, goods } => goods_form(players, goods, index),
         Counts::Fares { riders, places } => fares_form(riders, places, index),
     }
 }
@@ -202,6 +266,7 @@ pub(crate) fn line_count(counts: Counts) -> u32
 {
     match counts {
         Counts::Rent { members } => 11 + members as u32,
+        Counts::Goods { players, .. } => 10 + players as u32,
         Counts::Fares { riders, places } => 11 + places as u32 + set_count(riders),
     }
 }
@@ -209,39 +274,57 @@ pub(crate) fn line_count(counts: Counts) -> u32
 /// How many ways a line leaves open what the lines before it don't fix.
 fn choices(index: u32, known: Counts) -> u8
     ensures value { result ≡ choice_count index known }
-    ensures small { result ≤ 12 }
+    ensures small { result ≤ 24 }
 {
     match (index, known) {
-        (1, _) => 2,
+        (1, _) => 3,
         (2, Counts::Rent { .. }) => MOST_MEMBERS,
+        (2, Counts::Goods { .. }) => MOST_MEMBERS,
         (2, Counts::Fares { .. }) => MOST_RIDERS,
+        (3, Counts::Goods { .. }) => MOST_GOODS,
         (3, Counts::Fares { .. }) => MOST_PLACES,
         _ => 1,
     }
 }
 
+/// The least counts of a kind, of which there are three.
+fn chosen_kind(choice: u8) -> Counts
+    ensures { result ≡ choice_of 1 (count.Rent 1) choice }
+{
+    match choice {
+        0 => Counts::Rent { members: 1 },
+        1 => Counts::Goods {
+            players: 1,
+            goods: 1,
+        },
+        _ => Counts::Fares {
+            riders: 1,
+            places: 1,
+        },
+    }
+}
+
 /// The counts that one of the ways stands for.
 fn chosen(index: u32, known: Counts, choice: u8) -> Counts
-    requires { choice < 12 }
+    requires { choice < 24 }
     ensures { result ≡ choice_of index known choice }
 {
     match (index, known) {
-        (1, _) => {
-            if choice == 0 {
-                Counts::Rent { members: 1 }
-            } else {
-                Counts::Fares {
-                    riders: 1,
-                    places: 1,
-                }
-            }
-        }
+        (1, _) => chosen_kind(choice),
         (2, Counts::Rent { .. }) => Counts::Rent {
             members: choice + 1,
+        },
+        (2, Counts::Goods { .. }) => Counts::Goods {
+            players: choice + 1,
+            goods: 1,
         },
         (2, Counts::Fares { .. }) => Counts::Fares {
             riders: choice + 1,
             places: 1,
+        },
+        (3, Counts::Goods { players, .. }) => Counts::Goods {
+            players,
+            goods: choice + 1,
         },
         (3, Counts::Fares { riders, .. }) => Counts::Fares {
             riders,
@@ -255,6 +338,7 @@ fn chosen(index: u32, known: Counts, choice: u8) -> Counts
 fn read_at(line: &[u8], index: u32, counts: Counts) -> Option<LineNumbers>
     requires counts { AreCounts counts }
     requires index { index < length (forms_of counts) }
+    requires line { form_in counts index ≡ Tree → ⊥ }
     ensures { MatchOption result
         ((said : Said) → IsLineOf (form_in counts index) said line.now → ⊥)
         (λ numbers. IsLineOf (form_in counts index) (Numbers (map fraction_of numbers.items)) line.now) }
@@ -266,6 +350,7 @@ fn read_at(line: &[u8], index: u32, counts: Counts) -> Option<LineNumbers>
 pub(crate) fn settle(line: &[u8], index: u32, known: Counts) -> Option<(Counts, LineNumbers)>
     requires known { AreCounts known }
     requires index { index < length (forms_of known) }
+    requires line { form_in known index ≡ Tree → ⊥ }
     ensures { MatchOption result
         ((counts : Counts) (said : Said) → AreCounts counts → AgreeUpTo index known counts → IsLineOf (form_in counts index) said line.now → ⊥)
         (λ found. AreCounts found.0 × AgreeUpTo index known found.0 × (index < length (forms_of found.0)) × IsLineOf (form_in found.0 index) (Numbers (map fraction_of found.1.items)) line.now) }

@@ -1,11 +1,11 @@
 // A certificate text in pieces, as it is read from a source.
-ghost use Rattle.std.specs.Prelude.{◌≡◌, ◌↔◌, ◌+◌, ◌<◌, ◌≤◌, [], ℕ, List, length, map, IfOk, IsErrOf, IsTrue, OnOk};
+ghost use Rattle.std.specs.Prelude.{◌≡◌, ◌↔◌, ◌+◌, ◌<◌, ◌≤◌, [], ℕ, List, length, map, IfOk, IsErrOf, IsTrue, OnOk, Ok, None, false, true};
 ghost use Rattle.split_base.specs.Faults.{HasRisen};
 ghost use Rattle.split_frac.specs.Frac.{fraction_of};
-ghost use Rattle.cert_reader.specs.Forms.{forms_of};
+ghost use Rattle.cert_reader.specs.Forms.{Tree, forms_of};
 ghost use Rattle.cert_reader.specs.Kinds.{kind_of};
-ghost use Rattle.cert_reader.specs.Order.{AgreeUpTo};
-ghost use Rattle.cert_reader.specs.Reading.{Goes, IsAnswer, IsEnd, IsLineRead, IsFinished, IsOpen, IsRead};
+ghost use Rattle.cert_reader.specs.Order.{AgreeUpTo, form_in};
+ghost use Rattle.cert_reader.specs.Reading.{Goes, IsAnswer, IsEnd, IsLineRead, IsFinished, IsMarkRead, IsOpen, IsRead, IsTreeRead};
 ghost use Rattle.cert_reader.specs.Stream.{IsPlain, faults_after, taken_count};
 ghost use Rattle.cert_reader.specs.Text.{Numbers, Said};
 ghost use Rattle.cert_reader.specs.declared.limits.TheConstants.{MOST_BYTES};
@@ -13,9 +13,10 @@ ghost use Rattle.cert_reader.specs.declared.limits.TheConstants.{MOST_BYTES};
 use crate::ends::ReadEnd;
 use crate::forms::Counts;
 use crate::line::LineNumbers;
-use crate::order::line_count;
+use crate::order::{is_tree, line_count};
 use crate::step::{next_settled, refuse};
 use crate::stream::Bytes;
+use crate::tree_line::{first_mark, next_mark};
 use split_base::Source;
 use std::marker::Model;
 
@@ -24,13 +25,18 @@ use std::marker::Model;
 pub enum Piece {
     /// The kind, which the first two lines say.
     Kind {
-        /// 1 for a rent, 3 for fares.
+        /// 1 for a rent, 2 for goods, 3 for fares.
         kind: u8,
     },
-    /// A line behind them.
+    /// A line of numbers behind them.
     Line {
         /// Its numbers: of the line of a set of riders the set's own number first.
         numbers: LineNumbers,
+    },
+    /// A character of a tree.
+    Mark {
+        /// `+`, `-` or `=`.
+        mark: u8,
     },
     /// The line `end`, and the end of the input.
     Done,
@@ -42,18 +48,19 @@ pub struct Pieces {
     bytes: Bytes,
     lines: u32,
     counts: Counts,
+    in_tree: bool,
 }
 
 impl Model for Pieces {
-    ghost use Rattle.std.specs.Prelude.{◌≤◌, length};
+    ghost use Rattle.std.specs.Prelude.{◌≡◌, ◌≤◌, length, true};
     ghost use Rattle.cert_reader.specs.Forms.{AreCounts, forms_of};
-    ghost use Rattle.cert_reader.specs.Reading.{Reading};
+    ghost use Rattle.cert_reader.specs.Reading.{EndsInTree, Reading};
 
     ghost Value = { Reading };
 
-    ghost view = { λ s. record { ahead = s.bytes.ahead; given = s.bytes.given; lines = s.lines; counts = s.counts } };
+    ghost view = { λ s. record { ahead = s.bytes.ahead; given = s.bytes.given; lines = s.lines; counts = s.counts; in_tree = s.in_tree } };
 
-    ghost invariant = { λ s. AreCounts s.counts × (s.lines ≤ length (forms_of s.counts)) };
+    ghost invariant = { λ s. AreCounts s.counts × (s.lines ≤ length (forms_of s.counts)) × (s.in_tree ≡ true → EndsInTree s.lines s.counts) };
 }
 
 impl Pieces {
@@ -67,6 +74,7 @@ impl Pieces {
             bytes: Bytes::new(),
             lines: 0,
             counts: Counts::Rent { members: 1 },
+            in_tree: false,
         }
     }
 
@@ -84,6 +92,21 @@ impl Pieces {
         self.lines < line_count(self.counts)
     }
 
+    /// Whether a tree is being read.
+    fn is_in_tree(&self) -> bool
+        ensures { result ≡ self.now.in_tree }
+    {
+        self.in_tree
+    }
+
+    /// Whether the line of a tree comes next.
+    fn is_at_tree(&self) -> bool
+        requires { IsOpen self.now }
+        ensures { IsTrue result ↔ form_in self.now.counts self.now.lines ≡ Tree }
+    {
+        is_tree(self.counts, self.lines)
+    }
+
     /// The number of the kind, as far as it was read.
     fn kind(&self) -> u8
         ensures { result ≡ kind_of self.now.counts }
@@ -91,14 +114,25 @@ impl Pieces {
         self.counts.kind()
     }
 
-    /// Takes the next line, where one of a text may follow, and gives its numbers.
+    /// What the lines so far count.
+    pub(crate) fn counts(&self) -> Counts
+        ensures { result ≡ self.now.counts }
+    {
+        self.counts
+    }
+
+    /// Takes the next line of numbers, where one of a text may follow, and gives them.
     fn next_line<S: Source>(&mut self, source: &mut S) -> Result<LineNumbers, ReadEnd>
-        requires { IsOpen self.old }
+        requires open { IsOpen self.old }
+        requires whole { self.old.in_tree ≡ false }
+        requires line { form_in self.old.counts self.old.lines ≡ Tree → ⊥ }
         ensures line { Goes self.old (S.left source.old) (S.left source.new) (λ taken said. IsLineRead self.old self.new (S.left source.new) taken said result) }
         ensures lines { OnOk result (self.new.lines ≡ self.old.lines + 1) }
         ensures within { self.new.lines ≤ length (forms_of self.new.counts) }
+        ensures whole { self.new.in_tree ≡ false }
         ensures takes { OnOk result (self.old.given < self.new.given) }
         ensures few { self.new.given ≤ MOST_BYTES }
+        ensures held { self.new.given + length self.new.ahead ≤ MOST_BYTES }
         ensures memory { IsErrOf result ReadEnd.NoMemory → ⊥ }
         ensures faults { S.faults source.new ≡ faults_after (S.faults source.old) result }
         ensures fault { IsErrOf result ReadEnd.ReadFault → HasRisen (S.faults source.old) (S.faults source.new) }
@@ -117,10 +151,12 @@ impl Pieces {
 
     /// Finds the end of the input behind all lines, or reads on to it.
     fn finish<S: Source>(&mut self, source: &mut S) -> Result<(), ReadEnd>
-        requires { self.old.lines ≡ length (forms_of self.old.counts) }
+        requires lines { self.old.lines ≡ length (forms_of self.old.counts) }
+        requires whole { self.old.in_tree ≡ false }
         ensures finish { Goes self.old (S.left source.old) (S.left source.new) (λ taken said. IsFinished self.new (S.left source.new) taken said result) }
         ensures same { (self.new.lines ≡ self.old.lines) × (self.new.counts ≡ self.old.counts) }
         ensures few { self.new.given ≤ MOST_BYTES }
+        ensures held { self.new.given + length self.new.ahead ≤ MOST_BYTES }
         ensures memory { IsErrOf result ReadEnd.NoMemory → ⊥ }
         ensures faults { S.faults source.new ≡ faults_after (S.faults source.old) result }
         ensures fault { IsErrOf result ReadEnd.ReadFault → HasRisen (S.faults source.old) (S.faults source.new) }
@@ -136,11 +172,13 @@ impl Pieces {
 
     /// Takes the first two lines, and tells the kind.
     fn next_kind<S: Source>(&mut self, source: &mut S) -> Result<Piece, ReadEnd>
-        requires { self.old.lines ≡ 0 }
+        requires lines { self.old.lines ≡ 0 }
+        requires whole { self.old.in_tree ≡ false }
         ensures piece { Goes self.old (S.left source.old) (S.left source.new) (λ taken said. IsAnswer self.old self.new (S.left source.new) taken said result) }
         ensures takes { OnOk result (self.old.given < self.new.given) }
         ensures more { OnOk result (IsOpen self.new) }
         ensures few { self.new.given ≤ MOST_BYTES }
+        ensures held { self.new.given + length self.new.ahead ≤ MOST_BYTES }
         ensures memory { IsErrOf result ReadEnd.NoMemory → ⊥ }
         ensures faults { S.faults source.new ≡ faults_after (S.faults source.old) result }
         ensures fault { IsErrOf result ReadEnd.ReadFault → HasRisen (S.faults source.old) (S.faults source.new) }
@@ -156,27 +194,78 @@ impl Pieces {
         }
     }
 
-    /// The next piece of the text. It takes no memory.
-    ///
-    /// The kind comes first. Then each line has one piece, with its numbers, but for the last, `end`: `Done` comes where it was read and the input has
-    /// ended behind it. After `Done`, and after a refusal, there is no further piece.
-    ///
-    /// - `NotText` comes exactly where the input has at most 4,000,000 bytes and is no certificate text, with its first broken line. It was read to its end.
-    /// - `TooLong` comes exactly where it has more, whatever its lines. 4,000,001 bytes were read.
-    /// - `ReadFault` comes only where the source's count of faults has risen, and at once: the failed read is not tried again.
-    pub fn next<S: Source>(&mut self, source: &mut S) -> Result<Piece, ReadEnd>
-        requires { IsOpen self.old }
-        ensures piece { Goes self.old (S.left source.old) (S.left source.new) (λ taken said. IsAnswer self.old self.new (S.left source.new) taken said result) }
-        ensures more { IfOk result (λ piece. (piece ≡ Piece.Done → ⊥) → IsOpen self.new × (self.old.given < self.new.given)) }
+    /// Takes the first character of a tree, with what stands before it.
+    fn begin_tree<S: Source>(&mut self, source: &mut S) -> Result<u8, ReadEnd>
+        requires open { IsOpen self.old }
+        requires whole { self.old.in_tree ≡ false }
+        requires tree { form_in self.old.counts self.old.lines ≡ Tree }
+        ensures mark { Goes self.old (S.left source.old) (S.left source.new) (λ taken said. IsMarkRead self.old self.new (S.left source.new) taken said result) }
+        ensures open { OnOk result (IsOpen self.new) }
+        ensures takes { OnOk result (self.old.given < self.new.given) }
         ensures few { self.new.given ≤ MOST_BYTES }
+        ensures held { self.new.given + length self.new.ahead ≤ MOST_BYTES }
         ensures memory { IsErrOf result ReadEnd.NoMemory → ⊥ }
         ensures faults { S.faults source.new ≡ faults_after (S.faults source.old) result }
         ensures fault { IsErrOf result ReadEnd.ReadFault → HasRisen (S.faults source.old) (S.faults source.new) }
         ensures count { S.faults source.old ≤ S.faults source.new }
         ensures beside { S.beside source.new ≡ S.beside source.old }
     {
-        if self.is_new() {
-            return self.next_kind(source);
+        match first_mark(&mut self.bytes, source, self.lines + 1) {
+            Err(end) => Err(end),
+            Ok(mark) => {
+                self.lines += 1;
+                self.in_tree = true;
+                Ok(mark)
+            }
+        }
+    }
+
+    /// Takes the next character of the tree, or the end of its line.
+    fn next_in_tree<S: Source>(&mut self, source: &mut S) -> Result<Option<u8>, ReadEnd>
+        requires { self.old.in_tree ≡ true }
+        ensures mark { Goes self.old (S.left source.old) (S.left source.new) (λ taken said. IsTreeRead self.old self.new (S.left source.new) taken said result) }
+        ensures same { (self.new.lines ≡ self.old.lines) × (self.new.counts ≡ self.old.counts) }
+        ensures some { 0 < self.new.lines }
+        ensures whole { result ≡ Ok None → self.new.in_tree ≡ false }
+        ensures takes { OnOk result (self.old.given < self.new.given) }
+        ensures few { self.new.given ≤ MOST_BYTES }
+        ensures held { self.new.given + length self.new.ahead ≤ MOST_BYTES }
+        ensures memory { IsErrOf result ReadEnd.NoMemory → ⊥ }
+        ensures faults { S.faults source.new ≡ faults_after (S.faults source.old) result }
+        ensures fault { IsErrOf result ReadEnd.ReadFault → HasRisen (S.faults source.old) (S.faults source.new) }
+        ensures count { S.faults source.old ≤ S.faults source.new }
+        ensures beside { S.beside source.new ≡ S.beside source.old }
+    {
+        match next_mark(&mut self.bytes, source, self.lines) {
+            Err(end) => Err(end),
+            Ok(Some(mark)) => Ok(Some(mark)),
+            Ok(None) => {
+                self.in_tree = false;
+                Ok(None)
+            }
+        }
+    }
+
+    /// The next piece where a line begins, behind the first two.
+    fn next_at_line<S: Source>(&mut self, source: &mut S) -> Result<Piece, ReadEnd>
+        requires open { IsOpen self.old }
+        requires some { 0 < self.old.lines }
+        requires whole { self.old.in_tree ≡ false }
+        ensures piece { Goes self.old (S.left source.old) (S.left source.new) (λ taken said. IsAnswer self.old self.new (S.left source.new) taken said result) }
+        ensures more { IfOk result (λ piece. (piece ≡ Piece.Done → ⊥) → IsOpen self.new × (self.old.given < self.new.given)) }
+        ensures few { self.new.given ≤ MOST_BYTES }
+        ensures held { self.new.given + length self.new.ahead ≤ MOST_BYTES }
+        ensures memory { IsErrOf result ReadEnd.NoMemory → ⊥ }
+        ensures faults { S.faults source.new ≡ faults_after (S.faults source.old) result }
+        ensures fault { IsErrOf result ReadEnd.ReadFault → HasRisen (S.faults source.old) (S.faults source.new) }
+        ensures count { S.faults source.old ≤ S.faults source.new }
+        ensures beside { S.beside source.new ≡ S.beside source.old }
+    {
+        if self.is_at_tree() {
+            return match self.begin_tree(source) {
+                Ok(mark) => Ok(Piece::Mark { mark }),
+                Err(end) => Err(end),
+            };
         }
         match self.next_line(source) {
             Err(end) => Err(end),
@@ -191,5 +280,38 @@ impl Pieces {
                 }
             }
         }
+    }
+
+    /// The next piece of the text. It takes no memory.
+    ///
+    /// The kind comes first. Then each line has one piece, with its numbers, but the tree of goods one for each of its characters, and the last line, `end`,
+    /// none: `Done` comes where it was read and the input has ended behind it. After `Done`, and after a refusal, there is no further piece.
+    ///
+    /// - `NotText` comes exactly where the input has at most 4,000,000 bytes and is no certificate text, with its first broken line. It was read to its end.
+    /// - `TooLong` comes exactly where it has more, whatever its lines. 4,000,001 bytes were read.
+    /// - `ReadFault` comes only where the source's count of faults has risen, and at once: the failed read is not tried again.
+    pub fn next<S: Source>(&mut self, source: &mut S) -> Result<Piece, ReadEnd>
+        requires { IsOpen self.old }
+        ensures piece { Goes self.old (S.left source.old) (S.left source.new) (λ taken said. IsAnswer self.old self.new (S.left source.new) taken said result) }
+        ensures more { IfOk result (λ piece. (piece ≡ Piece.Done → ⊥) → IsOpen self.new × (self.old.given < self.new.given)) }
+        ensures few { self.new.given ≤ MOST_BYTES }
+        ensures held { self.new.given + length self.new.ahead ≤ MOST_BYTES }
+        ensures memory { IsErrOf result ReadEnd.NoMemory → ⊥ }
+        ensures faults { S.faults source.new ≡ faults_after (S.faults source.old) result }
+        ensures fault { IsErrOf result ReadEnd.ReadFault → HasRisen (S.faults source.old) (S.faults source.new) }
+        ensures count { S.faults source.old ≤ S.faults source.new }
+        ensures beside { S.beside source.new ≡ S.beside source.old }
+    {
+        if self.is_in_tree() {
+            return match self.next_in_tree(source) {
+                Err(end) => Err(end),
+                Ok(Some(mark)) => Ok(Piece::Mark { mark }),
+                Ok(None) => self.next_at_line(source),
+            };
+        }
+        if self.is_new() {
+            return self.next_kind(source);
+        }
+        self.next_at_line(source)
     }
 }

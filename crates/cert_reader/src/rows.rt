@@ -13,8 +13,8 @@ use arrayvec::ArrayVec;
 use split_base::NoMemory;
 use split_frac::Frac;
 
-/// A row of whole numbers.
-pub(crate) fn whole_row<const N: usize>(numbers: &[Frac]) -> ArrayVec<i128, N>
+/// A row of whole numbers, of which a line says that it has no others.
+pub fn whole_row<const N: usize>(numbers: &[Frac]) -> ArrayVec<i128, N>
     requires room { length numbers.now ≤ N }
     requires whole { All (IsNumber true) (map fraction_of numbers.now) }
     ensures said { wholes result.items ≡ map fraction_of numbers.now }
@@ -29,7 +29,7 @@ pub(crate) fn whole_row<const N: usize>(numbers: &[Frac]) -> ArrayVec<i128, N>
 }
 
 /// The row of a line of whole numbers.
-pub(crate) fn row_at<const N: usize>(lines: &[LineNumbers], index: usize) -> ArrayVec<i128, N>
+pub fn row_at<const N: usize>(lines: &[LineNumbers], index: usize) -> ArrayVec<i128, N>
     requires index { index < length lines.now }
     requires room { length (numbers_at lines.now index) ≤ N }
     requires whole { All (IsNumber true) (numbers_at lines.now index) }
@@ -41,7 +41,7 @@ pub(crate) fn row_at<const N: usize>(lines: &[LineNumbers], index: usize) -> Arr
 }
 
 /// The rows of lines of whole numbers.
-pub(crate) fn rows_of<const N: usize, const M: usize>(
+pub fn rows_of<const N: usize, const M: usize>(
     lines: &[LineNumbers],
 ) -> ArrayVec<ArrayVec<i128, N>, M>
     requires room { length lines.now ≤ M }
@@ -91,7 +91,7 @@ fn first_number(numbers: &[Frac]) -> i128
 }
 
 /// The number of a line of one whole number.
-pub(crate) fn number_at(lines: &[LineNumbers], index: usize) -> i128
+pub fn number_at(lines: &[LineNumbers], index: usize) -> i128
     requires index { index < length lines.now }
     requires one { length (numbers_at lines.now index) ≡ 1 }
     requires whole { All (IsNumber true) (numbers_at lines.now index) }

@@ -1,7 +1,8 @@
 // One line of a text from a source, and the end of a text that is none.
 ghost use Rattle.std.specs.Prelude.{◌≡◌, ◌+◌, ◌<◌, ◌≤◌, ◌∷◌, ◌++◌, ℕ, List, length, IsErrOf, Err};
 ghost use Rattle.split_base.specs.Faults.{HasRisen};
-ghost use Rattle.cert_reader.specs.Forms.{AreCounts, forms_of};
+ghost use Rattle.cert_reader.specs.Forms.{AreCounts, Tree, forms_of};
+ghost use Rattle.cert_reader.specs.Order.{form_in};
 ghost use Rattle.cert_reader.specs.Steps.{IsRefused, IsSettled};
 ghost use Rattle.cert_reader.specs.Stream.{faults_after, taken_count};
 ghost use Rattle.cert_reader.specs.declared.limits.TheConstants.{MOST_BYTES};
@@ -29,7 +30,7 @@ pub(crate) fn refuse<S: Source>(bytes: &mut Bytes, source: &mut S, line: u32) ->
     }
 }
 
-/// Takes the next line, where it may follow so many lines, and gives the counts with which it does and its numbers. Else reads on to the end.
+/// Takes the next line of numbers, where it may follow so many lines, and gives the counts with which it does and its numbers. Else reads on to the end.
 pub(crate) fn next_settled<S: Source>(
     bytes: &mut Bytes,
     source: &mut S,
@@ -38,6 +39,7 @@ pub(crate) fn next_settled<S: Source>(
 ) -> Result<(Counts, LineNumbers), ReadEnd>
     requires known { AreCounts known }
     requires index { index < length (forms_of known) }
+    requires line { form_in known index ≡ Tree → ⊥ }
     ensures line { IsSettled bytes.old bytes.new (S.left source.old) (S.left source.new) index known result }
     ensures few { taken_count bytes.new ≤ MOST_BYTES }
     ensures memory { IsErrOf result ReadEnd.NoMemory → ⊥ }

@@ -3,7 +3,7 @@ ghost use Rattle.std.specs.Prelude.{◌≡◌, ℕ, List, ◌+◌, ◌≤◌, le
 ghost use Rattle.std.specs.Bool.{MatchBool};
 ghost use Rattle.std.specs.Io.KnownBytes.{Consumes, IsAtEnd};
 ghost use Rattle.split_base.specs.Faults.{HasRisen};
-ghost use Rattle.cert_reader.specs.Stream.{Hands, IsCut, IsStopped, faults_after, taken_count};
+ghost use Rattle.cert_reader.specs.Stream.{Hands, IsCut, IsFrontTaken, IsStopped, faults_after, taken_count};
 ghost use Rattle.cert_reader.specs.declared.limits.TheConstants.{LONGEST_LINE, MOST_BYTES};
 
 use crate::ends::ReadEnd;
@@ -21,6 +21,17 @@ pub(crate) enum Cut {
     Long,
     /// What stands at the end without LF, maybe nothing.
     Unended,
+}
+
+/// How far some bytes stand next in the input.
+#[derive(Clone, Copy, Debug, PartialEq, Eq)]
+pub(crate) enum Front {
+    /// All of them.
+    Whole,
+    /// Some of them, and then another byte.
+    Other,
+    /// Some of them, and then the end.
+    Ended,
 }
 
 /// The bytes of a source, of which at most 4,000,000 are taken.
@@ -181,6 +192,35 @@ impl Bytes {
                 }
             }
         }
+    }
+
+    /// Takes these bytes one by one, while they come.
+    pub(crate) fn take_front<S: Source>(
+        &mut self,
+        source: &mut S,
+        front: &[u8],
+    ) -> Result<Front, ReadEnd>
+        ensures front { IfOk result (λ taken. IsFrontTaken self.old self.new (S.left source.old) (S.left source.new) front.now taken) }
+        ensures few { 1 ≤ length front.now → taken_count self.new ≤ MOST_BYTES }
+        ensures stopped { IfErr result (λ stop. IsStopped self.old (S.left source.old) (S.left source.new) stop) }
+        ensures memory { IsErrOf result ReadEnd.NoMemory → ⊥ }
+        ensures faults { S.faults source.new ≡ faults_after (S.faults source.old) result }
+        ensures fault { IsErrOf result ReadEnd.ReadFault → HasRisen (S.faults source.old) (S.faults source.new) }
+        ensures count { S.faults source.old ≤ S.faults source.new }
+        ensures beside { S.beside source.new ≡ S.beside source.old }
+    {
+        for expected in front {
+            match self.next_byte(source) {
+                Err(stop) => return Err(stop),
+                Ok(None) => return Ok(Front::Ended),
+                Ok(Some(byte)) => {
+                    if byte != *expected {
+                        return Ok(Front::Other);
+                    }
+                }
+            }
+        }
+        Ok(Front::Whole)
     }
 
     /// Reads to the end, and drops what is read.

@@ -4,4 +4,5 @@ pub mod Tables
 pub mod Fits
 pub mod Sizes
 pub mod RentTexts
+pub mod GoodsTexts
 pub mod FareTexts

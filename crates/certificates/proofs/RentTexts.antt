@@ -21,7 +21,7 @@ use Rattle.split_lemmas.proofs.ListPlaces.{get_le_sum}
 use Rattle.split_lemmas.proofs.RoomPlaces.{room_range, rooms_length}
 
 -- values that sum to a rent are small
-row_small : (row : List ℕ) → sum row ≤ 10000000 → AreSmall (map pos row)
+pub row_small : (row : List ℕ) → sum row ≤ 10000000 → AreSmall (map pos row)
 row_small row total = small_again row (All-from_get_or (λ x. x < 10 ^ 25) row 0 (λ k l. let most = get_le_sum row k in omega (arith, most, total)))
 
 -- the lines can say the case and the division, in n rooms

@@ -20,11 +20,15 @@ word_short : (w : Word) → length (word_text w) ≤ 10
 word_short w = elim w as (λ v. length (word_text v) ≤ 10) [
   | word.Fairsplit ↦ omega arith
   | word.KindRent ↦ omega arith
+  | word.KindGoods ↦ omega arith
   | word.KindFares ↦ omega arith
   | word.Members ↦ omega arith
+  | word.Players ↦ omega arith
   | word.Riders ↦ omega arith
+  | word.Goods ↦ omega arith
   | word.Places ↦ omega arith
   | word.Rent ↦ omega arith
+  | word.Limit ↦ omega arith
   | word.Flag ↦ omega arith
   | word.Values ↦ omega arith
   | word.Legs ↦ omega arith
@@ -37,6 +41,9 @@ word_short w = elim w as (λ v. length (word_text v) ≤ 10) [
   | word.Walks ↦ omega arith
   | word.Ranks ↦ omega arith
   | word.Prices ↦ omega arith
+  | word.Owners ↦ omega arith
+  | word.Steps ↦ omega arith
+  | word.Tree ↦ omega arith
   | word.Route ↦ omega arith
   | word.Fares ↦ omega arith
   | word.End ↦ omega arith

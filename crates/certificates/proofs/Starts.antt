@@ -1,52 +1,17 @@
--- The starts of a set, found one after another, and the lines of sets.
-use Rattle.std.proofs.Common.{◌≡◌, ◌≢◌, ℕ, zero, suc, ◌+◌, ◌-◌, ◌<◌, ◌≤◌, ◌==◌, ◌↔◌, All, Bool, Contains, List, [], ◌∷◌, ◌++◌, flat_map, length, get_or, not, true, false, cond, arith, refl, sym, ap, ◌∙◌, append-nil}
+-- The starts of a set, and the lines of sets.
+use Rattle.std.proofs.Common.{◌≡◌, ℕ, zero, suc, ◌+◌, ◌-◌, ◌<◌, ◌≤◌, ◌==◌, ◌↔◌, All, Bool, Contains, List, [], ◌∷◌, ◌++◌, flat_map, length, get_or, not, true, false, cond, arith, refl, ap, ◌∙◌}
 use Rattle.std.specs.Int.{bit_at}
 use Rattle.std.specs.List.{filter, range_with_len}
 use Rattle.std.proofs.lemmas.Bool.Decides.{nat_tests}
-use Rattle.std.proofs.lemmas.List.{length_push}
-use Rattle.std.proofs.lemmas.List.Elements.{All-cons, All-head, All-nil, All-tail, filter-append}
+use Rattle.std.proofs.lemmas.List.Elements.{All-cons, All-head, All-nil, All-tail}
 use Rattle.std.proofs.lemmas.List.FromFn.{get_or-range_with_len, length-range_with_len}
 use Rattle.bid_rules.specs.Coalitions.{has_rider, riders_in}
 use Rattle.cert_reader.specs.Sets.{starts}
-use Rattle.split_lemmas.proofs.RangeSteps.{flat_more, range_more}
+use Rattle.split_lemmas.proofs.RangeSteps.{flat_more}
 
 -- the riders of 1 to n who are not in the set
 abbrev pub outside : ℕ → ℕ → List ℕ
 outside set n = filter (λ rider. not (has_rider set rider)) (range_with_len 1 n)
-
--- one rider more
-outside_more : (set n : ℕ) → outside set (n + 1) ≡ outside set n ++ cond (not (bit_at set n == 1)) ((n + 1) ∷ []) []
-outside_more set n =
-    let p = λ (rider : ℕ). not (has_rider set rider) in
-    let next : 1 + n ≡ n + 1 = omega arith in
-    let before : n + 1 - 1 ≡ n = omega arith in
-    ap (filter p) (range_more 1 n) ∙ ap (λ k. filter p (range_with_len 1 n ++ k ∷ [])) next
-    ∙ filter-append p (range_with_len 1 n) ((n + 1) ∷ [])
-    ∙ ap (λ k. filter p (range_with_len 1 n) ++ cond (not (bit_at set k == 1)) ((n + 1) ∷ []) []) before
-
--- the starts among the first riders
-pub record Upto (set n : ℕ) (xs : List ℕ) : Type 0 where
-  pub few : length xs ≤ n + 1
-  pub items : xs ≡ 0 ∷ outside set n
-
--- a rider outside is a start
-pub upto_with : (set n : ℕ) (old new : List ℕ) → bit_at set n ≢ 1 → new ≡ old ++ (n + 1) ∷ [] → Upto set n old → Upto set (n + 1) new
-upto_with set n old new h e u =
-    let test : not (bit_at set n == 1) ≡ true = unset (bit_at set n) h in
-    record {
-      few = omega (arith, u.few, ap length e, length_push old (n + 1));
-      items = e ∙ ap (λ xs. xs ++ (n + 1) ∷ []) u.items ∙ sym (ap (λ xs. 0 ∷ xs) (outside_more set n ∙ ap (λ b. outside set n ++ cond b ((n + 1) ∷ []) []) test));
-    }
-  where
-    unset : (b : ℕ) → (b ≡ 1 → ⊥) → not (b == 1) ≡ true
-    unset b g = grind (arith, nat_tests)
-
--- a rider of the set is none
-pub upto_without : (set n : ℕ) (old : List ℕ) → bit_at set n ≡ 1 → Upto set n old → Upto set (n + 1) old
-upto_without set n old h u = record {
-  few = omega (arith, u.few);
-  items = u.items ∙ ap (λ xs. 0 ∷ xs) (sym (append-nil (outside set n)) ∙ sym (outside_more set n ∙ ap (λ b. outside set n ++ cond (not (b == 1)) ((n + 1) ∷ []) []) h));
-}
 
 -- what a test lets through passes it
 passing : (p : ℕ → Bool) (xs : List ℕ) → All (λ x. p x ≡ true) (filter p xs)

@@ -10,7 +10,7 @@ ghost use Rattle.fare_lines.specs.Lines.{canonical_fares};
 ghost use Rattle.shapley_core.specs.Division.{IsFareDivision};
 ghost use Rattle.split_frac.specs.Frac.{fraction_of};
 
-use crate::lines::{push_cents, push_fractions, push_rows, push_small};
+use crate::lines::{push_amounts, push_fractions, push_rows, push_small};
 use crate::sets::push_sets;
 use bid_rules::{FareCase, Fares};
 use cert_reader::Word;
@@ -28,7 +28,7 @@ fn push_head(text: &mut String, riders: u8, facts: &Fares) -> Result<(), NoMemor
     push_small(text, Word::KindFares, &[])?;
     push_small(text, Word::Riders, &[riders])?;
     push_small(text, Word::Places, &[facts.places])?;
-    push_cents(text, Word::Flag, &[facts.flag])?;
+    push_amounts(text, Word::Flag, &[facts.flag])?;
     Ok(())
 }
 

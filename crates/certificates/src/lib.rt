@@ -3,6 +3,7 @@
 
 mod division;
 mod fares;
+mod goods;
 mod laws;
 mod lines;
 mod rent;

@@ -10,6 +10,16 @@ use split_base::NoMemory;
 use split_frac::Frac;
 use split_text::{number_law, push_numbers};
 
+/// Appends some text.
+pub(crate) fn push_text(text: &mut String, more: &str) -> Result<(), NoMemory>
+    ensures { OnOk result (string_bytes text.new ≡ string_bytes text.old ++ more.now) }
+{
+    match text.push_str(more) {
+        Ok(()) => Ok(()),
+        Err(_) => Err(NoMemory),
+    }
+}
+
 /// Appends a line of small numbers, as those of members, places and riders.
 pub(crate) fn push_small(text: &mut String, word: Word, numbers: &[u8]) -> Result<(), NoMemory>
     ensures { OnOk result (string_bytes text.new ≡ string_bytes text.old ++ number_line word (wholes (map pos numbers.now))) }
@@ -18,15 +28,15 @@ pub(crate) fn push_small(text: &mut String, word: Word, numbers: &[u8]) -> Resul
     push_numbers(text, word.as_str(), numbers)
 }
 
-/// Appends a line of amounts in cents.
-pub(crate) fn push_cents(text: &mut String, word: Word, amounts: &[u32]) -> Result<(), NoMemory>
+/// Appends a line of amounts, as of cents, points and steps.
+pub(crate) fn push_amounts(text: &mut String, word: Word, amounts: &[u32]) -> Result<(), NoMemory>
     ensures { OnOk result (string_bytes text.new ≡ string_bytes text.old ++ number_line word (wholes (map pos amounts.now))) }
 {
     number_law();
     push_numbers(text, word.as_str(), amounts)
 }
 
-/// Appends a line of amounts in cents for each row.
+/// Appends a line of amounts for each row.
 pub(crate) fn push_rows<const N: usize>(
     text: &mut String,
     word: Word,
@@ -35,7 +45,7 @@ pub(crate) fn push_rows<const N: usize>(
     ensures { OnOk result (string_bytes text.new ≡ string_bytes text.old ++ flat_map (λ row. number_line word (wholes (map pos row.items))) rows.now) }
 {
     for row in rows {
-        push_cents(text, word, row.as_slice())?;
+        push_amounts(text, word, row.as_slice())?;
     }
     Ok(())
 }

@@ -10,7 +10,7 @@ ghost use Rattle.rent_lines.specs.Lines.{canonical_rent};
 ghost use Rattle.rent_maximin.specs.Division.{IsRentDivision};
 ghost use Rattle.split_frac.specs.Frac.{fraction_of};
 
-use crate::lines::{push_cents, push_fractions, push_rows, push_signed, push_small};
+use crate::lines::{push_amounts, push_fractions, push_rows, push_signed, push_small};
 use bid_rules::RentCase;
 use cert_reader::Word;
 use rent_laws::assignment_law;
@@ -26,7 +26,7 @@ fn push_head(text: &mut String, members: u8, rent: u32) -> Result<(), NoMemory>
     push_small(text, Word::Fairsplit, &[1])?;
     push_small(text, Word::KindRent, &[])?;
     push_small(text, Word::Members, &[members])?;
-    push_cents(text, Word::Rent, &[rent])?;
+    push_amounts(text, Word::Rent, &[rent])?;
     Ok(())
 }
 

@@ -2,39 +2,21 @@
 ghost use Rattle.std.specs.Prelude.{◌≡◌, ◌++◌, ◌∷◌, ◌<◌, ◌≤◌, ◌^◌, flat_map, length, map, pos, OnOk, string_bytes};
 ghost use Rattle.bid_rules.specs.declared.limits.TheConstants.{MOST_RIDERS};
 ghost use Rattle.cert_reader.specs.declared.forms.Word.TheVariants as word;
-ghost use Rattle.cert_reader.specs.Sets.{sets_of, starts};
+ghost use Rattle.cert_reader.specs.Sets.{sets_of};
 ghost use Rattle.cert_reader.specs.Text.{wholes};
 ghost use Rattle.certificates.specs.Lines.{number_line};
 ghost use Rattle.fare_lines.specs.Lines.{cost_line};
 
-use crate::lines::push_cents;
+use crate::lines::push_amounts;
 use arrayvec::ArrayVec;
-use bid_rules::limits::RIDER_ROOM;
 use cert_reader::Word;
 use fare_laws::coalition_law;
 use fare_routes::Costs;
+use fare_rules::{START_ROOM, starts_of};
 use split_base::NoMemory;
-
-/// Room for the origin and each rider.
-const START_ROOM: usize = RIDER_ROOM + 1;
 
 /// Room for the number of a set and an entry a start.
 const SET_ROOM: usize = START_ROOM + 1;
-
-/// The starts of a set: the origin, which is 0, and the riders of 1 to `count` who are not in it, in rising order.
-fn starts_of(count: u8, set: u16) -> ArrayVec<u8, START_ROOM>
-    requires { count ≤ MOST_RIDERS }
-    ensures { result.items ≡ starts count set }
-{
-    let mut starts = ArrayVec::new();
-    starts.push(0);
-    for bit in 0..count {
-        if (set >> bit) % 2 != 1 {
-            starts.push(bit + 1);
-        }
-    }
-    starts
-}
 
 /// The numbers of the line of a set: its own number, and what its route costs from each of its starts.
 fn set_numbers(costs: &Costs, count: u8, set: u16) -> ArrayVec<u32, SET_ROOM>
@@ -61,7 +43,7 @@ pub(crate) fn push_sets(text: &mut String, costs: &Costs, count: u8) -> Result<(
 {
     let end: u16 = 1 << count;
     for set in 1..end {
-        push_cents(text, Word::Set, set_numbers(costs, count, set).as_slice())?;
+        push_amounts(text, Word::Set, set_numbers(costs, count, set).as_slice())?;
     }
     Ok(())
 }

@@ -1,9 +1,12 @@
 ghost use Rattle.bid_rules.specs.Facts.{IsValidFareCase};
+ghost use Rattle.bid_rules.specs.Goods.{IsValidGoodsCase};
 ghost use Rattle.bid_rules.specs.Rent.{IsValidRentCase};
 
 use crate::{Division, write_certificate};
 use arrayvec::ArrayVec;
-use bid_rules::{Case, FareCase, Fares, Rent, RentCase};
+use bid_rules::limits::USUAL_STEPS;
+use bid_rules::{Case, FareCase, Fares, Goods, GoodsCase, Rent, RentCase};
+use nash_search::search_alone;
 use rent_maximin::solve_rent;
 use shapley_core::solve_fares;
 use std::alloc::Global;
@@ -23,6 +26,20 @@ right 21600 5397 5396
 walks 0 0 100
 ranks 0 0 1
 prices 700 100 100
+end
+";
+
+const ESTATE: &str = "fairsplit 1
+kind goods
+players 2
+goods 3
+limit 100000
+who 1 2
+values 400 300 300
+values 400 300 300
+owners 1 2 2
+steps 2
+tree ++-+-=++---
 end
 ";
 
@@ -82,6 +99,32 @@ fn rent_case(rt: &impl Abort, rent: u32, rows: &[&[u32]]) -> RentCase
     case
 }
 
+/// The goods to which players 1, 2 and so on, of as many members, give these points.
+fn goods_case(rt: &impl Abort, rows: &[&[u32]]) -> GoodsCase
+    ensures { IsValidGoodsCase result }
+{
+    let (mut who, mut values) = (ArrayVec::new(), ArrayVec::new());
+    let mut goods = 0;
+    for row in rows {
+        let mut points = ArrayVec::new();
+        assert!(rt; points.try_extend_from_slice(row).is_ok());
+        goods = points.len() as u8;
+        assert!(rt; values.try_push(points).is_ok());
+        assert!(rt; who.try_push(values.len() as u8).is_ok());
+    }
+    let case = GoodsCase {
+        facts: Goods {
+            members: values.len() as u8,
+            goods,
+            limit: USUAL_STEPS,
+        },
+        who,
+        values,
+    };
+    assert!(rt; case.is_valid());
+    case
+}
+
 /// The fares in which riders 1, 2 and so on, of as many members, get off at these places.
 fn fare_case(rt: &impl Abort, flag: u32, rows: &[&[u32]], places: &[u8]) -> FareCase
     ensures { IsValidFareCase result }
@@ -127,6 +170,18 @@ fn rent_certificate(
     }
 }
 
+/// The certificate of goods.
+fn goods_certificate(rt: &impl Abort, alloc: Global, rows: &[&[u32]]) -> Result<Vec<u8>, Fail> {
+    let case = goods_case(rt, rows);
+    let Ok(division) = search_alone(&case) else {
+        return Err(Fail::from("over the limit"));
+    };
+    match write_certificate(alloc, &Case::Goods(case), &Division::Goods(division)) {
+        Ok(text) => Ok(text),
+        Err(_) => Err(Fail::from("no memory")),
+    }
+}
+
 /// The certificate of shared fares.
 fn fares_certificate(
     rt: &impl Abort,
@@ -162,6 +217,17 @@ fn certificates_of_rents(rt: HostRuntime) -> Result<(), Fail> {
     )?;
     let end = "walks 0 0 100\nranks 0 0 1\nprices 800/3 -100/3 200/3\nend\n";
     assert!(rt; text.ends_with(end.as_bytes()));
+    Ok(())
+}
+
+#[test]
+fn certificates_of_goods(rt: HostRuntime) -> Result<(), Fail> {
+    let text = goods_certificate(&rt, rt.alloc(), &[&[400, 300, 300], &[400, 300, 300]])?;
+    assert_eq!(rt; text.as_slice(), ESTATE.as_bytes());
+    let text = goods_certificate(&rt, rt.alloc(), &[&[700, 300], &[400, 600]])?;
+    assert!(rt; text.ends_with(b"owners 1 2\nsteps 1\ntree ++-=-\nend\n"));
+    let text = goods_certificate(&rt, rt.alloc(), &[&[1000, 0], &[1000, 0], &[500, 500]])?;
+    assert!(rt; text.ends_with(b"tree ++--=--\nend\n"));
     Ok(())
 }
 

@@ -4,7 +4,6 @@
 mod cents;
 mod goods;
 mod laws;
-pub mod limits;
 mod rents;
 
 pub use cents::cent_plan;

@@ -1,5 +1,5 @@
 -- The canonical lines of fares keep all rules.
-use Rattle.std.proofs.Common.{◌≡◌, ℕ, ℤ, zero, suc, pos, ◌-◌, ◌^◌, ◌<◌, ◌≤◌, ◌≤ℤ◌, ◌↔◌, List, [], ◌∷◌, length, map, All, Contains, get_or, unsigned_abs, arith, refl, sym, ap, ◌∙◌, subst}
+use Rattle.std.proofs.Common.{◌≡◌, ℕ, ℤ, zero, suc, pos, ◌-◌, ◌^◌, ◌<◌, ◌≤◌, ◌≤ℤ◌, ◌↔◌, List, length, map, All, Contains, get_or, unsigned_abs, arith, sym, ap, ◌∙◌, subst}
 use Rattle.std.specs.List.{AllZip, range_with_len}
 use Rattle.std.specs.List.Sorted.{IsPermutation}
 use Rattle.std.proofs.lemmas.Int.{ints}
@@ -9,11 +9,12 @@ use Rattle.std.proofs.lemmas.List.FromFn.{length-range_with_len, get_or-range_wi
 use Rattle.std.proofs.lemmas.List.Sorted.{All-permutation}
 use Rattle.arrayvec.specs.declared.array_vec.ArrayVec.{ArrayVec}
 use Rattle.bid_rules.specs.declared.cases.FareCase.{FareCase}
-use Rattle.bid_rules.specs.declared.limits.TheConstants.{MOST_RIDERS}
+use Rattle.bid_rules.specs.declared.limits.TheConstants.{MOST_RIDERS, PLACE_ROOM}
 use Rattle.bid_rules.specs.Facts.{IsValidFareCase}
 use Rattle.bid_rules.specs.Fares.{IsLeastRoute, riders_of, sum_of_marginal_costs}
 use Rattle.bid_rules.specs.Fractions.{IsQuotient}
 use Rattle.bid_rules.specs.Orders.{factorial, orders}
+use Rattle.split_lemmas.proofs.SignedRows.{rows_again, rows_low, signed_again, signed_low}
 use Rattle.fare_laws.specs.Entries.{AreEntries, IsLowestRoute}
 use Rattle.fare_lines.specs.Lines.{canonical_fares, cost_lines, with_members}
 use Rattle.fare_lines.proofs.Costs.{SetFacts, are_entries, has_lines}
@@ -25,51 +26,15 @@ use Rattle.fare_rules.specs.Printed.{printed_case, printed_route}
 use Rattle.shapley_core.specs.declared.division.FareDivision.{FareDivision}
 use Rattle.shapley_core.specs.Division.{IsFareDivision}
 
--- numbers that were given a sign lose it again
-signed_again : (xs : List ℕ) → map unsigned_abs (map pos xs) ≡ xs
-signed_again [] = refl
-signed_again (x ∷ xs) = ap (λ ys. x ∷ ys) (signed_again xs)
-
-abbrev unsigned_row : List ℤ → ArrayVec ℕ 12 (Unit {0})
-unsigned_row row = record { items = map unsigned_abs row }
-
-abbrev signed_row : ArrayVec ℕ 12 (Unit {0}) → List ℤ
-signed_row row = map pos row.items
-
-abbrev AreLow : List ℤ → Type 0
-AreLow row = All (λ x. pos 0 ≤ℤ x) row
-
--- and so do rows of them
-rows_again : (rows : List (ArrayVec ℕ 12 (Unit {0}))) → map unsigned_row (map signed_row rows) ≡ rows
-rows_again [] = refl
-rows_again (row ∷ rows) =
-    ap (λ (xs : List ℕ). let r : ArrayVec ℕ 12 (Unit {0}) = record { items = xs } in r ∷ map unsigned_row (map signed_row rows)) (signed_again row.items)
-    ∙ ap (λ rs. row ∷ rs) (rows_again rows)
-
--- natural numbers with a sign are 0 or more
-signed_low : (xs : List ℕ) → All (λ x. pos 0 ≤ℤ x) (map pos xs)
-signed_low xs k d l =
-    let count = length-map xs pos in
-    let at : get_or (map pos xs) k d ≡ pos (get_or xs k 0) = get_or-map pos xs k 0 d (omega (arith, count)) in
-    omega (arith, ints, at)
-
--- and so are rows of them
-rows_low : (rows : List (ArrayVec ℕ 12 (Unit {0}))) → All AreLow (map signed_row rows)
-rows_low rows k d l =
-    let count = length-map rows signed_row in
-    let none : ArrayVec ℕ 12 (Unit {0}) = record { items = [] } in
-    let at : get_or (map signed_row rows) k d ≡ signed_row (get_or rows k none) = get_or-map signed_row rows k none d (omega (arith, count)) in
-    subst AreLow (sym at) (signed_low (get_or rows k none).items)
-
 -- the printed case is the case, of the most members
 pub printed_is : (case : FareCase) (division : FareDivision) → printed_case (canonical_fares case division) ≡ with_members case MOST_RIDERS
 printed_is case division =
-    let made : List (ArrayVec ℕ 12 (Unit {0})) → List ℕ → List ℕ → FareCase = λ rows who at. record {
+    let made : List (ArrayVec ℕ PLACE_ROOM (Unit {0})) → List ℕ → List ℕ → FareCase = λ rows who at. record {
       facts = record { members = MOST_RIDERS; places = case.facts.places; flag = case.facts.flag; legs = record { items = rows } };
       who = record { items = who };
       at = record { items = at };
     } in
-    ap (λ rows. made rows (map unsigned_abs (map pos case.who.items)) (map unsigned_abs (map pos case.at.items))) (rows_again case.facts.legs.items)
+    ap (λ rows. made rows (map unsigned_abs (map pos case.who.items)) (map unsigned_abs (map pos case.at.items))) (rows_again PLACE_ROOM case.facts.legs.items)
     ∙ ap (λ who. made case.facts.legs.items who (map unsigned_abs (map pos case.at.items))) (signed_again case.who.items)
     ∙ ap (λ at. made case.facts.legs.items case.who.items at) (signed_again case.at.items)
 
@@ -130,7 +95,7 @@ fares_pass sets routes case division valid is = rule
     rule zero low high = absurd (omega arith)
     rule (suc zero) low high = record {
       flag = omega (arith, ints);
-      legs = rows_low case.facts.legs.items;
+      legs = rows_low PLACE_ROOM case.facts.legs.items;
       who = signed_low case.who.items;
       at = signed_low case.at.items;
       valid = subst IsValidFareCase (sym printed) (still_valid case valid);

@@ -45,6 +45,7 @@ two_kept view has lines = one_asked (fares_rule view) 2 (one_asked (fares_rule v
 pub no_order : (view : FaresView) → AreKept (fares_rule view) 3 → (HasRoute view → ⊥) → IsVerdict (fares_rule view) 5 (No 3)
 no_order view kept none = (omega arith, omega arith, kept, none)
 
+-- and an order of them keeps the third rule
 pub three_kept : (view : FaresView) → AreKept (fares_rule view) 3 → HasRoute view → AreKept (fares_rule view) 4
 three_kept view kept has = one_asked (fares_rule view) 3 kept has
 
@@ -82,9 +83,11 @@ module _
 pub fares_broken : (view : FaresView) → AreKept (fares_rule view) 5 → (AreMeans view → ⊥) → IsVerdict (fares_rule view) 5 (No 5)
 fares_broken view kept none = (omega arith, omega arith, kept, none)
 
+-- with the least route the fourth rule is kept
 pub four_kept : (view : FaresView) → AreKept (fares_rule view) 4 → fares_rule view 4 → AreKept (fares_rule view) 5
 four_kept view kept holds = one_asked (fares_rule view) 4 kept holds
 
+-- with the fares all are
 pub all_kept : (view : FaresView) → AreKept (fares_rule view) 5 → AreMeans view → IsVerdict (fares_rule view) 5 Yes
 all_kept view kept means = one_asked (fares_rule view) 5 kept means
 
@@ -96,6 +99,7 @@ tested_route view route count is same has = (
   subst (λ xs. IsPermutation (range_with_len 1 count) (map unsigned_abs xs)) is (subst (λ n. IsPermutation (range_with_len 1 n) (printed_route view)) (sym same) has.order),
 )
 
+-- and back: what was tested of the list is the rule
 pub has_route : (view : FaresView) (route : List ℤ) (count : ℕ) → view.route ≡ route → count ≡ length view.at → All (λ rider. pos 1 ≤ℤ rider) route → IsPermutation (range_with_len 1 count) (map unsigned_abs route)
     → HasRoute view
 has_route view route count is same low order = record {
@@ -107,10 +111,12 @@ has_route view route count is same low order = record {
 abbrev pub AreMeansOf : FareCase → ℕ → List Fraction → Type 0
 AreMeansOf case count fares = AllZip (λ rider fare. IsQuotient fare (sum_of_marginal_costs case rider) (factorial count)) (riders_of case) fares
 
+-- what was tested of them is the rule of the fares
 pub means_of : (view : FaresView) (case : FareCase) (count : ℕ) (fares : List Fraction) → case ≡ printed_case view → count ≡ length view.at → view.fares ≡ fares → AreMeansOf case count fares → AreMeans view
 means_of view case count fares is same listed means =
     subst (AreMeansOf (printed_case view) (length view.at)) (sym listed) (subst (λ n. AreMeansOf (printed_case view) n fares) same (subst (λ k. AreMeansOf k count fares) is means))
 
+-- and back
 pub tested_means : (view : FaresView) (case : FareCase) (count : ℕ) (fares : List Fraction) → case ≡ printed_case view → count ≡ length view.at → view.fares ≡ fares → AreMeans view → AreMeansOf case count fares
 tested_means view case count fares is same listed means =
     subst (λ k. AreMeansOf k count fares) (sym is) (subst (λ n. AreMeansOf (printed_case view) n fares) (sym same) (subst (AreMeansOf (printed_case view) (length view.at)) listed means))

@@ -10,9 +10,11 @@ use Rattle.cert_reader.specs.Sets.{starts}
 use Rattle.bid_rules.specs.Coalitions.{has_rider}
 use Rattle.split_lemmas.proofs.RangeSteps.{range_next}
 
+-- the riders of 1 to n who are not in the set
 abbrev pub free : ℕ → ℕ → List ℕ
 free set n = filter (λ rider. not (has_rider set rider)) (range_with_len 1 n)
 
+-- one rider more
 free_more : (set n : ℕ) → free set (n + 1) ≡ free set n ++ cond (not (bit_at set n == 1)) ((n + 1) ∷ []) []
 free_more set n =
     let p = λ (rider : ℕ). not (has_rider set rider) in
@@ -21,6 +23,7 @@ free_more set n =
     ∙ filter-append p (range_with_len 1 n) ((n + 1) ∷ [])
     ∙ ap (λ k. filter p (range_with_len 1 n) ++ cond (not (bit_at set k == 1)) ((n + 1) ∷ []) []) before
 
+-- a rider outside is the next start
 pub start_with : (set n : ℕ) (old new : List ℕ) → bit_at set n ≢ 1 → new ≡ old ++ (n + 1) ∷ [] → old ≡ 0 ∷ free set n → new ≡ 0 ∷ free set (n + 1)
 start_with set n old new h e is =
     let test : not (bit_at set n == 1) ≡ true = unset (bit_at set n) h in
@@ -29,6 +32,7 @@ start_with set n old new h e is =
     unset : (b : ℕ) → (b ≡ 1 → ⊥) → not (b == 1) ≡ true
     unset b g = grind (arith, nat_tests)
 
+-- a rider of the set is none
 pub start_without : (set n : ℕ) (old : List ℕ) → bit_at set n ≡ 1 → old ≡ 0 ∷ free set n → old ≡ 0 ∷ free set (n + 1)
 start_without set n old h is =
     is ∙ ap (λ xs. 0 ∷ xs) (sym (append-nil (free set n)) ∙ sym (free_more set n ∙ ap (λ b. free set n ++ cond (not (b == 1)) ((n + 1) ∷ []) []) h))
@@ -38,12 +42,15 @@ pub record Upto (set n : ℕ) (xs : List ℕ) : Type 0 where
   pub few : length xs ≤ n + 1
   pub items : xs ≡ 0 ∷ free set n
 
+-- with a rider outside there is one start more
 pub upto_with : (set n : ℕ) (old new : List ℕ) → bit_at set n ≢ 1 → new ≡ old ++ (n + 1) ∷ [] → Upto set n old → Upto set (n + 1) new
 upto_with set n old new h e u = record { few = omega (arith, u.few, ap length e, length_push old (n + 1)); items = start_with set n old new h e u.items }
 
+-- with a rider of the set there are as many
 pub upto_without : (set n : ℕ) (old : List ℕ) → bit_at set n ≡ 1 → Upto set n old → Upto set (n + 1) old
 upto_without set n old h u = record { few = omega (arith, u.few); items = start_without set n old h u.items }
 
+-- what is let through is as small as what was there
 free_within : (n : ℕ) (p : ℕ → Bool) (xs : List ℕ) → All (λ x. x ≤ n) xs → All (λ x. x ≤ n) (filter p xs)
 free_within n p [] h = All-nil (λ x. x ≤ n)
 free_within n p (x ∷ xs) h = by (p x) (free_within n p xs (All-tail (λ y. y ≤ n) x xs h))
@@ -62,5 +69,6 @@ pub made : (line : List ℤ) (xs ys : List ℕ) (g : ℕ → ℤ) → xs ≡ ys 
 made line xs ys g e long h = same_lists line (map g xs) (long ∙ sym (length-map xs g)) (λ k d l.
     get_or_default line k d (pos 0) l ∙ h k l ∙ sym (get_or-map g xs k 0 d (omega (arith, long)))) ∙ ap (map g) e
 
+-- what such a list has at a place
 pub read_at : (line : List ℤ) (xs ys : List ℕ) (g : ℕ → ℤ) (i : ℕ) → xs ≡ ys → i < length xs → line ≡ map g ys → get_or line i (pos 0) ≡ g (get_or xs i 0)
 read_at line xs ys g i e l is = ap (λ zs. get_or zs i (pos 0)) (is ∙ ap (map g) (sym e)) ∙ get_or-map g xs i 0 (pos 0) l

@@ -14,4 +14,5 @@ mod tests;
 
 pub use case::PrintedRow;
 pub use laws::fares_certificate_law;
+pub use lines::{START_ROOM, starts_of};
 pub use state::{FaresState, end_fares, start_fares, take_set};

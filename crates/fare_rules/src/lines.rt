@@ -1,4 +1,4 @@
-// What the line of a set of riders is to say.
+// The starts of a set of riders, and what its line is to say.
 ghost use Rattle.std.specs.Prelude.{◌≡◌, ◌+◌, ◌^◌, ◌<◌, ◌≤◌, ◌↔◌, pos, length, map, IsTrue, slice_index};
 ghost use Rattle.cert_reader.specs.Sets.{starts};
 
@@ -6,10 +6,10 @@ use arrayvec::ArrayVec;
 use bid_rules::limits::{MOST_RIDERS, RIDER_ROOM};
 
 /// Room for the origin and each rider.
-const START_ROOM: usize = RIDER_ROOM + 1;
+pub const START_ROOM: usize = RIDER_ROOM + 1;
 
-/// The starts of a set: the origin, and the riders who are not in it, in rising order.
-fn starts_of(count: u8, set: u16) -> ArrayVec<u8, START_ROOM>
+/// The starts of a set of riders: the origin, which is 0, and the riders of 1 to `count` who are not in it, in rising order.
+pub fn starts_of(count: u8, set: u16) -> ArrayVec<u8, START_ROOM>
     requires few { count ≤ MOST_RIDERS }
     ensures { result.items ≡ starts count set }
 {

@@ -7,7 +7,7 @@ use Rattle.std.specs.List.{sum_by}
 use Rattle.std.specs.Int.{to_le_bytes, w32}
 use Rattle.split_base.specs.Disk.{IsWritten, IsTorn, Tears, Each, Only}
 use Rattle.gate_log.proofs.Pieces.{kept_front, written_at, OneTorn, torn_one}
-use Rattle.gate_log.specs.Records.{start_line, header, IsVersion, IsBody, entry, IsRun, Stands, Holds, place_after, IsBeforeOrAfter}
+use Rattle.gate_log.specs.Records.{start_line, header, IsVersion, IsBody, entry, IsRun, Stands, HoldsRecords, place_after, IsBeforeOrAfter}
 
 -- the length of a body is written in 4 bytes
 pub length-le : (n : ℕ) → length (to_le_bytes w32 n) ≡ 4
@@ -171,13 +171,13 @@ module _ (secret : List ℕ) (bodies : List (List ℕ)) where
   front_size : length secret ≡ 32 → length (start_line ++ secret) ≡ 48
   front_size size = omega (arith, length-append start_line secret)
 
-  any_version : (gate : ℕ) (run tail c : List ℕ) → length secret ≡ 32 → IsRun bodies run → c ≡ header gate secret ++ run ++ 0 ∷ tail → Holds secret bodies c
+  any_version : (gate : ℕ) (run tail c : List ℕ) → length secret ≡ 32 → IsRun bodies run → c ≡ header gate secret ++ run ++ 0 ∷ tail → HoldsRecords secret bodies c
   any_version gate run tail c secret_size is_run is = elim (cases_eq gate 0) [
     | inl shut ↦ (1, record { gate = gate; run = run; tail = tail; is_version = inl (shut, refl); secret_size = secret_size; is_run = is_run; is = is })
     | inr opened ↦ (2, record { gate = gate; run = run; tail = tail; is_version = inr (opened, refl); secret_size = secret_size; is_run = is_run; is = is })
   ]
 
-  pub torn_version : (version : ℕ) (d c : List ℕ) → Stands version secret bodies d → IsTorn 48 1 d c → Holds secret bodies c
+  pub torn_version : (version : ℕ) (d c : List ℕ) → Stands version secret bodies d → IsTorn 48 1 d c → HoldsRecords secret bodies c
   torn_version version d c s torn =
       let behind = s.run ++ 0 ∷ s.tail in
       let one : OneTorn (start_line ++ secret) behind c =

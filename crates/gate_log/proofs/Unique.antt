@@ -63,6 +63,7 @@ fault_stops gate more fault g body after opened fits is some =
     by_cases size long (inl (inr (enough, range, few))) = absurd (omega (arith, few, long, size, some))
     by_cases size long (inr (enough, wrong)) = wrong (subst IsLength (sym size) fits)
 
+-- the same bodies, and the same bytes behind them
 record Same (bodies others : List (List ℕ)) (rest left : List ℕ) : Type 0 where
   bodies_are : bodies ≡ others
   rest_is : rest ≡ left
@@ -128,6 +129,7 @@ record Parted (gate : ℕ) (secret : List ℕ) (bodies : List (List ℕ)) (run r
 head_of : (gate : ℕ) (secret : List ℕ) (bodies : List (List ℕ)) (run rest file : List ℕ) → Parted gate secret bodies run rest file → Headed file secret (run ++ rest) gate
 head_of gate secret bodies run rest file p = read_header gate file secret (run ++ rest) p.secret_size (p.is ∙ append_assoc (header gate secret) run rest)
 
+-- each part of a file is the same
 record SameParts (gate other_gate : ℕ) (secret other_secret : List ℕ) (bodies others : List (List ℕ)) (rest left : List ℕ) : Type 0 where
   gate_is : gate ≡ other_gate
   secret_is : secret ≡ other_secret

@@ -44,9 +44,9 @@ pub record Stands (version : ℕ) (secret : List ℕ) (bodies : List (List ℕ))
   pub is_run : IsRun bodies run
   pub is : file ≡ header gate secret ++ run ++ 0 ∷ tail
 
--- in either version
-abbrev pub Holds : List ℕ → List (List ℕ) → List ℕ → Type 0
-Holds secret bodies file = (version : ℕ) × Stands version secret bodies file
+-- the file has this secret and these bodies, in either version
+abbrev pub HoldsRecords : List ℕ → List (List ℕ) → List ℕ → Type 0
+HoldsRecords secret bodies file = (version : ℕ) × Stands version secret bodies file
 
 -- The file begins with a header of this version and secret and with the whole records of these bodies, and there is a
 -- gate behind them, closed or open.

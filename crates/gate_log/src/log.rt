@@ -2,7 +2,7 @@
 ghost use Rattle.std.specs.Prelude.{◌≡◌, ◌≢◌, ◌⊎◌, ◌<◌, ◌≤◌, ◌↔◌, ◌+◌, ◌-◌, ◌^◌, ◌++◌, [], ◌∷◌, List, ℕ, true, false, length, take, drop, IfOk, IfErr, OnOk, OnErr, MatchResult, IsTrue, IsFalse, Ok, Err};
 ghost use Rattle.split_base.specs.Faults.{HasCause, HasRisen};
 ghost use Rattle.split_base.specs.Disk.{Each, Only, Rests, LeavesOnly, IsWritten, Tears};
-ghost use Rattle.gate_log.specs.Records.{Stands, Holds, IsBeforeOrAfter, IsBody, IsAppended, MayBeAppending, behind_gate};
+ghost use Rattle.gate_log.specs.Records.{Stands, HoldsRecords, IsBeforeOrAfter, IsBody, IsAppended, MayBeAppending, behind_gate};
 ghost use Rattle.gate_log.specs.Faults.{IsHeaderFault, IsFaultAfter};
 ghost use Rattle.gate_log.specs.Log.{LogView, IsLogOf, IsReading, IsAhead, with_ahead, closed, past};
 ghost use Rattle.gate_log.specs.Gate.{Shows};
@@ -35,11 +35,11 @@ impl Model for Log {
 
     ghost Value = { LogView };
 
-    ghost use Rattle.gate_log.specs.Inside.{log_view, IsSound};
+    ghost use Rattle.gate_log.specs.Inside.{log_view, FitsJournal};
 
     ghost view = { log_view };
 
-    ghost invariant = { IsSound };
+    ghost invariant = { FitsJournal };
 }
 
 impl Log {
@@ -208,9 +208,9 @@ impl Log {
         ensures written { D.is_honest disk.old → OnOk result (IsWritten (D.seen disk.old) VERSION_GATE (1 ∷ []) (D.seen disk.new)) }
         ensures writes { D.is_honest disk.old → LeavesOnly D.moment D.left_since disk.old disk.new (Tears (D.images disk.old) VERSION_GATE 1) }
         ensures any_moment { D.is_honest disk.old → (secret : List ℕ) (bodies : List (List ℕ)) → IsLogOf (D.images disk.old) self.old secret bodies
-            → LeavesOnly D.moment D.left_since disk.old disk.new (Holds secret bodies) }
+            → LeavesOnly D.moment D.left_since disk.old disk.new (HoldsRecords secret bodies) }
         ensures after { D.is_honest disk.old → (secret : List ℕ) (bodies : List (List ℕ)) → IsLogOf (D.images disk.old) self.old secret bodies
-            → Each (D.images disk.new) (Holds secret bodies) }
+            → Each (D.images disk.new) (HoldsRecords secret bodies) }
     {
         self.at_end = false;
         write_synced(disk, VERSION_GATE, &[1])?;

@@ -90,24 +90,24 @@ abbrev row_bytes : LegRow → List ℕ
 row_bytes row = numbers_bytes row.items
 
 -- a row with a leg to each place
-abbrev IsRow : ℕ → LegRow → Type 0
-IsRow places row = AreNumbers places row.items
+abbrev IsLegRow : ℕ → LegRow → Type 0
+IsLegRow places row = AreNumbers places row.items
 
 -- a row that is read was spelled there
-row_takes : (places : ℕ) (bytes : List ℕ) (x : LegRow × List ℕ) → IsBytes bytes → row_at places bytes ≡ Some x → Takes bytes (row_bytes x.0) x.1 × IsRow places x.0
+row_takes : (places : ℕ) (bytes : List ℕ) (x : LegRow × List ℕ) → IsBytes bytes → row_at places bytes ≡ Some x → Takes bytes (row_bytes x.0) x.1 × IsLegRow places x.0
 unfolding row_at
 row_takes places bytes x fits e =
     let a = step (many_at (number_at w32) places) numbers_bytes (AreNumbers places) (numbers_read places) bytes _ x fits e in
     let made : LegRow × List ℕ = (record { items = a.x }, a.rest) in
-    subst (λ (y : LegRow × List ℕ). Takes bytes (row_bytes y.0) y.1 × IsRow places y.0) (some_is made x a.more) (a.takes, a.fits)
+    subst (λ (y : LegRow × List ℕ). Takes bytes (row_bytes y.0) y.1 × IsLegRow places y.0) (some_is made x a.more) (a.takes, a.fits)
 
 -- a row that was spelled is read again
-row_again : (places : ℕ) (row : LegRow) (rest : List ℕ) → IsRow places row → row_at places (row_bytes row ++ rest) ≡ Some (row, rest)
+row_again : (places : ℕ) (row : LegRow) (rest : List ℕ) → IsLegRow places row → row_at places (row_bytes row ++ rest) ≡ Some (row, rest)
 unfolding row_at
 row_again places row rest fits = rw (numbers_again places row.items rest fits) refl
 
 -- rows are read as they are spelled
-row_reads : (places : ℕ) → Reads (row_at places) row_bytes (IsRow places)
+row_reads : (places : ℕ) → Reads (row_at places) row_bytes (IsLegRow places)
 row_reads places = record { takes = row_takes places; again = row_again places }
 
 -- the legs row by row are spelled as the rows one after the other
@@ -118,12 +118,12 @@ rows_bytes (row ∷ rows) =
     ∙ ap (λ (t : List ℕ). row_bytes row ++ t) (rows_bytes rows) ∙ sym (flat_map-cons row_bytes row rows)
 
 -- rows that were spelled are read again
-rows_again : (places : ℕ) (rows : List LegRow) (rest : List ℕ) → AreMany (IsRow places) (places + 1) rows → many_at (row_at places) (places + 1) (flat_map row_bytes rows ++ rest) ≡ Some (rows, rest)
-rows_again places rows rest fits = subst (λ (k : ℕ). many_at (row_at places) k (flat_map row_bytes rows ++ rest) ≡ Some (rows, rest)) fits.0 (many_again (row_at places) row_bytes (IsRow places) (row_reads places) rows rest fits.1)
+rows_again : (places : ℕ) (rows : List LegRow) (rest : List ℕ) → AreMany (IsLegRow places) (places + 1) rows → many_at (row_at places) (places + 1) (flat_map row_bytes rows ++ rest) ≡ Some (rows, rest)
+rows_again places rows rest fits = subst (λ (k : ℕ). many_at (row_at places) k (flat_map row_bytes rows ++ rest) ≡ Some (rows, rest)) fits.0 (many_again (row_at places) row_bytes (IsLegRow places) (row_reads places) rows rest fits.1)
 
 -- tables of rows are read as they are spelled
-rows_read : (places : ℕ) → Reads (many_at (row_at places) (places + 1)) (flat_map row_bytes) (AreMany (IsRow places) (places + 1))
-rows_read places = record { takes = many_take (row_at places) row_bytes (IsRow places) (row_reads places) (places + 1); again = rows_again places }
+rows_read : (places : ℕ) → Reads (many_at (row_at places) (places + 1)) (flat_map row_bytes) (AreMany (IsLegRow places) (places + 1))
+rows_read places = record { takes = many_take (row_at places) row_bytes (IsLegRow places) (row_reads places) (places + 1); again = rows_again places }
 
 -- facts of this kind with as many members
 abbrev AreOf : ℕ → ℕ → Facts → Type 0
@@ -134,7 +134,7 @@ fares_take : (members places : ℕ) (bytes : List ℕ) (x : Facts × List ℕ) �
 unfolding fares_at
 fares_take members places bytes x fits e =
     let a = step (number_at w32) bytes32 Is32 reads32 bytes _ x fits e in
-    let rows = step (many_at (row_at places) (places + 1)) (flat_map row_bytes) (AreMany (IsRow places) (places + 1)) (rows_read places) a.rest _ x a.takes.rest_fits a.more in
+    let rows = step (many_at (row_at places) (places + 1)) (flat_map row_bytes) (AreMany (IsLegRow places) (places + 1)) (rows_read places) a.rest _ x a.takes.rest_fits a.more in
     let whole = Takes-then bytes (bytes32 a.x) a.rest (flat_map row_bytes rows.x) rows.rest a.takes rows.takes in
     let spelled : Takes bytes (bytes32 a.x ++ numbers_bytes (flat_map (λ row. row.items) rows.x)) rows.rest = subst (λ (t : List ℕ). Takes bytes (bytes32 a.x ++ t) rows.rest) (sym (rows_bytes rows.x)) whole in
     let made : Facts × List ℕ = (facts.Fares (record { members = members; places = places; flag = a.x; legs = record { items = rows.x } }), rows.rest) in
@@ -175,11 +175,11 @@ All-of_append P (x ∷ xs) ys all =
     (All-cons P x xs (All-head P x (xs ++ ys) all) more.0, more.1)
 
 -- the rows of a table whose legs are numbers of 32 bits
-rows_fit : (places : ℕ) (rows : List LegRow) → All (λ row. length row.items ≡ places) rows → All Is32 (flat_map (λ row. row.items) rows) → All (IsRow places) rows
-rows_fit places [] columns all = All-nil (IsRow places)
+rows_fit : (places : ℕ) (rows : List LegRow) → All (λ row. length row.items ≡ places) rows → All Is32 (flat_map (λ row. row.items) rows) → All (IsLegRow places) rows
+rows_fit places [] columns all = All-nil (IsLegRow places)
 rows_fit places (row ∷ rows) columns all =
     let parts = All-of_append Is32 row.items (flat_map (λ row. row.items) rows) (subst (All Is32) (flat_map-cons (λ (r : LegRow). r.items) row rows) all) in
-    All-cons (IsRow places) row rows (All-head (λ row. length row.items ≡ places) row rows columns, parts.0) (rows_fit places rows (All-tail (λ row. length row.items ≡ places) row rows columns) parts.1)
+    All-cons (IsLegRow places) row rows (All-head (λ row. length row.items ≡ places) row rows columns, parts.0) (rows_fit places rows (All-tail (λ row. length row.items ≡ places) row rows columns) parts.1)
 
 -- facts that were spelled are read again
 facts_again : (f : Facts) (rest : List ℕ) → IsCheckedFacts f → facts_at (kind_of f) (member_count f) (item_count f) (facts_bytes f ++ rest) ≡ Some (f, rest)

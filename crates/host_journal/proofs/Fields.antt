@@ -117,6 +117,7 @@ byte_reads = record { takes = byte_takes; again = λ b rest fits. refl }
 
 -- ---- numbers
 
+-- numbers below the limit are spelled in as many bytes as the width has, and read back
 record IsWide (w : Width) (limit : ℕ) : Type 0 where
   pub len : (n : ℕ) → length (to_le_bytes w n) ≡ byte_len w
   pub back : (bytes : List ℕ) → length bytes ≡ byte_len w → IsBytes bytes → to_le_bytes w (from_le_bytes w bytes) ≡ bytes

@@ -2,7 +2,7 @@
 use Rattle.std.proofs.Common.{◌≡◌, inl, inr, ℕ, ◌≤◌, List, [], ◌∷◌, ◌++◌, map, refl, sym, ◌∙◌, ap, subst, arith}
 use Rattle.std.proofs.lemmas.List.Elements.{All-nil, All-weaker}
 use Rattle.split_base.specs.Disk.{Only, Rests}
-use Rattle.gate_log.specs.Records.{Stands, Holds, IsVersion}
+use Rattle.gate_log.specs.Records.{Stands, HoldsRecords, IsVersion}
 use Rattle.gate_log.specs.Log.{LogView, IsLogOf, IsReading}
 use Rattle.sealed_core.specs.Host.{HostView, EventView, Created, BidKept, Closed, Withdrawn, CanApply, apply}
 use Rattle.sealed_core.specs.Sealed.{empty}
@@ -49,7 +49,7 @@ version_most gate version (inl (shut, is)) = omega (arith, is)
 version_most gate version (inr (opened, is)) = omega (arith, is)
 
 -- what a raise of version 1 may leave
-pub raised_from : (version : ℕ) (secret : List ℕ) (bodies : List (List ℕ)) (file : List ℕ) → version ≡ 1 → Holds secret bodies file → HoldsFrom version secret bodies file
+pub raised_from : (version : ℕ) (secret : List ℕ) (bodies : List (List ℕ)) (file : List ℕ) → version ≡ 1 → HoldsRecords secret bodies file → HoldsFrom version secret bodies file
 raised_from version secret bodies file one (later, stands) = (later, omega (arith, one, version_least stands.gate later stands.is_version), stands)
 
 -- the next record's event is taken up

@@ -8,10 +8,10 @@ use Rattle.bid_rules.specs.declared.goods.GoodsCase.{GoodsCase}
 use Rattle.bid_rules.specs.declared.pair.Pair.{Pair}
 use Rattle.bid_rules.specs.Goods.{player_count, points}
 use Rattle.bid_rules.specs.Pairs.{positives, product, nash_welfare, IsLess}
-use Rattle.nash_bounds.specs.Bound.{IsWithin}
+use Rattle.nash_bounds.specs.Bound.{IsBetween}
 use Rattle.nash_bounds.specs.Levels.{entry_at, filled}
 use Rattle.nash_bounds.specs.Prefixes.{prefix_bound}
-use Rattle.nash_bounds.specs.Lanes.{IsFork, IsOpen, next_good}
+use Rattle.nash_bounds.specs.Lanes.{IsFork, HasFreeGood, next_good}
 use Rattle.nash_bounds.specs.Reach.{IsFlat, entries_at}
 use Rattle.nash_bounds.specs.FarLanes.{IsSpan, IsFar}
 use Rattle.nash_bounds.specs.declared.lanes.Lanes.{Lanes}
@@ -100,7 +100,7 @@ slack_at (suc m) s lows highs us one order above below same fits few = slack m s
 -- where a lane is far by its product, a list with as many positive utilities has a smaller product
 far_by_product : (lanes : Lanes) (flat : Flat) (i points : ℕ) (pair : Pair) (us : List ℕ) → IsSpan lanes → IsFlat lanes flat → i < MEMBER_ROOM
     → AllZip ◌≤◌ (set lanes.low i (get_or lanes.low i 0 + points)) (set lanes.high i (get_or lanes.high i 0 + points))
-    → IsWithin (set lanes.low i (get_or lanes.low i 0 + points)) (set lanes.high i (get_or lanes.high i 0 + points)) (lanes.top + points) us
+    → IsBetween (set lanes.low i (get_or lanes.low i 0 + points)) (set lanes.high i (get_or lanes.high i 0 + points)) (lanes.top + points) us
     → positives us ≡ positives (set lanes.high i (get_or lanes.high i 0 + points))
     → lanes.top + points - (flat.total - get_or flat.entries i 0 + entry_at flat.level (get_or lanes.low i 0 + points) (get_or lanes.high i 0 + points)) < 2 * flat.level
     → flat.units * (max (entry_at flat.level (get_or lanes.low i 0 + points) (get_or lanes.high i 0 + points)) 1
@@ -138,7 +138,7 @@ far_by_product lanes flat i points pair us span is l order within same few test 
 -- where a lane is far, each list allowed has a smaller pair
 far_less : (lanes : Lanes) (flat : Flat) (i points : ℕ) (pair : Pair) (us : List ℕ) → IsSpan lanes → IsFlat lanes flat → i < MEMBER_ROOM
     → AllZip ◌≤◌ (set lanes.low i (get_or lanes.low i 0 + points)) (set lanes.high i (get_or lanes.high i 0 + points))
-    → IsWithin (set lanes.low i (get_or lanes.low i 0 + points)) (set lanes.high i (get_or lanes.high i 0 + points)) (lanes.top + points) us
+    → IsBetween (set lanes.low i (get_or lanes.low i 0 + points)) (set lanes.high i (get_or lanes.high i 0 + points)) (lanes.top + points) us
     → IsFar (get_or lanes.low i 0) (get_or lanes.high i 0) lanes.top points flat (get_or flat.entries i 0) pair → IsLess (nash_welfare us) pair
 far_less lanes flat i points pair us span is l order within (inl few) =
     let b = span.highs in
@@ -159,7 +159,7 @@ far_less lanes flat i points pair us span is l order within (inr far) =
     ]
 
 -- where the owner's lane is far, the bound with the next good given to the owner is below the pair
-pub far_bound : (case : GoodsCase) (owners : List ℕ) (owner given : ℕ) (lanes : Lanes) (flat : Flat) (pair : Pair) → IsOpen case owners → player_count case ≤ MEMBER_ROOM → 1 ≤ owner → owner ≤ player_count case
+pub far_bound : (case : GoodsCase) (owners : List ℕ) (owner given : ℕ) (lanes : Lanes) (flat : Flat) (pair : Pair) → HasFreeGood case owners → player_count case ≤ MEMBER_ROOM → 1 ≤ owner → owner ≤ player_count case
     → given ≡ points case owner (next_good case owners) → IsSpan lanes → IsFork case owners lanes → IsFlat lanes flat
     → IsFar (get_or lanes.low (owner - 1) 0) (get_or lanes.high (owner - 1) 0) lanes.top given flat (get_or flat.entries (owner - 1) 0) pair → IsLess (prefix_bound case (owners ++ owner ∷ [])) pair
 far_bound case owners owner given lanes flat pair free few low high is span fork flat_is far =

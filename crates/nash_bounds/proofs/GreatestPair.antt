@@ -6,7 +6,7 @@ use Rattle.std.proofs.lemmas.Bool.{cases_order}
 use Rattle.std.proofs.Math.Nat.{mul-le-mul, mul-le-mul_left, mul-pos, le_of_mul-le-mul_right, le_of_mul-le-mul_left}
 use Rattle.bid_rules.specs.Pairs.{positives, product, nash_welfare, IsAtMost}
 use Rattle.nash_bounds.specs.Levels.{entry_at, filled}
-use Rattle.nash_bounds.specs.Bound.{IsWithin, IsBound}
+use Rattle.nash_bounds.specs.Bound.{IsBetween, IsBound}
 use Rattle.nash_bounds.proofs.WeightRatios.{weight, power, power-add, weight_pos, power_pos, power_le, against}
 
 -- the product of the weights
@@ -166,7 +166,7 @@ at_most top xs high (inl e) = omega arith
 at_most top xs high (inr p) = let e : sum xs ≡ sum high = ap sum p.0 in let f : sum high ≤ top = p.1 in omega arith
 
 -- raised entries sum to at least what any list within low and high does
-least : (low high us xs : List ℕ) (top : ℕ) → IsWithin low high top us → (sum xs ≡ top) ⊎ ((xs ≡ high) × (sum high ≤ top)) → sum us ≤ sum xs
+least : (low high us xs : List ℕ) (top : ℕ) → IsBetween low high top us → (sum xs ≡ top) ⊎ ((xs ≡ high) × (sum high ≤ top)) → sum us ≤ sum xs
 least low high us xs top within (inl e) = let f : sum us ≤ top = within.total in omega arith
 least low high us xs top within (inr p) = let e : sum xs ≡ sum high = ap sum p.0 in let f = sum_AllZip us high within.below in omega arith
 

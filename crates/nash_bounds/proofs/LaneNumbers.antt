@@ -6,7 +6,7 @@ use Rattle.std.proofs.lemmas.List.{get_or-set_same, get_or-set_other, get_or_pas
 use Rattle.std.proofs.Math.Seq.{get_or-append_seam}
 use Rattle.nash_bounds.specs.declared.table.PointRow.{PointRow}
 use Rattle.nash_bounds.specs.declared.prefix.Prefix.{Prefix}
-use Rattle.nash_bounds.specs.Tables.{IsRow}
+use Rattle.nash_bounds.specs.Tables.{IsPointRow}
 use Rattle.std.proofs.lemmas.Bool.{cases_eq, cases_lt}
 use Rattle.std.proofs.lemmas.Bool.Decides.{nat_tests}
 use Rattle.std.proofs.lemmas.List.FromFn.{get_or-map-range_with_len, length-range_with_len}
@@ -20,7 +20,7 @@ use Rattle.nash_bounds.specs.declared.lanes.Lanes.{Lanes}
 use Rattle.nash_bounds.specs.declared.lanes.LaneRow.{LaneRow}
 use Rattle.nash_bounds.specs.declared.lanes.LaneTable.{LaneTable}
 use Rattle.nash_bounds.specs.Prefixes.{free_goods, top_of, highest, prefix_bound, IsPrefix}
-use Rattle.nash_bounds.specs.Lanes.{by_lane, has, may_have, next_good, IsLanes, IsFork, IsLaneRow, IsLaneTable, IsOpen}
+use Rattle.nash_bounds.specs.Lanes.{by_lane, has, may_have, next_good, IsLanes, IsFork, IsLaneRow, IsLaneTable, HasFreeGood}
 use Rattle.nash_bounds.proofs.PlayerPoints.{map_is, length_mapped, AllZip_map, Row}
 use Rattle.nash_bounds.proofs.LongerPrefixes.{utility_within, within_whole, free_next, low_next, top_next, each_player}
 use Rattle.nash_bounds.proofs.NextEntries.{sum_within}
@@ -169,7 +169,7 @@ top_small case owners valid few =
     omega arith
 
 -- the row of the next good
-pub row_of : (case : GoodsCase) (table : LaneTable) (owners : List ℕ) (rows : List LaneRow) (other : LaneRow) → IsLaneTable case table → IsOpen case owners → rows ≡ table.rows.items
+pub row_of : (case : GoodsCase) (table : LaneTable) (owners : List ℕ) (rows : List LaneRow) (other : LaneRow) → IsLaneTable case table → HasFreeGood case owners → rows ≡ table.rows.items
     → IsLaneRow case (next_good case owners) (get_or rows (length owners) other)
 row_of case table owners rows other is free same =
     subst (λ (xs : List LaneRow). IsLaneRow case (next_good case owners) (get_or xs (length owners) other)) (sym same) (is.each (length owners) other free.short)
@@ -194,7 +194,7 @@ fork_is case owners row lanes high is lanes_are long each = record {
 }
 
 -- and with it again
-pub join_is : (case : GoodsCase) (owners : List ℕ) (row : LaneRow) (lanes : Lanes) (high : List ℕ) → IsLaneRow case (next_good case owners) row → IsOpen case owners → IsFork case owners lanes → length high ≡ MEMBER_ROOM
+pub join_is : (case : GoodsCase) (owners : List ℕ) (row : LaneRow) (lanes : Lanes) (high : List ℕ) → IsLaneRow case (next_good case owners) row → HasFreeGood case owners → IsFork case owners lanes → length high ≡ MEMBER_ROOM
     → ((k : ℕ) → k < MEMBER_ROOM → get_or high k 0 ≡ get_or lanes.high k 0 + get_or row.points k 0)
     → IsLanes case owners record { low = lanes.low; high = high; top = lanes.top + row.greatest }
 join_is case owners row lanes high is free lanes_are long each = record {
@@ -205,7 +205,7 @@ join_is case owners row lanes high is free lanes_are long each = record {
 }
 
 -- lanes to which the next good is given are those of the longer prefix
-pub give_is : (case : GoodsCase) (owners : List ℕ) (owner given : ℕ) (lanes : Lanes) → IsOpen case owners → 1 ≤ owner → owner ≤ player_count case → owner ≤ MEMBER_ROOM → given ≡ points case owner (next_good case owners)
+pub give_is : (case : GoodsCase) (owners : List ℕ) (owner given : ℕ) (lanes : Lanes) → HasFreeGood case owners → 1 ≤ owner → owner ≤ player_count case → owner ≤ MEMBER_ROOM → given ≡ points case owner (next_good case owners)
     → IsFork case owners lanes
     → IsLanes case (owners ++ owner ∷ []) record { low = set lanes.low (owner - 1) (get_or lanes.low (owner - 1) 0 + given); high = set lanes.high (owner - 1) (get_or lanes.high (owner - 1) 0 + given); top = lanes.top + given }
 give_is case owners owner given lanes free a few b is lanes_are = record {
@@ -217,7 +217,7 @@ give_is case owners owner given lanes free a few b is lanes_are = record {
 }
 
 -- lanes from which it is taken are those without it
-pub take_is : (case : GoodsCase) (owners : List ℕ) (owner given : ℕ) (lanes : Lanes) → IsOpen case owners → 1 ≤ owner → owner ≤ player_count case → owner ≤ MEMBER_ROOM → given ≡ points case owner (next_good case owners)
+pub take_is : (case : GoodsCase) (owners : List ℕ) (owner given : ℕ) (lanes : Lanes) → HasFreeGood case owners → 1 ≤ owner → owner ≤ player_count case → owner ≤ MEMBER_ROOM → given ≡ points case owner (next_good case owners)
     → IsLanes case (owners ++ owner ∷ []) lanes
     → IsFork case owners record { low = set lanes.low (owner - 1) (get_or lanes.low (owner - 1) 0 - given); high = set lanes.high (owner - 1) (get_or lanes.high (owner - 1) 0 - given); top = lanes.top - given }
 take_is case owners owner given lanes free a few b is lanes_are = record {
@@ -229,7 +229,7 @@ take_is case owners owner given lanes free a few b is lanes_are = record {
 }
 
 -- no lane's points for the next good are above what the lane may have
-pub fork_fits : (case : GoodsCase) (owners : List ℕ) (row : LaneRow) (lanes : Lanes) (k : ℕ) → IsLaneRow case (next_good case owners) row → IsOpen case owners → IsLanes case owners lanes → k < MEMBER_ROOM
+pub fork_fits : (case : GoodsCase) (owners : List ℕ) (row : LaneRow) (lanes : Lanes) (k : ℕ) → IsLaneRow case (next_good case owners) row → HasFreeGood case owners → IsLanes case owners lanes → k < MEMBER_ROOM
     → get_or row.points k 0 ≤ get_or lanes.high k 0
 fork_fits case owners row lanes k is free lanes_are l =
     let a = row_points case owners row k is l in
@@ -238,7 +238,7 @@ fork_fits case owners row lanes k is free lanes_are l =
     omega arith
 
 -- nor are the greatest of them above the top
-pub fork_top : (case : GoodsCase) (owners : List ℕ) (row : LaneRow) (lanes : Lanes) → IsLaneRow case (next_good case owners) row → IsOpen case owners → IsLanes case owners lanes → row.greatest ≤ lanes.top
+pub fork_top : (case : GoodsCase) (owners : List ℕ) (row : LaneRow) (lanes : Lanes) → IsLaneRow case (next_good case owners) row → HasFreeGood case owners → IsLanes case owners lanes → row.greatest ≤ lanes.top
 fork_top case owners row lanes is free lanes_are =
     let g = is.is_greatest in
     let t = lanes_are.is_top in
@@ -246,7 +246,7 @@ fork_top case owners row lanes is free lanes_are =
     omega arith
 
 -- what a lane may have with the next good fits its type
-pub join_fits : (case : GoodsCase) (owners : List ℕ) (row : LaneRow) (lanes : Lanes) (k : ℕ) → IsLaneRow case (next_good case owners) row → IsOpen case owners → IsFork case owners lanes → k < MEMBER_ROOM
+pub join_fits : (case : GoodsCase) (owners : List ℕ) (row : LaneRow) (lanes : Lanes) (k : ℕ) → IsLaneRow case (next_good case owners) row → HasFreeGood case owners → IsFork case owners lanes → k < MEMBER_ROOM
     → get_or lanes.high k 0 + get_or row.points k 0 < 4294967296
 join_fits case owners row lanes k is free lanes_are l =
     let a = row_points case owners row k is l in
@@ -256,7 +256,7 @@ join_fits case owners row lanes k is free lanes_are l =
     omega arith
 
 -- the top with the next good is at most the most that it may be
-pub join_top : (case : GoodsCase) (owners : List ℕ) (row : LaneRow) (lanes : Lanes) → IsLaneRow case (next_good case owners) row → IsOpen case owners → player_count case ≤ MEMBER_ROOM → IsFork case owners lanes
+pub join_top : (case : GoodsCase) (owners : List ℕ) (row : LaneRow) (lanes : Lanes) → IsLaneRow case (next_good case owners) row → HasFreeGood case owners → player_count case ≤ MEMBER_ROOM → IsFork case owners lanes
     → lanes.top + row.greatest ≤ MOST_TOP
 join_top case owners row lanes is free few lanes_are =
     let g = is.is_greatest in
@@ -306,7 +306,7 @@ span_of_lanes case owners lanes valid few is =
     (let s = low_sum case owners lanes.low few is.is_low in let t = is.is_top in omega arith)
 
 -- the lanes without the next good are a span
-pub span_of_fork : (case : GoodsCase) (owners : List ℕ) (lanes : Lanes) → IsOpen case owners → player_count case ≤ MEMBER_ROOM → IsFork case owners lanes → IsSpan lanes
+pub span_of_fork : (case : GoodsCase) (owners : List ℕ) (lanes : Lanes) → HasFreeGood case owners → player_count case ≤ MEMBER_ROOM → IsFork case owners lanes → IsSpan lanes
 span_of_fork case owners lanes free few is =
     span (has case owners) (forked case owners) lanes is.is_low is.is_high (λ p _. let e = free_next (points case p) case owners 1 free.short in omega arith)
     (λ p a. let s = may_small case owners p free.valid a in omega arith)
@@ -334,7 +334,7 @@ laned_is f n xs ys few none is long each =
     ]
 
 -- a row of points in lanes is the row by lane
-pub lane_row_is : (case : GoodsCase) (good : ℕ) (row : PointRow) (given ys : List ℕ) → player_count case ≤ MEMBER_ROOM → IsRow case good row → given ≡ row.points.items → length ys ≡ MEMBER_ROOM
+pub lane_row_is : (case : GoodsCase) (good : ℕ) (row : PointRow) (given ys : List ℕ) → player_count case ≤ MEMBER_ROOM → IsPointRow case good row → given ≡ row.points.items → length ys ≡ MEMBER_ROOM
     → ((k : ℕ) → k < MEMBER_ROOM → get_or ys k 0 ≡ get_or given k 0) → IsLaneRow case good record { points = ys; greatest = row.greatest }
 lane_row_is case good row given ys few is same long each = record {
   is_points = laned_is (λ p. points case p good) (player_count case) given ys few (λ p l. none_points case p good l) (same ∙ is.is_points) long each;

@@ -27,7 +27,7 @@ use Rattle.nash_bounds.proofs.ListFronts.{after_longer, before_front, before_thr
 use Rattle.nash_bounds.specs.declared.limits.TheConstants.{BLOCK_TASKS}
 
 -- a prefix that may not be left out has at least the answer's pair, and where it has no more, it is not after the answer's first owners
-pub record IsOpen (case : GoodsCase) (answer owners : List ℕ) : Type 0 where
+pub record IsOpenPrefix (case : GoodsCase) (answer owners : List ℕ) : Type 0 where
   pub at_least : IsAtMost (pair_of case answer) (prefix_bound case owners)
   pub front : IsLess (pair_of case answer) (prefix_bound case owners) ⊎ (slice_cmp nat_cmp owners (take (length owners) answer) ≡ Greater → ⊥)
 
@@ -62,7 +62,7 @@ not_greater : (o : Ordering) → is_greater o ≡ false → o ≡ Greater → �
 not_greater o h e = let f : is_greater o ≡ true = ap is_greater e in let g : true ≡ false = sym f ∙ h in cc
 
 -- a prefix that may not be left out is open
-pub is_open : (case : GoodsCase) (answer owners : List ℕ) → may_be_left case answer owners ≡ false → IsOpen case answer owners
+pub is_open : (case : GoodsCase) (answer owners : List ℕ) → may_be_left case answer owners ≡ false → IsOpenPrefix case answer owners
 unfolding may_be_left
 is_open case answer owners h =
     let both = open_cases (pair_of case answer) (prefix_bound case owners) (is_after answer owners) h in
@@ -103,7 +103,7 @@ found_earlier case task owners l h =
     subst (IsEarlier case task) found.2 (earlier_all case task l found.0 owners found.1)
 
 -- an allocation of a task before that of an open prefix has a smaller pair
-pub earlier_less : (case : GoodsCase) (answer owners more : List ℕ) (task : ℕ) (early : List ℕ) → GoodsBest case answer → task < tasks_of case → IsOpen case answer (task_list case task ++ more)
+pub earlier_less : (case : GoodsCase) (answer owners more : List ℕ) (task : ℕ) (early : List ℕ) → GoodsBest case answer → task < tasks_of case → IsOpenPrefix case answer (task_list case task ++ more)
     → IsEarlier case task early → IsLess (pair_of case early) (prefix_bound case (task_list case task ++ more))
 earlier_less case answer owners more task early best within node (other, l, rest, is, allocation) = ⊎_elim
     (λ (less : IsLess (pair_of case early) (pair_of case answer)). through (pair_of case early) (pair_of case answer) (prefix_bound case (task_list case task ++ more)) less node.at_least)
@@ -161,7 +161,7 @@ open_counted case floor answer more task start best within e =
     both : (a b : Bool) → a ≡ true → b ≡ true → (a && b) ≡ true
     both a b p q = rw (p, q) refl
 
-    above : IsOpen case answer (task_list case task ++ more) → (found : Option (List ℕ)) → best_before case (BLOCK_TASKS * (task / BLOCK_TASKS)) ≡ found
+    above : IsOpenPrefix case answer (task_list case task ++ more) → (found : Option (List ℕ)) → best_before case (BLOCK_TASKS * (task / BLOCK_TASKS)) ≡ found
         → is_above (pair_kept case (best_before case (BLOCK_TASKS * (task / BLOCK_TASKS)))) (prefix_bound case (task_list case task ++ more)) ≡ true
     above node None h = ap (λ (b : Option (List ℕ)). is_above (pair_kept case b) (prefix_bound case (task_list case task ++ more))) h
     above node (Some early) h =

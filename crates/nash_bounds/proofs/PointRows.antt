@@ -11,25 +11,25 @@ use Rattle.nash_bounds.specs.declared.prefix.Prefix.{Prefix}
 use Rattle.nash_bounds.specs.Prefixes.{IsPrefix, free_goods, top_of}
 use Rattle.nash_bounds.specs.NextOwner.{IsNext}
 use Rattle.nash_bounds.specs.declared.table.PointRow.{PointRow}
-use Rattle.nash_bounds.specs.Tables.{IsRow}
+use Rattle.nash_bounds.specs.Tables.{IsPointRow}
 use Rattle.nash_bounds.proofs.LongerPrefixes.{next_is, low_is, high_is, top_is, within_whole}
 use Rattle.nash_bounds.proofs.PlayerPoints.{points_le}
 use Rattle.nash_bounds.proofs.SortedGoods.{order_length}
 use Rattle.bid_rules.specs.declared.limits.TheConstants.{WHOLE_POINTS}
 
 -- a table with one more row has the rows of one more place
-pub row_more : (case : GoodsCase) (rows new : List PointRow) (row : PointRow) (k : ℕ) → length rows ≡ k → new ≡ rows ++ row ∷ [] → IsRow case (slice_index (order_of case) k) row
-    → ((place : ℕ) (other : PointRow) → place < k → IsRow case (slice_index (order_of case) place) (get_or rows place other))
-    → (place : ℕ) (other : PointRow) → place < k + 1 → IsRow case (slice_index (order_of case) place) (get_or new place other)
+pub row_more : (case : GoodsCase) (rows new : List PointRow) (row : PointRow) (k : ℕ) → length rows ≡ k → new ≡ rows ++ row ∷ [] → IsPointRow case (slice_index (order_of case) k) row
+    → ((place : ℕ) (other : PointRow) → place < k → IsPointRow case (slice_index (order_of case) place) (get_or rows place other))
+    → (place : ℕ) (other : PointRow) → place < k + 1 → IsPointRow case (slice_index (order_of case) place) (get_or new place other)
 row_more case rows new row k long is last before place other l =
     elim (cases_eq place k) [
       | inl e ↦ (
           let at : get_or new place other ≡ row = ap (λ n. get_or new n other) (e ∙ sym long) ∙ ap (λ xs. get_or xs (length rows) other) is ∙ get_or-append_seam rows row [] other in
-          subst (λ (r : PointRow). IsRow case (slice_index (order_of case) place) r) (sym at)
-          (subst (λ n. IsRow case (slice_index (order_of case) n) row) (sym e) last))
+          subst (λ (r : PointRow). IsPointRow case (slice_index (order_of case) place) r) (sym at)
+          (subst (λ n. IsPointRow case (slice_index (order_of case) n) row) (sym e) last))
       | inr ne ↦ (
           let at : get_or new place other ≡ get_or rows place other = ap (λ xs. get_or xs place other) is ∙ get_or_append_left rows (row ∷ []) other place (omega arith) in
-          subst (λ (r : PointRow). IsRow case (slice_index (order_of case) place) r) (sym at) (before place other (omega arith)))
+          subst (λ (r : PointRow). IsPointRow case (slice_index (order_of case) place) r) (sym at) (before place other (omega arith)))
     ]
 
 -- the good at a place of the order
@@ -44,7 +44,7 @@ good_at case order k is l =
     (omega arith, omega arith, omega arith, same)
 
 -- a player's points in a row
-pub row_entry : (case : GoodsCase) (good k : ℕ) (row : PointRow) → IsRow case good row → k < player_count case
+pub row_entry : (case : GoodsCase) (good k : ℕ) (row : PointRow) → IsPointRow case good row → k < player_count case
     → (k < length row.points.items) × (get_or row.points.items k 0 ≡ points case (k + 1) good)
 row_entry case good k row is l =
     let long : length row.points.items ≡ player_count case = ap length is.is_points ∙ length-map-range_with_len (λ p. points case p good) 1 (player_count case) in
@@ -58,7 +58,7 @@ next_of case prefix owner valid is shorter low high =
     record { valid = valid; is_prefix = is; shorter = shorter; is_good = refl; good_low = next.1; good_high = next.2; owner_low = low; owner_high = high }
 
 -- a player's least points once the owner has the next good
-pub low_by_row : (case : GoodsCase) (prefix : Prefix) (good owner k gain : ℕ) (row : PointRow) (own given : List ℕ) → IsValidGoodsCase case → IsNext case prefix good owner → IsRow case good row → k < player_count case
+pub low_by_row : (case : GoodsCase) (prefix : Prefix) (good owner k gain : ℕ) (row : PointRow) (own given : List ℕ) → IsValidGoodsCase case → IsNext case prefix good owner → IsPointRow case good row → k < player_count case
     → own ≡ prefix.low.items → given ≡ row.points.items → gain ≡ cond (eqb owner (k + 1)) (get_or given k 0) 0
     → (get_or own k 0 + gain ≡ utility case (k + 1) (order_of case) (prefix.owners.items ++ owner ∷ [])) × (get_or own k 0 + gain ≤ WHOLE_POINTS)
 low_by_row case prefix good owner k gain row own given valid next is l same row_is got =
@@ -71,7 +71,7 @@ low_by_row case prefix good owner k gain row own given valid next is l same row_
     (omega arith, omega arith)
 
 -- and most points
-pub high_by_row : (case : GoodsCase) (prefix : Prefix) (good owner k gain : ℕ) (row : PointRow) (own given : List ℕ) → IsNext case prefix good owner → IsRow case good row → k < player_count case
+pub high_by_row : (case : GoodsCase) (prefix : Prefix) (good owner k gain : ℕ) (row : PointRow) (own given : List ℕ) → IsNext case prefix good owner → IsPointRow case good row → k < player_count case
     → own ≡ prefix.high.items → given ≡ row.points.items → gain ≡ cond (eqb owner (k + 1)) (get_or given k 0) 0
     → (get_or given k 0 - gain ≤ get_or own k 0)
     × (get_or own k 0 - (get_or given k 0 - gain)
@@ -87,7 +87,7 @@ high_by_row case prefix good owner k gain row own given next is l same row_is go
     (omega arith, omega arith)
 
 -- and what all may have
-pub top_by_row : (case : GoodsCase) (prefix : Prefix) (good owner : ℕ) (row : PointRow) (given : List ℕ) → IsNext case prefix good owner → IsRow case good row → given ≡ row.points.items
+pub top_by_row : (case : GoodsCase) (prefix : Prefix) (good owner : ℕ) (row : PointRow) (given : List ℕ) → IsNext case prefix good owner → IsPointRow case good row → given ≡ row.points.items
     → (row.greatest ≤ prefix.top) × (prefix.top - row.greatest + get_or given (owner - 1) 0 ≤ prefix.top)
     × (prefix.top - row.greatest + get_or given (owner - 1) 0 ≡ top_of case (prefix.owners.items ++ owner ∷ []))
 top_by_row case prefix good owner row given next is row_is =

@@ -49,6 +49,6 @@ pub record IsFork (case : GoodsCase) (owners : List ℕ) (lanes : Lanes) : Type 
   pub is_top : lanes.top ≡ top_of case owners - greatest_points case (next_good case owners)
 
 -- owners of the first few goods, and the next good is free
-pub record IsOpen (case : GoodsCase) (owners : List ℕ) : Type 0 where
+pub record HasFreeGood (case : GoodsCase) (owners : List ℕ) : Type 0 where
   pub valid : IsValidGoodsCase case
   pub short : length owners < case.facts.goods

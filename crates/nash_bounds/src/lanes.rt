@@ -1,9 +1,9 @@
 ghost use Rattle.std.specs.Prelude.{◌≡◌, ℕ, List, ◌+◌, ◌-◌, ◌<◌, ◌≤◌, ◌^◌, [], ◌∷◌, ◌++◌, length, slice_index, slice_set};
 ghost use Rattle.bid_rules.specs.declared.goods.GoodsCase.{GoodsCase};
 ghost use Rattle.bid_rules.specs.Goods.{IsValidGoodsCase, player_count, points, order_of};
-ghost use Rattle.nash_bounds.specs.Lanes.{IsLaneRow, IsLaneTable, IsLanes, IsFork, IsOpen, next_good};
+ghost use Rattle.nash_bounds.specs.Lanes.{IsLaneRow, IsLaneTable, IsLanes, IsFork, HasFreeGood, next_good};
 ghost use Rattle.nash_bounds.specs.Prefixes.{IsPrefix};
-ghost use Rattle.nash_bounds.specs.Tables.{IsRow, IsTable};
+ghost use Rattle.nash_bounds.specs.Tables.{IsPointRow, IsTable};
 
 use crate::limits::MOST_TOP;
 use crate::prefix::Prefix;
@@ -64,7 +64,7 @@ fn put_back(numbers: &mut [u32; MEMBER_ROOM], points: &[u32; MEMBER_ROOM])
 /// Takes the next good from what the players may have.
 pub fn fork(case: &GoodsCase, table: &LaneTable, owners: &[u8], lanes: &mut Lanes)
     requires table { IsLaneTable case.now table.now }
-    requires open { IsOpen case.now owners.now }
+    requires open { HasFreeGood case.now owners.now }
     requires lanes { IsLanes case.now owners.now lanes.old }
     ensures { IsFork case.now owners.now lanes.new }
 {
@@ -76,7 +76,7 @@ pub fn fork(case: &GoodsCase, table: &LaneTable, owners: &[u8], lanes: &mut Lane
 /// Gives the next good back, as it was before `fork`.
 pub fn join(case: &GoodsCase, table: &LaneTable, owners: &[u8], lanes: &mut Lanes)
     requires table { IsLaneTable case.now table.now }
-    requires open { IsOpen case.now owners.now }
+    requires open { HasFreeGood case.now owners.now }
     requires lanes { IsFork case.now owners.now lanes.old }
     ensures { IsLanes case.now owners.now lanes.new }
 {
@@ -95,7 +95,7 @@ fn raised(top: u32, points: u32) -> u32
 /// What the owner gives the next good.
 pub(crate) fn points_of(case: &GoodsCase, table: &LaneTable, owners: &[u8], owner: u8) -> u32
     requires table { IsLaneTable case.now table.now }
-    requires open { IsOpen case.now owners.now }
+    requires open { HasFreeGood case.now owners.now }
     requires owner_low { 1 ≤ owner }
     requires owner_high { owner ≤ player_count case.now }
     ensures value { result ≡ points case.now owner (next_good case.now owners.now) }
@@ -126,7 +126,7 @@ fn lower_lane(numbers: &mut [u32; MEMBER_ROOM], owner: u8, points: u32)
 /// Gives the next good to the owner.
 pub fn give(case: &GoodsCase, table: &LaneTable, owners: &[u8], owner: u8, lanes: &mut Lanes)
     requires table { IsLaneTable case.now table.now }
-    requires open { IsOpen case.now owners.now }
+    requires open { HasFreeGood case.now owners.now }
     requires owner_low { 1 ≤ owner }
     requires owner_high { owner ≤ player_count case.now }
     requires lanes { IsFork case.now owners.now lanes.old }
@@ -141,7 +141,7 @@ pub fn give(case: &GoodsCase, table: &LaneTable, owners: &[u8], owner: u8, lanes
 /// Takes the next good from the owner, as it was before `give`.
 pub fn take(case: &GoodsCase, table: &LaneTable, owners: &[u8], owner: u8, lanes: &mut Lanes)
     requires table { IsLaneTable case.now table.now }
-    requires open { IsOpen case.now owners.now }
+    requires open { HasFreeGood case.now owners.now }
     requires owner_low { 1 ≤ owner }
     requires owner_high { owner ≤ player_count case.now }
     requires lanes { IsLanes case.now (owners.now ++ owner ∷ []) lanes.old }
@@ -182,7 +182,7 @@ pub fn lanes_of(case: &GoodsCase, prefix: &Prefix) -> Lanes
 
 fn lane_row(case: &GoodsCase, row: &PointRow, good: u8) -> LaneRow
     requires few { player_count case.now ≤ MEMBER_ROOM }
-    requires row { IsRow case.now good row.now }
+    requires row { IsPointRow case.now good row.now }
     ensures { IsLaneRow case.now good result }
 {
     LaneRow {

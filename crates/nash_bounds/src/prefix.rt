@@ -7,7 +7,7 @@ ghost use Rattle.nash_bounds.specs.Bound.{IsBound};
 ghost use Rattle.nash_bounds.specs.Levels.{bound_of};
 ghost use Rattle.nash_bounds.specs.Prefixes.{IsPrefix, HasBound, highest, top_of};
 ghost use Rattle.nash_bounds.specs.NextOwner.{IsNext};
-ghost use Rattle.nash_bounds.specs.Tables.{IsRow, IsTable};
+ghost use Rattle.nash_bounds.specs.Tables.{IsPointRow, IsTable};
 
 use crate::levels::bound_between;
 use crate::order::greatest;
@@ -155,7 +155,7 @@ fn gained(points: u32, owner: u8, player: u8) -> u32
 /// What the players have and may have, and what all may have, once the owner gets the next good, whose points the row gives.
 fn limits_after(case: &GoodsCase, row: &PointRow, prefix: &Prefix, owner: u8) -> Limits
     requires next { IsNext case.now prefix.now (slice_index (order_of case.now) (length prefix.now.owners.items)) owner }
-    requires row { IsRow case.now (slice_index (order_of case.now) (length prefix.now.owners.items)) row.now }
+    requires row { IsPointRow case.now (slice_index (order_of case.now) (length prefix.now.owners.items)) row.now }
     ensures low { result.low.items ≡ utilities case.now (prefix.now.owners.items ++ owner ∷ []) }
     ensures high { result.high.items ≡ highest case.now (prefix.now.owners.items ++ owner ∷ []) }
     ensures top { result.top ≡ top_of case.now (prefix.now.owners.items ++ owner ∷ []) }

@@ -2,7 +2,7 @@ ghost use Rattle.std.specs.Prelude.{◌≡◌, ℕ, List, ◌+◌, ◌-◌, ◌*
 ghost use Rattle.bid_rules.specs.Goods.{IsValidGoodsCase, player_count};
 ghost use Rattle.bid_rules.specs.Pairs.{positives, product, IsLess};
 ghost use Rattle.nash_bounds.specs.Prefixes.{prefix_bound};
-ghost use Rattle.nash_bounds.specs.Lanes.{IsLaneTable, IsLanes, IsFork, IsOpen};
+ghost use Rattle.nash_bounds.specs.Lanes.{IsLaneTable, IsLanes, IsFork, HasFreeGood};
 ghost use Rattle.nash_bounds.specs.Reach.{IsFlat, entries_at};
 ghost use Rattle.nash_bounds.specs.FarLanes.{IsSpan, IsFar};
 
@@ -47,7 +47,7 @@ pub fn next_bound(
     start: u32,
 ) -> Pair
     requires table { IsLaneTable case.now table.now }
-    requires open { IsOpen case.now owners.now }
+    requires open { HasFreeGood case.now owners.now }
     requires owner_low { 1 ≤ owner }
     requires owner_high { owner ≤ player_count case.now }
     requires lanes { IsFork case.now owners.now lanes.now }
@@ -107,7 +107,7 @@ pub fn flat_of(
     start: u32,
 ) -> Flat
     requires table { IsLaneTable case.now table.now }
-    requires open { IsOpen case.now owners.now }
+    requires open { HasFreeGood case.now owners.now }
     requires lanes { IsFork case.now owners.now lanes.now }
     ensures { IsFlat lanes.now result }
 {
@@ -178,7 +178,7 @@ pub fn may_reach(
     pair: Pair,
 ) -> bool
     requires table { IsLaneTable case.now table.now }
-    requires open { IsOpen case.now owners.now }
+    requires open { HasFreeGood case.now owners.now }
     requires owner_low { 1 ≤ owner }
     requires owner_high { owner ≤ player_count case.now }
     requires lanes { IsFork case.now owners.now lanes.now }

@@ -14,7 +14,7 @@ use Rattle.nash_bounds.specs.Tasks.{tasks_of}
 use Rattle.nash_bounds.specs.declared.limits.TheConstants.{BLOCK_TASKS}
 use Rattle.nash_search.specs.Best.{IsFoundBest, IsKept, list_of}
 use Rattle.nash_search.specs.Ends.{EndsTask, nodes_in}
-use Rattle.nash_search.specs.Progress.{AfterTask, IsProgress, IsRow, pair_so_far}
+use Rattle.nash_search.specs.Progress.{AfterTask, IsProgress, IsTallied, pair_so_far}
 use Rattle.nash_search.specs.declared.found.Found.{Found}
 use Rattle.nash_search.specs.declared.progress.Progress.{Progress}
 use Rattle.nash_search.specs.declared.task.TaskEnd.{TaskEnd}
@@ -37,7 +37,7 @@ MoreCounted = (case : GoodsCase) (floor : Pair) (above : Option Pair) (from n : 
 
 -- before the first task of a row
 pub row_start : (case : GoodsCase) (floor : Pair) (above : Option Pair) (from : ℕ) (tally : Tally) → count_tasks case floor above from 0 ≡ 0 → counted_of_tasks case floor above from 0 ≡ []
-    → tally.nodes ≡ 0 → tally.best ≡ None → IsRow case floor above from 0 tally
+    → tally.nodes ≡ 0 → tally.best ≡ None → IsTallied case floor above from 0 tally
 row_start case floor above from tally none counted n b =
     let empty : IsFoundBest case [] None = record { best = refl; pair = tt } in record {
       count = n ∙ sym none;
@@ -45,7 +45,7 @@ row_start case floor above from tally none counted n b =
     }
 
 -- a task that is done is added to those before it in the row
-pub task_added : MoreCount → MoreCounted → (case : GoodsCase) (floor : Pair) (above : Option Pair) (from n allowance nodes : ℕ) (old new : Tally) → old.nodes ≤ allowance → IsRow case floor above from n old
+pub task_added : MoreCount → MoreCounted → (case : GoodsCase) (floor : Pair) (above : Option Pair) (from n allowance nodes : ℕ) (old new : Tally) → old.nodes ≤ allowance → IsTallied case floor above from n old
     → nodes ≤ allowance - old.nodes → nodes ≡ count_task case (from + n) floor above → new.nodes ≡ old.nodes + nodes
     → IsFoundBest case (counted_of_tasks case floor above from n ++ counted_leaves case (from + n) floor above) new.best
     → AfterTask case floor above from n allowance new true
@@ -57,7 +57,7 @@ task_added more counted case floor above from n allowance nodes old new few row 
     )
 
 -- a task that is stopped ends the row above the allowance
-pub task_over : MoreCount → (case : GoodsCase) (floor : Pair) (above : Option Pair) (from n allowance nodes : ℕ) (old new : Tally) → old.nodes ≤ allowance → IsRow case floor above from n old
+pub task_over : MoreCount → (case : GoodsCase) (floor : Pair) (above : Option Pair) (from n allowance nodes : ℕ) (old new : Tally) → old.nodes ≤ allowance → IsTallied case floor above from n old
     → nodes ≡ allowance - old.nodes + 1 → nodes ≤ count_task case (from + n) floor above → new.nodes ≡ old.nodes + nodes → AfterTask case floor above from n allowance new false
 task_over more case floor above from n allowance nodes old new few row over within sum =
     let count = row.count in

@@ -14,13 +14,13 @@ use Rattle.nash_search.specs.declared.progress.Progress.{Progress}
 use Rattle.nash_search.specs.declared.tally.Tally.{Tally}
 
 -- all counted prefixes of the first n tasks of a row are counted, and the best of the counted allocations is found
-pub record IsRow (case : GoodsCase) (floor : Pair) (above : Option Pair) (from n : ℕ) (tally : Tally) : Type 0 where
+pub record IsTallied (case : GoodsCase) (floor : Pair) (above : Option Pair) (from n : ℕ) (tally : Tally) : Type 0 where
   pub count : tally.nodes ≡ count_tasks case floor above from n
   pub found : IsFoundBest case (counted_of_tasks case floor above from n) tally.best
 
 -- after one task more: no more are counted than are allowed, and so all; or one more than are allowed
 abbrev pub AfterTask : GoodsCase → Pair → Option Pair → ℕ → ℕ → ℕ → Tally → Bool → Type 0
-AfterTask case floor above from n allowance tally true = (tally.nodes ≤ allowance) × IsRow case floor above from (n + 1) tally
+AfterTask case floor above from n allowance tally true = (tally.nodes ≤ allowance) × IsTallied case floor above from (n + 1) tally
 AfterTask case floor above from n allowance tally false = (tally.nodes ≡ allowance + 1) × (tally.nodes ≤ count_tasks case floor above from (n + 1))
 
 -- the blocks before the next one are searched: their steps are counted and within the limit, and what is found serves for the best of all

@@ -2,7 +2,7 @@ ghost use Rattle.std.specs.Prelude.{◌≡◌, ℕ, ◌+◌, ◌-◌, ◌<◌, �
 ghost use Rattle.std.specs.List.{filter, range_with_len};
 ghost use Rattle.bid_rules.specs.declared.goods.GoodsCase.{GoodsCase};
 ghost use Rattle.bid_rules.specs.Goods.{IsValidGoodsCase, player_count, AreOwners, pair_of};
-ghost use Rattle.nash_bounds.specs.Lanes.{IsLaneTable, IsLanes, IsFork, IsOpen};
+ghost use Rattle.nash_bounds.specs.Lanes.{IsLaneTable, IsLanes, IsFork, HasFreeGood};
 ghost use Rattle.nash_bounds.specs.Prefixes.{IsPrefix};
 ghost use Rattle.nash_bounds.specs.Reach.{IsFlat};
 ghost use Rattle.nash_bounds.specs.Allocations.{keep};
@@ -89,7 +89,7 @@ fn is_next_counted(
     rules: &Rules,
 ) -> bool
     requires table { IsLaneTable case.now table.now }
-    requires open { IsOpen case.now path.now }
+    requires open { HasFreeGood case.now path.now }
     requires owner_low { 1 ≤ owner }
     requires owner_high { owner ≤ player_count case.now }
     requires lanes { IsFork case.now path.now lanes.now }
@@ -131,7 +131,7 @@ fn next_owners(
     rules: &Rules,
 ) -> Next
     requires table { IsLaneTable case.now table.now }
-    requires open { IsOpen case.now path.now }
+    requires open { HasFreeGood case.now path.now }
     requires lanes { IsLanes case.now path.now lanes.now }
     requires reach { IsReach rules.now.floor rules.now.above rules.now.reach }
     ensures owners { reverse result.owners.items ≡ filter (λ owner. is_counted case.now rules.now.floor rules.now.above (path.now ++ owner ∷ [])) (range_with_len 1 (player_count case.now)) }
@@ -157,7 +157,7 @@ impl Walk {
     fn descend(&mut self, case: &GoodsCase, owner: u8)
         requires table { IsLaneTable case.now self.old.table }
         requires lanes { IsLanes case.now self.old.path.items self.old.lanes }
-        requires open { IsOpen case.now self.old.path.items }
+        requires open { HasFreeGood case.now self.old.path.items }
         requires owner_low { 1 ≤ owner }
         requires owner_high { owner ≤ player_count case.now }
         ensures path { self.new.path.items ≡ self.old.path.items ++ owner ∷ [] }
@@ -326,7 +326,7 @@ impl Walk {
     /// Sees which owners of the next good wait.
     fn look(&mut self, case: &GoodsCase)
         requires table { IsLaneTable case.now self.old.table }
-        requires open { IsOpen case.now self.old.path.items }
+        requires open { HasFreeGood case.now self.old.path.items }
         requires lanes { IsLanes case.now self.old.path.items self.old.lanes }
         requires reach { IsReach self.old.rules.floor self.old.rules.above self.old.rules.reach }
         requires levels { length self.old.levels.items ≤ length self.old.path.items }

@@ -1,61 +1,27 @@
 -- The canonical lines of a rent keep all rules.
-use Rattle.std.proofs.Common.{◌≡◌, ℕ, ℤ, zero, suc, pos, ◌+◌, ◌<◌, ◌≤◌, ◌≤ℤ◌, ◌+ℤ◌, List, [], ◌∷◌, length, map, All, get_or, unsigned_abs, arith, refl, sym, ap, ◌∙◌, subst, inl, inr, ⊎_elim}
+use Rattle.std.proofs.Common.{◌≡◌, ℕ, ℤ, zero, suc, pos, ◌+◌, ◌<◌, ◌≤◌, ◌≤ℤ◌, ◌+ℤ◌, List, length, map, All, get_or, arith, sym, ap, ◌∙◌, subst, inl, inr, ⊎_elim}
 use Rattle.std.proofs.lemmas.Int.{ints}
 use Rattle.std.proofs.lemmas.List.{get_or-map, length-map}
 use Rattle.arrayvec.specs.declared.array_vec.ArrayVec.{ArrayVec}
+use Rattle.bid_rules.specs.declared.limits.TheConstants.{ITEM_ROOM}
 use Rattle.bid_rules.specs.declared.rents.RentCase.{RentCase}
 use Rattle.bid_rules.specs.Maximin.{AreMaximinPrices, value_step}
 use Rattle.bid_rules.specs.Rent.{IsAssignment, IsValidRentCase, room_count}
 use Rattle.bid_rules.specs.Walks.{AreShownRanks, AreShownWeights, weight_at}
 use Rattle.split_lemmas.proofs.RoomPlaces.{room_range, rooms_length}
+use Rattle.split_lemmas.proofs.SignedRows.{rows_again, rows_low, signed_again, signed_row, unsigned_row}
 use Rattle.rent_maximin.specs.Division.{IsRentDivision}
 use Rattle.rent_maximin.specs.declared.division.RentDivision.{RentDivision}
 use Rattle.rent_rules.specs.Printed.{printed_case, printed_rooms}
 use Rattle.rent_rules.specs.Rules.{AreAbove, AreRanked, AreReached, AreSettled, rent_rule}
 use Rattle.rent_lines.specs.Lines.{canonical_rent}
 
--- numbers that were given a sign lose it again
-signed_again : (xs : List ℕ) → map unsigned_abs (map pos xs) ≡ xs
-signed_again [] = refl
-signed_again (x ∷ xs) = ap (λ ys. x ∷ ys) (signed_again xs)
-
-abbrev unsigned_row : List ℤ → ArrayVec ℕ 24 (Unit {0})
-unsigned_row row = record { items = map unsigned_abs row }
-
-abbrev signed_row : ArrayVec ℕ 24 (Unit {0}) → List ℤ
-signed_row row = map pos row.items
-
-abbrev AreLow : List ℤ → Type 0
-AreLow row = All (λ x. pos 0 ≤ℤ x) row
-
--- and so do rows of them
-rows_again : (rows : List (ArrayVec ℕ 24 (Unit {0}))) → map unsigned_row (map signed_row rows) ≡ rows
-rows_again [] = refl
-rows_again (row ∷ rows) =
-    ap (λ (xs : List ℕ). let r : ArrayVec ℕ 24 (Unit {0}) = record { items = xs } in r ∷ map unsigned_row (map signed_row rows)) (signed_again row.items)
-    ∙ ap (λ rs. row ∷ rs) (rows_again rows)
-
 -- the printed case is the case itself
 pub printed_is : (case : RentCase) (division : RentDivision) → IsAssignment case division.best.rooms.items → printed_case (canonical_rent case division) ≡ case
 printed_is case division assignment =
-    let made : ℕ → List (ArrayVec ℕ 24 (Unit {0})) → RentCase = λ n rows. record { facts = record { members = n; rent = case.facts.rent }; values = record { items = rows } } in
+    let made : ℕ → List (ArrayVec ℕ ITEM_ROOM (Unit {0})) → RentCase = λ n rows. record { facts = record { members = n; rent = case.facts.rent }; values = record { items = rows } } in
     let count : length (map pos division.best.rooms.items) ≡ room_count case = length-map division.best.rooms.items pos ∙ rooms_length (room_count case) division.best.rooms.items assignment in
-    ap (λ (n : ℕ). made n (map unsigned_row (map signed_row case.values.items))) count ∙ ap (made (room_count case)) (rows_again case.values.items)
-
--- natural numbers with a sign are 0 or more
-signed_low : (xs : List ℕ) → All (λ x. pos 0 ≤ℤ x) (map pos xs)
-signed_low xs k d l =
-    let count = length-map xs pos in
-    let at : get_or (map pos xs) k d ≡ pos (get_or xs k 0) = get_or-map pos xs k 0 d (omega (arith, count)) in
-    omega (arith, ints, at)
-
--- and so are rows of them
-rows_low : (rows : List (ArrayVec ℕ 24 (Unit {0}))) → All AreLow (map signed_row rows)
-rows_low rows k d l =
-    let count = length-map rows signed_row in
-    let none : ArrayVec ℕ 24 (Unit {0}) = record { items = [] } in
-    let at : get_or (map signed_row rows) k d ≡ signed_row (get_or rows k none) = get_or-map signed_row rows k none d (omega (arith, count)) in
-    subst AreLow (sym at) (signed_low (get_or rows k none).items)
+    ap (λ (n : ℕ). made n (map (unsigned_row ITEM_ROOM) (map (signed_row ITEM_ROOM) case.values.items))) count ∙ ap (made (room_count case)) (rows_again ITEM_ROOM case.values.items)
 
 -- rooms are 1 or more
 rooms_low : (n : ℕ) (rooms : List ℕ) → length rooms ≡ n → ((k : ℕ) → k < n → 1 ≤ get_or rooms k 0) → All (λ x. pos 1 ≤ℤ x) (map pos rooms)
@@ -105,7 +71,7 @@ rent_passes case division valid is weights ranks = rule
 
     rule : (number : ℕ) → 1 ≤ number → number < 8 → rent_rule (canonical_rent case division) number
     rule zero low high = absurd (omega arith)
-    rule (suc zero) low high = record { rent = omega (arith, ints); values = rows_low case.values.items; valid = subst IsValidRentCase (sym printed) valid }
+    rule (suc zero) low high = record { rent = omega (arith, ints); values = rows_low ITEM_ROOM case.values.items; valid = subst IsValidRentCase (sym printed) valid }
     rule (suc (suc zero)) low high = record {
       positive = rooms_low (room_count case) rooms long (λ k l. (room_range (room_count case) rooms k is.rooms.assignment l).0);
       assignment = shown IsAssignment is.rooms.assignment;

@@ -1,5 +1,5 @@
 -- What the prices are computed from, and prices by room, where the formula goes by member.
-use Rattle.std.specs.Prelude.{◌≡◌, ℕ, ℤ, ◌+◌, ◌*◌, ◌<◌, ◌≤◌, ◌^◌, List, length, All, slice_index, unsigned_abs}
+use Rattle.std.specs.Prelude.{◌≡◌, ℕ, ℤ, ◌+◌, ◌*◌, ◌<◌, ◌≤◌, List, length, All, slice_index, unsigned_abs}
 use Rattle.bid_rules.specs.declared.limits.TheConstants.{MOST_MEMBERS}
 use Rattle.bid_rules.specs.declared.rents.RentCase.{RentCase}
 use Rattle.bid_rules.specs.Fractions.{Fraction, IsQuotient}
@@ -18,7 +18,7 @@ pub record HasWalks (case : RentCase) (rooms : List ℕ) (walks : List ℤ) : Ty
 -- the number is n times the least utility of the formula
 pub record IsLeastOf (case : RentCase) (rooms : List ℕ) (walks : List ℤ) (least : ℤ) : Type 0 where
   pub is : least ≡ least_in_parts case rooms walks
-  pub small : unsigned_abs least ≤ 2 * 10 ^ 23
+  pub small : unsigned_abs least ≤ 200 * MOST_STEP
 
 -- the number is n times the price of the room at the place, from 0: that of the member who has it
 abbrev pub IsPartAt : RentCase → List ℕ → List ℤ → ℕ → ℤ → Type 0

@@ -1,20 +1,21 @@
 // What holds of the solver's divisions, for all cases: each law is the contract of a function that does nothing.
-ghost use Rattle.std.specs.Prelude.{◌≡◌, ◌*◌, ◌≤◌, ◌^◌, All, unsigned_abs};
+ghost use Rattle.std.specs.Prelude.{◌≡◌, ◌*◌, ◌≤◌, All, unsigned_abs};
+ghost use Rattle.bid_rules.specs.declared.limits.TheConstants.{MOST_AMOUNT};
 ghost use Rattle.bid_rules.specs.declared.rents.RentCase.{RentCase};
 ghost use Rattle.bid_rules.specs.Rent.{IsValidRentCase};
 ghost use Rattle.rent_maximin.specs.Division.{IsRentDivision};
 ghost use Rattle.rent_maximin.specs.declared.division.RentDivision.{RentDivision};
-ghost use Rattle.split_frac.specs.Frac.{IsWithin};
+ghost use Rattle.split_frac.specs.Frac.{IsWithinLimits};
 
 use rent_laws::{best_rent_law, key_law, walk_law};
 use split_frac::value_law;
 
-/// The prices and the least utility lie in the ranges that calls on fractions ask for, and within 10^12 cents of 0.
+/// The prices and the least utility lie in the ranges that calls on fractions ask for, and within `MOST_AMOUNT` cents of 0.
 pub fn division_range_law()
     ensures prices { (case : RentCase) (division : RentDivision) → IsValidRentCase case → IsRentDivision case division
-        → All (λ price. IsWithin price × (unsigned_abs price.num ≤ 10 ^ 12 * price.den)) division.prices.items }
+        → All (λ price. IsWithinLimits price × (unsigned_abs price.num ≤ MOST_AMOUNT * price.den)) division.prices.items }
     ensures least { (case : RentCase) (division : RentDivision) → IsValidRentCase case → IsRentDivision case division
-        → IsWithin division.least × (unsigned_abs division.least.num ≤ 10 ^ 12 * division.least.den) }
+        → IsWithinLimits division.least × (unsigned_abs division.least.num ≤ MOST_AMOUNT * division.least.den) }
 {}
 
 /// A valid case has one division: two are equal in every field.

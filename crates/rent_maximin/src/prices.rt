@@ -1,4 +1,4 @@
-ghost use Rattle.std.specs.Prelude.{◌≡◌, ℕ, ℤ, pos, ◌+◌, ◌*◌, ◌-◌, ◌<◌, ◌≤◌, ◌^◌, ◌+ℤ◌, ◌-ℤ◌, ◌*ℤ◌, ◌≤ℤ◌, length, map, All, slice_index, unsigned_abs};
+ghost use Rattle.std.specs.Prelude.{◌≡◌, ℕ, ℤ, pos, ◌+◌, ◌*◌, ◌-◌, ◌<◌, ◌≤◌, ◌+ℤ◌, ◌-ℤ◌, ◌*ℤ◌, ◌≤ℤ◌, length, map, All, slice_index, unsigned_abs};
 ghost use Rattle.std.specs.List.{range_with_len};
 ghost use Rattle.std.specs.List.Sorted.{IsPermutation};
 ghost use Rattle.bid_rules.specs.Maximin.{AreMaximinPrices};
@@ -12,6 +12,7 @@ use arrayvec::ArrayVec;
 use bid_rules::RentCase;
 use bid_rules::limits::{MEMBER_ROOM, MOST_MEMBERS, MOST_RENT};
 use room_assignment::limits::MOST_STEP;
+use split_frac::limits::MOST_NUMERATOR;
 use split_frac::{Frac, make};
 
 /// What a member, from 0, would pay for a room, from 1.
@@ -32,7 +33,7 @@ fn welfare_of(case: &RentCase, rooms: &[u8]) -> i128
     requires case { IsValidRentCase case.now }
     requires rooms { IsAssignment case.now rooms.now }
     ensures value { result ≡ welfare case.now rooms.now }
-    ensures small { unsigned_abs result ≤ 10 ^ 9 }
+    ensures small { unsigned_abs result ≤ MOST_MEMBERS * MOST_RENT }
 {
     let mut sum = 0;
     for member in 0..case.facts.members as usize {
@@ -87,7 +88,7 @@ fn part_of(case: &RentCase, rooms: &[u8], walks: &[i128], least: i128, room: usi
     requires least { IsLeastOf case.now rooms.now walks.now least }
     requires room { room < room_count case.now }
     ensures value { IsPartAt case.now rooms.now walks.now room result }
-    ensures small { unsigned_abs result ≤ 10 ^ 24 }
+    ensures small { unsigned_abs result ≤ MOST_NUMERATOR }
 {
     let member = holder(rooms, room + 1);
     let count = case.facts.members;

@@ -1,10 +1,11 @@
 -- What the cent plan of a rent asks of its prices.
-use Rattle.std.proofs.Common.{◌≡◌, ℕ, ◌+◌, ◌-◌, ◌*◌, ◌^◌, ◌<◌, ◌≤◌, List, [], ◌∷◌, ◌++◌, All, length, map, take, get_or, pos, arith, sym, ap, subst, ◌∙◌}
+use Rattle.std.proofs.Common.{◌≡◌, ℕ, ◌+◌, ◌-◌, ◌*◌, ◌<◌, ◌≤◌, List, [], ◌∷◌, ◌++◌, All, length, map, take, get_or, pos, arith, sym, ap, subst, ◌∙◌}
 use Rattle.std.specs.Prelude.{unsigned_abs}
 use Rattle.std.proofs.lemmas.List.{get_or-map, get_or_default, length-map, map-append, map_more}
 use Rattle.std.proofs.lemmas.List.Elements.{All-weaker}
+use Rattle.bid_rules.specs.declared.limits.TheConstants.{MOST_AMOUNT}
 use Rattle.split_frac.specs.declared.frac.Frac.{Frac}
-use Rattle.split_frac.specs.Frac.{IsWithin, fraction_of}
+use Rattle.split_frac.specs.Frac.{IsWithinLimits, fraction_of}
 use Rattle.bid_rules.specs.declared.rents.RentCase.{RentCase}
 use Rattle.bid_rules.specs.Cents.{amount_at, prices_by_member}
 use Rattle.bid_rules.specs.Fractions.{Fraction}
@@ -29,8 +30,8 @@ pub price_count : (case : RentCase) (division : RentDivision) → IsRentDivision
 price_count case division is = sym (length-map division.prices.items fraction_of) ∙ is.prices.count
 
 -- the prices are amounts of which there may be a cent plan
-pub price_amounts : (prices : List Frac) → All (λ price. IsWithin price × (unsigned_abs price.num ≤ 10 ^ 12 * price.den)) prices → All IsAmount prices
-price_amounts prices within = All-weaker (λ price. IsWithin price × (unsigned_abs price.num ≤ 10 ^ 12 * price.den)) IsAmount (λ price h. (h.1, h.0.1)) prices within
+pub price_amounts : (prices : List Frac) → All (λ price. IsWithinLimits price × (unsigned_abs price.num ≤ MOST_AMOUNT * price.den)) prices → All IsAmount prices
+price_amounts prices within = All-weaker (λ price. IsWithinLimits price × (unsigned_abs price.num ≤ MOST_AMOUNT * price.den)) IsAmount (λ price h. (h.1, h.0.1)) prices within
 
 -- one more price by member
 pub price_more : (prices : List Frac) (rooms : List ℕ) (i : ℕ) (amounts : List Frac) (price : Frac) → i < length rooms → All (IsRoom (length prices)) rooms

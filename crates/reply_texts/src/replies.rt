@@ -3,7 +3,7 @@ ghost use Rattle.std.specs.Prelude.{◌≡◌, ◌≤◌, ◌||◌, length, map,
 ghost use Rattle.std.specs.List.{range_with_len};
 ghost use Rattle.serde_json.specs.View.{view};
 ghost use Rattle.bid_rules.specs.declared.limits.TheConstants.{MEMBER_ROOM};
-ghost use Rattle.sealed_core.specs.Host.{IsSound, event_view, instance_at, instance_view, kept_bid, kept_turn};
+ghost use Rattle.sealed_core.specs.Host.{IsCheckedInstance, event_view, instance_at, instance_view, kept_bid, kept_turn};
 ghost use Rattle.sealed_core.specs.Keys.{key_text};
 ghost use Rattle.sealed_core.specs.Sealed.{applied};
 ghost use Rattle.sealed_core.specs.Step.{answer_view};
@@ -69,7 +69,7 @@ fn place_value(alloc: Global, turn: u8, place: u8) -> Result<Value, AllocError>
 fn own_value(alloc: Global, instance: &Instance, member: u8) -> Result<Value, AllocError>
     requires least { 1 ≤ member }
     requires most { member ≤ length instance.now.creation.members.items }
-    requires sound { IsSound (instance_view instance.now) }
+    requires sound { IsCheckedInstance (instance_view instance.now) }
     ensures { IfOk result (λ v. view v ≡ of_own (kept_turn (instance_view instance.now) member) (kept_bid (instance_view instance.now) member)) }
 {
     let turn = turn_of(instance, member);

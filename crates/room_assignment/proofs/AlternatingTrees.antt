@@ -1,11 +1,12 @@
 -- Laws of alternating trees (Kuhn 1955; Munkres 1957): their dual numbers are adjusted, they grow, and they augment the assignment.
-use Rattle.std.proofs.Common.{◌≡◌, ◌≢◌, ℕ, ℤ, pos, ◌+◌, ◌*◌, ◌^◌, ◌<◌, ◌≤◌, ◌+ℤ◌, ◌≤ℤ◌, List, get_or, unsigned_abs, Bool, true, false, arith, refl, sym, ap, ◌∙◌, subst, ◌⊎◌, ⊎_elim}
+use Rattle.std.proofs.Common.{◌≡◌, ◌≢◌, ℕ, ℤ, pos, ◌+◌, ◌*◌, ◌<◌, ◌≤◌, ◌+ℤ◌, ◌≤ℤ◌, List, get_or, unsigned_abs, Bool, true, false, arith, refl, sym, ap, ◌∙◌, subst, ◌⊎◌, ⊎_elim}
 use Rattle.std.specs.List.{range_with_len, swap}
 use Rattle.std.specs.List.Sorted.{IsPermutation}
 use Rattle.std.proofs.lemmas.Int.{ints}
 use Rattle.std.proofs.lemmas.Bool.{cases_eq, cases_lt, both_ways}
 use Rattle.std.proofs.lemmas.List.Edits.{Swapped, swapped_from_swap}
 use Rattle.std.proofs.lemmas.List.Sorted.{IsPermutation-refl, IsPermutation-swap, IsPermutation-trans}
+use Rattle.room_assignment.specs.declared.limits.TheConstants.{MOST_KEY}
 use Rattle.room_assignment.specs.Tree.{Bounds, IsMatched, LeavesFree, IsAlternatingTree, AreAdjusted, IsLeastSlack, HasJoined}
 use Rattle.split_lemmas.proofs.Permutations.{permutation_length, permutation_below, permutation_apart, permutation_place}
 
@@ -212,7 +213,7 @@ rooted n m key left right rooms in_tree labelled plan low g root others none e =
 }
 
 -- nobody is matched
-pub nobody_matched : (n : ℕ) (key : ℕ → ℕ → ℤ) (left right : ℕ → ℤ) → Bounds n key left right → ((i : ℕ) → i < n → left i ≤ℤ pos (10 ^ 20)) → ((j : ℕ) → right j ≡ pos 0) → IsMatched n 0 key left right (range_with_len 0 n)
+pub nobody_matched : (n : ℕ) (key : ℕ → ℕ → ℤ) (left right : ℕ → ℤ) → Bounds n key left right → ((i : ℕ) → i < n → left i ≤ℤ pos MOST_KEY) → ((j : ℕ) → right j ≡ pos 0) → IsMatched n 0 key left right (range_with_len 0 n)
 nobody_matched n key left right bound top none = record {
   permutation = IsPermutation-refl (range_with_len 0 n);
   bound = bound;
@@ -223,7 +224,7 @@ nobody_matched n key left right bound top none = record {
 
 -- how great the dual numbers are
 pub left_small : (n m : ℕ) (key : ℕ → ℕ → ℤ) (left right : ℕ → ℤ) (rooms : List ℕ) (in_tree labelled : ℕ → Bool) (plan : ℕ → List ℕ) → m < n → IsAlternatingTree n m key left right rooms in_tree labelled plan
-    → ((i j : ℕ) → i < n → j < n → unsigned_abs (key i j) ≤ 10 ^ 20) → (i : ℕ) → i < n → unsigned_abs (left i) ≤ 10 ^ 20
+    → ((i j : ℕ) → i < n → j < n → unsigned_abs (key i j) ≤ MOST_KEY) → (i : ℕ) → i < n → unsigned_abs (left i) ≤ MOST_KEY
 left_small n m key left right rooms in_tree labelled plan low g small i l =
     let room = permutation_below n rooms m g.permutation low in
     let zero = g.zero m (omega arith) low in
@@ -234,7 +235,7 @@ left_small n m key left right rooms in_tree labelled plan low g small i l =
 
 -- how great the dual numbers of rooms are
 pub right_small : (n m : ℕ) (key : ℕ → ℕ → ℤ) (left right : ℕ → ℤ) (rooms : List ℕ) (in_tree labelled : ℕ → Bool) (plan : ℕ → List ℕ) → m < n → IsAlternatingTree n m key left right rooms in_tree labelled plan
-    → ((i j : ℕ) → i < n → j < n → unsigned_abs (key i j) ≤ 10 ^ 20) → (j : ℕ) → j < n → unsigned_abs (right j) ≤ 2 * 10 ^ 20
+    → ((i j : ℕ) → i < n → j < n → unsigned_abs (key i j) ≤ MOST_KEY) → (j : ℕ) → j < n → unsigned_abs (right j) ≤ 2 * MOST_KEY
 right_small n m key left right rooms in_tree labelled plan low g small j l =
     let p : LeavesFree n m m key left right rooms in_tree labelled (plan m) = g.plans m low g.root in
     let there = permutation_place n (plan m) j p.permutation l in

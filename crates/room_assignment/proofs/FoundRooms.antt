@@ -1,5 +1,5 @@
 -- From a matched plan over the keys to the rooms, the longest walks on the left and the dual numbers on the right.
-use Rattle.std.proofs.Common.{◌≡◌, ℕ, ℤ, pos, suc, zero, ◌+◌, ◌-◌, ◌^◌, ◌<◌, ◌≤◌, ◌+ℤ◌, ◌-ℤ◌, ◌≤ℤ◌, List, [], ◌∷◌, length, All, map, get_or, unsigned_abs, arith, refl, sym, ap, ◌∙◌, subst}
+use Rattle.std.proofs.Common.{◌≡◌, ℕ, ℤ, pos, suc, zero, ◌+◌, ◌-◌, ◌<◌, ◌≤◌, ◌+ℤ◌, ◌-ℤ◌, ◌≤ℤ◌, List, [], ◌∷◌, length, All, map, get_or, unsigned_abs, arith, refl, sym, ap, ◌∙◌, subst, ◌*◌}
 use Rattle.std.specs.List.{range_with_len}
 use Rattle.std.specs.List.Sorted.{IsPermutation}
 use Rattle.std.proofs.lemmas.Int.{ints}
@@ -13,7 +13,9 @@ use Rattle.room_assignment.specs.Matrix.{Matrix, IsSquare, entry}
 use Rattle.room_assignment.specs.Tree.{AreKeys, IsMatched, IsMatchedPlan, numbers}
 use Rattle.room_assignment.specs.declared.tree.Plan.{Plan}
 use Rattle.arrayvec.specs.declared.array_vec.ArrayVec.{ArrayVec}
+use Rattle.bid_rules.specs.declared.limits.TheConstants.{MOST_MEMBERS}
 use Rattle.bid_rules.specs.Keys.{key, key_step, AreDualNumbers}
+use Rattle.room_assignment.specs.declared.limits.TheConstants.{DUAL_LIMIT, MOST_KEY, MOST_STEP}
 use Rattle.room_assignment.specs.Entries.{HasEntries}
 use Rattle.room_assignment.specs.Tree.{IsRight}
 use Rattle.split_lemmas.proofs.Permutations.{permutation_length, permutation_below, permutation_apart}
@@ -131,22 +133,22 @@ unfolding entry
 entry_is n limit f m i j h l k = (h.rows i l).values j k
 
 -- a matrix of small entries is square
-pub entries_square : (n limit : ℕ) (f : ℕ → ℕ → ℤ) (m : Matrix) → HasEntries n limit f m → limit ≤ 10 ^ 21 → IsSquare m
+pub entries_square : (n limit : ℕ) (f : ℕ → ℕ → ℤ) (m : Matrix) → HasEntries n limit f m → limit ≤ MOST_STEP → IsSquare m
 entries_square n limit f m h few =
     let none : Row = record { items = [] } in
     record {
       columns = All-from_get_or (λ (row : Row). length row.items ≡ length m.items) m.items none (λ i l. (h.rows i (subst (λ k. i < k) h.rows_count l)).count ∙ sym h.rows_count);
-      small = All-from_get_or (λ (row : Row). All (λ weight. unsigned_abs weight ≤ 10 ^ 21) row.items) m.items none (λ i l.
+      small = All-from_get_or (λ (row : Row). All (λ weight. unsigned_abs weight ≤ MOST_STEP) row.items) m.items none (λ i l.
           let row = h.rows i (subst (λ k. i < k) h.rows_count l) in
-          All-from_get_or (λ weight. unsigned_abs weight ≤ 10 ^ 21) (get_or m.items i none).items (pos 0) (λ j k.
+          All-from_get_or (λ weight. unsigned_abs weight ≤ MOST_STEP) (get_or m.items i none).items (pos 0) (λ j k.
           let inside = subst (λ z. j < z) row.count k in let a = row.row_small j inside in omega (arith, a, few)));
     }
 
 -- a matrix of small entries holds keys
-pub entries_keys : (n : ℕ) (f : ℕ → ℕ → ℤ) (m : Matrix) → HasEntries n (10 ^ 20) f m → 1 ≤ n → n ≤ 12 → AreKeys m
+pub entries_keys : (n : ℕ) (f : ℕ → ℕ → ℤ) (m : Matrix) → HasEntries n MOST_KEY f m → 1 ≤ n → n ≤ 12 → AreKeys m
 unfolding entry
 entries_keys n f m h some few = record {
-  square = entries_square n (10 ^ 20) f m h (omega arith);
+  square = entries_square n MOST_KEY f m h (omega arith);
   some = let e = h.rows_count in omega arith;
   few = let e = h.rows_count in omega arith;
   keys_small = λ i j l k. (h.rows i (subst (λ z. i < z) h.rows_count l)).row_small j (subst (λ z. j < z) h.rows_count k);
@@ -162,16 +164,16 @@ rooms_below n slice h = All-from_get_or (λ room. room < n) slice 0 (λ i l. let
 
 -- the matrix of steps over the keys has no positive cycle
 pub steps_no_cycle : LeaveNoCycle → (keys steps : Matrix) (plan : Plan) (slice : List ℕ) → IsMatchedPlan (length keys.items) keys plan → slice ≡ plan.rooms.items
-    → HasEntries (length keys.items) (10 ^ 21) (λ from to. entry keys to (get_or slice from 0) -ℤ entry keys from (get_or slice from 0)) steps → HasNoPositiveCycle (length steps.items) (entry steps)
+    → HasEntries (length keys.items) MOST_STEP (λ from to. entry keys to (get_or slice from 0) -ℤ entry keys from (get_or slice from 0)) steps → HasNoPositiveCycle (length steps.items) (entry steps)
 steps_no_cycle no_cycle keys steps plan slice s e h = subst (λ n. HasNoPositiveCycle n (entry steps)) (sym h.rows_count)
     (matched_no_cycle no_cycle (length keys.items) (entry keys) (entry steps) (numbers plan.left.items) (numbers plan.right.items) plan.rooms.items s.matched
-    (λ from to l m. entry_is (length keys.items) (10 ^ 21) (λ from to. entry keys to (get_or slice from 0) -ℤ entry keys from (get_or slice from 0)) steps from to h l m
+    (λ from to l m. entry_is (length keys.items) MOST_STEP (λ from to. entry keys to (get_or slice from 0) -ℤ entry keys from (get_or slice from 0)) steps from to h l m
     ∙ ap (λ (xs : List ℕ). entry keys to (get_or xs from 0) -ℤ entry keys from (get_or xs from 0)) e))
 
 -- the same, read from the matrices and slices of the code
 pub best_of_parts : (case : RentCase) (keys steps : Matrix) (plan : Plan) (one two three shown : List ℕ) (left right read : List ℤ)
-    → HasEntries (room_count case) (10 ^ 20) (λ i j. key case i (j + 1)) keys → IsMatchedPlan (length keys.items) keys plan
-    → HasEntries (length keys.items) (10 ^ 21) (λ from to. entry keys to (get_or one from 0) -ℤ entry keys from (get_or one from 0)) steps
+    → HasEntries (room_count case) MOST_KEY (λ i j. key case i (j + 1)) keys → IsMatchedPlan (length keys.items) keys plan
+    → HasEntries (length keys.items) MOST_STEP (λ from to. entry keys to (get_or one from 0) -ℤ entry keys from (get_or one from 0)) steps
     → AreGreatestWeights (length steps.items) (entry steps) left → length right ≡ length keys.items
     → ((j : ℕ) → j < length keys.items → IsRight (length keys.items) (entry keys) two read j (numbers right j))
     → one ≡ plan.rooms.items → two ≡ plan.rooms.items → three ≡ plan.rooms.items → read ≡ left → shown ≡ map (λ r. r + 1) three → AreFoundRooms case shown left right
@@ -181,8 +183,8 @@ best_of_parts case keys steps plan one two three shown left right read k s h lon
     let all : length steps.items ≡ n = h.rows_count ∙ same in
     best_is case (entry keys) (entry steps) (numbers plan.left.items) (numbers plan.right.items) plan.rooms.items shown left right
     (subst (λ m. IsMatched m m (entry keys) (numbers plan.left.items) (numbers plan.right.items) plan.rooms.items) same s.matched)
-    (λ i j l m. entry_is n (10 ^ 20) (λ i j. key case i (j + 1)) keys i j k l m)
-    (λ from to l m. entry_is (length keys.items) (10 ^ 21) (λ from to. entry keys to (get_or one from 0) -ℤ entry keys from (get_or one from 0)) steps from to h (subst (λ z. from < z) (sym same) l) (subst (λ z. to < z) (sym same) m)
+    (λ i j l m. entry_is n MOST_KEY (λ i j. key case i (j + 1)) keys i j k l m)
+    (λ from to l m. entry_is (length keys.items) MOST_STEP (λ from to. entry keys to (get_or one from 0) -ℤ entry keys from (get_or one from 0)) steps from to h (subst (λ z. from < z) (sym same) l) (subst (λ z. to < z) (sym same) m)
     ∙ ap (λ (xs : List ℕ). entry keys to (get_or xs from 0) -ℤ entry keys from (get_or xs from 0)) e)
     (subst (λ m. AreGreatestWeights m (entry steps) left) all longest) (count ∙ same)
     (λ j l. subst (λ m. IsRight m (entry keys) plan.rooms.items left j (numbers right j)) same
@@ -191,9 +193,9 @@ best_of_parts case keys steps plan one two three shown left right read k s h lon
     (y ∙ ap (map (λ r. r + 1)) g)
 
 -- the dual numbers of the rooms are small where the weights and the numbers of the members are
-pub rights_small : (n : ℕ) (k : ℕ → ℕ → ℤ) (rooms : List ℕ) (left right : List ℤ) → length right ≡ n → ((i j : ℕ) → i < n → j < n → unsigned_abs (k i j) ≤ 10 ^ 20) → length left ≡ n → All (λ z. unsigned_abs z ≤ 10 ^ 23) left
-    → ((j : ℕ) → j < n → IsRight n k rooms left j (numbers right j)) → All (λ z. unsigned_abs z < 10 ^ 25) right
-rights_small n k rooms left right count weights lefts small each = All-from_get_or (λ z. unsigned_abs z < 10 ^ 25) right (pos 0) (λ j l.
+pub rights_small : (n : ℕ) (k : ℕ → ℕ → ℤ) (rooms : List ℕ) (left right : List ℤ) → length right ≡ n → ((i j : ℕ) → i < n → j < n → unsigned_abs (k i j) ≤ MOST_KEY) → length left ≡ n → All (λ z. unsigned_abs z ≤ MOST_MEMBERS * MOST_STEP) left
+    → ((j : ℕ) → j < n → IsRight n k rooms left j (numbers right j)) → All (λ z. unsigned_abs z < DUAL_LIMIT) right
+rights_small n k rooms left right count weights lefts small each = All-from_get_or (λ z. unsigned_abs z < DUAL_LIMIT) right (pos 0) (λ j l.
     let known : j < n = omega (arith, l, count) in
     let there = each j known in
     let a = weights there.0 j there.1 known in

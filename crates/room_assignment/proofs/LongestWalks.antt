@@ -1,5 +1,5 @@
 -- Laws on walks: how a walk is cut, and that few steps are enough where no cycle has a positive weight.
-use Rattle.std.proofs.Common.{◌≡◌, ℕ, ℤ, pos, ◌+◌, ◌*◌, ◌<◌, ◌≤◌, ◌^◌, ◌+ℤ◌, ◌≤ℤ◌, ◌<ℤ◌, ◌⊎◌, ◌||◌, List, [], ◌∷◌, ◌++◌, length, All, get_or, replicate, unsigned_abs, true, false, eqb, arith, refl, sym, ap, ◌∙◌, subst, inl, inr, ⊎_elim}
+use Rattle.std.proofs.Common.{◌≡◌, ℕ, ℤ, pos, ◌+◌, ◌*◌, ◌<◌, ◌≤◌, ◌+ℤ◌, ◌≤ℤ◌, ◌<ℤ◌, ◌⊎◌, ◌||◌, List, [], ◌∷◌, ◌++◌, length, All, get_or, replicate, unsigned_abs, true, false, eqb, arith, refl, sym, ap, ◌∙◌, subst, inl, inr, ⊎_elim}
 use Rattle.std.specs.List.{IsDistinct, AllByRecursion, list_any}
 use Rattle.std.proofs.lemmas.Int.{ints}
 use Rattle.std.proofs.lemmas.Bool.{cases_lt}
@@ -9,6 +9,7 @@ use Rattle.std.proofs.lemmas.List.Elements.{All-nil, All-cons, All-head, All-tai
 use Rattle.std.proofs.lemmas.Map.Keys.{IsDistinct-tail, IsDistinct-cons}
 use Rattle.std.proofs.lemmas.Map.Steps.{length-le_from_distinct_below}
 use Rattle.bid_rules.specs.Walks.{walk_weight, AreVertices, HasNoPositiveCycle, IsGreatestWeight, IsRank, AreGreatestWeights, AreRanks}
+use Rattle.room_assignment.specs.declared.limits.TheConstants.{MOST_STEP}
 use Rattle.room_assignment.specs.Matrix.{IsSquare, Matrix, entry}
 use Rattle.room_assignment.specs.Rounds.{IsLongestWithin, AreLongestWithin}
 
@@ -207,7 +208,7 @@ no_steps n w to = record {
     empty (x ∷ before) short = absurd (omega arith)
 
 -- no entry is above 10^21 in size
-pub entry_small : (m : Matrix) (from to : ℕ) → IsSquare m → from < length m.items → to < length m.items → unsigned_abs (entry m from to) ≤ 10 ^ 21
+pub entry_small : (m : Matrix) (from to : ℕ) → IsSquare m → from < length m.items → to < length m.items → unsigned_abs (entry m from to) ≤ MOST_STEP
 unfolding entry
 entry_small m from to square a b =
     let row = square.small from (record { items = [] }) a in
@@ -219,7 +220,7 @@ pub none_within : (n : ℕ) (w : ℕ → ℕ → ℤ) (weights : List ℤ) (rank
 none_within n w weights ranks e f = record {
   weights_count = ap length e ∙ length-replicate n (pos 0);
   ranks_count = ap length f ∙ length-replicate n 0;
-  small = subst (All (λ z. unsigned_abs z ≤ 10 ^ 21 * 0)) (sym e) (All-replicate (λ z. unsigned_abs z ≤ 10 ^ 21 * 0) n (pos 0) (omega arith));
+  small = subst (All (λ z. unsigned_abs z ≤ MOST_STEP * 0)) (sym e) (All-replicate (λ z. unsigned_abs z ≤ MOST_STEP * 0) n (pos 0) (omega arith));
   longest = λ i l.
       let a : pos 0 ≡ get_or weights i (pos 0) = sym (ap (λ zs. get_or zs i (pos 0)) e ∙ get_or-replicate n i (pos 0) (pos 0) l) in
       let b : 0 ≡ get_or ranks i 0 = sym (ap (λ zs. get_or zs i 0) f ∙ get_or-replicate n i 0 0 l) in
@@ -241,8 +242,8 @@ all_ranks limit n w weights ranks none enough h = record {
 }
 
 -- and they are small
-pub all_small : (limit n : ℕ) (w : ℕ → ℕ → ℤ) (weights : List ℤ) (ranks : List ℕ) → limit ≤ n → AreLongestWithin limit n w weights ranks → All (λ z. unsigned_abs z ≤ 10 ^ 21 * n) weights
-all_small limit n w weights ranks few h = All-weaker (λ z. unsigned_abs z ≤ 10 ^ 21 * limit) (λ z. unsigned_abs z ≤ 10 ^ 21 * n) (λ z a. omega (arith, a, few)) weights h.small
+pub all_small : (limit n : ℕ) (w : ℕ → ℕ → ℤ) (weights : List ℤ) (ranks : List ℕ) → limit ≤ n → AreLongestWithin limit n w weights ranks → All (λ z. unsigned_abs z ≤ MOST_STEP * n) weights
+all_small limit n w weights ranks few h = All-weaker (λ z. unsigned_abs z ≤ MOST_STEP * limit) (λ z. unsigned_abs z ≤ MOST_STEP * n) (λ z a. omega (arith, a, few)) weights h.small
 
 -- each rank is below the number of vertices, where the walks have fewer steps
 pub ranks_below : (limit n : ℕ) (w : ℕ → ℕ → ℤ) (weights : List ℤ) (ranks : List ℕ) → (0 < n → limit < n) → AreLongestWithin limit n w weights ranks → All (λ rank. rank < n) ranks
@@ -295,11 +296,11 @@ longer_lists limit n w weights seen read ranks marks to best h l e f g reached g
     )
 
 -- the weight of one step more is small
-pub longer_small : (limit : ℕ) (m : Matrix) (weights seen : List ℤ) (to : ℕ) (best : ℤ) → IsSquare m → to < length m.items → length weights ≡ length m.items → seen ≡ weights → All (λ z. unsigned_abs z ≤ 10 ^ 21 * limit) weights
-    → ((from : ℕ) × (from < length seen) × (best ≡ get_or seen from (pos 0) +ℤ entry m from to)) → unsigned_abs best ≤ 10 ^ 21 * (limit + 1)
+pub longer_small : (limit : ℕ) (m : Matrix) (weights seen : List ℤ) (to : ℕ) (best : ℤ) → IsSquare m → to < length m.items → length weights ≡ length m.items → seen ≡ weights → All (λ z. unsigned_abs z ≤ MOST_STEP * limit) weights
+    → ((from : ℕ) × (from < length seen) × (best ≡ get_or seen from (pos 0) +ℤ entry m from to)) → unsigned_abs best ≤ MOST_STEP * (limit + 1)
 longer_small limit m weights seen to best square l count e small reached =
     let known : reached.0 < length m.items = subst (λ k. reached.0 < k) (ap length e ∙ count) reached.1 in
     let a = entry_small m reached.0 to square known l in
-    let b : unsigned_abs (get_or seen reached.0 (pos 0)) ≤ 10 ^ 21 * limit = subst (λ zs. unsigned_abs (get_or zs reached.0 (pos 0)) ≤ 10 ^ 21 * limit) (sym e) (small reached.0 (pos 0) (subst (λ k. reached.0 < k) (ap length e) reached.1)) in
+    let b : unsigned_abs (get_or seen reached.0 (pos 0)) ≤ MOST_STEP * limit = subst (λ zs. unsigned_abs (get_or zs reached.0 (pos 0)) ≤ MOST_STEP * limit) (sym e) (small reached.0 (pos 0) (subst (λ k. reached.0 < k) (ap length e) reached.1)) in
     let is = reached.2 in
     omega (arith, ints)

@@ -1,5 +1,5 @@
 -- The laws of alternating trees, for the lists of the code.
-use Rattle.std.proofs.Common.{◌≡◌, ◌≢◌, ℕ, ℤ, pos, ◌+◌, ◌*◌, ◌^◌, ◌<◌, ◌≤◌, ◌+ℤ◌, ◌-ℤ◌, ◌≤ℤ◌, List, [], ◌∷◌, ◌++◌, length, replicate, take, set, cond, get_or, unsigned_abs, Bool, true, false, arith, sym, ap, ◌∙◌, subst, ◌⊎◌, ⊎_elim}
+use Rattle.std.proofs.Common.{◌≡◌, ◌≢◌, ℕ, ℤ, pos, ◌+◌, ◌*◌, ◌<◌, ◌≤◌, ◌+ℤ◌, ◌-ℤ◌, ◌≤ℤ◌, List, [], ◌∷◌, ◌++◌, length, replicate, take, set, cond, get_or, unsigned_abs, Bool, true, false, arith, sym, ap, ◌∙◌, subst, ◌⊎◌, ⊎_elim}
 use Rattle.std.proofs.lemmas.Int.{ints}
 use Rattle.std.proofs.lemmas.Bool.{cases_lt}
 use Rattle.std.proofs.lemmas.List.{get_or_read, append-nil, drop_all, take_all, get_or-replicate, length-replicate, get_or_past, length-set, get_or-set_same, get_or-set_other}
@@ -7,6 +7,7 @@ use Rattle.std.proofs.lemmas.List.Sums.{sum_by-set}
 use Rattle.std.specs.List.{refill, swap, range_with_len}
 use Rattle.std.specs.List.Sorted.{IsPermutation}
 use Rattle.arrayvec.specs.declared.array_vec.ArrayVec.{ArrayVec}
+use Rattle.room_assignment.specs.declared.limits.TheConstants.{MOST_KEY}
 use Rattle.room_assignment.specs.Matrix.{Matrix, entry}
 use Rattle.room_assignment.specs.declared.tree.Tree.{Tree}
 use Rattle.room_assignment.specs.declared.tree.Plan.{Plan}
@@ -17,15 +18,15 @@ use Rattle.split_lemmas.proofs.ListPlaces.{push_place}
 use Rattle.split_lemmas.proofs.Permutations.{permutation_length, permutation_below}
 
 -- how great the dual numbers of members are
-pub tree_left_small : (m : ℕ) (keys : Matrix) (tree : Tree) → AreKeys keys → IsTreeOf m keys tree → (i : ℕ) → i < length keys.items → unsigned_abs (numbers tree.left.items i) ≤ 10 ^ 20
+pub tree_left_small : (m : ℕ) (keys : Matrix) (tree : Tree) → AreKeys keys → IsTreeOf m keys tree → (i : ℕ) → i < length keys.items → unsigned_abs (numbers tree.left.items i) ≤ MOST_KEY
 tree_left_small m keys tree k g = left_small (length keys.items) m (entry keys) (numbers tree.left.items) (numbers tree.right.items) tree.rooms.items (marks tree.in_tree.items) (marks tree.labelled.items) (plan_of tree) g.low g.grown k.keys_small
 
 -- how great the dual numbers of rooms are
-pub tree_right_small : (m : ℕ) (keys : Matrix) (tree : Tree) → AreKeys keys → IsTreeOf m keys tree → (j : ℕ) → j < length keys.items → unsigned_abs (numbers tree.right.items j) ≤ 2 * 10 ^ 20
+pub tree_right_small : (m : ℕ) (keys : Matrix) (tree : Tree) → AreKeys keys → IsTreeOf m keys tree → (j : ℕ) → j < length keys.items → unsigned_abs (numbers tree.right.items j) ≤ 2 * MOST_KEY
 tree_right_small m keys tree k g = right_small (length keys.items) m (entry keys) (numbers tree.left.items) (numbers tree.right.items) tree.rooms.items (marks tree.in_tree.items) (marks tree.labelled.items) (plan_of tree) g.low g.grown k.keys_small
 
 -- how great the slack of a choice is
-pub choice_small : (m : ℕ) (keys : Matrix) (tree : Tree) (choice : Choice) → AreKeys keys → IsTreeOf m keys tree → IsChoice keys tree choice → unsigned_abs choice.slack ≤ 4 * 10 ^ 20
+pub choice_small : (m : ℕ) (keys : Matrix) (tree : Tree) (choice : Choice) → AreKeys keys → IsTreeOf m keys tree → IsChoice keys tree choice → unsigned_abs choice.slack ≤ 4 * MOST_KEY
 choice_small m keys tree choice k g h =
     let a = tree_left_small m keys tree k g choice.member h.member in
     let b = tree_right_small m keys tree k g choice.room h.room in

@@ -1,5 +1,5 @@
 -- An assignment of greatest welfare leaves no positive cycle over the values, since dual numbers of the values are found.
-use Rattle.std.proofs.Common.{◌≡◌, ℕ, ℤ, pos, ◌++◌, [], ◌∷◌, length, All, ◌+◌, ◌-◌, ◌^◌, ◌<◌, ◌≤◌, ◌+ℤ◌, ◌-ℤ◌, ◌≤ℤ◌, List, map, get_or, arith, sym, ap, ◌∙◌, subst}
+use Rattle.std.proofs.Common.{◌≡◌, ℕ, ℤ, pos, ◌++◌, [], ◌∷◌, length, All, ◌+◌, ◌-◌, ◌<◌, ◌≤◌, ◌+ℤ◌, ◌-ℤ◌, ◌≤ℤ◌, List, map, get_or, arith, sym, ap, ◌∙◌, subst}
 use Rattle.std.specs.List.{range_with_len}
 use Rattle.std.specs.List.Sorted.{IsPermutation}
 use Rattle.std.proofs.lemmas.Int.{ints}
@@ -14,6 +14,7 @@ use Rattle.room_assignment.specs.declared.tree.Plan.{Plan}
 use Rattle.bid_rules.specs.Maximin.{value_step}
 use Rattle.bid_rules.specs.Rent.{value, room_count, IsAssignment}
 use Rattle.bid_rules.specs.Keys.{HasGreatestWelfare}
+use Rattle.room_assignment.specs.declared.limits.TheConstants.{MOST_KEY, MOST_STEP}
 use Rattle.room_assignment.specs.Entries.{HasEntries}
 use Rattle.split_lemmas.proofs.Permutations.{permutation_length, permutation_below}
 use Rattle.split_lemmas.proofs.RoomPlaces.{rooms_length, room_range}
@@ -49,10 +50,10 @@ no_cycle_same n w u same none i between l h = subst (λ z. z ≤ℤ pos 0) (sym 
 
 -- the steps of the matrix over the values
 abbrev pub AreValueSteps : RentCase → Matrix → Matrix → List ℕ → Type 0
-AreValueSteps case values steps slice = HasEntries (length values.items) (10 ^ 21) (λ from to. entry values to (get_or slice from 0) -ℤ entry values from (get_or slice from 0)) steps
+AreValueSteps case values steps slice = HasEntries (length values.items) MOST_STEP (λ from to. entry values to (get_or slice from 0) -ℤ entry values from (get_or slice from 0)) steps
 
 -- an entry of the matrix of steps is the step over the values
-step_is : (case : RentCase) (values steps : Matrix) (s slice : List ℕ) → HasEntries (room_count case) (10 ^ 20) (λ i j. value case i (j + 1)) values → AreValueSteps case values steps slice
+step_is : (case : RentCase) (values steps : Matrix) (s slice : List ℕ) → HasEntries (room_count case) MOST_KEY (λ i j. value case i (j + 1)) values → AreValueSteps case values steps slice
     → IsAssignment case s → slice ≡ map (λ r. r - 1) s → (from to : ℕ) → from < room_count case → to < room_count case → entry steps from to ≡ value_step case s from to
 step_is case values steps s slice v h p e from to l m =
     let n = room_count case in
@@ -61,19 +62,19 @@ step_is case values steps s slice v h p e from to l m =
     let room = room_range n s from p l in
     let at : get_or slice from 0 ≡ get_or s from 0 - 1 = ap (λ xs. get_or xs from 0) e ∙ get_or-map (λ r. r - 1) s from 0 0 (omega arith) in
     let up : get_or slice from 0 + 1 ≡ get_or s from 0 = omega (arith, at, room.0) in
-    let one = entry_is (length values.items) (10 ^ 21) (λ from to. entry values to (get_or slice from 0) -ℤ entry values from (get_or slice from 0)) steps from to h (omega arith) (omega arith) in
-    let two = entry_is n (10 ^ 20) (λ i j. value case i (j + 1)) values to (get_or slice from 0) v m (omega (arith, up, room.1)) ∙ ap (value case to) up in
-    let three = entry_is n (10 ^ 20) (λ i j. value case i (j + 1)) values from (get_or slice from 0) v l (omega (arith, up, room.1)) ∙ ap (value case from) up in
+    let one = entry_is (length values.items) MOST_STEP (λ from to. entry values to (get_or slice from 0) -ℤ entry values from (get_or slice from 0)) steps from to h (omega arith) (omega arith) in
+    let two = entry_is n MOST_KEY (λ i j. value case i (j + 1)) values to (get_or slice from 0) v m (omega (arith, up, room.1)) ∙ ap (value case to) up in
+    let three = entry_is n MOST_KEY (λ i j. value case i (j + 1)) values from (get_or slice from 0) v l (omega (arith, up, room.1)) ∙ ap (value case from) up in
     omega (arith, ints, one, two, three)
 
 -- the matrix of steps over the values has no positive cycle
-pub value_steps_no_cycle : LeaveNoValueCycle → (case : RentCase) (values steps : Matrix) (plan : Plan) (s slice : List ℕ) → HasEntries (room_count case) (10 ^ 20) (λ i j. value case i (j + 1)) values → IsMatchedPlan (length values.items) values plan → AreValueSteps case values steps slice
+pub value_steps_no_cycle : LeaveNoValueCycle → (case : RentCase) (values steps : Matrix) (plan : Plan) (s slice : List ℕ) → HasEntries (room_count case) MOST_KEY (λ i j. value case i (j + 1)) values → IsMatchedPlan (length values.items) values plan → AreValueSteps case values steps slice
     → HasGreatestWelfare case s → slice ≡ map (λ r. r - 1) s → HasNoPositiveCycle (length steps.items) (entry steps)
 value_steps_no_cycle law case values steps plan s slice v d h best e =
     let n = room_count case in
     let same = v.rows_count in
     let known : IsMatched n n (entry values) (numbers plan.left.items) (numbers plan.right.items) plan.rooms.items = subst (λ m. IsMatched m m (entry values) (numbers plan.left.items) (numbers plan.right.items) plan.rooms.items) same d.matched in
-    let at : (i j : ℕ) → i < n → j < n → entry values i j ≡ value case i (j + 1) = λ i j l m. entry_is n (10 ^ 20) (λ i j. value case i (j + 1)) values i j v l m in
+    let at : (i j : ℕ) → i < n → j < n → entry values i j ≡ value case i (j + 1) = λ i j l m. entry_is n MOST_KEY (λ i j. value case i (j + 1)) values i j v l m in
     subst (λ m. HasNoPositiveCycle m (entry steps)) (sym (h.rows_count ∙ same))
     (no_cycle_same n (entry steps) (value_step case s) (step_is case values steps s slice v h best.assignment e)
     (matched_values law case s plan.rooms.items (numbers plan.left.items) (numbers plan.right.items) (record {
@@ -85,14 +86,14 @@ value_steps_no_cycle law case values steps plan s slice v d h best e =
     }) best))
 
 -- the walks over the matrix are those over the values
-pub value_weights : (case : RentCase) (values steps : Matrix) (s slice : List ℕ) (weights : List ℤ) → HasEntries (room_count case) (10 ^ 20) (λ i j. value case i (j + 1)) values → AreValueSteps case values steps slice
+pub value_weights : (case : RentCase) (values steps : Matrix) (s slice : List ℕ) (weights : List ℤ) → HasEntries (room_count case) MOST_KEY (λ i j. value case i (j + 1)) values → AreValueSteps case values steps slice
     → IsAssignment case s → slice ≡ map (λ r. r - 1) s → AreGreatestWeights (length steps.items) (entry steps) weights → AreGreatestWeights (room_count case) (value_step case s) weights
 value_weights case values steps s slice weights v h p e greatest =
     greatest_same (room_count case) (entry steps) (value_step case s) weights (step_is case values steps s slice v h p e)
     (subst (λ m. AreGreatestWeights m (entry steps) weights) (h.rows_count ∙ v.rows_count) greatest)
 
 -- the ranks over the matrix are those over the values
-pub value_ranks : (case : RentCase) (values steps : Matrix) (s slice : List ℕ) (weights : List ℤ) (ranks : List ℕ) → HasEntries (room_count case) (10 ^ 20) (λ i j. value case i (j + 1)) values → AreValueSteps case values steps slice
+pub value_ranks : (case : RentCase) (values steps : Matrix) (s slice : List ℕ) (weights : List ℤ) (ranks : List ℕ) → HasEntries (room_count case) MOST_KEY (λ i j. value case i (j + 1)) values → AreValueSteps case values steps slice
     → IsAssignment case s → slice ≡ map (λ r. r - 1) s → AreRanks (length steps.items) (entry steps) weights ranks → AreRanks (room_count case) (value_step case s) weights ranks
 value_ranks case values steps s slice weights ranks v h p e given =
     ranks_same (room_count case) (entry steps) (value_step case s) weights ranks (step_is case values steps s slice v h p e)

@@ -14,7 +14,7 @@ use crate::tree::{assign, holder};
 use crate::walks::{Matrix, Walks, longest_walks, step};
 use arrayvec::ArrayVec;
 use bid_rules::RentCase;
-use bid_rules::limits::MEMBER_ROOM;
+use bid_rules::limits::{MEMBER_ROOM, MOST_MEMBERS};
 use rent_laws::{key_law, potential_law, value_cycle_law};
 
 /// An assignment, and the dual numbers that show that it has the greatest sum of keys.
@@ -47,7 +47,7 @@ fn right_of(keys: &Matrix, rooms: &[u8], left: &[i128], room: usize) -> i128
     requires rooms { IsPermutation (range_with_len 0 (length keys.now.items)) rooms.now }
     requires count { length rooms.now ≡ length keys.now.items }
     requires lefts { length left.now ≡ length keys.now.items }
-    requires small { All (λ weight. unsigned_abs weight ≤ 10 ^ 23) left.now }
+    requires small { All (λ weight. unsigned_abs weight ≤ MOST_MEMBERS * MOST_STEP) left.now }
     requires room { room < length keys.now.items }
     ensures { IsRight (length keys.now.items) (entry keys.now) rooms.now left.now room result }
 {
@@ -61,7 +61,7 @@ fn rights(keys: &Matrix, rooms: &[u8], left: &[i128]) -> ArrayVec<i128, MEMBER_R
     requires rooms { IsPermutation (range_with_len 0 (length keys.now.items)) rooms.now }
     requires count { length rooms.now ≡ length keys.now.items }
     requires lefts { length left.now ≡ length keys.now.items }
-    requires small { All (λ weight. unsigned_abs weight ≤ 10 ^ 23) left.now }
+    requires small { All (λ weight. unsigned_abs weight ≤ MOST_MEMBERS * MOST_STEP) left.now }
     ensures count { length result.items ≡ length keys.now.items }
     ensures each { (j : ℕ) → j < length keys.now.items → IsRight (length keys.now.items) (entry keys.now) rooms.now left.now j (numbers result.items j) }
 {

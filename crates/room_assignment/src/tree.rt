@@ -7,6 +7,7 @@ ghost use Rattle.std.specs.List.Sorted.{IsPermutation};
 ghost use Rattle.room_assignment.specs.Matrix.{entry};
 ghost use Rattle.room_assignment.specs.Tree.{AreKeys, IsMatchedPlan, IsTreeOf, IsChoice, IsLeastChoice, slack_of, numbers, marks, plan_of, missing, IsMost};
 
+use crate::limits::MOST_KEY;
 use crate::walks::{Matrix, greater, step};
 use arrayvec::ArrayVec;
 use bid_rules::limits::MEMBER_ROOM;
@@ -56,8 +57,8 @@ fn slack(keys: &Matrix, tree: &Tree, matched: usize, member: usize, room: usize)
 fn lowered(values: &[i128], marked: &[bool], by: i128) -> ArrayVec<i128, MEMBER_ROOM>
     requires few { length values.now ≤ MEMBER_ROOM }
     requires same { length marked.now ≡ length values.now }
-    requires small { All (λ z. unsigned_abs z ≤ 10 ^ 22) values.now }
-    requires by { unsigned_abs by ≤ 10 ^ 22 }
+    requires small { All (λ z. unsigned_abs z ≤ 4 * MOST_KEY) values.now }
+    requires by { unsigned_abs by ≤ 4 * MOST_KEY }
     ensures count { length result.items ≡ length values.now }
     ensures yes { (i : ℕ) → i < length values.now → marks marked.now i ≡ true → numbers result.items i ≡ numbers values.now i -ℤ by }
     ensures no { (i : ℕ) → i < length values.now → marks marked.now i ≡ false → numbers result.items i ≡ numbers values.now i }
@@ -71,8 +72,8 @@ fn lowered(values: &[i128], marked: &[bool], by: i128) -> ArrayVec<i128, MEMBER_
 
 /// The number, lowered where it is marked.
 fn one_lowered(value: i128, marked: bool, by: i128) -> i128
-    requires value { unsigned_abs value ≤ 10 ^ 22 }
-    requires by { unsigned_abs by ≤ 10 ^ 22 }
+    requires value { unsigned_abs value ≤ 4 * MOST_KEY }
+    requires by { unsigned_abs by ≤ 4 * MOST_KEY }
     ensures yes { marked ≡ true → result ≡ value -ℤ by }
     ensures no { marked ≡ false → result ≡ value }
 {

@@ -10,7 +10,7 @@ use Rattle.bid_rules.specs.Facts.{IsCheckedBid}
 use Rattle.sealed_core.specs.declared.limits.TheConstants.{MOST_TURNS}
 use Rattle.sealed_core.specs.declared.replies.Answered.{Answered}
 use Rattle.sealed_core.specs.declared.events.Event.{Event}
-use Rattle.sealed_core.specs.Host.{CreationView, InstanceView, HostView, EventView, Created, BidKept, Closed, Withdrawn, AreSound, IsSound, IsNextTurn, CanApply, event_view, instance_at, kept_turn, kept_bid}
+use Rattle.sealed_core.specs.Host.{CreationView, InstanceView, HostView, EventView, Created, BidKept, Closed, Withdrawn, AreCheckedInstances, IsCheckedInstance, IsNextTurn, CanApply, event_view, instance_at, kept_turn, kept_bid}
 use Rattle.sealed_core.specs.Sameness.{same_text}
 use Rattle.sealed_core.specs.Step.{Answer, CommandView, IsCheckedCommand, answer_view, tagged_from, step}
 use Rattle.sealed_core.proofs.Fits.{Fits, HasTurn, step_fits}
@@ -27,12 +27,12 @@ none_tagged id (i ∷ instances) tag is (suc k) d there =
     (λ _ none. absurd (true≢false (ap is_some none))) (λ _ none. none) is) k d (omega arith)
 
 -- an instance found at a place among sound ones is sound
-found_if : (none : Bool) (instances : List InstanceView) (p : ℕ) (i : InstanceView) → (if none then None else slice_get instances p) ≡ Some i → All IsSound instances → IsSound i
+found_if : (none : Bool) (instances : List InstanceView) (p : ℕ) (i : InstanceView) → (if none then None else slice_get instances p) ≡ Some i → All IsCheckedInstance instances → IsCheckedInstance i
 found_if true instances p i is sound = absurd (true≢false (sym (ap is_some is)))
-found_if false instances p i is sound = subst IsSound (get_or_from_slice_get instances p i i is) (sound p i (slice_get_within instances p i is))
+found_if false instances p i is sound = subst IsCheckedInstance (get_or_from_slice_get instances p i i is) (sound p i (slice_get_within instances p i is))
 
 -- an instance of a sound host is sound
-pub sound_found : (h : HostView) (id : ℕ) (i : InstanceView) → AreSound h.instances → instance_at h id ≡ Some i → IsSound i
+pub sound_found : (h : HostView) (id : ℕ) (i : InstanceView) → AreCheckedInstances h.instances → instance_at h id ≡ Some i → IsCheckedInstance i
 sound_found h id i sound is = found_if (id == 0) h.instances (id - 1) i is sound.each
 
 -- what holds of a value holds of the option that has it
@@ -50,7 +50,7 @@ turn_if true turns p used = omega arith
 turn_if false turns p used = turn_at turns p used (cases_lt p (length turns))
 
 -- a turn that a step keeps is the next one of a sound instance
-next_turn : (now m turn : ℕ) (i : InstanceView) → IsSound i → HasTurn now i m turn → IsNextTurn now i m turn
+next_turn : (now m turn : ℕ) (i : InstanceView) → IsCheckedInstance i → HasTurn now i m turn → IsNextTurn now i m turn
 next_turn now m turn i sound has =
     let few = turn_if (m == 0) i.turns (m - 1) sound.used in
     let left = eqb-false (kept_turn i m) MOST_TURNS has.used in
@@ -74,7 +74,7 @@ not_before : (a t : ℕ) (now : ℕ) → now ≡ max t a → a ≤ now
 not_before a t now is = omega (arith, is)
 
 -- an event that fits its step may be applied
-pub event_applies : (h : HostView) (t : ℕ) (command : CommandView) → AreSound h.instances → IsCheckedCommand command → (o : Option EventView) → Fits h t command o → IfSome o (CanApply h)
+pub event_applies : (h : HostView) (t : ℕ) (command : CommandView) → AreCheckedInstances h.instances → IsCheckedCommand command → (o : Option EventView) → Fits h t command o → IfSome o (CanApply h)
 event_applies h t command sound right None fits = tt
 event_applies h t command sound right (Some (Created now c)) fits =
     (not_before h.moment t now fits.0, (fits.2, subst IsCheckedCommand fits.1 right, none_tagged 1 h.instances c.tag fits.3))
@@ -107,7 +107,7 @@ seen_event h None can = tt
 seen_event h (Some e) can = can
 
 -- the event of an answer that is the step's may be applied
-pub applies_from : (h : HostView) (t : ℕ) (command : CommandView) (a : Answered) → AreSound h.instances → IsCheckedCommand command → answer_view a ≡ step h t command
+pub applies_from : (h : HostView) (t : ℕ) (command : CommandView) (a : Answered) → AreCheckedInstances h.instances → IsCheckedCommand command → answer_view a ≡ step h t command
     → IfSome a.event (λ e. CanApply h (event_view e))
 applies_from h t command a sound right is =
     seen_event h a.event (subst (λ (b : Answer). IfSome b.event (CanApply h)) (sym is) (event_applies h t command sound right (step h t command).event (step_fits h t command)))

@@ -24,6 +24,7 @@ abbrev pub IsBy : HostView → ℕ → ℕ → CommandView → Type 0
 IsBy h id m (Create body) = ⊥
 IsBy h id m (To other key ask) = (other ≡ id) × (caller_number h other key ≡ Some m)
 
+-- the instance is open, and this is the next turn of the member, as the step tests it
 pub record HasTurn (now : ℕ) (i : InstanceView) (m turn : ℕ) : Type 0 where
   pub open_ : i.closed ≡ false
   pub early : nat_le i.creation.deadline now ≡ false

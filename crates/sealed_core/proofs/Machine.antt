@@ -2,7 +2,7 @@
 use Rattle.std.proofs.Common.{◌≡◌, ℕ, zero, suc, ◌-◌, Bool, true, false, ◌==◌, List, [], ◌∷◌, ◌++◌, if◌then◌else◌, Option, None, Some, IfSome, IsSomeAnd, IsSome, All, ◌⊎◌, ◌≤◌, option_to_list, slice_get, unwrap_or, refl, ap, sym, ◌∙◌, subst, arith, true≢false, max, not, option_map, is_some, ◌+◌, ◌&&◌, Ok, nat_le}
 use Rattle.bid_rules.specs.Facts.{IsCheckedBid}
 use Rattle.sealed_core.specs.declared.limits.TheConstants.{MOST_TURNS}
-use Rattle.sealed_core.specs.Host.{InstanceView, HostView, EventView, Created, BidKept, Closed, Withdrawn, AreSound, IsSound, IsNextTurn, CanApply, IsDue, instance_at, kept_bid, fresh, with_turn, as_closed, changed, change, instances_after, apply, kept_turn}
+use Rattle.sealed_core.specs.Host.{InstanceView, HostView, EventView, Created, BidKept, Closed, Withdrawn, AreCheckedInstances, IsCheckedInstance, IsNextTurn, CanApply, IsAllowed, instance_at, kept_bid, fresh, with_turn, as_closed, changed, change, instances_after, apply, kept_turn}
 use Rattle.sealed_core.specs.Sealed.{Asked, applied, empty, is_closed, is_shut, next}
 use Rattle.sealed_core.specs.declared.commands.Ask.{Ask}
 use Rattle.sealed_core.specs.declared.replies.Refusal.TheVariants as refusal
@@ -22,17 +22,17 @@ use Rattle.sealed_core.proofs.Fits.{step_fits}
 use Rattle.sealed_core.proofs.Soundness.{found, is_at, sound_changed, sound_closed, sound_fresh, sound_push, sound_turn}
 
 -- a change of an instance that is there, and that the change keeps sound
-sound_change : (h : HostView) (id : ℕ) (f : InstanceView → InstanceView) (P : InstanceView → Type 0) → AreSound h.instances → IsSomeAnd (instance_at h id) P → ((i : InstanceView) → IsSound i → P i → IsSound (f i))
-    → AreSound (change f h.instances id)
+sound_change : (h : HostView) (id : ℕ) (f : InstanceView → InstanceView) (P : InstanceView → Type 0) → AreCheckedInstances h.instances → IsSomeAnd (instance_at h id) P → ((i : InstanceView) → IsCheckedInstance i → P i → IsCheckedInstance (f i))
+    → AreCheckedInstances (change f h.instances id)
 sound_change h id f P sound asked keeps =
     let it = found (instance_at h id) P asked in
     let place = is_at h id it.0 it.1 in
     sound_changed f h.instances (id - 1) sound
     (λ i here. let one : it.0 ≡ i = ap (λ (o : Option InstanceView). unwrap_or o i) (sym place.at ∙ here) in
-    subst (λ (i : InstanceView). IsSound (f i)) one (keeps it.0 (sound_found h id it.0 sound it.1) it.2))
+    subst (λ (i : InstanceView). IsCheckedInstance (f i)) one (keeps it.0 (sound_found h id it.0 sound it.1) it.2))
 
 -- an event that is due leaves the instances sound
-sound_apply : (h : HostView) (e : EventView) → AreSound h.instances → IsDue h e → AreSound (instances_after h.instances e)
+sound_apply : (h : HostView) (e : EventView) → AreCheckedInstances h.instances → IsAllowed h e → AreCheckedInstances (instances_after h.instances e)
 sound_apply h (Created now c) sound due = sound_push h.instances (fresh c) sound (sound_fresh c due.1) due.0
 sound_apply h (BidKept now id m turn given) sound due =
     sound_change h id (with_turn m turn (Some given)) (λ i. IsNextTurn now i m turn × IsCheckedBid i.creation.facts given) sound due (λ i own right. sound_turn now m turn (Some given) i own right.0 right.1)
@@ -42,7 +42,7 @@ sound_apply h (Withdrawn now id m turn) sound due =
     sound_change h id (with_turn m turn None) (λ i. IsNextTurn now i m turn × IsSome (kept_bid i m)) sound due (λ i own right. sound_turn now m turn None i own right.0 tt)
 
 -- so does the event of a step, if there is one
-sound_applied : (h : HostView) (o : Option EventView) → AreSound h.instances → IfSome o (CanApply h) → AreSound (applied h o).instances
+sound_applied : (h : HostView) (o : Option EventView) → AreCheckedInstances h.instances → IfSome o (CanApply h) → AreCheckedInstances (applied h o).instances
 sound_applied h None sound can = sound
 sound_applied h (Some e) sound can = sound_apply h e sound can.1
 
@@ -57,7 +57,7 @@ last_more h None events = refl
 last_more h (Some e) events = refl
 
 -- each event that a run keeps may be applied at its turn
-pub can_run : (h : HostView) (run : List Asked) → AreSound h.instances → AreChecked run → CanApplyAll h (kept h run)
+pub can_run : (h : HostView) (run : List Asked) → AreCheckedInstances h.instances → AreChecked run → CanApplyAll h (kept h run)
 can_run h [] sound right = tt
 can_run h (a ∷ run) sound right =
     let event = (step h a.moment a.command).event in
@@ -70,7 +70,7 @@ last_run h [] = refl
 last_run h (a ∷ run) = last_run (next h a) run ∙ last_more h (step h a.moment a.command).event (kept (next h a) run)
 
 -- the empty host is sound
-pub nobody : (secret : List ℕ) → AreSound (empty secret).instances
+pub nobody : (secret : List ℕ) → AreCheckedInstances (empty secret).instances
 nobody secret = record { each = λ k d there. absurd (omega (arith, there)); few = omega arith }
 
 -- ---- closed for good

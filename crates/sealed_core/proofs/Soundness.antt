@@ -8,10 +8,10 @@ use Rattle.bid_rules.specs.Facts.{IsCheckedBid}
 use Rattle.sealed_core.specs.declared.limits.TheConstants.{MOST_INSTANCES, MOST_TURNS}
 use Rattle.sealed_core.specs.declared.host.Instance.{Instance}
 use Rattle.sealed_core.proofs.Wholes.{sound_at}
-use Rattle.sealed_core.specs.Host.{CreationView, InstanceView, HostView, AreSound, IsSound, IsCheckedCreation, IsNextTurn, instance_view, instance_at, fresh, with_turn, as_closed, change, changed}
+use Rattle.sealed_core.specs.Host.{CreationView, InstanceView, HostView, AreCheckedInstances, IsCheckedInstance, IsCheckedCreation, IsNextTurn, instance_view, instance_at, fresh, with_turn, as_closed, change, changed}
 
 -- a new instance of a checked creation is sound
-pub sound_fresh : (c : CreationView) → IsCheckedCreation c → IsSound (fresh c)
+pub sound_fresh : (c : CreationView) → IsCheckedCreation c → IsCheckedInstance (fresh c)
 sound_fresh c right = record {
   creation = right;
   turns = length-replicate (length c.members) 0;
@@ -21,7 +21,7 @@ sound_fresh c right = record {
 }
 
 -- a next turn leaves an instance sound
-pub sound_turn : (now m turn : ℕ) (bid : Option Bid) (i : InstanceView) → IsSound i → IsNextTurn now i m turn → IfSome bid (IsCheckedBid i.creation.facts) → IsSound (with_turn m turn bid i)
+pub sound_turn : (now m turn : ℕ) (bid : Option Bid) (i : InstanceView) → IsCheckedInstance i → IsNextTurn now i m turn → IfSome bid (IsCheckedBid i.creation.facts) → IsCheckedInstance (with_turn m turn bid i)
 sound_turn now m turn bid i sound next right = record {
   creation = sound.creation;
   turns = length-set i.turns (m - 1) turn ∙ sound.turns;
@@ -31,12 +31,12 @@ sound_turn now m turn bid i sound next right = record {
 }
 
 -- closing leaves it sound
-pub sound_closed : (i : InstanceView) → IsSound i → IsSound (as_closed i)
+pub sound_closed : (i : InstanceView) → IsCheckedInstance i → IsCheckedInstance (as_closed i)
 sound_closed i sound = record { creation = sound.creation; turns = sound.turns; bids = sound.bids; used = sound.used; checked = sound.checked }
 
 -- a new sound instance leaves the list sound
-pub sound_push : (instances : List InstanceView) (i : InstanceView) → AreSound instances → IsSound i → length instances < MOST_INSTANCES → AreSound (instances ++ i ∷ [])
-sound_push instances i sound own few = let size = length_push instances i in record { each = All-push IsSound instances i sound.each own; few = omega (arith, size, few) }
+pub sound_push : (instances : List InstanceView) (i : InstanceView) → AreCheckedInstances instances → IsCheckedInstance i → length instances < MOST_INSTANCES → AreCheckedInstances (instances ++ i ∷ [])
+sound_push instances i sound own few = let size = length_push instances i in record { each = All-push IsCheckedInstance instances i sound.each own; few = omega (arith, size, few) }
 
 -- a change at a place leaves the length
 length-changed : (f : InstanceView → InstanceView) (instances : List InstanceView) (p : ℕ) → length (changed f instances p) ≡ length instances
@@ -45,7 +45,7 @@ length-changed f (i ∷ instances) zero = refl
 length-changed f (i ∷ instances) (suc p) = ap suc (length-changed f instances p)
 
 -- a change that keeps the instance sound leaves all sound
-each_changed : (f : InstanceView → InstanceView) (instances : List InstanceView) (p : ℕ) → All IsSound instances → ((i : InstanceView) → slice_get instances p ≡ Some i → IsSound (f i)) → All IsSound (changed f instances p)
+each_changed : (f : InstanceView → InstanceView) (instances : List InstanceView) (p : ℕ) → All IsCheckedInstance instances → ((i : InstanceView) → slice_get instances p ≡ Some i → IsCheckedInstance (f i)) → All IsCheckedInstance (changed f instances p)
 each_changed f [] p each new k d there = absurd (omega arith)
 each_changed f (i ∷ instances) zero each new zero d there = new i refl
 each_changed f (i ∷ instances) zero each new (suc k) d there = each (suc k) d (omega (arith, there))
@@ -53,7 +53,7 @@ each_changed f (i ∷ instances) (suc p) each new zero d there = each zero d (om
 each_changed f (i ∷ instances) (suc p) each new (suc k) d there = each_changed f instances p (λ j e below. each (suc j) e (omega (arith, below))) new k d (omega (arith, there))
 
 -- so the list stays sound
-pub sound_changed : (f : InstanceView → InstanceView) (instances : List InstanceView) (p : ℕ) → AreSound instances → ((i : InstanceView) → slice_get instances p ≡ Some i → IsSound (f i)) → AreSound (changed f instances p)
+pub sound_changed : (f : InstanceView → InstanceView) (instances : List InstanceView) (p : ℕ) → AreCheckedInstances instances → ((i : InstanceView) → slice_get instances p ≡ Some i → IsCheckedInstance (f i)) → AreCheckedInstances (changed f instances p)
 sound_changed f instances p sound new = let size = length-changed f instances p in let few = sound.few in record { each = each_changed f instances p sound.each new; few = omega (arith, size, few) }
 
 -- a write to the instance at a place changes the view at that place
@@ -94,14 +94,14 @@ at_is (x ∷ xs) zero i old there is = (omega arith, ap (λ (o : Option Instance
 at_is (x ∷ xs) (suc p) i old there is = let rest = at_is xs p i old there is in let below = rest.0 in (omega (arith, below), rest.1)
 
 -- an instance at a place of a sound list is sound
-sound_of : (xs : List Instance) (p : ℕ) (old : Instance) → AreSound (map instance_view xs) → p < length xs → old ≡ get_or xs p old → IsSound (instance_view old)
+sound_of : (xs : List Instance) (p : ℕ) (old : Instance) → AreCheckedInstances (map instance_view xs) → p < length xs → old ≡ get_or xs p old → IsCheckedInstance (instance_view old)
 sound_of xs p old sound there is = sound_at xs p old sound.each there is
 
 -- the views after a member's turn is kept
-pub turn_views : (h : HostView) (items : List Instance) (id now m turn : ℕ) (bid : Option Bid) (old new : Instance) → h.instances ≡ map instance_view items → AreSound (map instance_view items)
+pub turn_views : (h : HostView) (items : List Instance) (id now m turn : ℕ) (bid : Option Bid) (old new : Instance) → h.instances ≡ map instance_view items → AreCheckedInstances (map instance_view items)
     → IsSomeAnd (instance_at h id) (λ i. IsNextTurn now i m turn × IfSome bid (IsCheckedBid i.creation.facts)) → old ≡ get_or items (id - 1) old
     → instance_view new ≡ with_turn m turn bid (instance_view old)
-    → (map instance_view (set items (id - 1) new) ≡ change (with_turn m turn bid) (map instance_view items) id) × AreSound (map instance_view (set items (id - 1) new))
+    → (map instance_view (set items (id - 1) new) ≡ change (with_turn m turn bid) (map instance_view items) id) × AreCheckedInstances (map instance_view (set items (id - 1) new))
 turn_views h items id now m turn bid old new views sound asked is made =
     let f = found (instance_at h id) (λ i. IsNextTurn now i m turn × IfSome bid (IsCheckedBid i.creation.facts)) asked in
     let place = is_at h id f.0 f.1 in
@@ -109,16 +109,16 @@ turn_views h items id now m turn bid old new views sound asked is made =
     let there = at_is items (id - 1) f.0 old at is in
     let same = set_changed (with_turn m turn bid) items (id - 1) old new is there.0 made in (
       same,
-      subst AreSound (sym same) (sound_changed (with_turn m turn bid) (map instance_view items) (id - 1) sound
+      subst AreCheckedInstances (sym same) (sound_changed (with_turn m turn bid) (map instance_view items) (id - 1) sound
           (λ i here. let one : f.0 ≡ i = ap (λ (o : Option InstanceView). unwrap_or o i) (sym at ∙ here) in
-          subst (λ (i : InstanceView). IsSound (with_turn m turn bid i)) one
-          (sound_turn now m turn bid f.0 (subst IsSound (sym there.1) (sound_of items (id - 1) old sound there.0 is)) f.2.0 f.2.1))),
+          subst (λ (i : InstanceView). IsCheckedInstance (with_turn m turn bid i)) one
+          (sound_turn now m turn bid f.0 (subst IsCheckedInstance (sym there.1) (sound_of items (id - 1) old sound there.0 is)) f.2.0 f.2.1))),
     )
 
 -- the views after an instance is closed
-pub closed_views : (h : HostView) (items : List Instance) (id : ℕ) (old new : Instance) → h.instances ≡ map instance_view items → AreSound (map instance_view items)
+pub closed_views : (h : HostView) (items : List Instance) (id : ℕ) (old new : Instance) → h.instances ≡ map instance_view items → AreCheckedInstances (map instance_view items)
     → IsSome (instance_at h id) → old ≡ get_or items (id - 1) old → instance_view new ≡ as_closed (instance_view old)
-    → (map instance_view (set items (id - 1) new) ≡ change as_closed (map instance_view items) id) × AreSound (map instance_view (set items (id - 1) new))
+    → (map instance_view (set items (id - 1) new) ≡ change as_closed (map instance_view items) id) × AreCheckedInstances (map instance_view (set items (id - 1) new))
 closed_views h items id old new views sound asked is made =
     let f = found_some (instance_at h id) asked in
     let place = is_at h id f.0 f.1 in
@@ -126,8 +126,8 @@ closed_views h items id old new views sound asked is made =
     let there = at_is items (id - 1) f.0 old at is in
     let same = set_changed as_closed items (id - 1) old new is there.0 made in (
       same,
-      subst AreSound (sym same) (sound_changed as_closed (map instance_view items) (id - 1) sound
+      subst AreCheckedInstances (sym same) (sound_changed as_closed (map instance_view items) (id - 1) sound
           (λ i here. let one : f.0 ≡ i = ap (λ (o : Option InstanceView). unwrap_or o i) (sym at ∙ here) in
-          subst (λ (i : InstanceView). IsSound (as_closed i)) one
-          (sound_closed f.0 (subst IsSound (sym there.1) (sound_of items (id - 1) old sound there.0 is))))),
+          subst (λ (i : InstanceView). IsCheckedInstance (as_closed i)) one
+          (sound_closed f.0 (subst IsCheckedInstance (sym there.1) (sound_of items (id - 1) old sound there.0 is))))),
     )

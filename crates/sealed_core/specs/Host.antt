@@ -77,7 +77,7 @@ pub record IsCheckedCreation (c : CreationView) : Type 0 where
   pub deadline : c.deadline ≤ LAST_DEADLINE
 
 -- what holds of each instance of a host
-pub record IsSound (i : InstanceView) : Type 0 where
+pub record IsCheckedInstance (i : InstanceView) : Type 0 where
   pub creation : IsCheckedCreation i.creation
   pub turns : length i.turns ≡ length i.creation.members
   pub bids : length i.bids ≡ length i.creation.members
@@ -85,8 +85,8 @@ pub record IsSound (i : InstanceView) : Type 0 where
   pub checked : All (λ bid. IfSome bid (IsCheckedBid i.creation.facts)) i.bids
 
 -- what holds of all of them
-pub record AreSound (instances : List InstanceView) : Type 0 where
-  pub each : All IsSound instances
+pub record AreCheckedInstances (instances : List InstanceView) : Type 0 where
+  pub each : All IsCheckedInstance instances
   pub few : length instances ≤ MOST_INSTANCES
 
 -- the instance with this id: ids count from 1
@@ -116,15 +116,16 @@ pub record IsNextTurn (now : ℕ) (i : InstanceView) (m turn : ℕ) : Type 0 whe
   pub next : turn ≡ kept_turn i m + 1
   pub used : turn ≤ MOST_TURNS
 
-abbrev pub IsDue : HostView → EventView → Type 0
-IsDue h (Created now c) = (length h.instances < MOST_INSTANCES) × IsCheckedCreation c × All (λ i. i.creation.tag ≢ c.tag) h.instances
-IsDue h (BidKept now id m turn bid) = IsSomeAnd (instance_at h id) (λ i. IsNextTurn now i m turn × IsCheckedBid i.creation.facts bid)
-IsDue h (Closed now id) = IsSomeAnd (instance_at h id) (λ i. (i.closed ≡ false) × ((i.creation.deadline ≤ now) ⊎ All (λ bid. IsSome bid) i.bids))
-IsDue h (Withdrawn now id m turn) = IsSomeAnd (instance_at h id) (λ i. IsNextTurn now i m turn × IsSome (kept_bid i m))
+-- the event's own condition, whatever its moment: what it is to change stands, is open, and takes it
+abbrev pub IsAllowed : HostView → EventView → Type 0
+IsAllowed h (Created now c) = (length h.instances < MOST_INSTANCES) × IsCheckedCreation c × All (λ i. i.creation.tag ≢ c.tag) h.instances
+IsAllowed h (BidKept now id m turn bid) = IsSomeAnd (instance_at h id) (λ i. IsNextTurn now i m turn × IsCheckedBid i.creation.facts bid)
+IsAllowed h (Closed now id) = IsSomeAnd (instance_at h id) (λ i. (i.closed ≡ false) × ((i.creation.deadline ≤ now) ⊎ All (λ bid. IsSome bid) i.bids))
+IsAllowed h (Withdrawn now id m turn) = IsSomeAnd (instance_at h id) (λ i. IsNextTurn now i m turn × IsSome (kept_bid i m))
 
 -- the event may come: its moment isn't below the greatest kept one, and its own condition holds
 abbrev pub CanApply : HostView → EventView → Type 0
-CanApply h e = (h.moment ≤ moment_of e) × IsDue h e
+CanApply h e = (h.moment ≤ moment_of e) × IsAllowed h e
 
 -- a new instance: nobody has bid
 abbrev pub fresh : CreationView → InstanceView

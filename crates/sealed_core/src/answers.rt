@@ -2,7 +2,7 @@ ghost use Rattle.std.specs.Prelude.{◌≡◌, ◌≤◌, ◌↔◌, map, length
 ghost use Rattle.bid_rules.specs.Facts.{IsCheckedFacts};
 ghost use Rattle.sealed_core.specs.Causes.{Cause};
 ghost use Rattle.sealed_core.specs.declared.limits.TheConstants.{MOST_INSTANCES};
-ghost use Rattle.sealed_core.specs.Host.{AreSound, CanApply, IsSound, event_view, instance_view};
+ghost use Rattle.sealed_core.specs.Host.{AreCheckedInstances, CanApply, IsCheckedInstance, event_view, instance_view};
 ghost use Rattle.sealed_core.specs.Sealed.{IsQuiet, IsSealed};
 ghost use Rattle.sealed_core.specs.Step.{IsCheckedCommand, answer_view, answer_to, answer_bid, bid_turn, broken, caller_of, checked, answer_close, command_view, answer_creation, creation_seen, form_field, form_of, may_ask, refused, answer_ask, answer_caller, says, standing_of, step, answer_withdrawal, withdrawal_turn};
 
@@ -111,7 +111,7 @@ fn bid_turn(
 ) -> Answered
     requires least { 1 ≤ member }
     requires most { member ≤ length instance.now.creation.members.items }
-    requires sound { IsSound (instance_view instance.now) }
+    requires sound { IsCheckedInstance (instance_view instance.now) }
     ensures { answer_view result ≡ bid_turn now id member (standing_of (instance_view instance.now) member closed) turn bid }
 {
     let kept = turn_of(instance, member);
@@ -149,7 +149,7 @@ fn answer_bid(
 ) -> Answered
     requires least { 1 ≤ member }
     requires most { member ≤ length instance.now.creation.members.items }
-    requires sound { IsSound (instance_view instance.now) }
+    requires sound { IsCheckedInstance (instance_view instance.now) }
     ensures { answer_view result ≡ answer_bid now id member (standing_of (instance_view instance.now) member closed) body }
 {
     let body = match body {
@@ -180,7 +180,7 @@ fn withdrawal_turn(
 ) -> Answered
     requires least { 1 ≤ member }
     requires most { member ≤ length instance.now.creation.members.items }
-    requires sound { IsSound (instance_view instance.now) }
+    requires sound { IsCheckedInstance (instance_view instance.now) }
     ensures { answer_view result ≡ withdrawal_turn now id member (standing_of (instance_view instance.now) member closed) turn }
 {
     let kept = turn_of(instance, member);
@@ -221,7 +221,7 @@ fn answer_withdrawal(
 ) -> Answered
     requires least { 1 ≤ member }
     requires most { member ≤ length instance.now.creation.members.items }
-    requires sound { IsSound (instance_view instance.now) }
+    requires sound { IsCheckedInstance (instance_view instance.now) }
     ensures { answer_view result ≡ answer_withdrawal now id member (standing_of (instance_view instance.now) member closed) body }
 {
     let body = match body {
@@ -263,7 +263,7 @@ fn answer_ask(
 ) -> Answered
     requires may { may_ask member ask ≡ true }
     requires most { member ≤ length instance.now.creation.members.items }
-    requires sound { IsSound (instance_view instance.now) }
+    requires sound { IsCheckedInstance (instance_view instance.now) }
     ensures { answer_view result ≡ answer_ask now id member (standing_of (instance_view instance.now) member closed) ask }
 {
     match ask {
@@ -281,7 +281,7 @@ fn answer_ask(
 /// closed instance.
 fn answer_caller(now: u64, id: u32, ask: Ask, instance: &Instance, member: u8) -> Answered
     requires most { member ≤ length instance.now.creation.members.items }
-    requires sound { IsSound (instance_view instance.now) }
+    requires sound { IsCheckedInstance (instance_view instance.now) }
     ensures { answer_view result ≡ answer_caller now id ask (instance_view instance.now) member }
 {
     if !may_ask(member, &ask) {
@@ -308,7 +308,7 @@ fn answer_to(host: &Host, now: u64, id: u32, key: Option<Key>, ask: Ask) -> Answ
 /// The same answer, of which only the step is said.
 fn step(host: &Host, moment: u64, command: Command) -> Answered
     ensures step { answer_view result ≡ step host.now.content moment (command_view command) }
-    ensures sound { AreSound host.now.content.instances }
+    ensures sound { AreCheckedInstances host.now.content.instances }
 {
     let now = moment.max(host.moment());
     let instances = host.instances();

@@ -1,7 +1,7 @@
 // What changes a host, and when it may.
 ghost use Rattle.std.specs.Prelude.{◌≡◌, ◌≢◌, ◌≤◌, ◌↔◌, ◌⊎◌, map, All, IsTrue, IsSome, false};
 ghost use Rattle.bid_rules.specs.Facts.{IsCheckedBid};
-ghost use Rattle.sealed_core.specs.Host.{CanApply, IsNextTurn, IsSound, event_view, instance_view, kept_bid, text};
+ghost use Rattle.sealed_core.specs.Host.{CanApply, IsNextTurn, IsCheckedInstance, event_view, instance_view, kept_bid, text};
 
 use crate::limits::{MOST_INSTANCES, MOST_TURNS};
 use crate::lookups::{bid_of, instance_at, turn_of};
@@ -59,7 +59,7 @@ fn is_free(instances: &[Instance], tag: &Tag) -> bool
 
 /// Whether the instance is open, before its deadline, and this is the member's next turn.
 fn is_next_turn(now: u64, instance: &Instance, member: u8, turn: u8) -> bool
-    requires { IsSound (instance_view instance.now) }
+    requires { IsCheckedInstance (instance_view instance.now) }
     ensures { IsTrue result ↔ IsNextTurn now (instance_view instance.now) member turn }
 {
     if instance.closed || now >= instance.creation.deadline || turn > MOST_TURNS {
@@ -72,14 +72,14 @@ fn is_next_turn(now: u64, instance: &Instance, member: u8, turn: u8) -> bool
 }
 
 fn can_bid(now: u64, instance: &Instance, member: u8, turn: u8, bid: &Bid) -> bool
-    requires { IsSound (instance_view instance.now) }
+    requires { IsCheckedInstance (instance_view instance.now) }
     ensures { IsTrue result ↔ IsNextTurn now (instance_view instance.now) member turn × IsCheckedBid (instance_view instance.now).creation.facts bid.now }
 {
     is_next_turn(now, instance, member, turn) && check_bid(&instance.creation.facts, bid).is_ok()
 }
 
 fn can_withdraw(now: u64, instance: &Instance, member: u8, turn: u8) -> bool
-    requires { IsSound (instance_view instance.now) }
+    requires { IsCheckedInstance (instance_view instance.now) }
     ensures { IsTrue result ↔ IsNextTurn now (instance_view instance.now) member turn × IsSome (kept_bid (instance_view instance.now) member) }
 {
     is_next_turn(now, instance, member, turn) && bid_of(instance, member).is_some()

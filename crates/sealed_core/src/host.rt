@@ -3,7 +3,7 @@ ghost use Rattle.std.specs.Prelude.{◌+◌, ◌-◌, IfSome, IsSome, IsSomeAnd,
 ghost use Rattle.bid_rules.specs.Facts.{IsCheckedBid};
 ghost use Rattle.sealed_core.specs.declared.limits.TheConstants.{MOST_INSTANCES};
 ghost use Rattle.bid_rules.specs.declared.limits.TheConstants.{MEMBER_ROOM};
-ghost use Rattle.sealed_core.specs.Host.{CanApply, Created, IsCheckedCreation, IsNextTurn, IsSound, apply, as_closed, change, creation_view, event_view, fresh, instance_at, instance_view, with_turn};
+ghost use Rattle.sealed_core.specs.Host.{CanApply, Created, IsCheckedCreation, IsNextTurn, IsCheckedInstance, apply, as_closed, change, creation_view, event_view, fresh, instance_at, instance_view, with_turn};
 
 use crate::{Creation, Event};
 use arrayvec::ArrayVec;
@@ -34,7 +34,7 @@ pub struct Host {
 
 impl Model for Host {
     ghost use Rattle.std.specs.Prelude.{◌≤◌, ◌-◌, map, length, All, vec_capacity, vec_len};
-    ghost use Rattle.sealed_core.specs.Host.{HostView, Holding, AreSound, instance_view, IsSound};
+    ghost use Rattle.sealed_core.specs.Host.{HostView, Holding, AreCheckedInstances, instance_view, IsCheckedInstance};
 
     ghost Value = { Holding };
 
@@ -43,7 +43,7 @@ impl Model for Host {
       spare = vec_capacity h.instances - vec_len h.instances;
     } };
 
-    ghost invariant = { λ h. AreSound (map instance_view h.instances.items) };
+    ghost invariant = { λ h. AreCheckedInstances (map instance_view h.instances.items) };
 }
 
 impl Host {
@@ -75,8 +75,8 @@ impl Host {
     /// The instances in order of id.
     pub fn instances(&self) -> &[Instance]
         ensures views { map instance_view result.now ≡ self.now.content.instances }
-        ensures each { All (λ i. IsSound (instance_view i)) result.now }
-        ensures sound { All IsSound self.now.content.instances }
+        ensures each { All (λ i. IsCheckedInstance (instance_view i)) result.now }
+        ensures sound { All IsCheckedInstance self.now.content.instances }
         ensures few { length self.now.content.instances ≤ MOST_INSTANCES }
     {
         &self.instances

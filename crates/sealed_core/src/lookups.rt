@@ -1,7 +1,7 @@
 ghost use Rattle.std.specs.Prelude.{◌≡◌, ◌≤◌, ◌+◌, length, map, is_none, is_some, MatchOption, MatchResult, IfOk, IfSome, Some, None, Ok, Err};
 ghost use Rattle.std.specs.List.{list_all};
 ghost use Rattle.sealed_core.specs.declared.limits.TheConstants.{MOST_INSTANCES, MOST_TURNS};
-ghost use Rattle.sealed_core.specs.Host.{IsSound, creation_view, instance_at, instance_view, kept_bid, kept_turn, text};
+ghost use Rattle.sealed_core.specs.Host.{IsCheckedInstance, creation_view, instance_at, instance_view, kept_bid, kept_turn, text};
 ghost use Rattle.sealed_core.specs.Step.{caller_of, is_over, tagged_from};
 
 use crate::keys::holder_of;
@@ -11,7 +11,7 @@ use bid_rules::Bid;
 /// The instance with this id, from 1, in the order of creation.
 pub fn instance_at<'a>(host: &'a Host, id: u32) -> Option<&'a Instance>
     ensures found { MatchOption result (instance_at host.now.content id ≡ None) (λ i. instance_at host.now.content id ≡ Some (instance_view i.now)) }
-    ensures sound { IfSome result (λ i. IsSound (instance_view i.now)) }
+    ensures sound { IfSome result (λ i. IsCheckedInstance (instance_view i.now)) }
 {
     if id == 0 {
         return None;
@@ -28,7 +28,7 @@ pub(crate) fn caller<'a>(
 ) -> Result<(&'a Instance, u8), Refusal>
     ensures found { MatchResult result (λ p. caller_of host.now.content id key ≡ Ok (instance_view p.0.now, p.1))
         (λ r. caller_of host.now.content id key ≡ Err r) }
-    ensures sound { IfOk result (λ p. IsSound (instance_view p.0.now)) }
+    ensures sound { IfOk result (λ p. IsCheckedInstance (instance_view p.0.now)) }
     ensures member { IfOk result (λ p. p.1 ≤ length p.0.now.creation.members.items) }
 {
     let Some(instance) = instance_at(host, id) else {
@@ -68,7 +68,7 @@ pub(crate) fn all_bid(instance: &Instance) -> bool
 pub fn turn_of(instance: &Instance, member: u8) -> u8
     requires least { 1 ≤ member }
     requires most { member ≤ length instance.now.creation.members.items }
-    requires sound { IsSound (instance_view instance.now) }
+    requires sound { IsCheckedInstance (instance_view instance.now) }
     ensures value { result ≡ kept_turn (instance_view instance.now) member }
     ensures used { result ≤ MOST_TURNS }
 {
@@ -79,7 +79,7 @@ pub fn turn_of(instance: &Instance, member: u8) -> u8
 pub fn bid_of(instance: &Instance, member: u8) -> &Option<Bid>
     requires least { 1 ≤ member }
     requires most { member ≤ length instance.now.creation.members.items }
-    requires sound { IsSound (instance_view instance.now) }
+    requires sound { IsCheckedInstance (instance_view instance.now) }
     ensures { result.now ≡ kept_bid (instance_view instance.now) member }
 {
     &instance.bids[usize::from(member) - 1]

@@ -18,7 +18,7 @@ disk_view d = record {
 }
 
 -- what the object keeps is what its calls give, and there is memory for the rest of its room
-pub record IsSound (d : Inside) : Type 0 where
+pub record MatchesCalls (d : Inside) : Type 0 where
   pub file : d.file.items ≡ seen_of (disk_view d)
   pub fits : vec_len d.file ≤ d.room
   pub room : d.room ≤ vec_capacity d.file

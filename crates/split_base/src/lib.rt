@@ -7,6 +7,7 @@ mod disk;
 #[cfg(test)]
 mod disk_tests;
 mod gate;
+pub mod limits;
 mod link;
 #[cfg(test)]
 mod link_tests;

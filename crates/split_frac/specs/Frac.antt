@@ -27,8 +27,8 @@ abbrev pub IsFloor : Frac → ℤ → Type 0
 IsFloor a whole = ((whole *ℤ pos a.den) ≤ℤ a.num) × (a.num <ℤ ((whole +ℤ pos 1) *ℤ pos a.den))
 
 -- the ranges that calls ask for: a numerator as far from 0 as the greatest at most, a denominator up to the greatest
-abbrev pub IsWithin : Frac → Type 0
-IsWithin a = (unsigned_abs a.num ≤ MOST_NUMERATOR) × (a.den ≤ MOST_DENOMINATOR)
+abbrev pub IsWithinLimits : Frac → Type 0
+IsWithinLimits a = (unsigned_abs a.num ≤ MOST_NUMERATOR) × (a.den ≤ MOST_DENOMINATOR)
 
 -- the order of the values of two fractions, by cross products
 abbrev pub frac_cmp : Frac → Frac → Ordering

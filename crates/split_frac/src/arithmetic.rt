@@ -2,7 +2,7 @@ ghost use Rattle.std.specs.Prelude.{◌≡◌, ℕ, ℤ, pos, ◌+ℤ◌, ◌-�
 ghost use Rattle.std.specs.Int.{IsGcd};
 ghost use Rattle.std.specs.Int.RustNames.{int_div};
 ghost use Rattle.split_frac.specs.declared.limits.TheConstants.{MOST_DENOMINATOR, MOST_NUMERATOR};
-ghost use Rattle.split_frac.specs.Frac.{HasValue, IsSum, IsDifference, IsFloor, IsWithin, frac_cmp};
+ghost use Rattle.split_frac.specs.Frac.{HasValue, IsSum, IsDifference, IsFloor, IsWithinLimits, frac_cmp};
 
 use crate::frac::Frac;
 use std::cmp::Ordering;
@@ -16,7 +16,7 @@ pub fn make(num: i128, den: u64) -> Frac
     requires den_low { 0 < den }
     requires den_high { den ≤ MOST_DENOMINATOR }
     ensures value { HasValue result num den }
-    ensures within { IsWithin result }
+    ensures within { IsWithinLimits result }
 {
     reduced(num, den)
 }
@@ -26,11 +26,11 @@ pub fn make(num: i128, den: u64) -> Frac
 /// Asks that both and their sum, in lowest terms, have numerators between -10^24 and 10^24 and
 /// denominators up to 4,000,000.
 pub fn add(a: Frac, b: Frac) -> Frac
-    requires a { IsWithin a }
-    requires b { IsWithin b }
-    requires result { (c : Frac) → IsSum a b c → IsWithin c }
+    requires a { IsWithinLimits a }
+    requires b { IsWithinLimits b }
+    requires result { (c : Frac) → IsSum a b c → IsWithinLimits c }
     ensures value { IsSum a b result }
-    ensures within { IsWithin result }
+    ensures within { IsWithinLimits result }
 {
     reduced(scaled(a.num, b.den) + scaled(b.num, a.den), a.den * b.den)
 }
@@ -40,11 +40,11 @@ pub fn add(a: Frac, b: Frac) -> Frac
 /// Asks that both and their difference, in lowest terms, have numerators between -10^24 and 10^24
 /// and denominators up to 4,000,000.
 pub fn sub(a: Frac, b: Frac) -> Frac
-    requires a { IsWithin a }
-    requires b { IsWithin b }
-    requires result { (c : Frac) → IsDifference a b c → IsWithin c }
+    requires a { IsWithinLimits a }
+    requires b { IsWithinLimits b }
+    requires result { (c : Frac) → IsDifference a b c → IsWithinLimits c }
     ensures value { IsDifference a b result }
-    ensures within { IsWithin result }
+    ensures within { IsWithinLimits result }
 {
     reduced(scaled(a.num, b.den) - scaled(b.num, a.den), a.den * b.den)
 }
@@ -53,8 +53,8 @@ pub fn sub(a: Frac, b: Frac) -> Frac
 ///
 /// Asks for numerators between -10^24 and 10^24 and denominators up to 4,000,000.
 pub fn compare(a: &Frac, b: &Frac) -> Ordering
-    requires a { IsWithin a.now }
-    requires b { IsWithin b.now }
+    requires a { IsWithinLimits a.now }
+    requires b { IsWithinLimits b.now }
     ensures { result ≡ frac_cmp a.now b.now }
 {
     scaled(a.num, b.den).cmp(&scaled(b.num, a.den))
@@ -64,7 +64,7 @@ pub fn compare(a: &Frac, b: &Frac) -> Ordering
 ///
 /// Asks for a numerator between -10^24 and 10^24 and a denominator up to 4,000,000.
 pub fn floor(a: &Frac) -> i128
-    requires { IsWithin a.now }
+    requires { IsWithinLimits a.now }
     ensures { IsFloor a.now result }
 {
     a.num.div_euclid(i128::from(a.den))
@@ -74,12 +74,12 @@ pub fn floor(a: &Frac) -> i128
 ///
 /// Asks for a numerator between -10^24 and 10^24 and a denominator up to 4,000,000.
 pub fn rem(a: &Frac) -> Frac
-    requires { IsWithin a.now }
+    requires { IsWithinLimits a.now }
     ensures value { (whole : ℤ) → IsFloor a.now whole → result.num ≡ a.now.num -ℤ whole *ℤ pos a.now.den }
     ensures den { result.den ≡ a.now.den }
     ensures low { pos 0 ≤ℤ result.num }
     ensures high { result.num <ℤ pos result.den }
-    ensures within { IsWithin result }
+    ensures within { IsWithinLimits result }
 {
     Frac {
         num: a.num.rem_euclid(i128::from(a.den)),

@@ -26,9 +26,9 @@ pub use head::{Head, Verb};
 pub use heads::{HeadTurn, next_head};
 pub use laws::{cut_law, head_law, reply_law};
 pub use limits::{
-    BAD_HOST, BAD_LENGTH, BODY_TOO_LARGE, FRAMING, LAST_MOMENT, LENGTH_MISSING, MAX_BODY,
-    MAX_FIELDS, MAX_HEAD,
+    BAD_HOST, BAD_LENGTH, BODY_TOO_LARGE, FRAMING, LENGTH_MISSING, MAX_BODY, MAX_FIELDS, MAX_HEAD,
 };
 pub use paths::PathText;
 pub use replies::{Allow, HttpReply, write_reply};
 pub use routes::{Place, Route, RouteFault, Routes};
+pub use split_base::limits::LAST_MOMENT;

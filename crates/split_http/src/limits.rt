@@ -1,4 +1,4 @@
-// Limits of messages, the last moment of a reply, and the numbers of the refusals of a head.
+// Limits of messages, and the numbers of the refusals of a head.
 
 /// The most bytes of a head, with the empty lines before it and the one that ends it.
 pub const MAX_HEAD: usize = 8192;
@@ -8,9 +8,6 @@ pub const MAX_FIELDS: usize = 64;
 
 /// The most bytes of a body.
 pub const MAX_BODY: u32 = 65_536;
-
-/// The last second that a date can tell, the end of the year 9999.
-pub const LAST_MOMENT: u64 = 253_402_300_799;
 
 /// A head of HTTP/1.1 without exactly one Host, or of HTTP/1.0 with two or more.
 pub const BAD_HOST: u8 = 3;

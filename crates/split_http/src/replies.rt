@@ -6,7 +6,7 @@ ghost use Rattle.httpdate.specs.Date.{date_text};
 ghost use Rattle.split_base.specs.Faults.{HasCause, IsCounted};
 ghost use Rattle.split_http.specs.Pieces.{AppendsPart};
 ghost use Rattle.split_http.specs.Replies.{IsReply, IsDateLine, allow_line, kind_line, close_line, body_of, joined};
-ghost use Rattle.split_http.specs.declared.limits.TheConstants.{LAST_MOMENT};
+ghost use Rattle.split_base.specs.declared.limits.TheConstants.{LAST_MOMENT};
 
 use crate::pieces::write_pieces;
 use http::StatusCode;

@@ -1,6 +1,6 @@
 ghost use Rattle.std.specs.Prelude.{◌≡◌, ◌≤◌, IsSome, IfSome, Some};
 ghost use Rattle.http.specs.StatusCode.{reason_phrase};
-ghost use Rattle.split_http.specs.declared.limits.TheConstants.{LAST_MOMENT};
+ghost use Rattle.split_base.specs.declared.limits.TheConstants.{LAST_MOMENT};
 
 use crate::tests::link;
 use crate::{

@@ -18,6 +18,7 @@ pub mod RenamedOrders
 pub mod RiderPlaces
 pub mod RoomPlaces
 pub mod SignedProducts
+pub mod SignedRows
 pub mod SignedSums
 pub mod Totals
 pub mod Zipped

@@ -1,11 +1,12 @@
 -- What the lines of a rent ask of the division.
-use Rattle.std.proofs.Common.{◌≡◌, ℕ, ◌+◌, ◌-◌, ◌*◌, ◌^◌, ◌<◌, ◌≤◌, List, [], ◌∷◌, ◌++◌, All, length, map, take, get_or, pos, arith, sym, ap, subst, ◌∙◌}
+use Rattle.std.proofs.Common.{◌≡◌, ℕ, ◌+◌, ◌-◌, ◌*◌, ◌<◌, ◌≤◌, List, [], ◌∷◌, ◌++◌, All, length, map, take, get_or, pos, arith, sym, ap, subst, ◌∙◌}
 use Rattle.std.specs.Prelude.{unsigned_abs}
 use Rattle.std.proofs.lemmas.List.{get_or-map, get_or_default, length-map, map-append, map_more}
 use Rattle.std.proofs.lemmas.List.Elements.{All-weaker}
 use Rattle.std.proofs.lemmas.List.FromFn.{length-map-range_with_len}
+use Rattle.bid_rules.specs.declared.limits.TheConstants.{MOST_AMOUNT}
 use Rattle.split_frac.specs.declared.frac.Frac.{Frac}
-use Rattle.split_frac.specs.Frac.{IsWithin, fraction_of}
+use Rattle.split_frac.specs.Frac.{IsWithinLimits, fraction_of}
 use Rattle.bid_rules.specs.declared.rents.RentCase.{RentCase}
 use Rattle.bid_rules.specs.Cents.{amount_at, prices_by_member}
 use Rattle.bid_rules.specs.Fractions.{Fraction}
@@ -33,16 +34,16 @@ price_count case division is = sym (length-map division.prices.items fraction_of
 
 -- the prices are ones of which there is an envy table
 pub best_prices : (case : RentCase) (division : RentDivision) → IsValidRentCase case → IsRentDivision case division
-    → All (λ price. IsWithin price × (unsigned_abs price.num ≤ 10 ^ 12 * price.den)) division.prices.items → ArePrices case division.prices.items
+    → All (λ price. IsWithinLimits price × (unsigned_abs price.num ≤ MOST_AMOUNT * price.den)) division.prices.items → ArePrices case division.prices.items
 best_prices case division valid is within = record {
   each = price_count case division is;
-  within = All-weaker (λ price. IsWithin price × (unsigned_abs price.num ≤ 10 ^ 12 * price.den)) (λ price. unsigned_abs price.num ≤ 10 ^ 12 * price.den) (λ price h. h.1) division.prices.items within;
+  within = All-weaker (λ price. IsWithinLimits price × (unsigned_abs price.num ≤ MOST_AMOUNT * price.den)) (λ price. unsigned_abs price.num ≤ MOST_AMOUNT * price.den) (λ price h. h.1) division.prices.items within;
   common = record { whole = room_count case; some = omega (arith, valid.facts.0.0); small = omega (arith, valid.facts.0.1); divides = is.price_parts };
 }
 
 -- and of which there may be a cent plan
-pub price_amounts : (prices : List Frac) → All (λ price. IsWithin price × (unsigned_abs price.num ≤ 10 ^ 12 * price.den)) prices → All IsAmount prices
-price_amounts prices within = All-weaker (λ price. IsWithin price × (unsigned_abs price.num ≤ 10 ^ 12 * price.den)) IsAmount (λ price h. (h.1, h.0.1)) prices within
+pub price_amounts : (prices : List Frac) → All (λ price. IsWithinLimits price × (unsigned_abs price.num ≤ MOST_AMOUNT * price.den)) prices → All IsAmount prices
+price_amounts prices within = All-weaker (λ price. IsWithinLimits price × (unsigned_abs price.num ≤ MOST_AMOUNT * price.den)) IsAmount (λ price h. (h.1, h.0.1)) prices within
 
 -- there is a figure of each kind for each member
 pub figures_each : (given : CaseData) (case : RentCase) (division : RentDivision) (told : RentTold) → length given.members ≡ room_count case → length given.items ≡ room_count case

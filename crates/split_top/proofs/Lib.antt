@@ -1,2 +1,4 @@
+mod CaseOutputs
 mod CauseLaws
 mod OneOutput
+mod Solved

@@ -1,16 +1,20 @@
 -- What each status shows, and where each ending must come. All of it follows from the ending and the text that goes with it.
-use Rattle.std.specs.Prelude.{◌≡◌, ◌⊎◌, ℕ, ◌<◌, List, [], ◌∷◌, Result, Ok, Err, IfSome, length, Contains, get_or}
+use Rattle.std.specs.Prelude.{◌≡◌, ◌⊎◌, ℕ, ◌<◌, ◌≤◌, List, [], ◌∷◌, Result, Ok, Err, IfSome, length, Contains, get_or}
 use Rattle.bid_rules.specs.declared.cases.Missing.{Missing}
+use Rattle.cert_checker.specs.Judged.{IsJudged}
+use Rattle.cert_reader.specs.Text.{IsBrokenText}
 use Rattle.sealed_core.specs.declared.fields.BodyFault.{BodyFault}
 use Rattle.split_json.specs.Reading.{case_in}
-use Rattle.split_top.specs.declared.limits.TheConstants.{LONGEST_INPUT}
+use Rattle.split_top.specs.declared.command.Command.{Command}
+use Rattle.split_top.specs.declared.command.Command.TheVariants.{Solve, Report, Check}
 use Rattle.split_top.specs.declared.stop.Stop.{Stop}
-use Rattle.split_top.specs.declared.stop.Stop.TheVariants.{Void, OverLimit, BadWords, TooLong, BadCase, ReadFault, NoMemory}
-use Rattle.split_top.specs.Told.{HasFault, HasWritten, IsShort, IsSound, Told}
+use Rattle.split_top.specs.declared.stop.Stop.TheVariants.{Void, OverLimit, BrokenRule, BadWords, TooLong, BadCase, BrokenLine, ReadFault, NoMemory}
+use Rattle.split_top.specs.Told.{HasFault, HasWritten, IsSound, Told}
 use Rattle.split_solve.specs.Solving.{IsAboveLimit}
-use Rattle.split_top.specs.Commands.{IsNoRow, ReadsCase}
+use Rattle.split_top.specs.Commands.{AreNoRow, Names, ReadsCase, ReadsCertificate, longest}
 use Rattle.split_top.specs.Texts.{Holds, IsVoid, MakesCase}
 use Rattle.split_top.specs.Endings.{owed}
+use Rattle.verdicts.specs.declared.verdict.Verdict.TheVariants.{No, Yes}
 
 -- the ending came: its cause holds, and its text was written
 abbrev pub Came : List (List ℕ) → Told → Told → Result (List ℕ) Stop → Type 0
@@ -20,9 +24,13 @@ Came words input output ending = (owed ending).cause words input × HasWritten o
 abbrev pub licences : List (List ℕ) → Told → Told → List (Type 0)
 licences words input output =
     ((text : List ℕ) × Came words input output (Ok text))
-    ∷ (((missing : Missing) × Came words input output (Err (Void missing))) ⊎ ((limit : ℕ) × Came words input output (Err (OverLimit limit))))
+    ∷ (((missing : Missing) × Came words input output (Err (Void missing)))
+    ⊎ ((limit : ℕ) × Came words input output (Err (OverLimit limit)))
+    ⊎ ((rule : ℕ) × Came words input output (Err (BrokenRule rule))))
     ∷ Came words input output (Err BadWords)
-    ∷ (Came words input output (Err TooLong) ⊎ ((fault : BodyFault) × Came words input output (Err (BadCase fault))))
+    ∷ (Came words input output (Err TooLong)
+    ⊎ ((fault : BodyFault) × Came words input output (Err (BadCase fault)))
+    ⊎ ((number : ℕ) × Came words input output (Err (BrokenLine number))))
     ∷ ⊥
     ∷ Came words input output (Err ReadFault)
     ∷ HasFault output
@@ -35,18 +43,38 @@ licences words input output =
 abbrev pub HasCauses : List (List ℕ) → Told → Told → ℕ → Type 0
 HasCauses words input output status = get_or (licences words input output) status ⊥
 
--- the ending that the input's bytes call for, where the words are a row
-abbrev pub IsDue : List ℕ → Result (List ℕ) Stop → Type 0
-IsDue bytes (Ok text) = IsShort bytes × Holds bytes (λ given. MakesCase given (λ case. (limit : ℕ) → IsAboveLimit case limit → ⊥))
-IsDue bytes (Err (Void missing)) = IsShort bytes × Holds bytes (IsVoid missing)
-IsDue bytes (Err (OverLimit limit)) = IsShort bytes × Holds bytes (λ given. MakesCase given (λ case. IsAboveLimit case limit))
-IsDue bytes (Err TooLong) = LONGEST_INPUT < length bytes
-IsDue bytes (Err (BadCase fault)) = IsShort bytes × (case_in bytes ≡ Err fault)
-IsDue bytes (Err other) = ⊥
+-- the bytes are as many as the command's input may have
+abbrev pub IsShort : Command → List ℕ → Type 0
+IsShort command bytes = length bytes ≤ longest command
+
+-- the bytes hold a case that is not above its limit
+abbrev pub IsWithinLimit : List ℕ → Type 0
+IsWithinLimit bytes = Holds bytes (λ given. MakesCase given (λ case. (limit : ℕ) → IsAboveLimit case limit → ⊥))
+
+-- the bytes have what the command comes to its text on
+abbrev pub HasText : Command → List ℕ → Type 0
+HasText (Solve workers) bytes = IsWithinLimit bytes
+HasText (Report workers) bytes = IsWithinLimit bytes
+HasText Check bytes = IsJudged bytes Yes
+
+-- the ending of the command for which the input's bytes call
+abbrev pub IsDue : Command → List ℕ → Result (List ℕ) Stop → Type 0
+IsDue command bytes (Ok text) = IsShort command bytes × HasText command bytes
+IsDue command bytes (Err (Void missing)) = IsShort command bytes × ReadsCase command × Holds bytes (IsVoid missing)
+IsDue command bytes (Err (OverLimit limit)) = IsShort command bytes × ReadsCase command × Holds bytes (λ given. MakesCase given (λ case. IsAboveLimit case limit))
+IsDue command bytes (Err (BrokenRule rule)) = IsShort command bytes × ReadsCertificate command × IsJudged bytes (No rule)
+IsDue command bytes (Err TooLong) = longest command < length bytes
+IsDue command bytes (Err (BadCase fault)) = IsShort command bytes × ReadsCase command × (case_in bytes ≡ Err fault)
+IsDue command bytes (Err (BrokenLine number)) = IsShort command bytes × ReadsCertificate command × IsBrokenText bytes number
+IsDue command bytes (Err other) = ⊥
+
+-- memory ran out, as it may for a command that reads a case
+abbrev pub LacksMemory : Command → ℕ → Type 0
+LacksMemory command status = ReadsCase command × (status ≡ 9)
 
 -- where no count rose, the status is that of the ending for which the words and the bytes call, up to want of memory
 pub record IsComplete (words : List (List ℕ)) (input output : Told) (status : ℕ) : Type 0 where
-  pub bad_words : IsSound output → IsNoRow words → status ≡ 2
-  pub row : IsSound input → IsSound output → ReadsCase words → Contains (0 ∷ 1 ∷ 3 ∷ 9 ∷ []) status
-  pub due : IsSound input → IsSound output → ReadsCase words
-      → IfSome input.bytes_before (λ bytes. (ending : Result (List ℕ) Stop) → IsDue bytes ending → (status ≡ (owed ending).status) ⊎ (status ≡ 9))
+  pub bad_words : IsSound output → AreNoRow words → status ≡ 2
+  pub row : IsSound input → IsSound output → (command : Command) → Names words command → Contains (0 ∷ 1 ∷ 3 ∷ []) status ⊎ LacksMemory command status
+  pub due : IsSound input → IsSound output → (command : Command) → Names words command
+      → IfSome input.bytes_before (λ bytes. (ending : Result (List ℕ) Stop) → IsDue command bytes ending → (status ≡ (owed ending).status) ⊎ LacksMemory command status)

@@ -2,7 +2,6 @@
 use Rattle.std.specs.Prelude.{◌≡◌, ◌⊎◌, ℕ, ◌+◌, ◌≤◌, List, Option, length, take}
 use Rattle.std.specs.Io.KnownBytes.{Appends, Consumes, IsAtEnd}
 use Rattle.split_base.specs.Faults.{HasRisen}
-use Rattle.split_top.specs.declared.limits.TheConstants.{LONGEST_INPUT}
 
 -- the bytes that an object has left or holds, where it knows them, and its count of faults
 pub record Told : Type 0 where
@@ -23,29 +22,21 @@ HasFault object = HasRisen object.faults_before object.faults_after
 abbrev pub IsSound : Told → Type 0
 IsSound object = HasFault object → ⊥
 
--- the bytes are as many as an input may have
-abbrev pub IsShort : List ℕ → Type 0
-IsShort bytes = length bytes ≤ LONGEST_INPUT
-
--- the most bytes of an input that are read: one more than it may have
-abbrev pub most_read : ℕ
-most_read = LONGEST_INPUT + 1
-
--- the input gave these bytes, no more than it may have, and then no more were left
-abbrev pub IsWhole : Told → List ℕ → Type 0
-IsWhole input bytes = IsShort bytes × Consumes input.bytes_before input.bytes_after bytes × IsAtEnd input.bytes_after
+-- the input gave these bytes, at most so many, and then no more were left
+abbrev pub IsWhole : ℕ → Told → List ℕ → Type 0
+IsWhole most input bytes = (length bytes ≤ most) × Consumes input.bytes_before input.bytes_after bytes × IsAtEnd input.bytes_after
 
 -- nothing was read, and no read failed
 abbrev pub IsUntouched : Told → Type 0
 IsUntouched input = (input.bytes_after ≡ input.bytes_before) × (input.faults_after ≡ input.faults_before)
 
--- the input gave some bytes, at most one more than it may have
-abbrev pub IsPartRead : Told → Type 0
-IsPartRead input = (bytes : List ℕ) × (length bytes ≤ most_read) × Consumes input.bytes_before input.bytes_after bytes
+-- the input gave some bytes, at most one more than so many
+abbrev pub IsPartRead : ℕ → Told → Type 0
+IsPartRead most input = (bytes : List ℕ) × (length bytes ≤ most + 1) × Consumes input.bytes_before input.bytes_after bytes
 
--- the input gave one byte more than it may have, and no more of it was read
-abbrev pub IsTooLong : Told → Type 0
-IsTooLong input = (bytes : List ℕ) × (length bytes ≡ most_read) × Consumes input.bytes_before input.bytes_after bytes
+-- the input gave one byte more than so many, and no more of it was read
+abbrev pub IsTooLong : ℕ → Told → Type 0
+IsTooLong most input = (bytes : List ℕ) × (length bytes ≡ most + 1) × Consumes input.bytes_before input.bytes_after bytes
 
 -- the text was written
 abbrev pub HasWritten : Told → List ℕ → Type 0

@@ -19,12 +19,16 @@ pub enum Stop {
     Void { missing: Missing },
     /// The step count of the case, which is of goods, is above this limit of the case.
     OverLimit { limit: u32 },
+    /// The certificate breaks this rule, from 1, and keeps those before it.
+    BrokenRule { rule: u8 },
     /// The words are no row of the command table.
     BadWords,
-    /// The input has more than `LONGEST_INPUT` bytes.
+    /// The input has more bytes than the command's may have.
     TooLong,
     /// The input is no case.
     BadCase { fault: BodyFault },
+    /// The input is no certificate, and this line, from 1, is the first broken one.
+    BrokenLine { line: u32 },
     /// A read of the input failed.
     ReadFault,
     /// Memory ran out.
@@ -56,10 +60,12 @@ impl Stop {
     {
         match self {
             Stop::Void { missing } => Owed::new(1, void_line(&missing.members)),
-            Stop::OverLimit { limit } => Owed::new(1, limit_line(*limit)),
+            Stop::OverLimit { limit } => Owed::new(1, number_line(b"step limit", *limit)),
+            Stop::BrokenRule { rule } => Owed::new(1, number_line(b"no", u32::from(*rule))),
             Stop::BadWords => Owed::new(2, line_of(b"refused: words\n")),
             Stop::TooLong => Owed::new(3, line_of(b"refused: too long\n")),
             Stop::BadCase { fault } => Owed::new(3, fault_line(*fault)),
+            Stop::BrokenLine { line } => Owed::new(3, number_line(b"refused: line", *line)),
             Stop::ReadFault => Owed::new(5, line_of(b"read fault\n")),
             Stop::NoMemory => Owed::new(9, line_of(b"no memory\n")),
         }
@@ -88,14 +94,16 @@ fn void_line(members: &MemberList) -> Line
     line
 }
 
-/// The line that names the limit.
+/// The line of a word and a number.
 #[tactic(auto, unfolding(split_text::specs::Texts::line))]
-fn limit_line(limit: u32) -> Line
-    ensures { result.items ≡ word_line (codes "step limit") (decimal limit ∷ []) }
+fn number_line(word: &[u8], number: u32) -> Line
+    requires { length word.now ≤ 15 }
+    ensures { result.items ≡ word_line word.now (decimal number ∷ []) }
 {
-    let mut line = line_of(b"step limit ");
+    let mut line = line_of(word);
+    append(&mut line, b" ");
     let mut buffer = Buffer::new();
-    append(&mut line, buffer.format(limit).as_bytes());
+    append(&mut line, buffer.format(number).as_bytes());
     append(&mut line, b"\n");
     line
 }

@@ -6,6 +6,7 @@ use std::process::Abort;
 use std::test::Fail;
 use std::thread::Threads;
 
+mod checked;
 mod divisions;
 mod faults;
 mod fields;
@@ -43,7 +44,55 @@ const CLOCK: [(&str, &str); 6] = [
 ];
 
 /// What the taxi is solved to.
-const TAXI_LINES: &str = "route 1 2\nfares 750 1250\n";
+const TAXI_CERTIFICATE: &str = "fairsplit 1
+kind fares
+riders 2
+places 2
+flag 300
+legs 1000 1500
+legs 0 700
+legs 900 0
+who 1 2
+at 1 2
+set 1 1000 900
+set 2 1500 700
+set 3 1700
+route 1 2
+fares 750 1250
+end
+";
+
+/// What a flat for three is solved to.
+const FLAT_CERTIFICATE: &str = "fairsplit 1
+kind rent
+members 3
+rent 900
+values 800 100 0
+values 700 200 0
+values 300 300 300
+rooms 1 2 3
+left 0 0 2702
+right 21600 5397 5396
+walks 0 0 100
+ranks 0 0 1
+prices 700 100 100
+end
+";
+
+/// What three goods are solved to that two members value alike.
+const TIE_CERTIFICATE: &str = "fairsplit 1
+kind goods
+players 2
+goods 3
+limit 100000
+who 1 2
+values 400 300 300
+values 400 300 300
+owners 1 2 2
+steps 2
+tree ++-+-=++---
+end
+";
 
 /// Appends a field to a body that begins with `{`.
 fn push_field(body: &mut String, field: &str, value: &str) -> Result<(), AllocError> {
@@ -140,6 +189,33 @@ fn solves(
     text: &str,
 ) -> Result<(), Fail> {
     gives(rt, alloc, "solve", body, code, text)
+}
+
+/// Stops unless `solve 1` on the body writes a certificate that ends with these lines, and `check` says yes to it.
+fn certifies(
+    rt: &(impl Abort + Threads + Sync),
+    alloc: Global,
+    body: &[u8],
+    end: &str,
+) -> Result<(), Fail> {
+    let (status, certificate) = answer(rt, alloc, &["solve", "1"], body, &[], (&[], &[]), 1024)?;
+    assert!(rt; certificate.ends_with(end.as_bytes()), "{end}");
+    assert_eq!(rt; status, 0, "{end}");
+    checks(rt, alloc, &certificate, 0, "yes\n")
+}
+
+/// Stops unless `check` on the bytes ends so.
+fn checks(
+    rt: &(impl Abort + Threads + Sync),
+    alloc: Global,
+    bytes: &[u8],
+    code: u8,
+    text: &str,
+) -> Result<(), Fail> {
+    let (status, written) = answer(rt, alloc, &["check"], bytes, &[], (&[], &[]), 1024)?;
+    assert!(rt; written.as_slice() == text.as_bytes(), "{text}");
+    assert_eq!(rt; status, code, "{text}");
+    Ok(())
 }
 
 /// The line that names a broken field.

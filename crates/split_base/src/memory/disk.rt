@@ -47,11 +47,11 @@ impl Model for MemDisk {
 
     ghost Value = { DiskState };
 
-    ghost use Rattle.split_base.specs.MemoryDisk.{disk_view, IsSound};
+    ghost use Rattle.split_base.specs.MemoryDisk.{disk_view, MatchesCalls};
 
     ghost view = { disk_view };
 
-    ghost invariant = { IsSound };
+    ghost invariant = { MatchesCalls };
 }
 
 impl MemDisk {

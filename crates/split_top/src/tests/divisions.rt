@@ -29,26 +29,38 @@ fn solves_worked_fares(rt: HostRuntime) -> Result<(), Fail> {
         ("legs", "[[0],[0]]"),
         ("bids", "[1,1,1]"),
     ];
-    let cases: [(&[(&str, &str)], &str); 3] = [
-        (&[], TAXI_LINES),
-        (&one_place, "route 1 2\nfares 650 650\n"),
-        (&thirds, "route 1 2 3\nfares 100/3 100/3 100/3\n"),
+    let first = [("bids", "[1,null]")];
+    let second = [("bids", "[null,2]")];
+    let cases: [(&[(&str, &str)], &str); 5] = [
+        (&[], TAXI_CERTIFICATE),
+        (&one_place, "route 1 2\nfares 650 650\nend\n"),
+        (&thirds, "route 1 2 3\nfares 100/3 100/3 100/3\nend\n"),
+        (
+            &second,
+            "who 2\nat 2\nset 1 1500\nroute 1\nfares 1800\nend\n",
+        ),
+        (
+            &first,
+            "who 1\nat 1\nset 1 1000\nroute 1\nfares 1300\nend\n",
+        ),
     ];
-    for (changes, text) in cases {
+    for (changes, end) in cases {
         let body = taxi_with(alloc, changes)?;
-        for sizes in [[1; 200].as_slice(), &[]] {
-            let (status, written) = answer(
-                &rt,
-                alloc,
-                &["solve", "1"],
-                body.as_bytes(),
-                sizes,
-                (&[], &[]),
-                256,
-            )?;
-            assert!(rt; written.as_slice() == text.as_bytes(), "{text}");
-            assert_eq!(rt; status, 0);
-        }
+        certifies(&rt, alloc, body.as_bytes(), end)?;
+    }
+    let body = taxi_with(alloc, &[])?;
+    for sizes in [[1; 200].as_slice(), &[]] {
+        let (status, written) = answer(
+            &rt,
+            alloc,
+            &["solve", "1"],
+            body.as_bytes(),
+            sizes,
+            (&[], &[]),
+            1024,
+        )?;
+        assert!(rt; written.as_slice() == TAXI_CERTIFICATE.as_bytes());
+        assert_eq!(rt; status, 0);
     }
     Ok(())
 }
@@ -84,16 +96,16 @@ fn solves_worked_rents(rt: HostRuntime) -> Result<(), Fail> {
         ("bids", "[[100,700,100],[0,100,800],[500,200,200]]"),
     ];
     let rents: [(&[(&str, &str)], &str); 6] = [
-        (&[], "rooms 1 2\nprices 550 450\n"),
-        (&odd, "rooms 1 2\nprices 1101/2 901/2\n"),
-        (&three, "rooms 1 2 3\nprices 700 100 100\n"),
-        (&negative, "rooms 1 2 3\nprices 800/3 -100/3 200/3\n"),
-        (&alike, "rooms 1 2 3\nprices 300 300 300\n"),
-        (&turned, "rooms 2 3 1\nprices 400/3 1000/3 1300/3\n"),
+        (&[], "prices 550 450\nend\n"),
+        (&odd, "prices 1101/2 901/2\nend\n"),
+        (&three, FLAT_CERTIFICATE),
+        (&negative, "prices 800/3 -100/3 200/3\nend\n"),
+        (&alike, "prices 300 300 300\nend\n"),
+        (&turned, "prices 400/3 1000/3 1300/3\nend\n"),
     ];
-    for (changes, text) in rents {
+    for (changes, end) in rents {
         let body = body_with(alloc, &FLAT, changes)?;
-        solves(&rt, alloc, body.as_bytes(), 0, text)?;
+        certifies(&rt, alloc, body.as_bytes(), end)?;
     }
     Ok(())
 }
@@ -106,6 +118,7 @@ fn solves_worked_goods(rt: HostRuntime) -> Result<(), Fail> {
     let without_last = [three, ("bids", "[[1000,0],[1000,0],null]")];
     let without_second = [three, ("bids", "[[700,300],null,[400,600]]")];
     let tie = [
+        ("limit", "100000"),
         ("goods", "[\"Clock\",\"Piano\",\"Desk\"]"),
         ("bids", "[[400,300,300],[400,300,300]]"),
     ];
@@ -114,21 +127,40 @@ fn solves_worked_goods(rt: HostRuntime) -> Result<(), Fail> {
         ("limit", "41"),
         ("bids", EIGHT_EQUAL),
     ];
-    let twelve = [("members", TWELVE), ("goods", TWELVE), ("bids", TWELVE_OWN)];
-    let rows: [(&[(&str, &str)], &str); 7] = [
-        (&[], "owners 1 2\nsteps 1\n"),
-        (&contested, "owners 1 3\nsteps 2\n"),
-        (&without_last, "owners 1 1\nsteps 4\n"),
-        (&without_second, "owners 1 2\nsteps 1\n"),
-        (&tie, "owners 1 2 2\nsteps 2\n"),
-        (&eight, "owners 1 1 1 1 2 2 2 2\nsteps 41\n"),
-        (&twelve, "owners 1 2 3 4 5 6 7 8 9 10 11 12\nsteps 11\n"),
+    let rows: [(&[(&str, &str)], &str); 6] = [
+        (&[], "owners 1 2\nsteps 1\ntree ++-=-\nend\n"),
+        (&contested, "owners 1 3\nsteps 2\ntree ++--=--\nend\n"),
+        (
+            &without_last,
+            "who 1 2\nvalues 1000 0\nvalues 1000 0\nowners 1 1\nsteps 4\ntree ++=--\nend\n",
+        ),
+        (
+            &without_second,
+            "who 1 3\nvalues 700 300\nvalues 400 600\nowners 1 2\nsteps 1\ntree ++-=-\nend\n",
+        ),
+        (&tie, TIE_CERTIFICATE),
+        (
+            &eight,
+            "owners 1 1 1 1 2 2 2 2\nsteps 41\ntree +++++-+-+-+-=----\nend\n",
+        ),
     ];
-    for (changes, text) in rows {
+    for (changes, end) in rows {
         let body = body_with(alloc, &CLOCK, changes)?;
-        solves(&rt, alloc, body.as_bytes(), 0, text)?;
+        certifies(&rt, alloc, body.as_bytes(), end)?;
     }
-    Ok(())
+    let twelve = [("members", TWELVE), ("goods", TWELVE), ("bids", TWELVE_OWN)];
+    let body = body_with(alloc, &CLOCK, &twelve)?;
+    let (status, certificate) = answer(
+        &rt,
+        alloc,
+        &["solve", "1"],
+        body.as_bytes(),
+        &[],
+        (&[], &[]),
+        65_536,
+    )?;
+    assert_eq!(rt; status, 0);
+    checks(&rt, alloc, &certificate, 0, "yes\n")
 }
 
 #[test]
@@ -162,7 +194,7 @@ fn names_the_members_who_lack_a_bid(rt: HostRuntime) -> Result<(), Fail> {
             "[null,null,null,null,null,null,null,null,null,null,null,null]",
         ),
     ];
-    let rows: [(&[(&str, &str)], &[(&str, &str)], u8, &str); 9] = [
+    let rows: [(&[(&str, &str)], &[(&str, &str)], u8, &str); 7] = [
         (&FLAT, &[("bids", "[null,[500,500]]")], 1, "void: 1\n"),
         (&FLAT, &[("bids", "[[600,400],null]")], 1, "void: 2\n"),
         (&FLAT, &[("bids", "[null,null]")], 1, "void: 1 2\n"),
@@ -170,8 +202,6 @@ fn names_the_members_who_lack_a_bid(rt: HostRuntime) -> Result<(), Fail> {
         (&FLAT, &nobody, 1, "void: 1 2 3 4 5 6 7 8 9 10 11 12\n"),
         (&TAXI, &[("bids", "[null,null]")], 1, "void: 1 2\n"),
         (&CLOCK, &[("bids", "[null,null]")], 1, "void: 1 2\n"),
-        (&TAXI, &[("bids", "[null,2]")], 0, "route 1\nfares 1800\n"),
-        (&TAXI, &[("bids", "[1,null]")], 0, "route 1\nfares 1300\n"),
     ];
     for (fields, changes, code, text) in rows {
         let body = body_with(alloc, fields, changes)?;
@@ -192,11 +222,11 @@ fn shares_alike_by_any_number_of_workers(rt: HostRuntime) -> Result<(), Fail> {
             ("bids", EIGHT_EQUAL),
         ],
     )?;
-    let text = "owners 1 1 1 1 2 2 2 2\nsteps 41\n";
+    let end = "owners 1 1 1 1 2 2 2 2\nsteps 41\ntree +++++-+-+-+-=----\nend\n";
     for workers in ["1", "2", "8", "16"] {
         let words = ["solve", workers];
         let (status, written) = answer(&rt, alloc, &words, eight.as_bytes(), &[], (&[], &[]), 256)?;
-        assert!(rt; written.as_slice() == text.as_bytes(), "by {workers}");
+        assert!(rt; written.ends_with(end.as_bytes()), "by {workers}");
         assert_eq!(rt; status, 0);
     }
     Ok(())

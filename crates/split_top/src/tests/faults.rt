@@ -4,19 +4,22 @@ use super::*;
 fn tells_each_fault(rt: HostRuntime) -> Result<(), Fail> {
     let alloc = rt.alloc();
     let body = taxi_with(alloc, &[])?;
-    let rows: [(&[&str], &[u64], &[u64], usize, u8, &str); 13] = [
-        (&[], &[], &[], 256, 2, "refused: words\n"),
-        (&["solve", "17"], &[], &[], 256, 2, "refused: words\n"),
-        (&["solve", "01"], &[], &[], 256, 2, "refused: words\n"),
-        (&["report", "0"], &[], &[], 256, 2, "refused: words\n"),
-        (&["report"], &[], &[], 256, 2, "refused: words\n"),
-        (&["--help"], &[1], &[], 256, 2, "refused: words\n"),
-        (&["--help"], &[], &[1], 256, 6, ""),
-        (&["solve", "1"], &[1], &[], 256, 5, "read fault\n"),
-        (&["report", "1"], &[1], &[], 256, 5, "read fault\n"),
-        (&["report", "1"], &[], &[1], 256, 6, ""),
-        (&["solve", "1"], &[3], &[2], 256, 0, TAXI_LINES),
-        (&["solve", "1"], &[], &[1], 256, 6, ""),
+    let rows: [(&[&str], &[u64], &[u64], usize, u8, &str); 16] = [
+        (&[], &[], &[], 1024, 2, "refused: words\n"),
+        (&["solve", "17"], &[], &[], 1024, 2, "refused: words\n"),
+        (&["solve", "01"], &[], &[], 1024, 2, "refused: words\n"),
+        (&["report", "0"], &[], &[], 1024, 2, "refused: words\n"),
+        (&["report"], &[], &[], 1024, 2, "refused: words\n"),
+        (&["check", "1"], &[], &[], 1024, 2, "refused: words\n"),
+        (&["--help"], &[1], &[], 1024, 2, "refused: words\n"),
+        (&["--help"], &[], &[1], 1024, 6, ""),
+        (&["solve", "1"], &[1], &[], 1024, 5, "read fault\n"),
+        (&["report", "1"], &[1], &[], 1024, 5, "read fault\n"),
+        (&["report", "1"], &[], &[1], 1024, 6, ""),
+        (&["check"], &[1], &[], 1024, 5, "read fault\n"),
+        (&["check"], &[], &[1], 1024, 6, ""),
+        (&["solve", "1"], &[3], &[2], 1024, 0, TAXI_CERTIFICATE),
+        (&["solve", "1"], &[], &[1], 1024, 6, ""),
         (&["solve", "1"], &[1], &[], 10, 6, ""),
     ];
     for (words, read_fails, write_fails, room, code, text) in rows {
@@ -42,12 +45,12 @@ fn tells_each_failing_read(rt: HostRuntime) -> Result<(), Fail> {
             body.as_bytes(),
             &[1; 200],
             fails,
-            256,
+            1024,
         )?;
         let (code, text) = if call <= calls {
             (5, "read fault\n")
         } else {
-            (0, TAXI_LINES)
+            (0, TAXI_CERTIFICATE)
         };
         assert!(rt; written.as_slice() == text.as_bytes(), "at call {call}");
         assert_eq!(rt; status, code);

@@ -137,7 +137,7 @@ fn reads_json_as_it_is_written(rt: HostRuntime) -> Result<(), Fail> {
     for (field, value, is_read) in rows {
         let body = taxi_with(alloc, &[(field, value)])?;
         let (code, text) = if is_read {
-            (0, TAXI_LINES)
+            (0, TAXI_CERTIFICATE)
         } else {
             (3, "refused: json\n")
         };
@@ -152,7 +152,7 @@ fn reads_json_as_it_is_written(rt: HostRuntime) -> Result<(), Fail> {
 #[test]
 fn keeps_its_limits(rt: HostRuntime) -> Result<(), Fail> {
     let alloc = rt.alloc();
-    for (levels, code, text) in [(127, 0, TAXI_LINES), (128, 3, "refused: json\n")] {
+    for (levels, code, text) in [(127, 0, TAXI_CERTIFICATE), (128, 3, "refused: json\n")] {
         let mut value = String::from_str(alloc, "[1,2],\"note\":")?;
         for _ in 1..levels {
             value.push_str("[")?;
@@ -163,7 +163,10 @@ fn keeps_its_limits(rt: HostRuntime) -> Result<(), Fail> {
         let body = taxi_with(alloc, &[("bids", &value)])?;
         solves(&rt, alloc, body.as_bytes(), code, text)?;
     }
-    for (length, code, text) in [(65_536, 0, TAXI_LINES), (65_537, 3, "refused: too long\n")] {
+    for (length, code, text) in [
+        (65_536, 0, TAXI_CERTIFICATE),
+        (65_537, 3, "refused: too long\n"),
+    ] {
         let mut body = taxi_with(alloc, &[])?;
         for _ in body.len()..length {
             body.push_str(" ")?;

@@ -1,10 +1,13 @@
 use Rattle.std.proofs.Common.{arith, sym, ◌∙◌, ap, length}
 use Rattle.cert_reader.specs.Forms.{forms_of}
-use Rattle.cert_reader.proofs.FormPlaces.{length_fares, length_rent, sets_few}
+use Rattle.cert_reader.proofs.FormPlaces.{length_fares, length_goods, length_rent, sets_few}
 use Rattle.cert_reader.proofs.order.line_count.Goals as goal
 
 pub returns-in-Rent-clause-value : goal.returns-in-Rent-clause-value
 returns-in-Rent-clause-value c = sym (ap (λ counts. length (forms_of counts)) c.in-Rent.is ∙ length_rent c.in-Rent.members)
+
+pub returns-in-Goods-clause-value : goal.returns-in-Goods-clause-value
+returns-in-Goods-clause-value c = sym (ap (λ counts. length (forms_of counts)) c.in-Goods.is ∙ length_goods c.in-Goods.players c.in-Goods.goods)
 
 pub returns-in-Fares-clause-value : goal.returns-in-Fares-clause-value
 returns-in-Fares-clause-value c =

@@ -15,7 +15,7 @@ returns-in-None-clause-line g c =
 pub returns-in-Ok-Long-clause-line : goal.returns-in-Ok-Long-clause-line
 returns-in-Ok-Long-clause-line g c =
     let (text, long, plain, handed) = (rw c.in-Ok-Long.field-0-is at c.in-Ok-Long.ensures).cut in
-    refused_behind _ _ _ _ _ _ _ text (HasNoLine c.args.index c.args.known) c.refuse-in-Ok-Long.result handed (λ rest. no_line_long c.args.index c.args.known text rest long plain) c.refuse-in-Ok-Long.ensures.end
+    refused_behind _ _ _ _ _ _ _ text (HasNoLine c.args.index c.args.known) c.refuse-in-Ok-Long.result handed (λ rest. no_line_long c.args.index c.args.known text rest long plain c.requires.line) c.refuse-in-Ok-Long.ensures.end
 
 pub returns-in-Ok-Unended-clause-line : goal.returns-in-Ok-Unended-clause-line
 returns-in-Ok-Unended-clause-line g c =

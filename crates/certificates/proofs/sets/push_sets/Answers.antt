@@ -11,7 +11,7 @@ pub loop-set-preserved : goal.loop-set-preserved
 loop-set-preserved c =
     let f : ℕ → List ℕ = λ set. number_line word.Set (wholes (pos set ∷ cost_line c.args.costs.now set)) in
     let row = ap (map pos) c.as_slice.ensures.value ∙ c.set_numbers.ensures in
-    c.in_ok-push_cents.ensures ∙ ap (λ (ns : List ℤ). string_bytes c.loop-set.text ++ number_line word.Set (wholes ns)) row
+    c.in_ok-push_amounts.ensures ∙ ap (λ (ns : List ℤ). string_bytes c.loop-set.text ++ number_line word.Set (wholes ns)) row
     ∙ ap (λ xs. xs ++ f c.loop-set.set) c.loop-set.invariant
     ∙ append_assoc (string_bytes c.args.text.now) (flat_map f (range_with_len 1 (c.loop-set.set - 1))) (f c.loop-set.set)
     ∙ ap (λ xs. string_bytes c.args.text.now ++ xs) (sym (sets_more f c.loop-set.set c.loop-set.auto.set))

@@ -3,7 +3,7 @@ use Rattle.std.specs.Prelude.{slice_index}
 use Rattle.bid_rules.specs.Goods.{order_of}
 use Rattle.nash_bounds.specs.declared.table.PointRow.{PointRow}
 use Rattle.nash_bounds.specs.Lanes.{IsLaneRow}
-use Rattle.nash_bounds.specs.Tables.{IsRow}
+use Rattle.nash_bounds.specs.Tables.{IsPointRow}
 use Rattle.nash_bounds.proofs.SortedGoods.{order_length}
 use Rattle.nash_bounds.proofs.LaneNumbers.{lane_row_more}
 use Rattle.nash_bounds.proofs.lanes.lane_table.Goals as goal
@@ -39,8 +39,8 @@ lane_row-requires-clause-row c =
     let res = c.index-deref-k.result in
     let at : res ≡ get_or c.args.table.now.rows.items c.loop-k.k res = c.index-deref-k.is ∙ ap (λ (xs : List PointRow). get_or xs c.loop-k.k res) c.deref.ensures.0 in
     let row = c.requires.table.each c.loop-k.k res (omega arith) in
-    let row' = subst (λ (r : PointRow). IsRow c.args.case.now (slice_index (order_of c.args.case.now) c.loop-k.k) r) (sym at) row in
-    subst (λ good. IsRow c.args.case.now good res) (ap (λ xs. get_or xs c.loop-k.k 0) (sym c.requires.order)) row'
+    let row' = subst (λ (r : PointRow). IsPointRow c.args.case.now (slice_index (order_of c.args.case.now) c.loop-k.k) r) (sym at) row in
+    subst (λ good. IsPointRow c.args.case.now good res) (ap (λ xs. get_or xs c.loop-k.k 0) (sym c.requires.order)) row'
 
 pub push-requires : goal.push-requires
 push-requires c =

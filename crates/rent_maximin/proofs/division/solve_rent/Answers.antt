@@ -1,9 +1,10 @@
-use Rattle.std.proofs.Common.{rules, arith, ◌≤◌, ◌<◌, ◌*◌, ◌^◌, subst, map, unsigned_abs}
+use Rattle.std.proofs.Common.{rules, arith, ◌≤◌, ◌<◌, ◌*◌, subst, map, unsigned_abs}
 use Rattle.std.proofs.lemmas.List.Elements.{All-weaker}
 use Rattle.bid_rules.specs.Fractions.{IsQuotient}
 use Rattle.bid_rules.specs.Maximin.{AreMaximinPrices, least_in_parts, value_step}
 use Rattle.bid_rules.specs.Rent.{IsWithinRent, room_count}
 use Rattle.bid_rules.specs.Walks.{AreGreatestWeights, AreRanks}
+use Rattle.room_assignment.specs.declared.limits.TheConstants.{DUAL_LIMIT, MOST_STEP}
 use Rattle.split_frac.specs.Frac.{fraction_of}
 use Rattle.rent_maximin.proofs.PriceLaws.{has_walks}
 use Rattle.rent_maximin.proofs.Ranges.{all_divide, of_pairs}
@@ -55,7 +56,7 @@ returns c =
         least_range = c.shown_rent_law.ensures.range case rooms weights prices (fraction_of c.make.result) c.requires greatest shown formula least;
         left_range = c.best_rooms-best.ensures.left_small;
         right_range = c.best_rooms-best.ensures.right_small;
-        walk_range = All-weaker (λ z. unsigned_abs z ≤ 10 ^ 21 * n) (λ z. unsigned_abs z < 10 ^ 25) (λ z a. omega (arith, a, few)) weights c.value_walks-walks.ensures.small;
+        walk_range = All-weaker (λ z. unsigned_abs z ≤ MOST_STEP * n) (λ z. unsigned_abs z < DUAL_LIMIT) (λ z a. omega (arith, a, few)) weights c.value_walks-walks.ensures.small;
         rank_range = c.value_walks-walks.ensures.below;
       };
     }

@@ -1,15 +1,18 @@
-use Rattle.std.proofs.Common.{rules, arith, ◌≡◌, ℤ, ◌*◌, ◌^◌, ◌≤◌, ◌+ℤ◌, ◌-ℤ◌, ◌*ℤ◌, ◌∙◌, ap, pos, get_or, sym, unsigned_abs, FitsSigned}
+use Rattle.std.proofs.Common.{rules, arith, ◌≡◌, ℤ, ◌*◌, ◌≤◌, ◌+ℤ◌, ◌-ℤ◌, ◌*ℤ◌, ◌∙◌, ap, pos, get_or, sym, unsigned_abs, FitsSigned}
 use Rattle.std.specs.Int.{w128}
 use Rattle.std.proofs.lemmas.Int.{ints, to_z-of_z}
+use Rattle.split_frac.specs.declared.limits.TheConstants.{MOST_NUMERATOR}
+use Rattle.bid_rules.specs.declared.limits.TheConstants.{MOST_MEMBERS}
 use Rattle.bid_rules.specs.Rent.{room_count, value}
+use Rattle.room_assignment.specs.declared.limits.TheConstants.{MOST_STEP}
 use Rattle.rent_maximin.proofs.prices.part_of.Goals as goal
 
 -- the part is small
-small : (worth least walk : ℤ) → unsigned_abs worth ≤ 144 * 10 ^ 21 → unsigned_abs walk ≤ 144 * 10 ^ 21 → unsigned_abs least ≤ 2 * 10 ^ 23 → unsigned_abs (worth -ℤ (least +ℤ walk)) ≤ 10 ^ 24
+small : (worth least walk : ℤ) → unsigned_abs worth ≤ MOST_MEMBERS * MOST_MEMBERS * MOST_STEP → unsigned_abs walk ≤ MOST_MEMBERS * MOST_MEMBERS * MOST_STEP → unsigned_abs least ≤ 200 * MOST_STEP → unsigned_abs (worth -ℤ (least +ℤ walk)) ≤ MOST_NUMERATOR
 small worth least walk a b d = omega (arith, ints)
 
 -- and so is what is taken from the value
-small_sum : (least walk : ℤ) → unsigned_abs walk ≤ 144 * 10 ^ 21 → unsigned_abs least ≤ 2 * 10 ^ 23 → FitsSigned w128 (least +ℤ walk)
+small_sum : (least walk : ℤ) → unsigned_abs walk ≤ MOST_MEMBERS * MOST_MEMBERS * MOST_STEP → unsigned_abs least ≤ 200 * MOST_STEP → FitsSigned w128 (least +ℤ walk)
 small_sum least walk b d = omega (arith, ints)
 
 -- the part of equal numbers

@@ -1,10 +1,11 @@
-use Rattle.std.proofs.Common.{◌≡◌, ◌+◌, ◌^◌, ◌<◌, ℕ, [], length, slice_index_or}
+use Rattle.std.proofs.Common.{◌≡◌, ◌+◌, ◌<◌, ℕ, [], length, slice_index_or}
 use Rattle.bid_rules.specs.Rent.{room_count, value}
+use Rattle.room_assignment.specs.declared.limits.TheConstants.{MOST_KEY}
 use Rattle.room_assignment.specs.Entries.{IsRowOf}
 use Rattle.room_assignment.proofs.keys.values_of.Given as goal
 
 abbrev pub invariant-loop-member : goal.invariant-loop-member
 invariant-loop-member l = record {
   rows_count : length l.values.items ≡ l.member;
-  rows : (i : ℕ) → i < l.member → IsRowOf (room_count l.case) (10 ^ 20) (λ j. value l.case i (j + 1)) (slice_index_or l.values.items i (record { items = [] })).items;
+  rows : (i : ℕ) → i < l.member → IsRowOf (room_count l.case) MOST_KEY (λ j. value l.case i (j + 1)) (slice_index_or l.values.items i (record { items = [] })).items;
 }

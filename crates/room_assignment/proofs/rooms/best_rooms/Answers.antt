@@ -1,8 +1,10 @@
-use Rattle.std.proofs.Common.{arith, ◌<◌, ◌≤◌, ◌^◌, ◌*◌, ◌∙◌, ap, sym, subst, length, All, unsigned_abs}
+use Rattle.std.proofs.Common.{arith, ◌<◌, ◌≤◌, ◌*◌, ◌∙◌, ap, sym, subst, length, All, unsigned_abs}
 use Rattle.std.proofs.lemmas.List.Elements.{All-weaker}
+use Rattle.bid_rules.specs.declared.limits.TheConstants.{MOST_MEMBERS}
 use Rattle.bid_rules.specs.Rent.{room_count}
 use Rattle.room_assignment.specs.Matrix.{entry}
 use Rattle.bid_rules.specs.Keys.{HasGreatestKeySum}
+use Rattle.room_assignment.specs.declared.limits.TheConstants.{DUAL_LIMIT, MOST_STEP}
 use Rattle.split_lemmas.proofs.Permutations.{permutation_length}
 use Rattle.room_assignment.proofs.FoundRooms.{entries_keys, entries_square, plan_rooms, rooms_below, rights_small, steps_no_cycle, best_of_parts, AreFoundRooms}
 use Rattle.room_assignment.proofs.rooms.best_rooms.Goals as goal
@@ -22,7 +24,7 @@ walk_matrix-steps-requires-clause-rooms c = rooms_below (length c.keys_of-keys.r
     (plan_rooms c.keys_of-keys.result c.assign-plan.result (length c.keys_of-keys.result.items) c.as_slice.result.now c.assign-plan.ensures c.as_slice.ensures.value)
 
 pub longest_walks-walks-requires-clause-square : goal.longest_walks-walks-requires-clause-square
-longest_walks-walks-requires-clause-square c = entries_square (length c.keys_of-keys.result.items) (10 ^ 21) _ c.walk_matrix-steps.result c.walk_matrix-steps.ensures (omega arith)
+longest_walks-walks-requires-clause-square c = entries_square (length c.keys_of-keys.result.items) MOST_STEP _ c.walk_matrix-steps.result c.walk_matrix-steps.ensures (omega arith)
 
 pub longest_walks-walks-requires-clause-cycles : goal.longest_walks-walks-requires-clause-cycles
 longest_walks-walks-requires-clause-cycles c = steps_no_cycle c.potential_law.ensures c.keys_of-keys.result c.walk_matrix-steps.result c.assign-plan.result c.as_slice.result.now c.assign-plan.ensures c.as_slice.ensures.value c.walk_matrix-steps.ensures
@@ -40,8 +42,8 @@ rights-right-requires-clause-count c = permutation_length 0 (length c.keys_of-ke
 pub rights-right-requires-clause-small : goal.rights-right-requires-clause-small
 rights-right-requires-clause-small c =
     let few : length c.walk_matrix-steps.result.items ≤ 12 = let h = c.requires.facts.0 in omega (arith, h.1, c.walk_matrix-steps.ensures.rows_count, c.keys_of-keys.ensures.rows_count) in
-    subst (λ zs. All (λ z. unsigned_abs z ≤ 10 ^ 23) zs) (sym c.as_slice-3.ensures.value)
-    (All-weaker (λ z. unsigned_abs z ≤ 10 ^ 21 * length c.walk_matrix-steps.result.items) (λ z. unsigned_abs z ≤ 10 ^ 23) (λ z a. omega (arith, a, few)) c.longest_walks-walks.result.weights.items c.longest_walks-walks.ensures.small)
+    subst (λ zs. All (λ z. unsigned_abs z ≤ MOST_MEMBERS * MOST_STEP) zs) (sym c.as_slice-3.ensures.value)
+    (All-weaker (λ z. unsigned_abs z ≤ MOST_STEP * length c.walk_matrix-steps.result.items) (λ z. unsigned_abs z ≤ MOST_MEMBERS * MOST_STEP) (λ z a. omega (arith, a, few)) c.longest_walks-walks.result.weights.items c.longest_walks-walks.ensures.small)
 
 pub numbered-requires-clause-small : goal.numbered-requires-clause-small
 numbered-requires-clause-small c =
@@ -77,13 +79,13 @@ pub returns-clause-dual : goal.returns-clause-dual
 returns-clause-dual c = (found c).dual
 
 -- the numbers of the members are small
-lefts : (c : goal.After-numbered) → All (λ z. unsigned_abs z ≤ 10 ^ 23) c.longest_walks-walks.result.weights.items
+lefts : (c : goal.After-numbered) → All (λ z. unsigned_abs z ≤ MOST_MEMBERS * MOST_STEP) c.longest_walks-walks.result.weights.items
 lefts c =
     let few : length c.walk_matrix-steps.result.items ≤ 12 = let h = c.requires.facts.0 in omega (arith, h.1, c.walk_matrix-steps.ensures.rows_count, c.keys_of-keys.ensures.rows_count) in
-    All-weaker (λ z. unsigned_abs z ≤ 10 ^ 21 * length c.walk_matrix-steps.result.items) (λ z. unsigned_abs z ≤ 10 ^ 23) (λ z a. omega (arith, a, few)) c.longest_walks-walks.result.weights.items c.longest_walks-walks.ensures.small
+    All-weaker (λ z. unsigned_abs z ≤ MOST_STEP * length c.walk_matrix-steps.result.items) (λ z. unsigned_abs z ≤ MOST_MEMBERS * MOST_STEP) (λ z a. omega (arith, a, few)) c.longest_walks-walks.result.weights.items c.longest_walks-walks.ensures.small
 
 pub returns-clause-left_small : goal.returns-clause-left_small
-returns-clause-left_small c = All-weaker (λ z. unsigned_abs z ≤ 10 ^ 23) (λ z. unsigned_abs z < 10 ^ 25) (λ z a. omega (arith, a)) c.longest_walks-walks.result.weights.items (lefts c)
+returns-clause-left_small c = All-weaker (λ z. unsigned_abs z ≤ MOST_MEMBERS * MOST_STEP) (λ z. unsigned_abs z < DUAL_LIMIT) (λ z a. omega (arith, a)) c.longest_walks-walks.result.weights.items (lefts c)
 
 pub returns-clause-right_small : goal.returns-clause-right_small
 returns-clause-right_small c =
@@ -91,4 +93,4 @@ returns-clause-right_small c =
     let read = c.as_slice-3.ensures.value in
     rights_small (length c.keys_of-keys.result.items) (entry c.keys_of-keys.result) c.as_slice-2.result.now c.as_slice-3.result.now c.rights-right.result.items c.rights-right.ensures.count keys.keys_small
     (ap length read ∙ c.longest_walks-walks.ensures.weights.count ∙ c.walk_matrix-steps.ensures.rows_count)
-    (subst (λ zs. All (λ z. unsigned_abs z ≤ 10 ^ 23) zs) (sym read) (lefts c)) c.rights-right.ensures.each
+    (subst (λ zs. All (λ z. unsigned_abs z ≤ MOST_MEMBERS * MOST_STEP) zs) (sym read) (lefts c)) c.rights-right.ensures.each

@@ -1,6 +1,7 @@
-use Rattle.std.proofs.Common.{arith, ◌≡◌, ◌<◌, ◌≤◌, ◌^◌, ◌∙◌, sym, subst, length, All, ◌*◌, unsigned_abs}
+use Rattle.std.proofs.Common.{arith, ◌≡◌, ◌<◌, ◌≤◌, ◌∙◌, sym, subst, length, All, ◌*◌, unsigned_abs}
 use Rattle.std.proofs.lemmas.List.Elements.{All-from_get_or}
 use Rattle.bid_rules.specs.Rent.{room_count}
+use Rattle.room_assignment.specs.declared.limits.TheConstants.{MOST_STEP}
 use Rattle.split_lemmas.proofs.RoomPlaces.{rooms_length, room_range}
 use Rattle.room_assignment.proofs.FoundRooms.{entries_keys, entries_square}
 use Rattle.room_assignment.proofs.ValueSteps.{value_steps_no_cycle, value_weights, value_ranks, slice_below}
@@ -30,7 +31,7 @@ walk_matrix-steps-requires-clause-rooms c =
     (slice_below (room_count c.args.case.now) c.args.rooms.now c.as_slice.result.now c.requires.rooms.assignment (c.as_slice.ensures.value ∙ c.unnumbered-places.ensures)).0
 
 pub longest_walks-requires-clause-square : goal.longest_walks-requires-clause-square
-longest_walks-requires-clause-square c = entries_square (length c.values_of-values.result.items) (10 ^ 21) _ c.walk_matrix-steps.result c.walk_matrix-steps.ensures (omega arith)
+longest_walks-requires-clause-square c = entries_square (length c.values_of-values.result.items) MOST_STEP _ c.walk_matrix-steps.result c.walk_matrix-steps.ensures (omega arith)
 
 pub longest_walks-requires-clause-cycles : goal.longest_walks-requires-clause-cycles
 longest_walks-requires-clause-cycles c = value_steps_no_cycle c.value_cycle_law.ensures c.args.case.now c.values_of-values.result c.walk_matrix-steps.result c.assign-plan.result c.args.rooms.now c.as_slice.result.now
@@ -47,7 +48,7 @@ returns-clause-ranks c = value_ranks c.args.case.now c.values_of-values.result c
 pub returns-clause-small : goal.returns-clause-small
 returns-clause-small c =
     let same : length c.walk_matrix-steps.result.items ≡ room_count c.args.case.now = c.walk_matrix-steps.ensures.rows_count ∙ c.values_of-values.ensures.rows_count in
-    subst (λ n. All (λ z. unsigned_abs z ≤ 10 ^ 21 * n) c.longest_walks.result.weights.items) same c.longest_walks.ensures.small
+    subst (λ n. All (λ z. unsigned_abs z ≤ MOST_STEP * n) c.longest_walks.result.weights.items) same c.longest_walks.ensures.small
 
 pub returns-clause-below : goal.returns-clause-below
 returns-clause-below c =

@@ -1,14 +1,15 @@
-use Rattle.std.proofs.Common.{arith, ◌≡◌, ◌≤◌, ◌-ℤ◌, ◌^◌, ◌∙◌, ap, sym, pos, length, subst, All, unsigned_abs, refl, FitsSigned}
+use Rattle.std.proofs.Common.{arith, ◌≡◌, ◌≤◌, ◌-ℤ◌, ◌∙◌, ap, sym, pos, length, subst, All, unsigned_abs, refl, FitsSigned, ◌*◌}
 use Rattle.std.specs.Int.{w128}
 use Rattle.std.proofs.lemmas.Int.{to_z-of_z, ints}
 use Rattle.std.proofs.lemmas.List.Elements.{All-from_get_or}
+use Rattle.room_assignment.specs.declared.limits.TheConstants.{MOST_KEY}
 use Rattle.room_assignment.specs.Tree.{numbers, marks, AreAdjusted}
 use Rattle.room_assignment.proofs.TreeLists.{tree_left_small, tree_right_small, choice_small, are_adjusted, adjusted_tree, adjusted_reach}
 use Rattle.room_assignment.proofs.tree.adjust.Goals as goal
 
 pub lowered-left-requires-clause-small : goal.lowered-left-requires-clause-small
-lowered-left-requires-clause-small c = subst (λ zs. All (λ z. unsigned_abs z ≤ 10 ^ 22) zs) (sym c.as_slice.ensures.value)
-    (All-from_get_or (λ z. unsigned_abs z ≤ 10 ^ 22) c.args.tree.now.left.items (pos 0) (λ i l.
+lowered-left-requires-clause-small c = subst (λ zs. All (λ z. unsigned_abs z ≤ 4 * MOST_KEY) zs) (sym c.as_slice.ensures.value)
+    (All-from_get_or (λ z. unsigned_abs z ≤ 4 * MOST_KEY) c.args.tree.now.left.items (pos 0) (λ i l.
     let count = c.requires.tree.counts.lefts in
     let a = tree_left_small c.args.matched c.args.keys.now c.args.tree.now c.requires.keys c.requires.tree i (omega arith) in
     omega (arith, a)))
@@ -19,8 +20,8 @@ lowered-left-requires-clause-by c =
     omega (arith, ints)
 
 pub lowered-right-requires-clause-small : goal.lowered-right-requires-clause-small
-lowered-right-requires-clause-small c = subst (λ zs. All (λ z. unsigned_abs z ≤ 10 ^ 22) zs) (sym c.as_slice-3.ensures.value)
-    (All-from_get_or (λ z. unsigned_abs z ≤ 10 ^ 22) c.args.tree.now.right.items (pos 0) (λ i l.
+lowered-right-requires-clause-small c = subst (λ zs. All (λ z. unsigned_abs z ≤ 4 * MOST_KEY) zs) (sym c.as_slice-3.ensures.value)
+    (All-from_get_or (λ z. unsigned_abs z ≤ 4 * MOST_KEY) c.args.tree.now.right.items (pos 0) (λ i l.
     let count = c.requires.tree.counts.rights in
     let a = tree_right_small c.args.matched c.args.keys.now c.args.tree.now c.requires.keys c.requires.tree i (omega arith) in
     omega (arith, a)))

@@ -3,5 +3,5 @@ use Rattle.split_top.proofs.laws.output_law.Goals as goal
 
 pub returns : goal.returns
 returns c command other bytes text another same a b =
-    one_output c.one_rent_division_law.ensures c.step_count_law.ensures.one_division c.division_law.ensures.fares c.division_law.ensures.route c.case_law.ensures.valid c.case_in_law.ensures
-    c.report_law.ensures command other bytes text another same a b
+    one_output c.certificate_law.ensures.one c.case_law.ensures.valid c.case_in_law.ensures c.report_law.ensures
+    command other bytes text another same a b

@@ -10,7 +10,7 @@ overflow_add-self-inside g c = let few = lines_few c.self.inside.counts c.self.i
 
 pub returns-in-Ok-Some-clause-finish : goal.returns-in-Ok-Some-clause-finish
 returns-in-Ok-Some-clause-finish g c =
-    let all = subst (λ (r : Reading). r.lines ≡ length (forms_of r.counts)) (sym c.self.view_is) c.requires in
+    let all = subst (λ (r : Reading). r.lines ≡ length (forms_of r.counts)) (sym c.self.view_is) c.requires.lines in
     let next = rw c.in-Ok-Some.field-0-is at c.in-Ok-Some.ensures in
-    refused_behind_all_at c.args.self.now c.self.inside.bytes c.next_byte.new.self c.refuse.new.bytes _ _ _ c.self.inside.lines c.self.inside.counts c.in-Ok-Some.field-0-0 c.refuse.result c.self.view_is
+    refused_behind_all_at c.args.self.now c.self.inside.bytes c.next_byte.new.self c.refuse.new.bytes _ _ _ c.self.inside.lines c.self.inside.counts c.self.inside.in_tree c.in-Ok-Some.field-0-0 c.refuse.result c.self.view_is c.requires.whole
     c.refuse.ensures.few all next.byte c.refuse.ensures.end

@@ -9,12 +9,12 @@ overflow_add-self g c = let few = lines_few c.self.inside.counts c.self.invarian
 
 pub returns-in-Err-clause-line : goal.returns-in-Err-clause-line
 returns-in-Err-clause-line g c =
-    settled_end_at c.args.self.now c.self.inside.bytes c.next_settled.new.bytes _ _ c.self.inside.lines c.self.inside.counts c.in-Err.end c.self.view_is c.in-Err.ensures.few
-    (subst IsOpen (sym c.self.view_is) c.requires) (rw c.in-Err.end-is at c.in-Err.ensures).line
+    settled_end_at c.args.self.now c.self.inside.bytes c.next_settled.new.bytes _ _ c.self.inside.lines c.self.inside.counts c.self.inside.in_tree c.in-Err.end c.self.view_is c.requires.whole c.in-Err.ensures.few
+    (subst IsOpen (sym c.self.view_is) c.requires.open) (rw c.in-Err.end-is at c.in-Err.ensures).line
 
 pub returns-in-Ok-clause-line : goal.returns-in-Ok-clause-line
 returns-in-Ok-clause-line g c =
-    settled_line_at c.args.self.now c.self.inside.bytes c.next_settled.new.bytes _ _ c.self.inside.lines c.self.inside.counts c.in-Ok.counts c.in-Ok.numbers c.self.view_is c.in-Ok.ensures.line
+    settled_line_at c.args.self.now c.self.inside.bytes c.next_settled.new.bytes _ _ c.self.inside.lines c.self.inside.counts c.in-Ok.counts c.self.inside.in_tree c.in-Ok.numbers c.self.view_is c.requires.whole c.in-Ok.ensures.line
 
 pub returns-in-Ok-clause-takes : goal.returns-in-Ok-clause-takes
 returns-in-Ok-clause-takes g c =

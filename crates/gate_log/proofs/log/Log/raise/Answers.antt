@@ -1,14 +1,14 @@
 use Rattle.std.proofs.Common.{sym, ap, subst, ◌∙◌}
 use Rattle.split_base.specs.Disk.{Tears}
 use Rattle.split_base.specs.Moments.{weaker}
-use Rattle.gate_log.specs.Records.{Stands, Holds}
+use Rattle.gate_log.specs.Records.{Stands, HoldsRecords}
 use Rattle.gate_log.specs.Log.{LogView}
 use Rattle.gate_log.proofs.Crash.{torn_version, written_version}
 use Rattle.gate_log.proofs.log.Log.raise.Goals as goal
 
 pub returns-in_err-write_synced-clause-any_moment : goal.returns-in_err-write_synced-clause-any_moment
 returns-in_err-write_synced-clause-any_moment g c honest secret bodies log =
-    weaker g.D.Disk.moment g.D.Disk.left_since c.args.disk.now c.write_synced.new.disk (Tears (g.D.Disk.images c.args.disk.now) 48 1) (Holds secret bodies)
+    weaker g.D.Disk.moment g.D.Disk.left_since c.args.disk.now c.write_synced.new.disk (Tears (g.D.Disk.images c.args.disk.now) 48 1) (HoldsRecords secret bodies)
     (c.write_synced.ensures.any_moment honest) (λ f (d, was, torn). torn_version secret bodies c.args.self.now.version d f (log.each d was) torn)
 
 pub returns-in_err-write_synced-clause-after : goal.returns-in_err-write_synced-clause-after
@@ -18,7 +18,7 @@ returns-in_err-write_synced-clause-after g c honest secret bodies log f left =
 
 pub returns-clause-any_moment : goal.returns-clause-any_moment
 returns-clause-any_moment g c honest secret bodies log =
-    weaker g.D.Disk.moment g.D.Disk.left_since c.args.disk.now c.write_synced.new.disk (Tears (g.D.Disk.images c.args.disk.now) 48 1) (Holds secret bodies)
+    weaker g.D.Disk.moment g.D.Disk.left_since c.args.disk.now c.write_synced.new.disk (Tears (g.D.Disk.images c.args.disk.now) 48 1) (HoldsRecords secret bodies)
     (c.write_synced.ensures.any_moment honest) (λ f (d, was, torn). torn_version secret bodies c.args.self.now.version d f (log.each d was) torn)
 
 pub returns-clause-after : goal.returns-clause-after

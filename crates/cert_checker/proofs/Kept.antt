@@ -1,0 +1,48 @@
+-- What a verdict says, whatever the kind.
+use Rattle.std.proofs.Common.{◌≡◌, map, unsigned_abs, arith, sym, ◌∙◌}
+use Rattle.std.proofs.lemmas.List.{length-map}
+use Rattle.bid_rules.specs.Facts.{IsValidFareCase}
+use Rattle.bid_rules.specs.Fares.{FareBest}
+use Rattle.bid_rules.specs.Goods.{GoodsBest, IsValidGoodsCase, owners_by_good}
+use Rattle.bid_rules.specs.Rent.{IsValidRentCase, RentBest}
+use Rattle.cert_reader.specs.GoodsViews.{GoodsView}
+use Rattle.cert_reader.specs.Shapes.{HasRows}
+use Rattle.cert_reader.specs.Views.{FaresView, OfFares, OfGoods, OfRent, RentView, View}
+use Rattle.fare_rules.specs.Printed as fares
+use Rattle.fare_rules.specs.Rules.{fares_rule}
+use Rattle.goods_rules.specs.Printed as goods
+use Rattle.goods_rules.specs.Rules.{goods_rule}
+use Rattle.rent_rules.specs.Printed as rent
+use Rattle.rent_rules.specs.Rules.{rent_rule}
+use Rattle.verdicts.specs.declared.verdict.Verdict.{Verdict}
+use Rattle.verdicts.specs.declared.verdict.Verdict.TheVariants.{Yes}
+use Rattle.verdicts.specs.Verdicts.{IsVerdict}
+use Rattle.verdict_lemmas.proofs.Order.{one_verdict}
+use Rattle.cert_checker.specs.Judged.{GivesVerdict, IsBest}
+
+-- a view has one verdict
+pub verdict_once : (view : View) (a b : Verdict) → GivesVerdict view a → GivesVerdict view b → b ≡ a
+verdict_once (OfRent view) a b h k = sym (one_verdict (rent_rule view) 7 a b h k)
+verdict_once (OfGoods view) a b h k = sym (one_verdict (goods_rule view) 6 a b h k)
+verdict_once (OfFares view) a b h k = sym (one_verdict (fares_rule view) 5 a b h k)
+
+-- a view whose rules all hold has its rows
+pub rows_kept : (view : View) → GivesVerdict view Yes → HasRows view
+rows_kept (OfRent view) h = sym (length-map view.values (λ row. record { items = map unsigned_abs row })) ∙ (h 1 (omega arith) (omega arith)).valid.bids
+rows_kept (OfGoods view) h =
+    let valid = (h 1 (omega arith) (omega arith)).valid in
+    sym (length-map view.values (λ row. record { items = map unsigned_abs row })) ∙ valid.each ∙ length-map view.who unsigned_abs
+rows_kept (OfFares view) h = sym (length-map view.legs (λ row. record { items = map unsigned_abs row })) ∙ (h 1 (omega arith) (omega arith)).valid.facts.shape.table.rows
+
+-- and its division is best, as the laws of the kinds say
+pub best_kept : ((view : RentView) → IsVerdict (rent_rule view) 7 Yes → IsValidRentCase (rent.printed_case view))
+    → ((view : RentView) → IsVerdict (rent_rule view) 7 Yes → RentBest (rent.printed_case view) (rent.printed_rooms view) view.prices)
+    → ((view : GoodsView) → IsVerdict (goods_rule view) 6 Yes → IsValidGoodsCase (goods.printed_case view))
+    → ((view : GoodsView) → IsVerdict (goods_rule view) 6 Yes → GoodsBest (goods.printed_case view) (goods.printed_answer view))
+    → ((view : GoodsView) → IsVerdict (goods_rule view) 6 Yes → owners_by_good (goods.printed_case view) (goods.printed_answer view) ≡ goods.printed_owners view)
+    → ((view : FaresView) → IsVerdict (fares_rule view) 5 Yes → IsValidFareCase (fares.printed_case view))
+    → ((view : FaresView) → IsVerdict (fares_rule view) 5 Yes → FareBest (fares.printed_case view) view.fares (fares.printed_route view))
+    → (view : View) → GivesVerdict view Yes → IsBest view
+best_kept a b c d e f g (OfRent view) h = (a view h, b view h)
+best_kept a b c d e f g (OfGoods view) h = (c view h, d view h, e view h)
+best_kept a b c d e f g (OfFares view) h = (f view h, g view h)

@@ -1,0 +1,184 @@
+use Rattle.std.proofs.Common.{ℕ, pos, ◌⊎◌, arith, ◌≡◌, ◌∙◌, ◌++◌, ◌∷◌, [], ap, subst, sym, length-append, map}
+use Rattle.std.proofs.KnownBytes.{Consumes-trans}
+use Rattle.split_frac.specs.Frac.{fraction_of}
+use Rattle.cert_reader.specs.Kinds.{kind_of}
+use Rattle.cert_reader.specs.Reading.{with_mark}
+use Rattle.cert_reader.specs.Text.{Numbers}
+use Rattle.cert_reader.specs.Views.{says}
+use Rattle.verdicts.specs.declared.verdict.Verdict.TheVariants.{Yes}
+use Rattle.cert_checker.specs.Judged.{IsJudged}
+use Rattle.cert_checker.proofs.LineSteps.{end_goes, judged_so, kind_stays, kinds, line_goes, mark_goes, mark_some, read_long, some_lines}
+use Rattle.cert_checker.proofs.judging.judge.Goals as goal
+
+pub unreachable-requires-in-Ok-Done : goal.unreachable-requires-in-Ok-Done
+unreachable-requires-in-Ok-Done g c =
+    let next = rw c.in-Ok-Done.field-0-is at c.in-Ok-Done.ensures in
+    let told = next.piece.2 [] [] c.new-pieces.ensures.read in
+    let all = told.0 in
+    let none = c.new-pieces.ensures.start in
+    let some = some_lines c.next.new.self.counts in
+    omega (arith, all, none, some)
+
+pub returns-in-Err-next-clause-judged : goal.returns-in-Err-next-clause-judged
+returns-in-Err-next-clause-judged g c =
+    let inv = c.lines.invariant in
+    let p = (rw c.in-Err-next.end-is at c.in-Err-next.ensures).piece in
+    (inv.taken ++ p.0, Consumes-trans _ _ _ inv.taken p.0 inv.took p.1, p.2 inv.taken inv.said inv.read)
+
+pub take-requires : goal.take-requires
+take-requires g c =
+    let inv = c.lines.invariant in
+    let next = rw c.in-Ok-Line-next.field-0-is at c.in-Ok-Line-next.ensures in
+    let p = next.piece in
+    let told = p.2 inv.taken inv.said inv.read in
+    let last = Numbers (map fraction_of c.in-Ok-Line-next.numbers.items) in
+    let rest = c.text_law.ensures.completed c.next-in-lines.new.self (inv.taken ++ p.0) (inv.said ++ last ∷ []) told.3 in
+    let goes = line_goes c.lines.lines c.lines.pieces c.next-in-lines.new.self inv.said rest.0 last (inv.taken ++ p.0) inv.knows inv.kind inv.some inv.long told.1 told.2 told.3 (next.more (λ e. absurd (cc))).0 rest.1 in
+    (inv.said, goes.0, goes.1, goes.2)
+
+pub lines-preserved-in-Ok-Line-next : goal.lines-preserved-in-Ok-Line-next
+lines-preserved-in-Ok-Line-next g c =
+    let inv = c.lines.invariant in
+    let next = rw c.in-Ok-Line-next.field-0-is at c.in-Ok-Line-next.ensures in
+    let p = next.piece in
+    let told = p.2 inv.taken inv.said inv.read in
+    let last = Numbers (map fraction_of c.in-Ok-Line-next.numbers.items) in
+    let rest = c.text_law.ensures.completed c.next-in-lines.new.self (inv.taken ++ p.0) (inv.said ++ last ∷ []) told.3 in
+    let goes = line_goes c.lines.lines c.lines.pieces c.next-in-lines.new.self inv.said rest.0 last (inv.taken ++ p.0) inv.knows inv.kind inv.some inv.long told.1 told.2 told.3 (next.more (λ e. absurd (cc))).0 rest.1 in
+    record {
+      taken = inv.taken ++ p.0;
+      said = inv.said ++ last ∷ [];
+      took = Consumes-trans _ _ _ inv.taken p.0 inv.took p.1;
+      read = told.3;
+      kind = kind_stays c.lines.pieces.lines c.lines.pieces.counts c.next-in-lines.new.self.counts inv.some told.2 ∙ inv.kind ∙ sym c.take.ensures.kind;
+      knows = c.take.ensures.knows inv.said goes.0 goes.1 goes.2;
+      to_come = (next.more (λ e. absurd (cc))).0;
+      some = (let one = told.1 in let some = inv.some in omega arith);
+      long = length-append inv.said (last ∷ []) ∙ (let one = told.1 in let long = inv.long in omega arith);
+      faults = next.faults ∙ inv.faults;
+      beside = next.beside ∙ inv.beside;
+    }
+
+pub take_mark-requires : goal.take_mark-requires
+take_mark-requires g c =
+    let inv = c.lines.invariant in
+    let next = rw c.in-Ok-Mark-next.field-0-is at c.in-Ok-Mark-next.ensures in
+    let p = next.piece in
+    let told = p.2 inv.taken inv.said inv.read in
+    let mark = c.in-Ok-Mark-next.mark in
+    let rest = c.text_law.ensures.completed c.next-in-lines.new.self (inv.taken ++ p.0) (with_mark inv.said mark) told.2 in
+    (inv.said, mark_goes c.lines.lines c.lines.pieces c.next-in-lines.new.self inv.said rest.0 mark (inv.taken ++ p.0) inv.knows inv.kind told.1 told.2 rest.1)
+
+pub lines-preserved : goal.lines-preserved
+lines-preserved g c =
+    let inv = c.lines.invariant in
+    let next = rw c.in-Ok-Mark-next.field-0-is at c.in-Ok-Mark-next.ensures in
+    let p = next.piece in
+    let told = p.2 inv.taken inv.said inv.read in
+    let mark = c.in-Ok-Mark-next.mark in
+    let rest = c.text_law.ensures.completed c.next-in-lines.new.self (inv.taken ++ p.0) (with_mark inv.said mark) told.2 in
+    let goes = mark_goes c.lines.lines c.lines.pieces c.next-in-lines.new.self inv.said rest.0 mark (inv.taken ++ p.0) inv.knows inv.kind told.1 told.2 rest.1 in
+    record {
+      taken = inv.taken ++ p.0;
+      said = with_mark inv.said mark;
+      took = Consumes-trans _ _ _ inv.taken p.0 inv.took p.1;
+      read = told.2;
+      kind = ap kind_of told.1 ∙ inv.kind ∙ sym c.take_mark.ensures.kind;
+      knows = c.take_mark.ensures.knows inv.said goes;
+      to_come = (next.more (λ e. absurd (cc))).0;
+      some = mark_some c.lines.pieces c.next-in-lines.new.self inv.said mark (inv.taken ++ p.0) inv.some inv.long told.2;
+      long = read_long c.next-in-lines.new.self (inv.taken ++ p.0) (with_mark inv.said mark) told.2;
+      faults = next.faults ∙ inv.faults;
+      beside = next.beside ∙ inv.beside;
+    }
+
+pub returns-in-Ok-Done-next-clause-judged : goal.returns-in-Ok-Done-next-clause-judged
+returns-in-Ok-Done-next-clause-judged g c =
+    let inv = c.lines.invariant in
+    let next = rw c.in-Ok-Done-next.field-0-is at c.in-Ok-Done-next.ensures in
+    let p = next.piece in
+    let told = p.2 inv.taken inv.said inv.read in
+    let counts = c.next-in-lines.new.self.counts in
+    let goes = end_goes c.lines.lines c.lines.pieces c.next-in-lines.new.self inv.said (inv.taken ++ p.0) inv.knows inv.kind inv.some told.1 told.2 in (
+      inv.taken ++ p.0,
+      Consumes-trans _ _ _ inv.taken p.0 inv.took p.1,
+      (judged_so (inv.taken ++ p.0) counts (inv.said ++ says [] ∷ []) c.verdict.result told.2 (c.verdict.ensures inv.said goes), told.3, told.4),
+    )
+
+pub returns-in-Ok-Done-next-clause-best : goal.returns-in-Ok-Done-next-clause-best
+returns-in-Ok-Done-next-clause-best g c agreed =
+    let inv = c.lines.invariant in
+    let next = rw c.in-Ok-Done-next.field-0-is at c.in-Ok-Done-next.ensures in
+    let p = next.piece in
+    let told = p.2 inv.taken inv.said inv.read in
+    let counts = c.next-in-lines.new.self.counts in
+    let goes = end_goes c.lines.lines c.lines.pieces c.next-in-lines.new.self inv.said (inv.taken ++ p.0) inv.knows inv.kind inv.some told.1 told.2 in
+    let same : c.verdict.result ≡ Yes = cc in (
+      inv.taken ++ p.0,
+      Consumes-trans _ _ _ inv.taken p.0 inv.took p.1,
+      c.certificate_verdict_law.ensures.best (inv.taken ++ p.0)
+          (subst (IsJudged (inv.taken ++ p.0)) same (judged_so (inv.taken ++ p.0) counts (inv.said ++ says [] ∷ []) c.verdict.result told.2 (c.verdict.ensures inv.said goes))),
+    )
+
+pub returns-in-Err-clause-judged : goal.returns-in-Err-clause-judged
+returns-in-Err-clause-judged g c =
+    let p = (rw c.in-Err.end-is at c.in-Err.ensures).piece in
+    (p.0, p.1, p.2 [] [] c.new-pieces.ensures.read)
+
+pub unreachable-requires : goal.unreachable-requires
+unreachable-requires g c =
+    let next = rw c.in-Ok-Line.field-0-is at c.in-Ok-Line.ensures in
+    let told = next.piece.2 [] [] c.new-pieces.ensures.read in
+    let some = told.0 in
+    let none = c.new-pieces.ensures.start in
+    omega (arith, some, none)
+
+pub unreachable-requires-in-Ok-Mark : goal.unreachable-requires-in-Ok-Mark
+unreachable-requires-in-Ok-Mark g c =
+    let next = rw c.in-Ok-Mark.field-0-is at c.in-Ok-Mark.ensures in
+    let told = next.piece.2 [] [] c.new-pieces.ensures.read in
+    let some = told.0 in
+    let none = c.new-pieces.ensures.start in
+    omega (arith, some, none)
+
+pub new-lines-requires : goal.new-lines-requires
+new-lines-requires g c =
+    let next = rw c.in-Ok-Kind.field-0-is at c.in-Ok-Kind.ensures in
+    let told = next.piece.2 [] [] c.new-pieces.ensures.read in
+    subst (λ (k : ℕ). (k ≡ 1) ⊎ (k ≡ 2) ⊎ (k ≡ 3)) (sym told.2) (kinds c.next.new.self.counts)
+
+pub lines-init : goal.lines-init
+lines-init g c =
+    let next = rw c.in-Ok-Kind.field-0-is at c.in-Ok-Kind.ensures in
+    let p = next.piece in
+    let told = p.2 [] [] c.new-pieces.ensures.read in
+    record {
+      taken = p.0;
+      said = says (pos 1 ∷ []) ∷ says [] ∷ [];
+      took = p.1;
+      read = told.3;
+      kind = sym told.2 ∙ sym c.new-lines.ensures.kind;
+      knows = c.new-lines.ensures.knows;
+      to_come = (next.more (λ e. absurd (cc))).0;
+      some = (let two = told.1 in omega (arith, two));
+      long = sym told.1;
+      faults = next.faults;
+      beside = next.beside;
+    }
+
+pub verdict-requires : goal.verdict-requires
+verdict-requires g c =
+    let inv = c.lines.invariant in
+    let next = rw c.in-Ok-Done-next.field-0-is at c.in-Ok-Done-next.ensures in
+    let p = next.piece in
+    let told = p.2 inv.taken inv.said inv.read in
+    (inv.said, end_goes c.lines.lines c.lines.pieces c.next-in-lines.new.self inv.said (inv.taken ++ p.0) inv.knows inv.kind inv.some told.1 told.2)
+
+pub unreachable-requires-in-Ok-Kind-next : goal.unreachable-requires-in-Ok-Kind-next
+unreachable-requires-in-Ok-Kind-next g c =
+    let inv = c.lines.invariant in
+    let next = rw c.in-Ok-Kind-next.field-0-is at c.in-Ok-Kind-next.ensures in
+    let told = next.piece.2 inv.taken inv.said inv.read in
+    let none = told.0 in
+    let some = inv.some in
+    omega (arith, none, some)

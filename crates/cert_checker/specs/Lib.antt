@@ -1,0 +1,4 @@
+pub mod Judged
+pub mod FaresLines
+pub mod Lines
+pub mod GoodsLines

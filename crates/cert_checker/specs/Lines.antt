@@ -1,0 +1,53 @@
+-- The lines of a text, one after another, and what the judge knows behind them.
+use Rattle.std.specs.Prelude.{◌≡◌, ℕ, List, ◌∷◌, ◌++◌, map}
+use Rattle.cert_reader.specs.declared.forms.Counts.{Counts}
+use Rattle.cert_reader.specs.Forms.{AreCounts, forms_of}
+use Rattle.cert_reader.specs.Gathered.{line_said}
+use Rattle.cert_reader.specs.Kinds.{kind_of}
+use Rattle.cert_reader.specs.Reading.{with_mark}
+use Rattle.cert_reader.specs.Shapes.{HasRows}
+use Rattle.cert_reader.specs.Text.{CanSayAll, Said}
+use Rattle.cert_reader.specs.Views.{FaresView, View, counts_of, fares_said, said_of}
+use Rattle.verdicts.specs.declared.verdict.Verdict.{Verdict}
+use Rattle.cert_checker.specs.FaresLines.{IsAt, IsWhole, front_said}
+use Rattle.cert_checker.specs.GoodsLines.{IsAtGoods}
+use Rattle.cert_checker.specs.Judged.{GivesVerdict}
+use Rattle.cert_checker.specs.declared.lines.Lines.{Lines}
+use Rattle.cert_checker.specs.declared.lines.Lines.TheVariants.{Fares, Goods, Rent}
+
+-- the number of the kind
+abbrev pub kind_of_lines : Lines → ℕ
+kind_of_lines (Rent lines) = 1
+kind_of_lines (Goods lines) = 2
+kind_of_lines (Fares lines) = 3
+
+-- the state behind lines that say this, whichever text they begin
+abbrev pub KnowsLines : List Said → Lines → Type 0
+KnowsLines said (Rent lines) = said ≡ front_said (map line_said lines.lines.items)
+KnowsLines said (Goods lines) = IsAtGoods said lines
+KnowsLines said (Fares lines) = (view : FaresView) (next : Said) (rest : List Said) → IsWhole view → fares_said view ≡ said ++ next ∷ rest → IsAt view said lines
+
+-- a text of the kind goes on with these lines behind those that the state knows
+pub record GoesOn (lines : Lines) (said : List Said) (rest : List Said) : Type 0 where
+  pub counts : Counts
+  pub are_counts : AreCounts counts
+  pub kind : kind_of counts ≡ kind_of_lines lines
+  pub fits : CanSayAll (forms_of counts) (said ++ rest)
+  pub knows : KnowsLines said lines
+
+-- and it goes on with a mark
+pub record MarkGoesOn (lines : Lines) (said : List Said) (mark : ℕ) : Type 0 where
+  pub counts : Counts
+  pub are_counts : AreCounts counts
+  pub kind : kind_of counts ≡ kind_of_lines lines
+  pub rest : List Said
+  pub fits : CanSayAll (forms_of counts) (with_mark said mark ++ rest)
+  pub knows : KnowsLines said lines
+
+-- what the lines of a text with these counts say is a certificate to which the rules give this verdict
+pub record GivesOf (counts : Counts) (said : List Said) (verdict : Verdict) : Type 0 where
+  pub view : View
+  pub counted : counts_of view ≡ counts
+  pub is_said : said_of view ≡ said
+  pub rows : HasRows view
+  pub gives : GivesVerdict view verdict

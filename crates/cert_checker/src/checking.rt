@@ -1,0 +1,69 @@
+// The verdict on a certificate that was read.
+ghost use Rattle.std.specs.Prelude.{◌≡◌};
+ghost use Rattle.cert_checker.specs.Judged.{GivesVerdict, IsBest};
+ghost use Rattle.cert_reader.specs.Views.{fares_view, goods_view, view_of};
+ghost use Rattle.fare_rules.specs.Rules.{fares_rule};
+ghost use Rattle.goods_rules.specs.Rules.{goods_rule};
+ghost use Rattle.verdicts.specs.Verdicts.{IsVerdict};
+
+use crate::fares::set_count;
+use cert_reader::{Certificate, FaresText, GoodsText, start_count};
+use fare_rules::{end_fares, fares_certificate_law, start_fares, take_set};
+use goods_rules::{end_goods, goods_certificate_law, start_goods, take_mark};
+use rent_rules::{check_rent, rent_certificate_law};
+use verdicts::Verdict;
+
+/// Whether all rules of its kind hold for the certificate, or the first that does not. It takes no memory.
+pub fn check(certificate: &Certificate) -> Verdict
+    ensures verdict { GivesVerdict (view_of certificate.now) result }
+    ensures best { result ≡ Verdict.Yes → IsBest (view_of certificate.now) }
+{
+    rent_certificate_law();
+    goods_certificate_law();
+    fares_certificate_law();
+    match certificate {
+        Certificate::Rent(text) => check_rent(text),
+        Certificate::Goods(text) => check_goods(text),
+        Certificate::Fares(text) => check_fares(text),
+    }
+}
+
+/// Whether the certificate keeps the rules of goods, or the first that it breaks.
+fn check_goods(text: &GoodsText) -> Verdict
+    ensures { IsVerdict (goods_rule (goods_view text.now)) 6 result }
+{
+    let mut state = start_goods(
+        text.goods,
+        text.limit,
+        text.who.as_slice(),
+        text.values.as_slice(),
+        text.owners.as_slice(),
+    );
+    let marks = text.tree.marks();
+    for k in 0..marks.len() {
+        take_mark(&mut state, marks[k]);
+    }
+    end_goods(&state)
+}
+
+/// Whether the certificate keeps the rules of fares, or the first that it breaks.
+fn check_fares(text: &FaresText) -> Verdict
+    ensures { IsVerdict (fares_rule (fares_view text.now)) 5 result }
+{
+    let riders = text.who.len() as u8;
+    let numbers = text.table.numbers();
+    let mut state = start_fares(
+        text.places,
+        text.flag,
+        text.legs.as_slice(),
+        text.who.as_slice(),
+        text.at.as_slice(),
+    );
+    let mut from = 0;
+    for set in 1..set_count(riders) + 1 {
+        let to = from + start_count(riders, set);
+        take_set(&mut state, &numbers[from..to]);
+        from = to;
+    }
+    end_fares(&state, text.route.as_slice(), text.fares.as_slice())
+}

@@ -1,0 +1,181 @@
+// The lines of a certificate of fares: those of the head are gathered, those of the sets are judged as they come.
+ghost use Rattle.std.specs.Prelude.{◌≡◌, ℕ, ◌+◌, ◌-◌, ◌^◌, ◌<◌, ◌≤◌, ◌++◌, ◌∷◌, [], List, length, map, MatchOption, IsTrue, ◌↔◌};
+ghost use Rattle.bid_rules.specs.declared.limits.TheConstants.{MOST_RIDERS};
+ghost use Rattle.split_frac.specs.Frac.{fraction_of};
+ghost use Rattle.cert_reader.specs.Gathered.{Gathered, line_said};
+ghost use Rattle.cert_reader.specs.Text.{Numbers, Said};
+ghost use Rattle.cert_reader.specs.Views.{FaresView, fares_said, says};
+ghost use Rattle.fare_rules.specs.Rules.{fares_rule};
+ghost use Rattle.verdicts.specs.Verdicts.{IsVerdict};
+ghost use Rattle.cert_checker.specs.FaresLines.{IsAt, IsBehindHead, IsInHead, IsNext, IsWhole, front_said, head_said};
+
+use arrayvec::ArrayVec;
+use bid_rules::limits::{LEG_ROW_ROOM, RIDER_ROOM};
+use cert_reader::limits::LINE_ROOM;
+use cert_reader::{LineNumbers, number_at, row_at, rows_of, whole_row};
+use fare_rules::{FaresState, PrintedRow, end_fares, start_fares, take_set};
+use verdicts::Verdict;
+
+/// The lines of the head whose number no count fixes: `riders`, `places`, `flag`, the legs from the origin, `who` and `at`.
+const FIXED_LINES: usize = 6;
+/// The place of the line `places` among those of the head.
+const PLACES: usize = 1;
+/// The place of the line `flag`.
+const FLAG: usize = 2;
+/// The place of the first line of legs.
+const LEGS: usize = 3;
+/// The most lines of the head.
+const HEAD_LINES: usize = 5 + LEG_ROW_ROOM;
+/// The lines behind the sets: `route` and `fares`.
+const LAST_LINES: usize = 2;
+
+/// The lines of the head, as they are gathered.
+type HeadLines = ArrayVec<LineNumbers, HEAD_LINES>;
+
+/// The lines of fares so far, behind the two that say the kind.
+#[derive(Drop)]
+pub(crate) enum FaresLines {
+    /// Some of the head.
+    Head(HeadLines),
+    /// The head, and some behind it.
+    Table(TableLines),
+}
+
+/// What is known behind the head.
+#[derive(Drop)]
+pub(crate) struct TableLines {
+    /// The judge of the lines of sets.
+    state: FaresState,
+    /// How many lines of sets are still to come.
+    left: u32,
+    /// The lines behind them.
+    last: ArrayVec<LineNumbers, LAST_LINES>,
+}
+
+impl FaresLines {
+    /// None so far.
+    pub(crate) fn new() -> FaresLines
+        ensures { (view : FaresView) → IsAt view (front_said []) result }
+    {
+        FaresLines::Head(HeadLines::new())
+    }
+
+    /// Takes the next line.
+    pub(crate) fn take(&mut self, numbers: LineNumbers)
+        requires { (view : FaresView) × (said : List Said) × IsNext view said (map fraction_of numbers.items) × IsAt view said self.old }
+        ensures { (view : FaresView) (said : List Said) → IsNext view said (map fraction_of numbers.items) → IsAt view said self.old
+            → IsAt view (said ++ Numbers (map fraction_of numbers.items) ∷ []) self.new }
+    {
+        let begun = match self {
+            FaresLines::Head(lines) => take_head(lines, numbers),
+            FaresLines::Table(table) => {
+                table.take(numbers);
+                None
+            }
+        };
+        if let Some(table) = begun {
+            *self = FaresLines::Table(table);
+        }
+    }
+
+    /// The verdict, where all lines have come but `end`.
+    pub(crate) fn verdict(&self) -> Verdict
+        requires { (view : FaresView) × (said : List Said) × IsWhole view × (fares_said view ≡ said ++ says [] ∷ []) × IsAt view said self.now }
+        ensures { (view : FaresView) (said : List Said) → IsWhole view → fares_said view ≡ said ++ says [] ∷ [] → IsAt view said self.now → IsVerdict (fares_rule view) 5 result }
+    {
+        match self {
+            FaresLines::Head(_) => unreachable!(),
+            FaresLines::Table(table) => table.verdict(),
+        }
+    }
+}
+
+/// Takes a line of the head, and begins with the sets where it was the last.
+fn take_head(lines: &mut HeadLines, numbers: LineNumbers) -> Option<TableLines>
+    requires { (view : FaresView) × (said : List Said) × IsNext view said (map fraction_of numbers.items) × IsInHead view said lines.old.items }
+    ensures { (view : FaresView) (said : List Said) → IsNext view said (map fraction_of numbers.items) → IsInHead view said lines.old.items
+        → MatchOption result (IsInHead view (said ++ Numbers (map fraction_of numbers.items) ∷ []) lines.new.items)
+        (λ table. IsBehindHead view (said ++ Numbers (map fraction_of numbers.items) ∷ []) table) }
+{
+    lines.push(numbers);
+    if is_whole(lines.as_slice()) {
+        Some(begin(lines.as_slice()))
+    } else {
+        None
+    }
+}
+
+/// Whether these are all lines of a head.
+fn is_whole(lines: &[LineNumbers]) -> bool
+    requires { (view : FaresView) × (rest : List Said) × IsWhole view × (head_said view ≡ map line_said lines.now ++ rest) }
+    ensures { (view : FaresView) (rest : List Said) → IsWhole view → head_said view ≡ map line_said lines.now ++ rest → IsTrue result ↔ length lines.now ≡ view.places + 6 }
+{
+    lines.len() > PLACES && lines.len() == FIXED_LINES + places_of(lines)
+}
+
+/// How many places the head counts.
+fn places_of(lines: &[LineNumbers]) -> usize
+    requires head { (view : FaresView) × (rest : List Said) × IsWhole view × (head_said view ≡ map line_said lines.now ++ rest) }
+    requires counted { PLACES < length lines.now }
+    ensures { (view : FaresView) (rest : List Said) → IsWhole view → head_said view ≡ map line_said lines.now ++ rest → result ≡ view.places }
+{
+    number_at(lines, PLACES) as usize
+}
+
+/// How many sets of riders there are, but for the empty one.
+pub(crate) fn set_count(riders: u8) -> u32
+    requires { riders ≤ MOST_RIDERS }
+    ensures { result ≡ 2 ^ riders - 1 }
+{
+    (1 << riders) - 1
+}
+
+/// Begins with the sets behind the lines of a head.
+fn begin(lines: &[LineNumbers]) -> TableLines
+    requires { (view : FaresView) × IsWhole view × (map line_said lines.now ≡ head_said view) }
+    ensures { (view : FaresView) → IsWhole view → map line_said lines.now ≡ head_said view → IsBehindHead view (front_said (map line_said lines.now)) result }
+{
+    let at = lines.len() - 1;
+    let who = at - 1;
+    let legs: ArrayVec<PrintedRow, LEG_ROW_ROOM> = rows_of(&lines[LEGS..who]);
+    let members: ArrayVec<i128, RIDER_ROOM> = row_at(lines, who);
+    let stops: ArrayVec<i128, RIDER_ROOM> = row_at(lines, at);
+    let state = start_fares(
+        places_of(lines) as u8,
+        number_at(lines, FLAG),
+        legs.as_slice(),
+        members.as_slice(),
+        stops.as_slice(),
+    );
+    TableLines {
+        state,
+        left: set_count(members.len() as u8),
+        last: ArrayVec::new(),
+    }
+}
+
+impl TableLines {
+    /// Takes the next line.
+    fn take(&mut self, numbers: LineNumbers)
+        requires { (view : FaresView) × (said : List Said) × IsNext view said (map fraction_of numbers.items) × IsBehindHead view said self.old }
+        ensures { (view : FaresView) (said : List Said) → IsNext view said (map fraction_of numbers.items) → IsBehindHead view said self.old
+            → IsBehindHead view (said ++ Numbers (map fraction_of numbers.items) ∷ []) self.new }
+    {
+        if self.left == 0 {
+            self.last.push(numbers);
+        } else {
+            let row: ArrayVec<i128, LINE_ROOM> = whole_row(&numbers.as_slice()[1..]);
+            take_set(&mut self.state, row.as_slice());
+            self.left -= 1;
+        }
+    }
+
+    /// The verdict, where all lines have come but `end`.
+    fn verdict(&self) -> Verdict
+        requires { (view : FaresView) × (said : List Said) × IsWhole view × (fares_said view ≡ said ++ says [] ∷ []) × IsBehindHead view said self.now }
+        ensures { (view : FaresView) (said : List Said) → IsWhole view → fares_said view ≡ said ++ says [] ∷ [] → IsBehindHead view said self.now → IsVerdict (fares_rule view) 5 result }
+    {
+        let route: ArrayVec<i128, RIDER_ROOM> = row_at(self.last.as_slice(), 0);
+        end_fares(&self.state, route.as_slice(), self.last[1].as_slice())
+    }
+}

@@ -1,0 +1,112 @@
+// The lines of a certificate of goods: those before the tree are gathered, the marks of the tree are judged as they come.
+ghost use Rattle.std.specs.Prelude.{◌≡◌, ℕ, ◌++◌, ◌∷◌, [], List, map};
+ghost use Rattle.cert_checker.specs.FaresLines.{front_said};
+ghost use Rattle.cert_checker.specs.GoodsLines.{GoodsGoOn, IsAtGoods, IsWholeGoods, before_tree};
+ghost use Rattle.cert_reader.specs.Gathered.{line_said};
+ghost use Rattle.cert_reader.specs.GoodsViews.{GoodsView};
+ghost use Rattle.cert_reader.specs.Reading.{with_mark};
+ghost use Rattle.cert_reader.specs.Text.{Numbers, Said};
+ghost use Rattle.cert_reader.specs.Views.{says};
+ghost use Rattle.goods_rules.specs.Rules.{goods_rule};
+ghost use Rattle.goods_rules.specs.State.{IsState, StandsFor};
+ghost use Rattle.split_frac.specs.Frac.{fraction_of};
+ghost use Rattle.verdicts.specs.Verdicts.{IsVerdict};
+
+use arrayvec::ArrayVec;
+use bid_rules::limits::{ITEM_ROOM, MEMBER_ROOM};
+use cert_reader::{LineNumbers, number_at, row_at, rows_of};
+use goods_rules::{GoodsState, PrintedRow, end_goods, start_goods, take_mark};
+use verdicts::Verdict;
+
+/// The lines before the tree whose number no count fixes: `players`, `goods`, `limit`, `who`, `owners` and `steps`.
+const FIXED_LINES: usize = 6;
+/// The place of the line `goods` among those before the tree.
+const GOODS: usize = 1;
+/// The place of the line `limit`.
+const LIMIT: usize = 2;
+/// The place of the line `who`.
+const WHO: usize = 3;
+/// The place of the first line of points.
+const VALUES: usize = 4;
+/// The lines between the points and the tree: `owners` and `steps`.
+const LAST_LINES: usize = 2;
+/// The most lines before the tree.
+const HEAD_LINES: usize = FIXED_LINES + MEMBER_ROOM;
+
+/// The lines before the tree, as they are gathered.
+type HeadLines = ArrayVec<LineNumbers, HEAD_LINES>;
+
+/// The lines of goods so far, behind the two that say the kind.
+#[derive(Drop)]
+pub(crate) enum GoodsLines {
+    /// Some of those before the tree.
+    Head(HeadLines),
+    /// Those, and some marks of the tree.
+    Tree(GoodsState),
+}
+
+impl GoodsLines {
+    /// None so far.
+    pub(crate) fn new() -> GoodsLines
+        ensures { IsAtGoods (front_said []) result }
+    {
+        GoodsLines::Head(HeadLines::new())
+    }
+
+    /// Takes the numbers of the next line, behind which there are others.
+    pub(crate) fn take(&mut self, numbers: LineNumbers)
+        requires { (said : List Said) × (next : Said) × (rest : List Said) × GoodsGoOn said (Numbers (map fraction_of numbers.items) ∷ next ∷ rest) × IsAtGoods said self.old }
+        ensures { (said : List Said) (next : Said) (rest : List Said) → GoodsGoOn said (Numbers (map fraction_of numbers.items) ∷ next ∷ rest) → IsAtGoods said self.old
+            → IsAtGoods (said ++ Numbers (map fraction_of numbers.items) ∷ []) self.new }
+    {
+        match self {
+            GoodsLines::Head(lines) => lines.push(numbers),
+            GoodsLines::Tree(_) => unreachable!(),
+        }
+    }
+
+    /// Takes the next mark of the tree.
+    pub(crate) fn take_mark(&mut self, mark: u8)
+        requires { (said rest : List Said) × GoodsGoOn (with_mark said mark) rest × IsAtGoods said self.old }
+        ensures { (said rest : List Said) → GoodsGoOn (with_mark said mark) rest → IsAtGoods said self.old → IsAtGoods (with_mark said mark) self.new }
+    {
+        match self {
+            GoodsLines::Head(lines) => {
+                let mut state = begin(lines.as_slice());
+                take_mark(&mut state, mark);
+                *self = GoodsLines::Tree(state);
+            }
+            GoodsLines::Tree(state) => take_mark(state, mark),
+        }
+    }
+
+    /// The verdict, where all lines have come but `end`.
+    pub(crate) fn verdict(&self) -> Verdict
+        requires { (said : List Said) × GoodsGoOn said (says [] ∷ []) × IsAtGoods said self.now }
+        ensures { (said : List Said) (goes : GoodsGoOn said (says [] ∷ [])) → IsAtGoods said self.now → IsVerdict (goods_rule goes.view) 6 result }
+    {
+        match self {
+            GoodsLines::Head(_) => unreachable!(),
+            GoodsLines::Tree(state) => end_goods(state),
+        }
+    }
+}
+
+/// Begins with the tree behind the lines before it.
+fn begin(lines: &[LineNumbers]) -> GoodsState
+    requires { (view : GoodsView) × IsWholeGoods view × (before_tree view ≡ map line_said lines.now) }
+    ensures state { IsState result }
+    ensures stands { (view : GoodsView) → IsWholeGoods view → before_tree view ≡ map line_said lines.now → StandsFor view [] result }
+{
+    let last = lines.len() - LAST_LINES;
+    let who: ArrayVec<i128, MEMBER_ROOM> = row_at(lines, WHO);
+    let values: ArrayVec<PrintedRow, MEMBER_ROOM> = rows_of(&lines[VALUES..last]);
+    let owners: ArrayVec<i128, ITEM_ROOM> = row_at(lines, last);
+    start_goods(
+        number_at(lines, GOODS) as u8,
+        number_at(lines, LIMIT),
+        who.as_slice(),
+        values.as_slice(),
+        owners.as_slice(),
+    )
+}

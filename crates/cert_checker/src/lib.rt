@@ -1,0 +1,16 @@
+//! The judge of certificates: one pass, in fixed memory. Its yes alone shows the printed division best.
+#![tactic(auto)]
+
+mod checking;
+mod fares;
+mod goods;
+mod judging;
+mod laws;
+mod lines;
+mod rent;
+#[cfg(test)]
+mod tests;
+
+pub use checking::check;
+pub use judging::judge;
+pub use laws::certificate_verdict_law;

@@ -1,0 +1,54 @@
+// The lines of a certificate of a rent, which are gathered and judged together.
+ghost use Rattle.std.specs.Prelude.{◌≡◌, ◌-◌, ◌<◌, ◌++◌, ◌∷◌, [], length};
+ghost use Rattle.cert_reader.specs.declared.forms.Counts.TheVariants as count;
+ghost use Rattle.cert_reader.specs.Forms.{AreCounts, rent_forms};
+ghost use Rattle.cert_reader.specs.Gathered.{text_said};
+ghost use Rattle.cert_reader.specs.Text.{CanSayAll};
+ghost use Rattle.cert_checker.specs.Lines.{GivesOf};
+ghost use Rattle.cert_checker.specs.declared.rent.TheConstants.{LIST_LINES, RENT_LINES};
+
+use arrayvec::ArrayVec;
+use bid_rules::limits::MEMBER_ROOM;
+use cert_reader::{LineNumbers, rent_text};
+use rent_rules::check_rent;
+use verdicts::Verdict;
+
+/// The lines whose number no count fixes: `members`, `rent`, and six lists behind the values.
+const LIST_LINES: usize = 8;
+/// The most lines between the two that say the kind and `end`.
+const RENT_LINES: usize = LIST_LINES + MEMBER_ROOM;
+
+/// The lines of a rent so far, behind the two that say the kind.
+#[derive(Drop)]
+pub(crate) struct RentLines {
+    lines: ArrayVec<LineNumbers, RENT_LINES>,
+}
+
+impl RentLines {
+    /// None so far.
+    pub(crate) fn new() -> RentLines
+        ensures { result.lines.items ≡ [] }
+    {
+        RentLines {
+            lines: ArrayVec::new(),
+        }
+    }
+
+    /// Takes the next line.
+    pub(crate) fn take(&mut self, numbers: LineNumbers)
+        requires { length self.old.lines.items < RENT_LINES }
+        ensures { self.new.lines.items ≡ self.old.lines.items ++ numbers ∷ [] }
+    {
+        self.lines.push(numbers);
+    }
+
+    /// The verdict, where all lines have come but `end`.
+    pub(crate) fn verdict(&self) -> Verdict
+        requires counts { AreCounts (count.Rent (length self.now.lines.items - LIST_LINES)) }
+        requires lines { CanSayAll (rent_forms (length self.now.lines.items - LIST_LINES)) (text_said self.now.lines.items) }
+        ensures { GivesOf (count.Rent (length self.now.lines.items - LIST_LINES)) (text_said self.now.lines.items) result }
+    {
+        let members = (self.lines.len() - LIST_LINES) as u8;
+        check_rent(&rent_text(members, self.lines.as_slice()))
+    }
+}

@@ -1,0 +1,20 @@
+-- What is read of a whole text.
+use Rattle.std.specs.Prelude.{◌≡◌, ℕ, ◌<◌, ◌≤◌, ◌⊎◌, List, [], length, Option, Result, Ok, Err}
+use Rattle.std.specs.Io.KnownBytes.{IsAtEnd}
+use Rattle.cert_reader.specs.declared.certificate.Certificate.{Certificate}
+use Rattle.cert_reader.specs.declared.ends.ReadEnd.{ReadEnd}
+use Rattle.cert_reader.specs.declared.limits.TheConstants.{MOST_BYTES}
+use Rattle.cert_reader.specs.Gathered.{Gathered, gathered_said}
+use Rattle.cert_reader.specs.Reading.{IsEnd, IsRead, Reading}
+use Rattle.cert_reader.specs.Text.{IsText}
+use Rattle.cert_reader.specs.Views.{counts_of, said_of, view_of}
+
+-- all bytes of the source are the text that says what the certificate does; or why there is none
+abbrev pub IsReadWhole : Option (List ℕ) → List ℕ → Result Certificate ReadEnd → Type 0
+IsReadWhole left taken (Ok certificate) = IsText taken (counts_of (view_of certificate)) (said_of (view_of certificate)) × (length taken ≤ MOST_BYTES) × IsAtEnd left
+IsReadWhole left taken (Err end) = IsEnd end left taken
+
+-- nothing was read yet; or the head of two lines, and the lines and marks that were gathered
+abbrev pub IsGathering : Reading → List ℕ → List Gathered → List ℕ → Type 0
+IsGathering reading taken lines marks =
+    ((reading.lines ≡ 0) × (lines ≡ []) × (marks ≡ []) × IsRead reading taken []) ⊎ ((0 < reading.lines) × IsRead reading taken (gathered_said lines marks))

@@ -1,0 +1,53 @@
+// A whole certificate, read from a source.
+ghost use Rattle.std.specs.Prelude.{◌≡◌, ◌≤◌, ℕ, List, IsErrOf};
+ghost use Rattle.std.specs.Io.KnownBytes.{Consumes};
+ghost use Rattle.split_base.specs.Faults.{HasRisen};
+ghost use Rattle.cert_reader.specs.Stream.{faults_after};
+ghost use Rattle.cert_reader.specs.Whole.{IsReadWhole};
+
+use crate::building::certificate_of;
+use crate::certificate::Certificate;
+use crate::ends::ReadEnd;
+use crate::pieces::{Piece, Pieces};
+use split_base::{NoMemory, Source};
+use std::alloc::Global;
+
+/// Reads a certificate text, and gives what it says.
+///
+/// - `NotText` comes exactly where the input has at most 4,000,000 bytes and is no certificate text, with its first broken line. It was read to its end.
+/// - `TooLong` comes exactly where it has more, whatever its lines. 4,000,001 bytes were read.
+/// - `ReadFault` comes only where the source's count of faults has risen, and at once: the failed read is not tried again.
+/// - `NoMemory` comes for want of memory alone.
+pub fn read_certificate<S: Source>(alloc: Global, source: &mut S) -> Result<Certificate, ReadEnd>
+    ensures read { (taken : List ℕ) × Consumes (S.left source.old) (S.left source.new) taken × IsReadWhole (S.left source.new) taken result }
+    ensures faults { S.faults source.new ≡ faults_after (S.faults source.old) result }
+    ensures fault { IsErrOf result ReadEnd.ReadFault → HasRisen (S.faults source.old) (S.faults source.new) }
+    ensures count { S.faults source.old ≤ S.faults source.new }
+    ensures beside { S.beside source.new ≡ S.beside source.old }
+{
+    let mut pieces = Pieces::new();
+    let mut lines = Vec::new(alloc);
+    let mut marks = Vec::new(alloc);
+    'pieces: loop {
+        match pieces.next(source) {
+            Err(end) => return Err(end),
+            Ok(Piece::Kind { .. }) => {}
+            Ok(Piece::Line { numbers }) => {
+                if lines.push(numbers).is_err() {
+                    return Err(ReadEnd::NoMemory);
+                }
+            }
+            Ok(Piece::Mark { mark }) => {
+                if marks.push(mark).is_err() {
+                    return Err(ReadEnd::NoMemory);
+                }
+            }
+            Ok(Piece::Done) => {
+                return match certificate_of(alloc, pieces.counts(), &lines, marks) {
+                    Ok(certificate) => Ok(certificate),
+                    Err(NoMemory) => Err(ReadEnd::NoMemory),
+                };
+            }
+        }
+    }
+}

@@ -1,0 +1,82 @@
+// The line of a tree, character by character from a source.
+ghost use Rattle.std.specs.Prelude.{◌≡◌, ◌↔◌, ◌≤◌, IsErrOf, IsTrue};
+ghost use Rattle.split_base.specs.Faults.{HasRisen};
+ghost use Rattle.cert_reader.specs.Stream.{faults_after, taken_count};
+ghost use Rattle.cert_reader.specs.Text.{IsMark};
+ghost use Rattle.cert_reader.specs.TreeLines.{IsFirstMark, IsNextMark, tree_front};
+ghost use Rattle.cert_reader.specs.declared.limits.TheConstants.{MOST_BYTES};
+
+use crate::ends::ReadEnd;
+use crate::marks::{ANSWER_LEAF, INNER_NODE, LEFT_OUT};
+use crate::step::refuse;
+use crate::stream::{Bytes, Front};
+use split_base::Source;
+
+/// Whether the byte is a character of a tree.
+fn is_mark(byte: u8) -> bool
+    ensures { IsTrue result ↔ IsMark byte }
+{
+    byte == INNER_NODE || byte == LEFT_OUT || byte == ANSWER_LEAF
+}
+
+/// What stands before the characters of a tree.
+fn before_marks() -> &'static [u8]
+    ensures { result.now ≡ tree_front }
+{
+    b"tree "
+}
+
+/// Takes the next character of a tree, or the end of its line. Else reads on to the end.
+pub(crate) fn next_mark<S: Source>(
+    bytes: &mut Bytes,
+    source: &mut S,
+    line: u32,
+) -> Result<Option<u8>, ReadEnd>
+    ensures mark { IsNextMark bytes.old bytes.new (S.left source.old) (S.left source.new) line result }
+    ensures few { taken_count bytes.new ≤ MOST_BYTES }
+    ensures memory { IsErrOf result ReadEnd.NoMemory → ⊥ }
+    ensures faults { S.faults source.new ≡ faults_after (S.faults source.old) result }
+    ensures fault { IsErrOf result ReadEnd.ReadFault → HasRisen (S.faults source.old) (S.faults source.new) }
+    ensures count { S.faults source.old ≤ S.faults source.new }
+    ensures beside { S.beside source.new ≡ S.beside source.old }
+{
+    match bytes.next_byte(source) {
+        Err(stop) => Err(stop),
+        Ok(None) => Err(ReadEnd::NotText { line }),
+        Ok(Some(byte)) => {
+            if is_mark(byte) {
+                return Ok(Some(byte));
+            }
+            if byte == b'\n' {
+                return Ok(None);
+            }
+            Err(refuse(bytes, source, line))
+        }
+    }
+}
+
+/// Takes the first character of a tree, with what stands before it. Else reads on to the end.
+pub(crate) fn first_mark<S: Source>(
+    bytes: &mut Bytes,
+    source: &mut S,
+    line: u32,
+) -> Result<u8, ReadEnd>
+    ensures mark { IsFirstMark bytes.old bytes.new (S.left source.old) (S.left source.new) line result }
+    ensures few { taken_count bytes.new ≤ MOST_BYTES }
+    ensures memory { IsErrOf result ReadEnd.NoMemory → ⊥ }
+    ensures faults { S.faults source.new ≡ faults_after (S.faults source.old) result }
+    ensures fault { IsErrOf result ReadEnd.ReadFault → HasRisen (S.faults source.old) (S.faults source.new) }
+    ensures count { S.faults source.old ≤ S.faults source.new }
+    ensures beside { S.beside source.new ≡ S.beside source.old }
+{
+    match bytes.take_front(source, before_marks()) {
+        Err(stop) => Err(stop),
+        Ok(Front::Ended) => Err(ReadEnd::NotText { line }),
+        Ok(Front::Other) => Err(refuse(bytes, source, line)),
+        Ok(Front::Whole) => match next_mark(bytes, source, line) {
+            Err(end) => Err(end),
+            Ok(Some(mark)) => Ok(mark),
+            Ok(None) => Err(refuse(bytes, source, line)),
+        },
+    }
+}

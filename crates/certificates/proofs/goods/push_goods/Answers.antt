@@ -1,0 +1,46 @@
+use Rattle.std.proofs.Common.{◌≡◌, ◌++◌, ◌∷◌, [], List, ℕ, length, map, pos, ap, sym, ◌∙◌, append_assoc, append-nil, refl, string_bytes, flat_map}
+use Rattle.std.proofs.lemmas.List.{length-map}
+use Rattle.bid_rules.specs.Goods.{player_count}
+use Rattle.cert_reader.specs.declared.forms.Word.TheVariants as word
+use Rattle.cert_reader.specs.Forms.{Tree, goods_forms, goods_tail}
+use Rattle.cert_reader.specs.Text.{Marks, Said, said_text, text_of, wholes}
+use Rattle.cert_reader.specs.Views.{says}
+use Rattle.certificates.specs.Lines.{number_line}
+use Rattle.certificates.proofs.Rows.{rows_then}
+use Rattle.goods_lines.specs.Lines.{canonical_goods}
+use Rattle.certificates.proofs.goods.push_goods.Goals as goal
+
+-- parts joined from the left and from the right
+joined : (old a b d e f who rows owners steps tree end : List ℕ) → ((((old ++ (a ++ (b ++ (d ++ (e ++ f))))) ++ (who ++ rows)) ++ (owners ++ steps)) ++ tree) ++ end
+    ≡ old ++ (a ++ (b ++ (d ++ (e ++ (f ++ (who ++ (rows ++ (owners ++ (steps ++ (tree ++ (end ++ [])))))))))))
+joined old a b d e f who rows owners steps tree end = simp (append_assoc, append-nil) refl
+
+pub returns : goal.returns
+unfolding goods_forms
+returns c =
+    let case = c.args.case.now in
+    let division = c.args.division.now in
+    let view = canonical_goods case division in
+    let n : ℕ = player_count case in
+    let goods : ℕ = case.facts.goods in
+    let old : List ℕ = string_bytes c.args.text.now in
+    let one = number_line word.Fairsplit (wholes (pos 1 ∷ [])) in
+    let two = number_line word.KindGoods [] in
+    let count : ℕ → List ℕ = λ k. number_line word.Players (wholes (pos k ∷ [])) in
+    let given = number_line word.Goods (wholes (pos goods ∷ [])) in
+    let limit = number_line word.Limit (wholes (view.limit ∷ [])) in
+    let who = number_line word.Who (wholes view.who) in
+    let rows = flat_map (λ row. number_line word.Values (wholes (map pos row.items))) case.values.items in
+    let owners = number_line word.Owners (wholes view.owners) in
+    let steps = number_line word.Steps (wholes (view.steps ∷ [])) in
+    let tree = said_text Tree (Marks view.marks) in
+    let end = number_line word.End [] in
+    let tail : List Said = says view.owners ∷ says (view.steps ∷ []) ∷ Marks view.marks ∷ says [] ∷ [] in
+    let said : ℕ → List Said = λ k. says (pos 1 ∷ []) ∷ says [] ∷ says (pos k ∷ []) ∷ says (pos goods ∷ []) ∷ says (view.limit ∷ []) ∷ says view.who ∷ (map says view.values ++ tail) in
+    let players : n ≡ length view.who = c.requires.case.each ∙ sym (length-map case.who.items pos) in
+    let begun = c.in_ok-push_head.ensures ∙ ap (λ (k : ℕ). old ++ (one ++ (two ++ (count k ++ (given ++ limit))))) c.players.ensures.value in
+    c.in_ok-push_small.ensures
+    ∙ ap (λ xs. xs ++ end) (c.in_ok-push_tree.ensures ∙ ap (λ xs. xs ++ tree) (c.in_ok-push_division.ensures ∙ ap (λ xs. xs ++ (owners ++ steps)) (c.in_ok-push_players.ensures ∙ ap (λ xs. xs ++ (who ++ rows)) begun)))
+    ∙ joined old one two (count n) given limit who rows owners steps tree end
+    ∙ ap (λ xs. old ++ (one ++ (two ++ (count n ++ (given ++ (limit ++ (who ++ xs))))))) (rows_then word.Values goods n (λ row. map pos row.items) case.values.items (goods_tail goods) tail refl)
+    ∙ ap (λ (k : ℕ). old ++ text_of (goods_forms k goods) (said k)) players

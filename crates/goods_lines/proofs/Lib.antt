@@ -1,0 +1,5 @@
+pub mod TreeMarks
+pub mod TreeSizes
+pub mod BestAnswer
+pub mod TreeRules
+pub mod Passes

@@ -1,0 +1,10 @@
+use Rattle.std.proofs.Common.{◌≡◌, ◌+◌, ◌-◌, ◌++◌, ◌∷◌, length, string_bytes}
+use Rattle.cert_reader.specs.declared.marks.TheConstants.{INNER_NODE}
+use Rattle.goods_lines.proofs.TreeMarks.{children_marks}
+use Rattle.goods_lines.proofs.marks.+push_tree.Given as goal
+
+abbrev pub decreases-push_tree : goal.decreases-push_tree
+decreases-push_tree l = l.case.now.facts.goods - length l.node.now.owners.items
+
+abbrev pub invariant-loop-k : goal.invariant-loop-k
+invariant-loop-k l = string_bytes l.text ≡ string_bytes l.fn.text ++ INNER_NODE ∷ children_marks l.case l.answer.owners.items (l.case.facts.goods - (length l.node.owners.items + 1)) l.node.owners.items l.k

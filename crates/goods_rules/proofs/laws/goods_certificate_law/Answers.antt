@@ -1,0 +1,29 @@
+use Rattle.std.proofs.Common.{arith, ◌∙◌, unsigned_abs, length, subst, sym, All, ◌≤◌}
+use Rattle.std.proofs.lemmas.List.{length-map}
+use Rattle.goods_rules.specs.Printed.{printed_answer, printed_case, printed_owners}
+use Rattle.goods_rules.specs.Rules.{goods_rule}
+use Rattle.goods_rules.proofs.BestAnswer.{tree_best}
+use Rattle.goods_rules.proofs.PrintedNumbers.{owners_unsigned, players_same}
+use Rattle.verdict_lemmas.proofs.Order.{one_verdict}
+use Rattle.goods_rules.proofs.laws.goods_certificate_law.Goals as goal
+
+pub returns-clause-valid : goal.returns-clause-valid
+returns-clause-valid c view kept = (kept 1 (omega arith) (omega arith)).valid
+
+pub returns-clause-best : goal.returns-clause-best
+returns-clause-best c view kept =
+    let case = printed_case view in
+    let read = kept 1 (omega arith) (omega arith) in
+    let owners = kept 2 (omega arith) (omega arith) in
+    let owned = subst (λ n. All (λ owner. (1 ≤ owner) × (owner ≤ n)) (printed_owners view)) (sym (players_same view read)) (owners_unsigned (length view.who) view.owners owners.owned) in
+    let allocation = c.owners_by_good_law.ensures.allocation case (printed_owners view) (length-map view.owners unsigned_abs ∙ owners.each) owned in
+    tree_best case (printed_answer view) view.marks c.bound_law.ensures.below c.open_prefixes_law.ensures.left read.valid allocation
+    (kept 4 (omega arith) (omega arith)) (kept 5 (omega arith) (omega arith)) (kept 6 (omega arith) (omega arith))
+
+pub returns-clause-owners : goal.returns-clause-owners
+returns-clause-owners c view kept =
+    let owners = kept 2 (omega arith) (omega arith) in
+    c.owners_by_good_law.ensures.by_good_again (printed_case view) (printed_owners view) (length-map view.owners unsigned_abs ∙ owners.each)
+
+pub returns-clause-one : goal.returns-clause-one
+returns-clause-one c view = one_verdict (goods_rule view) 6

@@ -1,0 +1,6 @@
+pub mod Ahead
+pub mod Path
+pub mod Printed
+pub mod Rules
+pub mod State
+pub mod Tree

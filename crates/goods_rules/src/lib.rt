@@ -1,0 +1,19 @@
+//! The six rules of a certificate of goods, judged mark by mark in fixed memory: where all hold, the printed owners have the greatest
+//! Nash welfare (Caragiannis and others 2016), the first of equals.
+#![tactic(auto)]
+
+mod answer;
+mod case;
+mod laws;
+mod path;
+mod state;
+#[cfg(test)]
+mod tests;
+mod walk;
+
+pub use answer::Answer;
+pub use case::PrintedRow;
+pub use laws::goods_certificate_law;
+pub use path::{Parent, Path};
+pub use state::{GoodsState, end_goods, start_goods, take_mark};
+pub use walk::{Kept, Walk};
