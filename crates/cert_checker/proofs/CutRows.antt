@@ -18,6 +18,7 @@ cut_more (s ∷ sizes) xs (suc k) low =
     ∙ ap (λ ys. take s xs ∷ (take k (cut_into sizes (drop s xs)) ++ take (get_or sizes k 0) ys ∷ [])) (drop-drop (sum (take k sizes)) s xs)
     ∙ ap (λ n. take s xs ∷ (take k (cut_into sizes (drop s xs)) ++ take (get_or sizes k 0) (drop n xs) ∷ [])) long
 
+-- there are as many rows as sizes to cut at
 pub cut_long : (sizes : List ℕ) (xs : List ℤ) → length (cut_into sizes xs) ≡ length sizes
 cut_long [] xs = refl
 cut_long (s ∷ sizes) xs = ap suc (cut_long sizes (drop s xs))
@@ -26,6 +27,7 @@ cut_long (s ∷ sizes) xs = ap suc (cut_long sizes (drop s xs))
 pub size_of_set : (n set k : ℕ) → k + 1 ≡ set → set < 2 ^ n → get_or (set_sizes n) k 0 ≡ length (starts n set)
 size_of_set n set k e low = get_or-map-range_with_len (λ (s : ℕ). length (starts n s)) 1 (2 ^ n - 1) k set 0 (omega arith) (omega arith)
 
+-- n riders have a size for each set but the empty one
 pub sizes_long : (n : ℕ) → length (set_sizes n) ≡ 2 ^ n - 1
 sizes_long n = length-map (sets_of n) (λ set. length (starts n set)) ∙ length-range_with_len 1 (2 ^ n - 1)
 
@@ -37,6 +39,7 @@ cut_bound n set from size table low high e f long =
     let bound = sum_by_more_le (λ k. k) (set_sizes n) (set - 1) 0 (omega (arith, many, low, high)) in
     omega (arith, here, bound, e, f, long)
 
+-- behind the numbers of a set begin those of the next set
 pub cut_from : (n set from size : ℕ) → 1 ≤ set → set < 2 ^ n → from ≡ sum (take (set - 1) (set_sizes n)) → size ≡ length (starts n set) → from + size ≡ sum (take (set + 1 - 1) (set_sizes n))
 cut_from n set from size low high e f =
     let here = size_of_set n set (set - 1) (omega arith) high in

@@ -29,6 +29,7 @@ record IsFractions (count : ℕ) (said : Said) : Type 0 where
   long : length row ≡ count
   written : All (IsNumber false) row
 
+-- a line that the form of fares allows is a line of that many fractions
 fractions_in : (count : ℕ) (said : Said) → CanSay (fractions_of word.Fares count) said → IsFractions count said
 fractions_in count (Numbers numbers) h = record { row = numbers; is = refl; long = h.each; written = h.written }
 fractions_in count (Marks marks) h = absurd h
@@ -48,6 +49,7 @@ pub record HasView (n places : ℕ) (said : List Said) : Type 0 where
   pub places_are : view.places ≡ places
   pub whole : IsWhole view
 
+-- lines that the forms of fares allow are those of a whole view with as many riders and places
 pub fares_view_of : (n places : ℕ) (said : List Said) → AreCounts (Fares n places) → CanSayAll (fares_forms n places) said → HasView n places said
 unfolding fares_forms
 fares_view_of n places said counts h =

@@ -15,6 +15,7 @@ record IsTreeLine (said : Said) : Type 0 where
   marks : List ℕ
   is : said ≡ Marks marks
 
+-- a line that the form of a tree allows is a line of marks
 tree_line : (said : Said) → CanSay Tree said → IsTreeLine said
 tree_line (Numbers numbers) h = absurd h
 tree_line (Marks marks) h = record { marks = marks; is = refl }
@@ -34,6 +35,7 @@ pub record HasGoodsView (n goods : ℕ) (said : List Said) : Type 0 where
   pub goods_are : view.goods ≡ goods
   pub whole : IsWholeGoods view
 
+-- lines that the forms of goods allow are those of a whole view with as many players and goods
 pub goods_view_of : (n goods : ℕ) (said : List Said) → n ≤ MOST_MEMBERS → goods ≤ MOST_GOODS → CanSayAll (goods_forms n goods) said → HasGoodsView n goods said
 unfolding goods_forms
 goods_view_of n goods said few many h =

@@ -26,6 +26,7 @@ pub record IsFrontOf {A : Type 0} (front whole : List A) : Type 0 where
   pub rest : List A
   pub is : whole ≡ front ++ rest
 
+-- of two fronts of the same lines, the one that is no longer is the front of the other
 pub front_of : (xs ys zs ws : List Said) → xs ++ ys ≡ zs ++ ws → length zs ≤ length xs → IsFrontOf zs xs
 front_of xs ys [] ws e low = record { rest = xs; is = refl }
 front_of [] ys (z ∷ zs) ws e low = absurd (omega arith)
@@ -46,6 +47,7 @@ pub record HasMore (view : FaresView) (lines : List Gathered) : Type 0 where
   pub rest : List Said
   pub is : head_said view ≡ map line_said lines ++ rest
 
+-- a line that comes next, behind lines of the head that are not all, is a line of the head too
 pub head_more : (view : FaresView) (said : List Said) (lines : List Gathered) (numbers : Gathered) → IsNext view said (map fraction_of numbers.items) → IsInHead view said lines → HasMore view (lines ++ numbers ∷ [])
 head_more view said lines numbers next head =
     let all : head_said view ++ (sets_said 1 view.sets ++ last_said view) ≡ map line_said lines ++ (line_said numbers ∷ next.next ∷ next.rest) =
@@ -71,12 +73,13 @@ number_in_head view lines rest k row e low is =
     ap (λ s. get_or s k (Marks [])) e ∙ get_or-append (map line_said lines) rest (Marks []) k (omega arith) ∙ get_or-map line_said lines k no_line (Marks []) low in
     ap numbers_in (sym here ∙ is)
 
--- the lines of riders stand behind the legs
+-- the line of the riders stands behind the legs
 pub who_in_head : (view : FaresView) (k : ℕ) → length view.legs + 3 ≡ k → get_or (head_said view) k (Marks []) ≡ says view.who
 who_in_head view k e =
     let at : k ≡ suc (suc (suc (length (map says view.legs)))) = (let each = length-map view.legs says in omega arith) in
     ap (λ i. get_or (head_said view) i (Marks [])) at ∙ get_or-append_seam (map says view.legs) (says view.who) (says view.at ∷ []) (Marks [])
 
+-- the line of the places where riders get off stands behind that of the riders
 pub at_in_head : (view : FaresView) (k : ℕ) → length view.legs + 4 ≡ k → get_or (head_said view) k (Marks []) ≡ says view.at
 at_in_head view k e =
     let at : k ≡ suc (suc (suc (length (map says view.legs) + 1))) = (let each = length-map view.legs says in omega arith) in
@@ -95,6 +98,7 @@ row_in_lines lines rows k d e low =
     let many : length lines ≡ length rows = sym (length-map lines line_said) ∙ ap length e ∙ length-map rows says in
     ap numbers_in (sym (get_or-map line_said lines k d (Marks []) low) ∙ ap (λ s. get_or s k (Marks [])) e ∙ get_or-map says rows k [] (Marks []) (omega arith))
 
+-- lines that say rows of as many numbers each have at most the numbers that there is room for
 pub rows_short : (lines : List Gathered) (rows : List (List ℤ)) (count room : ℕ) → map line_said lines ≡ map says rows → All (λ row. length row ≡ count) rows → count ≤ room → All (λ line. length line.items ≤ room) lines
 rows_short lines rows count room e columns fit k d low =
     let many : length lines ≡ length rows = sym (length-map lines line_said) ∙ ap length e ∙ length-map rows says in
@@ -103,6 +107,7 @@ rows_short lines rows count room e columns fit k d low =
     let column = columns k [] (omega arith) in
     omega arith
 
+-- lines that say written rows hold whole numbers alone
 pub rows_whole : (lines : List Gathered) (rows : List (List ℤ)) → map line_said lines ≡ map says rows → All AreWritten rows → All (λ line. All (IsNumber true) (map fraction_of line.items)) lines
 rows_whole lines rows e written k d low =
     let many : length lines ≡ length rows = sym (length-map lines line_said) ∙ ap length e ∙ length-map rows says in
@@ -113,6 +118,7 @@ rows_read : (rows : List (List ℤ)) → map (λ said. numerators (numbers_in sa
 rows_read [] = refl
 rows_read (row ∷ rows) = ap (λ r. r ∷ map (λ said. numerators (numbers_in said)) (map says rows)) (numerators_of row) ∙ ap (λ rs. row ∷ rs) (rows_read rows)
 
+-- rows that say the same lines are the same rows
 pub rows_once : (xs ys : List (List ℤ)) → map says xs ≡ map says ys → xs ≡ ys
 rows_once xs ys e = sym (rows_read xs) ∙ ap (map (λ said. numerators (numbers_in said))) e ∙ rows_read ys
 
@@ -124,9 +130,11 @@ number_once x y e = ap (λ zs. get_or zs 0 (pos 0)) (wholes_once (x ∷ []) (y �
 case_of_head : (view : FaresView) → HasCase (head_of view.places view.flag view.legs view.who view.at) → HasCase view
 case_of_head view h = record { flag = h.flag; legs = h.legs; who = h.who; at = h.at; valid = h.valid }
 
+-- and the case of its head is that of the text
 head_of_case : (view : FaresView) → HasCase view → HasCase (head_of view.places view.flag view.legs view.who view.at)
 head_of_case view h = record { flag = h.flag; legs = h.legs; who = h.who; at = h.at; valid = h.valid }
 
+-- a judge that stands for a head alone, with no set yet, stands for the text
 pub stands_behind_head : (view : FaresView) (state : FaresState) → StandsFor (head_of view.places view.flag view.legs view.who view.at) [] state → StandsFor view [] state
 stands_behind_head view (Broken rule) (inl h) = inl (h.0, λ case. h.1 (head_of_case view case))
 stands_behind_head view (Broken rule) (inr h) = inr (h.0, case_of_head view h.1, h.2)

@@ -41,6 +41,7 @@ pub record IsRent (counts : Counts) (lines behind : ℕ) : Type 0 where
   pub long : lines + 2 + behind ≡ members + 11
   pub few : members ≤ 12
 
+-- counts of the kind of rents are those of a rent, with eleven lines and one a member, and at most twelve members
 pub rent_is : (counts : Counts) (said rest : List Said) (lines : List Gathered) → AreCounts counts → kind_of counts ≡ 1 → CanSayAll (forms_of counts) (said ++ rest) → said ≡ front_said (map line_said lines) → IsRent counts (length lines) (length rest)
 rent_is (count.Goods n goods) said rest lines are kind fits is = absurd (omega arith)
 rent_is (count.Fares n places) said rest lines are kind fits is = absurd (omega arith)
@@ -59,6 +60,7 @@ pub record IsFares (counts : Counts) (said : List Said) : Type 0 where
   pub counted : count.Fares (length view.who) view.places ≡ counts
   pub whole : IsWhole view
 
+-- a text of the kind of fares is said by a whole view of fares with its counts
 pub fares_is : (counts : Counts) (said : List Said) → AreCounts counts → kind_of counts ≡ 3 → CanSayAll (forms_of counts) said → IsFares counts said
 fares_is (count.Rent n) said are kind fits = absurd (omega arith)
 fares_is (count.Goods n goods) said are kind fits = absurd (omega arith)
@@ -77,6 +79,7 @@ pub record IsGoods (counts : Counts) (said : List Said) : Type 0 where
   pub counted : count.Goods (length view.who) view.goods ≡ counts
   pub whole : IsWholeGoods view
 
+-- a text of the kind of goods is said by a whole view of goods with its counts
 pub goods_is : (counts : Counts) (said : List Said) → AreCounts counts → kind_of counts ≡ 2 → CanSayAll (forms_of counts) said → IsGoods counts said
 goods_is (count.Rent n) said are kind fits = absurd (omega arith)
 goods_is (count.Fares n places) said are kind fits = absurd (omega arith)
@@ -88,12 +91,13 @@ goods_is (count.Goods n goods) said are kind fits =
 pub goods_give : (counts : Counts) (said : List Said) (verdict : Verdict) (g : IsGoods counts said) → IsVerdict (goods_rule g.view) 6 verdict → GivesOf counts said verdict
 goods_give counts said verdict g gives = record { view = OfGoods g.view; counted = g.counted; is_said = g.is; rows = g.whole.rows; gives = gives }
 
--- only goods have marks
+-- no text of a rent says a mark
 pub no_rent_mark : (counts : Counts) (said : List Said) (mark : ℕ) (rest : List Said) → kind_of counts ≡ 1 → CanSayAll (forms_of counts) (with_mark said mark ++ rest) → ⊥
 no_rent_mark (count.Rent n) said mark rest kind fits = no_mark_said (rent_forms n) said mark rest (no_tree_rent n) fits
 no_rent_mark (count.Goods n goods) said mark rest kind fits = omega arith
 no_rent_mark (count.Fares n places) said mark rest kind fits = omega arith
 
+-- no text of fares says a mark
 pub no_fares_mark : (counts : Counts) (said : List Said) (mark : ℕ) (rest : List Said) → kind_of counts ≡ 3 → CanSayAll (forms_of counts) (with_mark said mark ++ rest) → ⊥
 no_fares_mark (count.Fares n places) said mark rest kind fits = no_mark_said (fares_forms n places) said mark rest (no_tree_fares n places) fits
 no_fares_mark (count.Goods n goods) said mark rest kind fits = omega arith
@@ -117,6 +121,7 @@ pub record HasNext (rest : List Said) : Type 0 where
   pub more : List Said
   pub is : rest ≡ next ∷ more
 
+-- where fewer lines were said than the text has, one more follows
 pub next_of : (counts : Counts) (said rest : List Said) (lines : ℕ) → CanSayAll (forms_of counts) (said ++ rest) → length said ≡ lines → lines < length (forms_of counts) → HasNext rest
 next_of counts said [] lines fits long to_come = absurd (let many = can_many (forms_of counts) (said ++ []) fits in let both = length-append said [] in omega (arith, many, both, long, to_come))
 next_of counts said (next ∷ more) lines fits long to_come = record { next = next; more = more; is = refl }

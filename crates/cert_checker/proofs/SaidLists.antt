@@ -20,6 +20,7 @@ pub numerators_of : (zs : List ℤ) → numerators (wholes zs) ≡ zs
 numerators_of [] = refl
 numerators_of (z ∷ zs) = ap (λ more. z ∷ more) (numerators_of zs)
 
+-- lists with the same whole numbers over 1 are the same
 pub wholes_once : (xs ys : List ℤ) → wholes xs ≡ wholes ys → xs ≡ ys
 wholes_once xs ys e = sym (numerators_of xs) ∙ ap numerators e ∙ numerators_of ys
 
@@ -28,6 +29,7 @@ abbrev pub numbers_in : Said → List Fraction
 numbers_in (Numbers numbers) = numbers
 numbers_in (Marks marks) = []
 
+-- rows that say the same line are the same
 pub says_once : (xs ys : List ℤ) → says xs ≡ says ys → xs ≡ ys
 says_once xs ys e = wholes_once xs ys (ap numbers_in e)
 
@@ -45,6 +47,7 @@ pub record IsRow (count : ℕ) (said : Said) : Type 0 where
   pub long : length row ≡ count
   pub written : AreWritten row
 
+-- a line that a form of whole numbers allows is a line of that many whole numbers
 pub row_of : (word : Word) (count : ℕ) (said : Said) → CanSay (numbers_of word count) said → IsRow count said
 row_of word count (Numbers numbers) h = (let same = whole_numbers numbers h.written in record {
   row = numerators numbers;
@@ -61,6 +64,7 @@ pub record IsLedRow (lead count : ℕ) (said : Said) : Type 0 where
   pub long : length row + 1 ≡ count
   pub written : AreWritten row
 
+-- a line that a form with a set first number allows is such a line, with that many numbers in all
 pub led_row_of : (word : Word) (lead count : ℕ) (said : Said) → CanSay (led_by word lead count) said → IsLedRow lead count said
 led_row_of word lead count (Numbers []) h = absurd (h.first)
 led_row_of word lead count (Numbers ((a, b) ∷ numbers)) h =
@@ -84,10 +88,11 @@ pub only : (zs : List ℤ) → length zs ≡ 1 → zs ≡ get_or zs 0 (pos 0) �
 only [] e = absurd (omega arith)
 only (z ∷ zs) e = ap (λ more. z ∷ more) (none_left zs (omega arith))
 
--- a line of no numbers, and of one that is set
+-- a line of no numbers says none
 pub empty_said : (word : Word) (said : Said) → CanSay (numbers_of word 0) said → said ≡ says []
 empty_said word said h = (let r = row_of word 0 said h in r.is ∙ ap says (none_left r.row r.long))
 
+-- a line of one number that is set says that number
 pub one_said : (word : Word) (lead : ℕ) (said : Said) → CanSay (led_by word lead 1) said → said ≡ says (pos lead ∷ [])
 one_said word lead said h = (let r = led_row_of word lead 1 said h in r.is ∙ ap (λ zs. says (pos lead ∷ zs)) (none_left r.row (let long = r.long in omega arith)))
 
@@ -111,6 +116,7 @@ pub record IsLedBy (form : Form) (forms : List Form) (said : List Said) : Type 0
   pub can : CanSay form first
   pub fits : CanSayAll forms more
 
+-- lines of some forms begin with a line of the first form, and the others are of the other forms
 pub can_first : (form : Form) (forms : List Form) (said : List Said) → CanSayAll (form ∷ forms) said → IsLedBy form forms said
 can_first form forms [] h = absurd h
 can_first form forms (x ∷ said) h = record { first = x; more = said; is = refl; can = h.0; fits = h.1 }
@@ -123,6 +129,7 @@ pub record IsCutAt (forms others : List Form) (said : List Said) : Type 0 where
   pub can : CanSayAll forms front
   pub fits : CanSayAll others more
 
+-- lines of forms one after another are lines of the first forms and, behind them, lines of the others
 pub can_cut : (forms others : List Form) (said : List Said) → CanSayAll (forms ++ others) said → IsCutAt forms others said
 can_cut [] others said h = record { front = []; more = said; is = refl; can = tt; fits = h }
 can_cut (f ∷ forms) others [] h = absurd h
@@ -138,6 +145,7 @@ pub record AreRowsOf (many count : ℕ) (said : List Said) : Type 0 where
   pub columns : All (λ row. length row ≡ count) rows
   pub written : All AreWritten rows
 
+-- lines that a repeated form of whole numbers allows say as many rows of that many numbers
 pub can_rows : (word : Word) (many count : ℕ) (said : List Said) → CanSayAll (replicate many (numbers_of word count)) said → AreRowsOf many count said
 can_rows word zero count [] h = record { rows = []; is = refl; long = refl; columns = All-nil (λ row. length row ≡ count); written = All-nil AreWritten }
 can_rows word zero count (x ∷ said) h = absurd h
@@ -160,6 +168,7 @@ pub record AreSetsOf (from many : ℕ) (said : List Said) : Type 0 where
   pub long : length rows ≡ many
   pub written : All AreWritten rows
 
+-- lines that the forms of sets allow say the rows of as many sets, from the first one on
 pub can_sets : (n from many : ℕ) (said : List Said) → CanSayAll (map (set_form n) (range_with_len from many)) said → AreSetsOf from many said
 can_sets n from zero [] h = record { rows = []; is = refl; long = refl; written = All-nil AreWritten }
 can_sets n from zero (x ∷ said) h = absurd h

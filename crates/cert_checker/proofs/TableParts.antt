@@ -26,6 +26,7 @@ sets_behind from (x ∷ xs) ys =
     let same : from + 1 + length xs ≡ from + suc (length xs) = omega arith in
     ap (λ s. says (pos from ∷ x) ∷ s) (sets_behind (from + 1) xs ys ∙ ap (λ k. sets_said (from + 1) xs ++ sets_said k ys) same)
 
+-- there is a line a set
 pub sets_long : (from : ℕ) (rows : List (List ℤ)) → length (sets_said from rows) ≡ length rows
 sets_long from rows = length-map (enumerate_from from rows) (λ row. says (pos row.0 ∷ row.1)) ∙ length-enumerate_from from rows
 
@@ -53,6 +54,7 @@ pub record HasLast (view : FaresView) (table : TableLines) : Type 0 where
   pub route : numbers_at table.last.items 0 ≡ wholes view.route
   pub fares : numbers_at table.last.items 1 ≡ view.fares
 
+-- where `end` alone is still to come, all sets were judged and the two lines behind them are the route and the fares
 pub last_lines : (view : FaresView) (said : List Said) (table : TableLines) → fares_said view ≡ said ++ says [] ∷ [] → IsBehindHead view said table → HasLast view table
 last_lines view said table e h =
     let last = table.last.items in
@@ -95,6 +97,7 @@ pub record HasSet (numbers : List Fraction) (taken more : List (List ℤ)) : Typ
   pub numbers_are : numbers ≡ (pos (1 + length taken), 1) ∷ wholes row
   pub written : AreWritten row
 
+-- where sets are still to come, the next line is that of the first of them
 set_here : (view : FaresView) (numbers : List Fraction) (taken more : List (List ℤ)) (rest : List Said) → view.sets ≡ taken ++ more → 0 < length more → All AreWritten view.sets
     → sets_said (1 + length taken) more ++ last_said view ≡ Numbers numbers ∷ rest → HasSet numbers taken more
 set_here view numbers taken [] rest sets some written e = absurd (omega arith)
@@ -114,6 +117,7 @@ none_last view said table h some = nothing table.last.items (⊎_elim
     (λ (g : length table.last.items ≤ 0). omega arith)
     (cases_lt 0 (length table.last.items)))
 
+-- a line of numbers that comes next, while sets are left, is that of the next set
 pub next_set : (view : FaresView) (said : List Said) (numbers : List Fraction) (table : TableLines) → IsNext view said numbers → (h : IsBehindHead view said table) → 0 < table.left → HasSet numbers h.taken h.more
 next_set view said numbers table next h some =
     let none = none_last view said table h some in
@@ -169,6 +173,7 @@ behind_set view said line old new h some s state stands left last =
 pub row_of_set : (line : Gathered) (taken more : List (List ℤ)) (s : HasSet (map fraction_of line.items) taken more) → map fraction_of (take (length line.items - 1) (drop 1 line.items)) ≡ wholes s.row
 row_of_set line taken more s = ap (map fraction_of) (take_rest line.items 1) ∙ sym (drop-map fraction_of 1 line.items) ∙ ap (drop 1) s.numbers_are
 
+-- the line of a set has at least one number
 pub some_in_set : (line : Gathered) (taken more : List (List ℤ)) → HasSet (map fraction_of line.items) taken more → 1 ≤ length line.items
 some_in_set line taken more s = (let long = ap length s.numbers_are in let each = length-map line.items fraction_of in omega arith)
 

@@ -49,6 +49,7 @@ pub record AreCutAlike (xs ys : List Said) (m n : List ℕ) (r s : List Said) : 
   pub marks : m ≡ n
   pub behind : r ≡ s
 
+-- lines of numbers, a tree and what is behind it that are the same as others have the same lines, marks and rest
 pub cut_alike : (xs ys : List Said) (m n : List ℕ) (r s : List Said) → AreLines xs → AreLines ys → xs ++ Marks m ∷ r ≡ ys ++ Marks n ∷ s → AreCutAlike xs ys m n r s
 cut_alike [] [] m n r s h k e = record { before = refl; marks = ap (λ l. marks_in (get_or l 0 (Marks []))) e; behind = ap (drop 1) e }
 cut_alike [] (Numbers y ∷ ys) m n r s h k e = absurd (let first : Marks m ≡ Numbers y = ap (λ l. get_or l 0 (Marks [])) e in cc)

@@ -40,13 +40,15 @@ kinds_apart v w (Numbers []) (Numbers (y ∷ ys)) other p q e = let none = q.eac
 kinds_apart v w (Marks xs) y other p q e = absurd p
 kinds_apart v w (Numbers []) (Marks ys) other p q e = absurd q
 
--- their sixth letters do
+-- the words for the kinds of rents and of goods differ in their sixth letters
 rent_or_goods : word_text word.KindRent ≡ word_text word.KindGoods → ⊥
 rent_or_goods e = let sixth = ap (λ letters. get_or letters 5 0) e in omega arith
 
+-- so do those of rents and of fares
 rent_or_fares : word_text word.KindRent ≡ word_text word.KindFares → ⊥
 rent_or_fares e = let sixth = ap (λ letters. get_or letters 5 0) e in omega arith
 
+-- so do those of goods and of fares
 goods_or_fares : word_text word.KindGoods ≡ word_text word.KindFares → ⊥
 goods_or_fares e = let sixth = ap (λ letters. get_or letters 5 0) e in omega arith
 
@@ -58,6 +60,7 @@ record SameLine (c d : Counts) (i : ℕ) : Type 0 where
   could : CanSay (form_in d i) other
   same : said_text (form_in c i) one ≡ said_text (form_in d i) other
 
+-- counts whose first lines are the same in some text of each agree as far as those lines go
 agree_from : (k : ℕ) (c d : Counts) → ((i : ℕ) → i < k → i < 4 → SameLine c d i) → AgreeUpTo k c d
 unfolding rent_forms goods_forms fares_forms
 agree_from k (Rent n) (Rent m) same = λ far. (let s = same 2 far (omega arith) in same_lead word.Members n m s.one s.other s.can s.could s.same)
@@ -137,6 +140,7 @@ pub record OneFront (k : ℕ) (c d : Counts) (xs ys : List Said) (r s : List ℕ
   pub said : xs ≡ ys
   pub rest : r ≡ s
 
+-- bytes begin with as many lines of a text in one way alone
 pub begins_once : (bytes : List ℕ) (k : ℕ) (c d : Counts) (xs ys : List Said) (r s : List ℕ) → Begins bytes k c xs r → Begins bytes k d ys s → OneFront k c d xs ys r s
 begins_once bytes k c d xs ys r s h g =
     let fs = take k (forms_of c) in

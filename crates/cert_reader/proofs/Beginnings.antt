@@ -12,6 +12,7 @@ use Rattle.cert_reader.proofs.FormPlaces.{lines_some}
 use Rattle.cert_reader.proofs.Fronts.{can-append, can_many, can_split, can_take, text-append, text_cut}
 use Rattle.cert_reader.proofs.UsualForms.{some_said, usual_drop, usual_forms}
 
+-- a front of some forms has the length that it was cut to
 length_take : (k : ℕ) (forms : List Form) → k ≤ length forms → length (take k forms) ≡ k
 length_take k forms h = omega (arith, length-take {A = Form} k forms)
 
@@ -57,6 +58,7 @@ pub record OneLess (bytes : List ℕ) (k : ℕ) (counts : Counts) (all : List Sa
   pub begins : Begins bytes k counts said (said_text (form_in counts k) last ++ rest)
   pub can : CanSay (form_in counts k) last
 
+-- bytes that begin with at least one line begin with all but the last, and then that line
 pub begins_last : (bytes rest : List ℕ) (k : ℕ) (counts : Counts) (said : List Said) → Begins bytes (k + 1) counts said rest → OneLess bytes k counts said rest
 begins_last bytes rest k counts said h =
     let forms = forms_of counts in
@@ -137,6 +139,7 @@ text_begins bytes counts said h =
       text = h.text ∙ sym (append-nil (text_of forms said)) ∙ ap (λ fs. text_of fs said ++ []) (sym whole);
     }
 
+-- bytes that are all lines of some counts, with nothing behind, are a text
 pub begins_text : (bytes rest : List ℕ) (k : ℕ) (counts : Counts) (said : List Said) → Begins bytes k counts said rest → k ≡ length (forms_of counts) → rest ≡ [] → IsText bytes counts said
 begins_text bytes rest k counts said h all none =
     let forms = forms_of counts in

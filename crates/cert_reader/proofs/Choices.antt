@@ -19,6 +19,7 @@ pub record IsChoice (index : ℕ) (known counts : Counts) : Type 0 where
   pub agree : AgreeUpTo index known counts
   pub within : index < length (forms_of counts)
 
+-- each way that is tried stands for such counts
 pub choice_valid : (index : ℕ) (known : Counts) (choice : ℕ) → AreCounts known → index < length (forms_of known) → choice < choice_count index known → IsChoice index known (choice_of index known choice)
 choice_valid zero known choice are within low = record { are = are; agree = agree_same zero known; within = within }
 choice_valid (suc zero) (Rent n) zero are within low = record { are = (omega arith, omega arith); agree = λ h. absurd (omega arith); within = (let some = lines_some (Rent 1) in omega arith) }
@@ -44,6 +45,7 @@ pub record IsTried (index : ℕ) (known counts : Counts) : Type 0 where
   pub low : choice < choice_count index known
   pub same : form_in (choice_of index known choice) index ≡ form_in counts index
 
+-- counts that agree with those known have the form of one of the ways that are tried
 pub choice_whole : (index : ℕ) (known counts : Counts) → AreCounts counts → AgreeUpTo index known counts → IsTried index known counts
 unfolding rent_forms goods_forms fares_forms
 choice_whole zero (Rent n) (Rent m) are agree = record { choice = 0; low = omega arith; same = refl }

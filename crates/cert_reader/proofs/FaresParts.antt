@@ -43,9 +43,11 @@ at_part lines from many k within low =
     ap (λ (line : Gathered). map fraction_of line.items)
     (get_or-take many (drop from lines) k no_line low ∙ get_or-drop from lines k no_line)
 
+-- a part that lies within the lines has the length that it was cut to
 part_many : (lines : List Gathered) (from many : ℕ) → from + many ≤ length lines → length (take many (drop from lines)) ≡ many
 part_many lines from many within = (let cut = length-take {A = Gathered} many (drop from lines) in let rest = length-drop from lines in omega (arith, cut, rest, within))
 
+-- gathered lines that the forms of fares allow say what fares for n riders and so many places do
 pub fares_lines : (n places last : ℕ) (lines : List Gathered) → last ≡ 4 + places + 2 + (2 ^ n - 1) → CanSayAll (fares_forms n places) (text_said lines) → FaresLines n places last lines
 fares_lines n places last lines is h =
     let all = lines_many (Fares n places) lines h in
@@ -74,9 +76,11 @@ fares_lines n places last lines is h =
 legs_part : ℕ → List Gathered → List Gathered
 legs_part places lines = take (4 + places - 3) (drop 3 lines)
 
+-- the lines of the sets, which are those between the riders' places and the route
 sets_part : ℕ → ℕ → List Gathered → List Gathered
 sets_part places last lines = take (last - (4 + places + 2)) (drop (4 + places + 2) lines)
 
+-- gathered lines of fares are the first three, the legs, the two of riders, the sets, the route and the fares
 fares_split : (n places last : ℕ) (lines : List Gathered) → last ≡ 4 + places + 2 + (2 ^ n - 1) → length lines ≡ last + 2
     → lines ≡ get_or lines 0 no_line ∷ get_or lines 1 no_line ∷ get_or lines 2 no_line ∷ (legs_part places lines ++ (get_or lines (4 + places) no_line ∷ get_or lines (4 + places + 1) no_line
     ∷ (sets_part places last lines ++ (get_or lines last no_line ∷ get_or lines (last + 1) no_line ∷ []))))
@@ -97,6 +101,7 @@ fares_split n places last lines is many =
 in_order : Said → Said → Said → List Said → Said → Said → List Said → Said → Said → List Said
 in_order riders places flag legs who at sets route fares = says (pos 1 ∷ []) ∷ says [] ∷ riders ∷ places ∷ flag ∷ (legs ++ (who ∷ at ∷ (sets ++ (route ∷ fares ∷ says [] ∷ []))))
 
+-- lines that are the same one by one are the same in that order
 same_order : {a b c d e f g a' b' c' d' e' f' g' : Said} {xs ys xs' ys' : List Said} → a ≡ a' → b ≡ b' → c ≡ c' → xs ≡ xs' → d ≡ d' → e ≡ e' → ys ≡ ys' → f ≡ f' → g ≡ g'
     → in_order a b c xs d e ys f g ≡ in_order a' b' c' xs' d' e' ys' f' g'
 same_order p q r s t u v w x = cc

@@ -40,6 +40,7 @@ pub line_from : (form : LineForm) (numbers : List Fraction) (text : List ℕ) �
 unfolding line
 line_from form numbers text h = (h.0, ap (λ xs. xs ++ 10 ∷ []) h.1)
 
+-- and back: a line that is of a form and says some numbers is that form's line with these numbers
 pub line_to : (form : LineForm) (numbers : List Fraction) (text : List ℕ) → IsLineOf (Line form) (Numbers numbers) text → IsLine form numbers text
 unfolding line
 line_to form numbers text h = (h.0, append_one_cancel text (word_text form.word ++ numbers_text numbers) 10 h.1)
@@ -60,21 +61,24 @@ misses : ℕ → List ℕ → Bool
 misses c [] = true
 misses c (x ∷ xs) = cond (eqb x c) false (misses c xs)
 
+-- where it is in none, it is not the first, and is in none of the others
 misses_both : (b r : Bool) → cond b false r ≡ true → (b ≡ false) × (r ≡ true)
 misses_both true r e = absurd (cc)
 misses_both false r e = (refl, e)
 
+-- a byte that is found in no place of a list stands at none, where that holds of all but the first
 misses_at : (c x : ℕ) (xs : List ℕ) (k : ℕ) → misses c (x ∷ xs) ≡ true → (misses c xs ≡ true → (i : ℕ) → i < length xs → get_or xs i 0 ≡ c → ⊥) → k < suc (length xs) → get_or (x ∷ xs) k 0 ≡ c → ⊥
 unfolding misses
 misses_at c x xs zero e more h f = let no : eqb x c ≡ false = (misses_both (eqb x c) (misses c xs) e).0 in let yes : eqb x c ≡ true = eq-eqb x c f in cc
 misses_at c x xs (suc k) e more h f = more (misses_both (eqb x c) (misses c xs) e).1 k (omega arith) f
 
+-- a list in no place of which a byte is found is without that byte
 avoids_misses : (c : ℕ) (xs : List ℕ) → misses c xs ≡ true → Avoids c xs
 unfolding misses
 avoids_misses c [] e = record { none = λ k h f. omega arith }
 avoids_misses c (x ∷ xs) e = record { none = λ k h f. misses_at c x xs k e (λ r i. (avoids_misses c xs r).none i) h f }
 
--- no word has an LF, and none is longer than ten bytes
+-- no word has an LF
 word_misses : (w : Word) → misses 10 (word_text w) ≡ true
 unfolding misses
 word_misses word.Fairsplit = refl
@@ -107,13 +111,16 @@ word_misses word.Route = refl
 word_misses word.Fares = refl
 word_misses word.End = refl
 
+-- the word for a tree and its space have no LF
 tree_misses : misses 10 (codes "tree ") ≡ true
 unfolding misses
 tree_misses = refl
 
+-- no word is longer than ten bytes
 word_short : (w : Word) → length (word_text w) ≤ 10
 word_short w = elim w as (λ v. length (word_text v) ≤ 10) [ word.Fairsplit ↦ omega arith | word.KindRent ↦ omega arith | word.KindGoods ↦ omega arith | word.KindFares ↦ omega arith | word.Members ↦ omega arith | word.Players ↦ omega arith | word.Riders ↦ omega arith | word.Goods ↦ omega arith | word.Places ↦ omega arith | word.Rent ↦ omega arith | word.Limit ↦ omega arith | word.Flag ↦ omega arith | word.Values ↦ omega arith | word.Legs ↦ omega arith | word.Who ↦ omega arith | word.At ↦ omega arith | word.Set ↦ omega arith | word.Rooms ↦ omega arith | word.Left ↦ omega arith | word.Right ↦ omega arith | word.Walks ↦ omega arith | word.Ranks ↦ omega arith | word.Prices ↦ omega arith | word.Owners ↦ omega arith | word.Steps ↦ omega arith | word.Tree ↦ omega arith | word.Route ↦ omega arith | word.Fares ↦ omega arith | word.End ↦ omega arith ]
 
+-- the text of a line's numbers has no LF
 numbers_plain : (whole : Bool) (ns : List Fraction) → All (IsNumber whole) ns → Avoids 10 (numbers_text ns)
 numbers_plain whole [] h = record { none = λ k l e. omega arith }
 numbers_plain whole (n ∷ ns) h =
@@ -125,6 +132,7 @@ numbers_plain whole (n ∷ ns) h =
 pub mark_plain : (m : ℕ) → IsMark m → m ≢ 10
 mark_plain m is e = ⊎_elim (λ (a : m ≡ 43). omega arith) (λ (b : (m ≡ 45) ⊎ (m ≡ 61)). ⊎_elim (λ (c : m ≡ 45). omega arith) (λ (d : m ≡ 61). omega arith) b) is
 
+-- marks have no LF among them
 marks_plain : (marks : List ℕ) → All IsMark marks → Avoids 10 marks
 marks_plain [] h = record { none = λ k l e. omega arith }
 marks_plain (m ∷ ms) h = avoids_append 10 (m ∷ []) ms (avoids_one 10 m (mark_plain m (All-head IsMark m ms h))) (marks_plain ms (All-tail IsMark m ms h))
@@ -135,6 +143,7 @@ pub record PlainLine (text : List ℕ) : Type 0 where
   pub plain : Avoids 10 front
   pub ended : text ≡ front ++ 10 ∷ []
 
+-- the text of each line that its form allows has one LF, at its end
 pub said_line : (form : Form) (said : Said) → CanSay form said → PlainLine (said_text form said)
 unfolding line
 said_line (Line form) (Numbers numbers) h = record {
@@ -158,6 +167,7 @@ signed_short : (z : ℤ) → unsigned_abs z < 10 ^ 25 → length (signed_decimal
 signed_short (pos n) h = let short = length-decimal-le_wide 25 n (omega arith) h (omega arith) in omega arith
 signed_short (negsuc n) h = let short = length-decimal-le_wide 25 (suc n) (omega arith) h (omega arith) in omega arith
 
+-- the text of a number, whole or not, has at most 37 bytes
 number_short : (whole : Bool) (n : Fraction) → IsNumber whole n → length (pair_text n) ≤ 37
 number_short whole n number =
     let front = signed_short n.0 number.size in
@@ -170,6 +180,7 @@ number_short whole n number =
     omega (arith, length-append (signed_decimal n.0) (47 ∷ decimal n.1)))
     (den_cases n.1 number.positive)
 
+-- the text of some numbers has at most 38 bytes a number
 numbers_short : (whole : Bool) (ns : List Fraction) → All (IsNumber whole) ns → length (numbers_text ns) ≤ 38 * length ns
 numbers_short whole [] h = omega arith
 numbers_short whole (n ∷ ns) h =

@@ -18,6 +18,7 @@ can-append [] others (x ∷ said) more h k = absurd h
 can-append (f ∷ forms) others [] more h k = absurd h
 can-append (f ∷ forms) others (x ∷ said) more h k = (h.0, can-append forms others said more h.1 k)
 
+-- the text of lines behind others is theirs behind the others'
 pub text-append : (forms others : List Form) (said more : List Said) → CanSayAll forms said → text_of (forms ++ others) (said ++ more) ≡ text_of forms said ++ text_of others more
 text-append [] others [] more h = refl
 text-append [] others (x ∷ said) more h = absurd h
@@ -33,6 +34,7 @@ can_take (suc k) [] (x ∷ said) h = absurd h
 can_take (suc k) (f ∷ forms) [] h = absurd h
 can_take (suc k) (f ∷ forms) (x ∷ said) h = (h.0, can_take k forms said h.1)
 
+-- a text is that of its first lines and then that of the others
 pub text_cut : (k : ℕ) (forms : List Form) (said : List Said) → CanSayAll forms said → text_of forms said ≡ text_of (take k forms) (take k said) ++ text_of (drop k forms) (drop k said)
 text_cut zero forms said h = refl
 text_cut (suc k) [] [] h = refl
@@ -49,6 +51,7 @@ pub record LastLine (forms : List Form) (form : Form) (said : List Said) : Type 
   pub fits : CanSayAll forms front
   pub can : CanSay form last
 
+-- lines whose last form is known are the lines before and one of that form
 pub can_split : (forms : List Form) (form : Form) (said : List Said) → CanSayAll (forms ++ form ∷ []) said → LastLine forms form said
 can_split [] form [] h = absurd h
 can_split [] form (x ∷ []) h = record { front = []; last = x; whole = refl; fits = tt; can = h.0 }

@@ -44,6 +44,7 @@ line_before_can counts lines behind i place h is low =
 pub lines_many : (counts : Counts) (lines : List Gathered) → CanSayAll (forms_of counts) (text_said lines) → length lines + 3 ≡ length (forms_of counts)
 lines_many counts lines h = let many = lines_before_many counts lines (says [] ∷ []) h in omega arith
 
+-- a gathered line says what its form allows, where `end` alone stands behind the lines
 pub line_can : (counts : Counts) (lines : List Gathered) (i place : ℕ) → CanSayAll (forms_of counts) (text_said lines) → place ≡ 2 + i → i < length lines → CanSay (form_in counts place) (Numbers (numbers_at lines i))
 line_can counts lines i place h is low = line_before_can counts lines (says [] ∷ []) i place h is low
 
@@ -67,9 +68,11 @@ part_rows lines from many count h k d l =
 pub rows_long : (lines : List Gathered) (count : ℕ) → All (λ line. AreWhole count (map fraction_of line.items)) lines → All (λ line. length line.items ≡ count) lines
 rows_long lines count h k d l = sym (length-map (get_or lines k d).items fraction_of) ∙ (h k d l).0
 
+-- lines of as many whole numbers each have at most the numbers that there is room for
 pub rows_within : (lines : List Gathered) (count room : ℕ) → count ≤ room → All (λ line. AreWhole count (map fraction_of line.items)) lines → All (λ line. length line.items ≤ room) lines
 rows_within lines count room fit h k d l = let long = rows_long lines count h k d l in omega arith
 
+-- lines of as many whole numbers each hold whole numbers alone
 pub rows_whole : (lines : List Gathered) (count : ℕ) → All (λ line. AreWhole count (map fraction_of line.items)) lines → All (λ line. All (IsNumber true) (map fraction_of line.items)) lines
 rows_whole lines count h k d l = (h k d l).1
 

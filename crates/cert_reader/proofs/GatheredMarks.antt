@@ -17,10 +17,11 @@ pub marks_form : (form : Form) (marks : List ℕ) → CanSay form (Marks marks) 
 marks_form Tree marks can = refl
 marks_form (Line form) marks can = absurd can
 
--- without marks a whole text is its lines, and with some it has a tree
+-- without marks a whole text is its lines
 pub whole_bare : (lines : List Gathered) → whole_said lines [] ≡ text_said lines
 whole_bare lines = ap (λ xs. says (pos 1 ∷ []) ∷ says [] ∷ (xs ++ says [] ∷ [])) (append-nil (map line_said lines))
 
+-- with at least one mark a whole text is its lines, its tree and `end`
 pub whole_marked : (lines : List Gathered) (mark : ℕ) (marks : List ℕ) → whole_said lines (mark ∷ marks) ≡ tree_said lines (mark ∷ marks)
 whole_marked lines mark marks = ap (λ xs. says (pos 1 ∷ []) ∷ says [] ∷ xs) (append_assoc (map line_said lines) (Marks (mark ∷ marks) ∷ []) (says [] ∷ []))
 
@@ -38,13 +39,14 @@ marked_tree counts lines mark marks h =
           (can_at (forms_of counts) (tree_said lines (mark ∷ marks)) (suc (suc (length front))) h low)),
     )
 
--- a rent has none, nor have fares
+-- a whole text of a rent has no marks, and is its lines
 pub rent_bare : (n : ℕ) (lines : List Gathered) (marks : List ℕ) → CanSayAll (forms_of (Rent n)) (whole_said lines marks) → whole_said lines marks ≡ text_said lines
 rent_bare n lines [] h = whole_bare lines
 rent_bare n lines (mark ∷ marks) h =
     let at = marked_tree (Rent n) lines mark marks (subst (CanSayAll (forms_of (Rent n))) (whole_marked lines mark marks) h) in
     absurd (rent_lines_only n (suc (suc (length (map line_said lines)))) at.0 at.1)
 
+-- a whole text of fares has no marks, and is its lines
 pub fares_bare : (n places : ℕ) (lines : List Gathered) (marks : List ℕ) → CanSayAll (forms_of (Fares n places)) (whole_said lines marks) → whole_said lines marks ≡ text_said lines
 fares_bare n places lines [] h = whole_bare lines
 fares_bare n places lines (mark ∷ marks) h =

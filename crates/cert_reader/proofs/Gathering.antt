@@ -78,12 +78,13 @@ gathering_line a b f x y taken lines marks line more before h answer =
         (ap (λ xs. xs ++ line_said line ∷ []) (append-nil (map line_said lines)) ∙ sym (map-append line_said lines (line ∷ [])) ∙ sym (append-nil (map line_said (lines ++ line ∷ [])))) read
     behind (mark ∷ marks) all read = absurd (none_behind_tree b all lines mark marks line more read)
 
--- a mark was read
+-- a mark comes behind those gathered so far
 with_gathered : (lines : List Gathered) (marks : List ℕ) (mark : ℕ) → with_mark (map line_said lines ++ marks_said marks) mark ≡ map line_said lines ++ marks_said (marks ++ mark ∷ [])
 with_gathered [] [] mark = refl
 with_gathered (line ∷ lines) [] mark = ap (λ xs. line_said line ∷ xs) (with_gathered lines [] mark)
 with_gathered lines (m ∷ marks) mark = with_more (map line_said lines) (m ∷ marks) mark
 
+-- a mark was read: the same lines are gathered, and that mark behind the others
 pub gathering_mark : (a b : Reading) (f x y : Option (List ℕ)) (taken : List ℕ) (lines : List Gathered) (marks : List ℕ) (mark : ℕ) → IsOpen b → Consumes f x taken → IsGathering a taken lines marks
     → Goes a x y (λ taken said. IsAnswer a b y taken said (Ok (Mark mark))) → Took f y (λ all. IsGathering b all lines (marks ++ mark ∷ []))
 gathering_mark a b f x y taken lines marks mark more before h answer =

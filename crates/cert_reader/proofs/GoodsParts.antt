@@ -39,6 +39,7 @@ tree_can n goods lines marks h many =
     subst (CanSay Tree) (get_or-append_seam (map line_said lines) (Marks marks) (says [] ∷ []) (Marks []))
     (subst (λ f. CanSay f (get_or (map line_said lines ++ Marks marks ∷ says [] ∷ []) (length (map line_said lines)) (Marks []))) (goods_tree n goods (suc (suc (length (map line_said lines)))) place) can)
 
+-- gathered lines and marks that the forms of goods allow say what goods for n players do
 pub goods_lines : (n goods : ℕ) (lines : List Gathered) (marks : List ℕ) → CanSayAll (goods_forms n goods) (tree_said lines marks) → GoodsLines n goods lines marks
 goods_lines n goods lines marks h =
     let all = lines_before_many (Goods n goods) lines (Marks marks ∷ says [] ∷ []) h in
@@ -101,6 +102,7 @@ goods_said_is n goods lines marks view r players each limit who values owners st
 pub values_long : (n : ℕ) (lines : List Gathered) → length lines ≡ n + 6 → length (take (4 + n - 4) (drop 4 lines)) ≡ n
 values_long n lines many = (let cut = length-take {A = Gathered} (4 + n - 4) (drop 4 lines) in let rest = length-drop 4 lines in omega (arith, cut, rest, many))
 
+-- for at most twelve players there are at most twelve lines of values
 pub values_short : (n : ℕ) (lines : List Gathered) → n ≤ 12 → length (take (4 + n - 4) (drop 4 lines)) ≤ 12
 values_short n lines few = (let cut = length-take {A = Gathered} (4 + n - 4) (drop 4 lines) in omega (arith, cut, few))
 

@@ -34,25 +34,27 @@ one_said w lead (Numbers ((a, b) ∷ [])) h = ap (λ n. Numbers (n ∷ [])) (ap 
 one_said w lead (Numbers (n ∷ m ∷ ns)) h = absurd (let one = h.each in omega arith)
 one_said w lead (Marks marks) h = absurd h
 
--- the head
+-- a head says 1, and nothing
 two_said : (w : Word) (said : List Said) → CanSayAll (led_by word.Fairsplit 1 1 ∷ numbers_of w 0 ∷ []) said → said ≡ says (pos 1 ∷ []) ∷ says [] ∷ []
 two_said w [] h = absurd h
 two_said w (x ∷ []) h = absurd h.1
 two_said w (x ∷ y ∷ []) h = ap (λ a. a ∷ y ∷ []) (one_said word.Fairsplit 1 x h.0) ∙ ap (λ b. says (pos 1 ∷ []) ∷ b ∷ []) (empty_said w y h.1.0)
 two_said w (x ∷ y ∷ z ∷ said) h = absurd h.1.1
 
+-- the first two lines of every text say 1, and nothing
 head_said : (counts : Counts) (said : List Said) → CanSayAll (take 2 (forms_of counts)) said → said ≡ says (pos 1 ∷ []) ∷ says [] ∷ []
 unfolding rent_forms goods_forms fares_forms
 head_said (Rent n) said h = two_said word.KindRent said h
 head_said (Goods n goods) said h = two_said word.KindGoods said h
 head_said (Fares n places) said h = two_said word.KindFares said h
 
--- the end
+-- the last form of every text is that of `end`
 end_form : (counts : Counts) → form_in counts (length (forms_of counts) - 1) ≡ numbers_of word.End 0
 end_form (Rent n) = let long = length_rent n in rent_in_tail n (length (rent_forms n) - 1) 6 Tree (omega arith)
 end_form (Goods n goods) = let long = length_goods n goods in goods_in_tail n goods (length (goods_forms n goods) - 1) 3 Tree (omega arith)
 end_form (Fares n places) = let long = length_fares n places in fares_in_tail n places (length (fares_forms n places) - 1) 2 Tree (omega arith)
 
+-- the last line of every text says nothing
 end_said : (counts : Counts) (said : List Said) (last : Said) → CanSayAll (forms_of counts) (said ++ last ∷ []) → last ≡ says []
 end_said counts said last h =
     let some = lines_some counts in

@@ -60,10 +60,12 @@ wholes_once (x ∷ xs) (y ∷ ys) e =
     let more : wholes xs ≡ wholes ys = ap (drop 1) e in
     ap (λ z. z ∷ xs) first ∙ ap (λ zs. y ∷ zs) (wholes_once xs ys more)
 
+-- the numbers that a line says, of which a tree has none
 numbers_of_said : Said → List Fraction
 numbers_of_said (Numbers numbers) = numbers
 numbers_of_said said = []
 
+-- rows that say the same line are the same
 says_once : (xs ys : List ℤ) → says xs ≡ says ys → xs ≡ ys
 unfolding numbers_of_said
 says_once xs ys e = wholes_once xs ys (ap numbers_of_said e)
@@ -88,28 +90,34 @@ sets_once k (x ∷ xs) (y ∷ ys) r s long e =
     let more = sets_once (k + 1) xs ys r s (omega arith) (ap (drop 1) e) in
     (ap (λ z. z ∷ xs) (ap (drop 1) first) ∙ ap (λ zs. y ∷ zs) more.0, more.1)
 
--- a view from its parts
+-- a view of a rent from its parts
 make_rent : ℤ → List (List ℤ) → List ℤ → List ℤ → List ℤ → List ℤ → List ℤ → List Fraction → RentView
 make_rent rent values rooms left right walks ranks prices = record { rent = rent; values = values; rooms = rooms; left = left; right = right; walks = walks; ranks = ranks; prices = prices }
 
+-- rents with the same parts are made the same
 made_rent : (a b : RentView) → a.rent ≡ b.rent → a.values ≡ b.values → a.rooms ≡ b.rooms → a.left ≡ b.left → a.right ≡ b.right → a.walks ≡ b.walks → a.ranks ≡ b.ranks → a.prices ≡ b.prices
     → make_rent a.rent a.values a.rooms a.left a.right a.walks a.ranks a.prices ≡ make_rent b.rent b.values b.rooms b.left b.right b.walks b.ranks b.prices
 made_rent a b e f g h i j k l = cc
 
+-- a view of fares from its parts
 make_fares : ℕ → ℤ → List (List ℤ) → List ℤ → List ℤ → List (List ℤ) → List ℤ → List Fraction → FaresView
 make_fares places flag legs who at sets route fares = record { places = places; flag = flag; legs = legs; who = who; at = at; sets = sets; route = route; fares = fares }
 
+-- fares with the same parts are made the same
 made_fares : (a b : FaresView) → a.places ≡ b.places → a.flag ≡ b.flag → a.legs ≡ b.legs → a.who ≡ b.who → a.at ≡ b.at → a.sets ≡ b.sets → a.route ≡ b.route → a.fares ≡ b.fares
     → make_fares a.places a.flag a.legs a.who a.at a.sets a.route a.fares ≡ make_fares b.places b.flag b.legs b.who b.at b.sets b.route b.fares
 made_fares a b e f g h i j k l = cc
 
+-- a view of goods from its parts
 make_goods : ℕ → ℤ → List ℤ → List (List ℤ) → List ℤ → ℤ → List ℕ → GoodsView
 make_goods goods limit who values owners steps marks = record { goods = goods; limit = limit; who = who; values = values; owners = owners; steps = steps; marks = marks }
 
+-- goods with the same parts are made the same
 made_goods : (a b : GoodsView) → a.goods ≡ b.goods → a.limit ≡ b.limit → a.who ≡ b.who → a.values ≡ b.values → a.owners ≡ b.owners → a.steps ≡ b.steps → a.marks ≡ b.marks
     → make_goods a.goods a.limit a.who a.values a.owners a.steps a.marks ≡ make_goods b.goods b.limit b.who b.values b.owners b.steps b.marks
 made_goods a b e f g h i j k = cc
 
+-- the first number of a list, or 0 where it is empty
 first_of : List ℤ → ℤ
 first_of xs = get_or xs 0 (pos 0)
 
@@ -117,6 +125,7 @@ first_of xs = get_or xs 0 (pos 0)
 line_at : List Said → ℕ → List Fraction
 line_at said k = numbers_of_said (get_or said k (Numbers []))
 
+-- the marks of the line at a place, of which a line of numbers has none
 marks_at : List Said → ℕ → List ℕ
 marks_at said k = marks_in (get_or said k (Marks []))
   where
@@ -176,12 +185,13 @@ fares_once a b places legs e =
     lengths : length (set_lines a ++ tail_lines a) ≡ length (set_lines b ++ tail_lines b) → length a.sets ≡ length b.sets
     lengths long = omega (arith, long, many a, many b)
 
--- what counts count
+-- how many members, players or riders counts have
 first_count : Counts → ℕ
 first_count (Rent n) = n
 first_count (Goods n goods) = n
 first_count (Fares n places) = n
 
+-- how many goods or places counts have, and 0 for a rent
 second_count : Counts → ℕ
 second_count (Rent n) = 0
 second_count (Goods n goods) = goods

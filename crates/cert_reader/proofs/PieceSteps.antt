@@ -22,6 +22,7 @@ use Rattle.cert_reader.proofs.Handed.{hands_trans, stops_after}
 abbrev pub reading_at : Held → ℕ → Counts → Bool → Reading
 reading_at held lines counts in_tree = record { ahead = held.ahead; given = held.given; lines = lines; counts = counts; in_tree = in_tree }
 
+-- the reading of held bytes behind whole lines
 abbrev pub reading_of : Held → ℕ → Counts → Reading
 reading_of held lines counts = reading_at held lines counts false
 
@@ -33,6 +34,7 @@ reading_is r held lines counts in_tree is e at = subst (λ b. reading_at held li
 pub whole_begins : (held : Held) (lines : ℕ) (counts : Counts) (taken : List ℕ) (said : List Said) → IsRead (reading_of held lines counts) taken said → Begins taken lines counts said held.ahead
 whole_begins held lines counts taken said h = subst (λ bytes. Begins bytes lines counts said held.ahead) (sym h.is_taken) h.begins
 
+-- and bytes that begin with whole lines are what a reading of those lines has read, where all that was taken is counted
 pub begins_whole : (held : Held) (lines : ℕ) (counts : Counts) (taken : List ℕ) (said : List Said) → Begins taken lines counts said held.ahead → length taken ≡ held.given + length held.ahead
     → IsRead (reading_of held lines counts) taken said
 begins_whole held lines counts taken said h total = record {
@@ -91,6 +93,7 @@ pub settled_line : (a b : Held) (x y : Option (List ℕ)) (lines : ℕ) (known c
 settled_line a b x y lines known counts numbers (are, agree, within, can, p) =
     (p.more, p.took, λ taken said h. (refl, agree, line_read a b x y lines known counts (Numbers (map fraction_of numbers.items)) taken said are agree within can p h))
 
+-- where no line that may follow was settled, the answer is the end that was met
 pub settled_end : (a b : Held) (x y : Option (List ℕ)) (lines : ℕ) (known : Counts) (end : ReadEnd) → taken_count b ≤ 4000000 → lines < length (forms_of known) → IsSettled a b x y lines known (Err end)
     → Goes (reading_of a lines known) x y (λ taken said. IsEnd end y taken)
 settled_end a b x y lines known end few within stop = refused_end a b x y lines known (HasNoLine lines known) end few (λ text no_line. (no_line, λ all none. omega arith)) stop
@@ -122,18 +125,20 @@ refused_behind_all a b c x y z lines known byte TooLong few all p stop = stop_en
 refused_behind_all a b c x y z lines known byte ReadFault few all p stop = stop_end a x z lines known false ReadFault (stops_after a b x y z (byte ∷ []) ReadFault p stop)
 refused_behind_all a b c x y z lines known byte NoMemory few all p stop = stop_end a x z lines known false NoMemory (stops_after a b x y z (byte ∷ []) NoMemory p stop)
 
--- the same of a reading that is given by its fields
+-- a line was settled: a reading that is given by its fields has read it
 pub settled_line_at : (r : Reading) (a b : Held) (x y : Option (List ℕ)) (lines : ℕ) (known counts : Counts) (in_tree : Bool) (numbers : ArrayVec Frac 24 (Unit {0})) → reading_at a lines known in_tree ≡ r → r.in_tree ≡ false
     → IsSettled a b x y lines known (Ok (counts, numbers)) → Goes r x y (λ taken said. IsLineRead r (reading_at b (lines + 1) counts in_tree) y taken said (Ok numbers))
 settled_line_at r a b x y lines known counts in_tree numbers e whole settled =
     subst (λ t. Goes r x y (λ taken said. IsLineRead r (reading_at b (lines + 1) counts t) y taken said (Ok numbers))) (sym (ap (λ s. s.in_tree) e ∙ whole))
     (subst (λ s. Goes s x y (λ taken said. IsLineRead s (reading_of b (lines + 1) counts) y taken said (Ok numbers))) (reading_is r a lines known in_tree false e whole) (settled_line a b x y lines known counts numbers settled))
 
+-- where no line was settled, a reading that is given by its fields ends so
 pub settled_end_at : (r : Reading) (a b : Held) (x y : Option (List ℕ)) (lines : ℕ) (known : Counts) (in_tree : Bool) (end : ReadEnd) → reading_at a lines known in_tree ≡ r → r.in_tree ≡ false → taken_count b ≤ 4000000
     → lines < length (forms_of known) → IsSettled a b x y lines known (Err end) → Goes r x y (λ taken said. IsEnd end y taken)
 settled_end_at r a b x y lines known in_tree end e whole few within stop =
     subst (λ s. Goes s x y (λ taken said. IsEnd end y taken)) (reading_is r a lines known in_tree false e whole) (settled_end a b x y lines known end few within stop)
 
+-- a byte behind the last line ends a reading that is given by its fields
 pub refused_behind_all_at : (r : Reading) (a b c : Held) (x y z : Option (List ℕ)) (lines : ℕ) (known : Counts) (in_tree : Bool) (byte : ℕ) (end : ReadEnd) → reading_at a lines known in_tree ≡ r → r.in_tree ≡ false
     → taken_count c ≤ 4000000 → lines ≡ length (forms_of known) → Hands a b x y (byte ∷ []) → IsRefused b c y z (lines + 1) (λ _. Unit {0}) end → Goes r x z (λ taken said. IsEnd end z taken)
 refused_behind_all_at r a b c x y z lines known in_tree byte end e whole few all p stop =

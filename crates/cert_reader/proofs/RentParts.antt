@@ -26,6 +26,7 @@ pub record RentLines (n : ℕ) (lines : List Gathered) : Type 0 where
   pub ranks : AreWhole n (numbers_at lines (2 + n + 4))
   pub prices : (length (numbers_at lines (2 + n + 5)) ≡ n) × All (IsNumber false) (numbers_at lines (2 + n + 5))
 
+-- gathered lines that the forms of a rent allow say what a rent of n members does
 pub rent_lines : (n : ℕ) (lines : List Gathered) → CanSayAll (rent_forms n) (text_said lines) → RentLines n lines
 rent_lines n lines h =
     let all = lines_many (Rent n) lines h in
@@ -48,6 +49,7 @@ rent_lines n lines h =
 six : ℕ → List Gathered → List Gathered
 six n lines = get_or lines (2 + n) no_line ∷ get_or lines (2 + n + 1) no_line ∷ get_or lines (2 + n + 2) no_line ∷ get_or lines (2 + n + 3) no_line ∷ get_or lines (2 + n + 4) no_line ∷ get_or lines (2 + n + 5) no_line ∷ []
 
+-- gathered lines of a rent are the first two, the lines of values, and six others
 rent_split : (n : ℕ) (lines : List Gathered) → length lines ≡ n + 8 → lines ≡ get_or lines 0 no_line ∷ get_or lines 1 no_line ∷ (take (2 + n - 2) (drop 2 lines) ++ six n lines)
 unfolding six
 rent_split n lines many =
@@ -91,5 +93,6 @@ rent_said_is n lines view r members rent values rooms left right walks ranks pri
 pub part_long : (n : ℕ) (lines : List Gathered) → length lines ≡ n + 8 → length (take (2 + n - 2) (drop 2 lines)) ≡ n
 part_long n lines many = (let cut = length-take {A = Gathered} (2 + n - 2) (drop 2 lines) in let rest = length-drop 2 lines in omega (arith, cut, rest, many))
 
+-- for at most twelve members there are at most twelve lines of values
 pub part_short : (n : ℕ) (lines : List Gathered) → n ≤ 12 → length (take (2 + n - 2) (drop 2 lines)) ≤ 12
 part_short n lines few = (let cut = length-take {A = Gathered} (2 + n - 2) (drop 2 lines) in omega (arith, cut, few))

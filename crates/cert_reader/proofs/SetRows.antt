@@ -41,7 +41,7 @@ set_rows n set (suc many) (line ∷ lines) long h =
           (λ k low. subst (λ m. CanSay (set_form n m) (Numbers (numbers_at lines k))) (let next : set + suc k ≡ set + 1 + k = omega arith in next) (h (suc k) (omega arith))),
     )
 
--- such lines have some number, and whole ones alone
+-- such lines have at least one number
 pub rows_some : (set : ℕ) (sizes : List ℕ) (lines : List Gathered) → SetRows set sizes lines → All (λ line. 1 ≤ length line.items) lines
 rows_some set [] [] h = All-nil (λ line. 1 ≤ length line.items)
 rows_some set [] (line ∷ lines) h = absurd h
@@ -49,6 +49,7 @@ rows_some set (size ∷ sizes) [] h = absurd h
 rows_some set (size ∷ sizes) (line ∷ lines) h =
     All-cons (λ line. 1 ≤ length line.items) line lines (let long = h.0.long in let same = length-map line.items fraction_of in omega (arith, long, same)) (rows_some (set + 1) sizes lines h.1)
 
+-- and whole ones alone
 pub rows_of_wholes : (set : ℕ) (sizes : List ℕ) (lines : List Gathered) → SetRows set sizes lines → All (λ line. All (IsNumber true) (map fraction_of line.items)) lines
 rows_of_wholes set [] [] h = All-nil (λ (line : Gathered). All (IsNumber true) (map fraction_of line.items))
 rows_of_wholes set [] (line ∷ lines) h = absurd h
@@ -59,6 +60,7 @@ rows_of_wholes set (size ∷ sizes) (line ∷ lines) h = All-cons (λ (line : Ga
 behind_first : Gathered → List Fraction
 behind_first line = map fraction_of (drop 1 line.items)
 
+-- the line of a set has as many numbers behind its first as the set's size
 behind_long : (line : Gathered) (set size : ℕ) → SetRow set size (map fraction_of line.items) → length (behind_first line) ≡ size
 unfolding behind_first
 behind_long line set size h =

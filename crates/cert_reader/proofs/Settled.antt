@@ -16,6 +16,7 @@ use Rattle.cert_reader.proofs.Numbers.{cut_once}
 use Rattle.cert_reader.proofs.TreePlaces.{agree_line}
 use Rattle.cert_reader.proofs.UsualForms.{short_in}
 
+-- a plain text has no LF
 plain_avoids : (text : List ℕ) → IsPlain text → Avoids 10 text
 plain_avoids text h = record { none = h.none }
 

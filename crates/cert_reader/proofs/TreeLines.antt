@@ -61,6 +61,7 @@ marks_end (x ∷ ms) (m ∷ marks) rest more a b none e = marks_end ms marks res
     tail [] = []
     tail (z ∷ zs) = zs
 
+-- no line of a tree goes on with bytes that begin neither with a mark nor with LF
 pub no_more : (ms rest : List ℕ) → All IsMark ms → GoesNotOn rest → HasNoTree (tree_front ++ (ms ++ rest))
 no_more ms rest a none marks more some all e = marks_end ms marks rest more a all none (ap (λ xs. tail (tail (tail (tail (tail xs))))) e)
   where

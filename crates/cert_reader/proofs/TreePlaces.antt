@@ -17,22 +17,26 @@ AreLines [] = Unit {0}
 AreLines (Line form ∷ forms) = AreLines forms
 AreLines (Tree ∷ forms) = ⊥
 
+-- lines of numbers behind lines of numbers are lines of numbers
 pub lines-append : (fs gs : List Form) → AreLines fs → AreLines gs → AreLines (fs ++ gs)
 unfolding AreLines
 lines-append [] gs h k = k
 lines-append (Line f ∷ fs) gs h k = lines-append fs gs h k
 lines-append (Tree ∷ fs) gs h k = absurd h
 
+-- a line of numbers repeated is lines of numbers
 pub lines-replicate : (n : ℕ) (form : LineForm) → AreLines (replicate n (Line form))
 unfolding AreLines
 lines-replicate zero form = tt
 lines-replicate (suc n) form = lines-replicate n form
 
+-- the lines of sets are lines of numbers
 lines_of_sets : (n : ℕ) (sets : List ℕ) → AreLines (map (set_form n) sets)
 unfolding AreLines
 lines_of_sets n [] = tt
 lines_of_sets n (set ∷ sets) = lines_of_sets n sets
 
+-- no place among lines of numbers is a tree's
 line_at : (forms : List Form) (i : ℕ) → AreLines forms → i < length forms → get_or forms i Tree ≡ Tree → ⊥
 unfolding AreLines
 line_at [] i h low e = omega arith
@@ -40,11 +44,12 @@ line_at (Line f ∷ fs) zero h low e = cc
 line_at (Line f ∷ fs) (suc i) h low e = line_at fs i h (omega arith) e
 line_at (Tree ∷ fs) i h low e = h
 
--- a rent has no tree, nor have fares
+-- no line of a rent is a tree
 pub rent_lines_only : (n i : ℕ) → i < length (rent_forms n) → form_in (Rent n) i ≡ Tree → ⊥
 unfolding rent_forms AreLines
 rent_lines_only n i low e = line_at (rent_forms n) i (lines-append (replicate n (numbers_of word.Values n)) (rent_tail n) (lines-replicate n _) tt) low e
 
+-- no line of fares is a tree
 pub fares_lines_only : (n places i : ℕ) → i < length (fares_forms n places) → form_in (Fares n places) i ≡ Tree → ⊥
 unfolding fares_forms AreLines
 fares_lines_only n places i low e =
@@ -52,14 +57,16 @@ fares_lines_only n places i low e =
     (lines-append (replicate (places + 1) (numbers_of word.Legs places)) (rider_forms n ++ (map (set_form n) (sets_of n) ++ fares_tail n)) (lines-replicate (places + 1) _)
     (lines-append (map (set_form n) (sets_of n)) (fares_tail n) (lines_of_sets n (sets_of n)) tt)) low e
 
--- goods have one, at its place
+-- goods have a tree behind eight lines and one a player
 pub goods_tree : (n goods i : ℕ) → i ≡ 8 + n → form_in (Goods n goods) i ≡ Tree
 goods_tree n goods i e = goods_in_tail n goods i 2 Tree (omega arith)
 
+-- no line of the head of goods is a tree
 head_line : (n goods i : ℕ) → i < 6 → get_or (goods_head n goods) i Tree ≡ Tree → ⊥
 unfolding AreLines
 head_line n goods i low e = line_at (goods_head n goods) i tt low e
 
+-- of the four last lines of goods the tree is the third
 tail_place : (goods j : ℕ) → j < 4 → get_or (goods_tail goods) j Tree ≡ Tree → j ≡ 2
 tail_place goods zero low e = absurd (cc)
 tail_place goods (suc zero) low e = absurd (cc)
@@ -67,6 +74,7 @@ tail_place goods (suc (suc zero)) low e = refl
 tail_place goods (suc (suc (suc zero))) low e = absurd (cc)
 tail_place goods (suc (suc (suc (suc j)))) low e = omega arith
 
+-- and they have none elsewhere
 pub goods_place : (n goods i : ℕ) → i < length (goods_forms n goods) → form_in (Goods n goods) i ≡ Tree → i ≡ 8 + n
 goods_place n goods i low e = ⊎_elim
     (λ (a : i < 6). absurd (head_line n goods i a (sym (goods_in_head n goods i Tree a) ∙ e)))

@@ -40,6 +40,7 @@ tree_line : (counts : Counts) (k : ℕ) (marks rest : List ℕ) → form_in coun
 unfolding line
 tree_line counts k marks rest tree = sym (append_assoc (tree_front ++ marks) (10 ∷ []) rest) ∙ ap (λ f. said_text f (Marks marks) ++ rest) (sym tree)
 
+-- with its LF behind them, such marks are one line more
 part_whole : (held : Held) (k : ℕ) (counts : Counts) (taken : List ℕ) (before : List Said) (marks rest : List ℕ) → TreePart held k counts taken before marks
     → Begins (text_of (take k (forms_of counts)) before ++ ((tree_front ++ marks) ++ 10 ∷ rest)) (k + 1) counts (before ++ Marks marks ∷ []) rest
 part_whole held k counts taken before marks rest h =
@@ -65,6 +66,7 @@ record HasPart (held : Held) (k : ℕ) (counts : Counts) (taken : List ℕ) (sai
   whole : said ≡ before ++ Marks marks ∷ []
   part : TreePart held k counts taken before marks
 
+-- what a reading within a tree has read is the lines before it, and marks of it
 read_part : (held : Held) (k : ℕ) (counts : Counts) (taken : List ℕ) (said : List Said) → form_in counts k ≡ Tree → IsRead (reading_at held (k + 1) counts true) taken said → HasPart held k counts taken said
 unfolding line
 read_part held k counts taken said tree h =
@@ -187,13 +189,14 @@ tree_unread a b x y k known TooLong few tree stop = stop_end a x y (k + 1) known
 tree_unread a b x y k known ReadFault few tree stop = stop_end a x y (k + 1) known true ReadFault stop
 tree_unread a b x y k known NoMemory few tree stop = stop_end a x y (k + 1) known true NoMemory stop
 
--- the same of a reading that is given by its fields, and of one whose last line is a tree
+-- the first mark was handed out: a reading that is given by its fields has read it
 pub first_read_at : (r : Reading) (a b : Held) (x y : Option (List ℕ)) (lines : ℕ) (known : Counts) (in_tree : Bool) (mark : ℕ) → reading_at a lines known in_tree ≡ r → r.in_tree ≡ false → lines < length (forms_of known)
     → form_in known lines ≡ Tree → IsFirstMark a b x y (lines + 1) (Ok mark) → Goes r x y (λ taken said. IsMarkRead r (reading_at b (lines + 1) known true) y taken said (Ok mark))
 first_read_at r a b x y lines known in_tree mark e whole within tree first =
     subst (λ s. Goes s x y (λ taken said. IsMarkRead s (reading_at b (lines + 1) known true) y taken said (Ok mark))) (reading_is r a lines known in_tree false e whole)
     (first_read a b x y lines known mark within tree first)
 
+-- where no first mark was handed out, a reading that is given by its fields ends so
 pub first_unread_at : (r : Reading) (a b : Held) (x y : Option (List ℕ)) (lines : ℕ) (known : Counts) (in_tree : Bool) (end : ReadEnd) → reading_at a lines known in_tree ≡ r → r.in_tree ≡ false → taken_count b ≤ 4000000
     → lines < length (forms_of known) → form_in known lines ≡ Tree → IsFirstMark a b x y (lines + 1) (Err end) → Goes r x y (λ taken said. IsEnd end y taken)
 first_unread_at r a b x y lines known in_tree end e whole few within tree stop =
@@ -203,6 +206,7 @@ first_unread_at r a b x y lines known in_tree end e whole few within tree stop =
 lines_back : (lines : ℕ) → 0 < lines → lines - 1 + 1 ≡ lines
 lines_back lines some = omega arith
 
+-- a reading within a tree that is given by its fields read one mark more
 pub mark_read_at : (r : Reading) (a b : Held) (x y : Option (List ℕ)) (lines : ℕ) (known : Counts) (in_tree : Bool) (mark : ℕ) → reading_at a lines known in_tree ≡ r → r.in_tree ≡ true → EndsInTree lines known
     → IsNextMark a b x y lines (Ok (Some mark)) → Goes r x y (λ taken said. IsTreeRead r (reading_at b lines known in_tree) y taken said (Ok (Some mark)))
 mark_read_at r a b x y lines known in_tree mark e within (some, tree) next =
@@ -211,6 +215,7 @@ mark_read_at r a b x y lines known in_tree mark e within (some, tree) next =
     (subst (λ n. Goes (reading_at a n known true) x y (λ taken said. IsTreeRead (reading_at a n known true) (reading_at b n known true) y taken said (Ok (Some mark)))) (lines_back lines some)
     (mark_read a b x y (lines - 1) known mark tree (subst (λ n. IsNextMark a b x y n (Ok (Some mark))) (sym (lines_back lines some)) next))))
 
+-- a reading within a tree that is given by its fields read the LF behind its marks
 pub tree_closed_at : (r : Reading) (a b : Held) (x y : Option (List ℕ)) (lines : ℕ) (known : Counts) (in_tree : Bool) → reading_at a lines known in_tree ≡ r → r.in_tree ≡ true → EndsInTree lines known
     → IsNextMark a b x y lines (Ok None) → Goes r x y (λ taken said. IsTreeRead r (reading_of b lines known) y taken said (Ok None))
 tree_closed_at r a b x y lines known in_tree e within (some, tree) next =
@@ -218,6 +223,7 @@ tree_closed_at r a b x y lines known in_tree e within (some, tree) next =
     (subst (λ n. Goes (reading_at a n known true) x y (λ taken said. IsTreeRead (reading_at a n known true) (reading_of b n known) y taken said (Ok None))) (lines_back lines some)
     (tree_closed a b x y (lines - 1) known tree (subst (λ n. IsNextMark a b x y n (Ok None)) (sym (lines_back lines some)) next)))
 
+-- where the tree goes on otherwise, a reading that is given by its fields ends so
 pub tree_unread_at : (r : Reading) (a b : Held) (x y : Option (List ℕ)) (lines : ℕ) (known : Counts) (in_tree : Bool) (end : ReadEnd) → reading_at a lines known in_tree ≡ r → r.in_tree ≡ true → EndsInTree lines known
     → taken_count b ≤ 4000000 → IsNextMark a b x y lines (Err end) → Goes r x y (λ taken said. IsEnd end y taken)
 tree_unread_at r a b x y lines known in_tree end e within (some, tree) few stop =
@@ -229,7 +235,7 @@ tree_unread_at r a b x y lines known in_tree end e within (some, tree) few stop 
 pub mark_piece : (a b : Reading) (x y : Option (List ℕ)) (mark : ℕ) → 0 < a.lines → Goes a x y (λ taken said. IsTreeRead a b y taken said (Ok (Some mark))) → Goes a x y (λ taken said. IsAnswer a b y taken said (Ok (Mark mark)))
 mark_piece a b x y mark some p = goes_so a x y (λ taken said. IsTreeRead a b y taken said (Ok (Some mark))) (λ taken said. IsAnswer a b y taken said (Ok (Mark mark))) (λ taken said h. (some, h.0, h.1)) p
 
--- a tree whose line has ended, and the piece behind it
+-- an answer stays one where the lines and counts before it are the same
 answer_same : (a b c : Reading) (z : Option (List ℕ)) (taken : List ℕ) (said : List Said) (r : Result Piece ReadEnd) → b.lines ≡ a.lines → b.counts ≡ a.counts → IsAnswer b c z taken said r → IsAnswer a c z taken said r
 answer_same a b c z taken said (Ok (Kind kind)) lines counts h = (sym lines ∙ h.0, h.1, h.2, h.3)
 answer_same a b c z taken said (Ok (Line numbers)) lines counts h =
@@ -238,6 +244,7 @@ answer_same a b c z taken said (Ok (Mark mark)) lines counts h = (subst (λ n. 0
 answer_same a b c z taken said (Ok Done) lines counts h = (ap (λ n. n + 1) (sym lines) ∙ h.0, subst (λ n. AgreeUpTo n a.counts c.counts) lines (subst (λ k. AgreeUpTo b.lines k c.counts) counts h.1), h.2, h.3, h.4)
 answer_same a b c z taken said (Err end) lines counts h = h
 
+-- what follows a tree whose line ended is an answer to the reading before it, too
 pub answer_behind_tree : (a b c : Reading) (x y z : Option (List ℕ)) (r : Result Piece ReadEnd) → b.lines ≡ a.lines → b.counts ≡ a.counts → Goes a x y (λ taken said. IsTreeRead a b y taken said (Ok None))
     → Goes b y z (λ taken said. IsAnswer b c z taken said r) → Goes a x z (λ taken said. IsAnswer a c z taken said r)
 answer_behind_tree a b c x y z r lines counts p q =

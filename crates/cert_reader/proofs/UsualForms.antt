@@ -35,11 +35,13 @@ pub AreUsual : List Form → Type 0
 AreUsual [] = Unit {0}
 AreUsual (form ∷ forms) = Usual form × AreUsual forms
 
+-- usual forms behind usual forms are usual
 usual-append : (fs gs : List Form) → AreUsual fs → AreUsual gs → AreUsual (fs ++ gs)
 unfolding AreUsual
 usual-append [] gs h k = k
 usual-append (f ∷ fs) gs h k = (h.0, usual-append fs gs h.1 k)
 
+-- a usual form repeated is usual forms
 usual-replicate : (n : ℕ) (form : Form) → Usual form → AreUsual (replicate n form)
 unfolding AreUsual
 usual-replicate zero form h = tt
@@ -49,15 +51,19 @@ usual-replicate (suc n) form h = (h, usual-replicate n form h)
 number_written : (whole : Bool) (n : ℕ) → n < 10 ^ 25 → IsNumber whole (pos n, 1)
 number_written whole n small = record { size = omega (arith, ints, small); positive = omega arith; small = omega arith; lowest = (one-dvd _, one-dvd _, λ d a b. b); is_whole = λ h. refl }
 
+-- zeros are numbers that stand anywhere
 zeros : (whole : Bool) (n : ℕ) → All (IsNumber whole) (replicate n (pos 0, 1))
 zeros whole n = All-replicate (IsNumber whole) n (pos 0, 1) (number_written whole 0 (omega arith))
 
+-- a form of at most 24 whole numbers is usual
 usual_numbers : (w : Word) (n : ℕ) → n ≤ 24 → Usual (numbers_of w n)
 usual_numbers w n few = record { short = few; said = Numbers (replicate n (pos 0, 1)); can = record { each = length-replicate n (pos 0, 1); written = zeros true n; first = tt } }
 
+-- a form of at most 24 fractions is usual
 usual_fractions : (w : Word) (n : ℕ) → n ≤ 24 → Usual (fractions_of w n)
 usual_fractions w n few = record { short = few; said = Numbers (replicate n (pos 0, 1)); can = record { each = length-replicate n (pos 0, 1); written = zeros false n; first = tt } }
 
+-- a form of at most 24 whole numbers, of which the first is set to one of at most 25 digits, is usual
 usual_led : (w : Word) (lead n : ℕ) → lead < 10 ^ 25 → n < 24 → Usual (led_by w lead (n + 1))
 usual_led w lead n small few = record {
   short = omega arith;
@@ -175,6 +181,7 @@ usual_at [] i h l = absurd (omega arith)
 usual_at (f ∷ forms) zero h l = h.0
 usual_at (f ∷ forms) (suc i) h l = usual_at forms i h.1 (omega arith)
 
+-- usual forms but for the first ones are usual
 pub usual_drop : (k : ℕ) (forms : List Form) → AreUsual forms → AreUsual (drop k forms)
 unfolding AreUsual
 usual_drop zero forms h = h

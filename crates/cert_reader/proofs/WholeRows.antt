@@ -26,6 +26,7 @@ whole_more row numbers k n e whole l is =
     map-append (λ number. (number, 1)) row (n.num ∷ []) ∙ ap (λ xs. xs ++ (n.num, 1) ∷ []) e ∙ ap (λ f. map fraction_of (take k numbers) ++ f ∷ []) pair
     ∙ sym (map-append fraction_of (take k numbers) (n ∷ [])) ∙ ap (λ f. map fraction_of (take k numbers ++ f ∷ [])) is ∙ ap (map fraction_of) (sym (take_more numbers k n l))
 
+-- a row of numbers of at most 25 digits stays one with the next number of a line
 pub small_more : (row : List ℤ) (numbers : List Frac) (k : ℕ) (n : Frac) → AreSmall row → All (IsNumber true) (map fraction_of numbers) → k < length numbers → n ≡ get_or numbers k n → AreSmall (row ++ n.num ∷ [])
 small_more row numbers k n small whole l is =
     let one = subst (λ (f : Frac). IsNumber true (fraction_of f)) (sym is) (whole_at numbers k n whole l) in

@@ -36,19 +36,21 @@ front_forms n goods = goods_head n goods ++ (replicate n (numbers_of word.Values
 abbrev end_forms : List Form
 end_forms = Tree ∷ numbers_of word.End 0 ∷ []
 
--- what they say
+-- what the lines before the tree say
 abbrev front_said : GoodsView → List Said
 front_said view = says (pos 1 ∷ []) ∷ says [] ∷ says (pos (length view.who) ∷ []) ∷ says (pos view.goods ∷ []) ∷ says (view.limit ∷ []) ∷ says view.who
     ∷ (map says view.values ++ (says view.owners ∷ says (view.steps ∷ []) ∷ []))
 
+-- what the line of the tree and the last say
 abbrev end_said : GoodsView → List Said
 end_said view = Marks view.marks ∷ says [] ∷ []
 
--- together they are all lines
+-- both together are all forms
 forms_are : (n goods : ℕ) → front_forms n goods ++ end_forms ≡ goods_forms n goods
 unfolding goods_forms
 forms_are n goods = ap (λ rest. goods_head n goods ++ rest) (append_assoc (replicate n (numbers_of word.Values goods)) (numbers_of word.Owners goods ∷ numbers_of word.Steps 1 ∷ []) end_forms)
 
+-- what the lines before the tree and the two others say is what all lines say
 said_are : (view : GoodsView) → front_said view ++ end_said view ≡ goods_said view
 said_are view =
     ap (λ (rest : List Said). says (pos 1 ∷ []) ∷ says [] ∷ says (pos (length view.who) ∷ []) ∷ says (pos view.goods ∷ []) ∷ says (view.limit ∷ []) ∷ says view.who ∷ rest)

@@ -90,6 +90,7 @@ brief n few =
       ),
     )
 
+-- a rent has eleven lines, and one a member
 lines : (n : ℕ) → length (rent_forms n) ≡ n + 11
 unfolding rent_forms
 lines n =

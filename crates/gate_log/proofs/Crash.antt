@@ -48,12 +48,15 @@ pub record Staged (version : ℕ) (secret : List ℕ) (bodies : List (List ℕ))
   pub is : file ≡ header gate secret ++ run ++ 0 ∷ (to_le_bytes w32 (length body) ++ body ++ 0 ∷ tail)
 
 module _ (version : ℕ) (secret : List ℕ) (bodies : List (List ℕ)) (p : ℕ) (at : p ≡ place_after bodies) where
+  -- a header and the records of the bodies end at the place behind them
   pub size : (gate : ℕ) (run : List ℕ) → length secret ≡ 32 → IsRun bodies run → length (header gate secret ++ run) ≡ p
   size gate run secret_size is_run = omega (arith, length-append (header gate secret) run, length-header gate secret secret_size, length-run bodies run is_run, at)
 
+  -- what stands behind the closed gate can be cut off
   gate_split : (gate : ℕ) (run tail : List ℕ) → header gate secret ++ run ++ 0 ∷ tail ≡ (header gate secret ++ run ++ 0 ∷ []) ++ tail
   gate_split gate run tail = sym (append_assoc (header gate secret ++ run) (0 ∷ []) tail)
 
+  -- one byte more goes up to behind the closed gate
   behind_gate : (gate : ℕ) (run : List ℕ) → length secret ≡ 32 → IsRun bodies run → length (header gate secret ++ run ++ 0 ∷ []) ≡ p + 1
   behind_gate gate run secret_size is_run = omega (arith, length-append (header gate secret ++ run) (0 ∷ []), size gate run secret_size is_run)
 
@@ -71,6 +74,7 @@ module _ (version : ℕ) (secret : List ℕ) (bodies : List (List ℕ)) (p : ℕ
         ∙ append_assoc (header s.gate secret ++ s.run) (0 ∷ []) (drop (p + 1) c);
   }
 
+  -- a record that was written behind the closed gate stands there, with the gate still closed
   pub written_behind : (body d new : List ℕ) → Stands version secret bodies d → IsWritten d (p + 1) (to_le_bytes w32 (length body) ++ body ++ 0 ∷ []) new → Staged version secret bodies body new
   written_behind body d new s w =
       let piece = to_le_bytes w32 (length body) ++ body ++ 0 ∷ [] in
@@ -118,9 +122,11 @@ module _ (version : ℕ) (secret : List ℕ) (bodies : List (List ℕ)) (p : ℕ
             ∙ ap (λ (l : List ℕ). l ++ 0 ∷ tail) (append_assoc (header first secret) run (entry gate body));
       }
 
+  -- bytes behind those of a record are bytes behind its closed gate
   regroup : (body tail more : List ℕ) → (to_le_bytes w32 (length body) ++ body ++ 0 ∷ tail) ++ more ≡ to_le_bytes w32 (length body) ++ body ++ 0 ∷ (tail ++ more)
   regroup body tail more = append_assoc (to_le_bytes w32 (length body) ++ body) (0 ∷ tail) more
 
+  -- a torn write of the gate leaves the file of before or the one with the record
   pub torn_gate : (body d c : List ℕ) → IsBody body → Staged version secret bodies body d → IsTorn p 1 d c → IsBeforeOrAfter version secret bodies body c
   torn_gate body d c fits s torn =
       let rest = to_le_bytes w32 (length body) ++ body ++ 0 ∷ s.tail in
@@ -128,6 +134,7 @@ module _ (version : ℕ) (secret : List ℕ) (bodies : List (List ℕ)) (p : ℕ
       any_gate body s.run (s.tail ++ one.more) s.gate one.byte c s.is_version s.secret_size s.is_run fits
       (one.is ∙ ap (λ (l : List ℕ). header s.gate secret ++ s.run ++ one.byte ∷ l) (regroup body s.tail one.more))
 
+  -- with its gate open the record is one of those that the file stands for
   pub written_gate : (body d new : List ℕ) → IsBody body → Staged version secret bodies body d → IsWritten d p (1 ∷ []) new → Stands version secret (bodies ++ body ∷ []) new
   written_gate body d new fits s w =
       let rest = to_le_bytes w32 (length body) ++ body ++ 0 ∷ s.tail in
@@ -146,18 +153,22 @@ module _ (version : ℕ) (secret : List ℕ) (bodies : List (List ℕ)) (p : ℕ
 
 -- the two stretches of an append, each a write and a sync
 module _ (images mid : List ℕ → Type 0) (version : ℕ) (secret : List ℕ) (bodies : List (List ℕ)) (body : List ℕ) (p : ℕ) (at : p ≡ place_after bodies) where
+  -- whatever the first write leaves stands for the bodies of before
   pub first_leaves : (n : ℕ) → Each images (Stands version secret bodies) → (c : List ℕ) → Tears images (p + 1) n c → Stands version secret bodies c
   first_leaves n each c (d, was, torn) = torn_behind version secret bodies p at n d c (each d was) torn
 
+  -- behind the first write and sync each image has the record behind the closed gate
   pub first_done : (seen next piece : List ℕ) → Each images (Stands version secret bodies) → images seen → piece ≡ to_le_bytes w32 (length body) ++ body ++ 0 ∷ []
       → IsWritten seen (p + 1) piece next → Only next mid → Each mid (Staged version secret bodies body)
   first_done seen next piece each now is written only c left =
       let staged : Staged version secret bodies body next = written_behind version secret bodies p at body seen next (each seen now) (subst (λ (l : List ℕ). IsWritten seen (p + 1) l next) is written) in
       subst (Staged version secret bodies body) (sym (only c left)) staged
 
+  -- whatever the second write leaves stands for the bodies of before or those with one more
   pub second_leaves : IsBody body → Each mid (Staged version secret bodies body) → (c : List ℕ) → Tears mid p 1 c → IsBeforeOrAfter version secret bodies body c
   second_leaves fits each c (d, was, torn) = torn_gate version secret bodies p at body d c fits (each d was) torn
 
+  -- behind the second write and sync each image stands for the bodies with one more
   pub second_done : (seen next : List ℕ) (last : List ℕ → Type 0) → IsBody body → Each mid (Staged version secret bodies body) → mid seen → IsWritten seen p (1 ∷ []) next → Only next last
       → Each last (Stands version secret (bodies ++ body ∷ []))
   second_done seen next last fits each now written only c left =
@@ -165,18 +176,22 @@ module _ (images mid : List ℕ → Type 0) (version : ℕ) (secret : List ℕ) 
 
 -- the version gate of a journal
 module _ (secret : List ℕ) (bodies : List (List ℕ)) where
+  -- the version gate stands behind the first line and the secret
   at_gate : (gate : ℕ) (run rest : List ℕ) → header gate secret ++ run ++ rest ≡ (start_line ++ secret) ++ gate ∷ (run ++ rest)
   at_gate gate run rest = append_assoc (header gate secret) run rest ∙ append_assoc (start_line ++ secret) (gate ∷ []) (run ++ rest)
 
+  -- the first line and the secret have 48 bytes
   front_size : length secret ≡ 32 → length (start_line ++ secret) ≡ 48
   front_size size = omega (arith, length-append start_line secret)
 
+  -- whatever byte its version gate has, a file holds its records
   any_version : (gate : ℕ) (run tail c : List ℕ) → length secret ≡ 32 → IsRun bodies run → c ≡ header gate secret ++ run ++ 0 ∷ tail → HoldsRecords secret bodies c
   any_version gate run tail c secret_size is_run is = elim (cases_eq gate 0) [
     | inl shut ↦ (1, record { gate = gate; run = run; tail = tail; is_version = inl (shut, refl); secret_size = secret_size; is_run = is_run; is = is })
     | inr opened ↦ (2, record { gate = gate; run = run; tail = tail; is_version = inr (opened, refl); secret_size = secret_size; is_run = is_run; is = is })
   ]
 
+  -- a torn write of the version gate leaves the records
   pub torn_version : (version : ℕ) (d c : List ℕ) → Stands version secret bodies d → IsTorn 48 1 d c → HoldsRecords secret bodies c
   torn_version version d c s torn =
       let behind = s.run ++ 0 ∷ s.tail in
@@ -185,6 +200,7 @@ module _ (secret : List ℕ) (bodies : List (List ℕ)) where
       any_version one.byte s.run (s.tail ++ one.more) c s.secret_size s.is_run
       (one.is ∙ ap (λ (l : List ℕ). (start_line ++ secret) ++ one.byte ∷ l) (append_assoc s.run (0 ∷ s.tail) one.more) ∙ sym (at_gate one.byte s.run (0 ∷ (s.tail ++ one.more))))
 
+  -- with its version gate open a file is of version 2
   pub written_version : (version : ℕ) (d new : List ℕ) → Stands version secret bodies d → IsWritten d 48 (1 ∷ []) new → Stands 2 secret bodies new
   written_version version d new s w =
       let behind = s.run ++ 0 ∷ s.tail in

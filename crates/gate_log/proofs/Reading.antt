@@ -10,16 +10,20 @@ use Rattle.gate_log.specs.Gate.{EndsEarly, BeginsRecord}
 use Rattle.gate_log.proofs.Crash.{length-header, run_push, place_push, size}
 
 module _ (file : List ℕ) (log : LogView) (secret : List ℕ) (bodies : List (List ℕ)) (r : IsReading file log secret bodies) where
+  -- the header and the records that were read end at the place of the log
   front_size : length (header r.begins.gate secret ++ r.begins.run) ≡ log.place
   front_size = size 0 secret bodies log.place r.place r.begins.gate r.begins.run r.begins.secret_size r.begins.is_run
 
+  -- from that place on stands what is still unread
   pub behind : drop log.place file ≡ r.begins.rest
   behind = ap (λ (l : List ℕ). drop log.place l) r.begins.is ∙ drop_at (header r.begins.gate secret ++ r.begins.run) r.begins.rest log.place front_size
 
+  -- the file is as long as that place and what's unread
   pub file_size : length file ≡ log.place + length r.begins.rest
   file_size = omega (arith, ap length r.begins.is, length-append (header r.begins.gate secret ++ r.begins.run) r.begins.rest, front_size)
 
   module _ (ahead : List ℕ) (is_ahead : IsAhead file log.place ahead) where
+    -- what is unread begins with the bytes that were read ahead
     rest_is : r.begins.rest ≡ ahead ++ drop (length ahead) r.begins.rest
     rest_is = sym (take-append-drop (length ahead) r.begins.rest) ∙ ap (λ (l : List ℕ). l ++ drop (length ahead) r.begins.rest) (sym (is_ahead ∙ ap (λ (l : List ℕ). take (length ahead) l) behind))
 

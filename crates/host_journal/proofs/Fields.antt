@@ -239,6 +239,7 @@ abbrev pub AreMany : {A : Type 0} → (A → Type 0) → ℕ → List A → Type
 AreMany Fits n xs = (length xs ≡ n) × All Fits xs
 
 module _ {A : Type 0} (read : List ℕ → Option (A × List ℕ)) (spell : A → List ℕ) (Fits : A → Type 0) (reads : Reads read spell Fits) where
+  -- values that were read one after another take their spellings, are so many, and fit
   pub many_take : (n : ℕ) (bytes : List ℕ) (x : List A × List ℕ) → IsBytes bytes → many_at read n bytes ≡ Some x → Takes bytes (flat_map spell x.0) x.1 × AreMany Fits n x.0
   unfolding many_at
   many_take zero bytes x fits e =
@@ -251,6 +252,7 @@ module _ {A : Type 0} (read : List ℕ → Option (A × List ℕ)) (spell : A �
       let made : List A × List ℕ = (a.x ∷ b.0.0, b.0.1) in
       subst (λ (y : List A × List ℕ). Takes bytes (flat_map spell y.0) y.1 × AreMany Fits (suc n) y.0) (some_is made x b.2) (rw flat_map-cons both, (ap suc second.1.0, All-cons Fits a.x b.0.0 a.fits second.1.1))
 
+  -- the spellings of values that fit are read back as those values
   pub many_again : (xs : List A) (rest : List ℕ) → All Fits xs → many_at read (length xs) (flat_map spell xs ++ rest) ≡ Some (xs, rest)
   unfolding many_at
   many_again [] rest fits = refl

@@ -33,7 +33,7 @@ fn lifted(value: i128, by: u64) -> i128
     requires by { by ≤ MOST_MEMBERS ^ MOST_MEMBERS }
     ensures value { result ≡ pos by *ℤ value }
     ensures low { pos 0 ≤ℤ result }
-    ensures high { result ≤ℤ pos (9 * 10 ^ 19) }
+    ensures high { result ≤ℤ pos (MOST_RENT * MOST_MEMBERS ^ MOST_MEMBERS) }
 {
     by as i128 * value
 }
@@ -43,7 +43,7 @@ fn digit(room: usize, by: u64) -> i128
     requires room { room < MOST_MEMBERS }
     requires by { by ≤ MOST_MEMBERS ^ MOST_MEMBERS }
     ensures value { result ≡ pos (room * by) }
-    ensures high { result ≤ℤ pos (10 ^ 14) }
+    ensures high { result ≤ℤ pos ((MOST_MEMBERS - 1) * MOST_MEMBERS ^ MOST_MEMBERS) }
 {
     i128::from(room as u64 * by)
 }

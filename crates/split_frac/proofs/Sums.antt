@@ -46,17 +46,21 @@ sizes l m s t =
 -- n over r, in lowest terms, is the sum of l over p and m over q: r divides a common multiple of p and q, and n is no
 -- greater than what the numerators of the two over that multiple add up to
 module _ (l m n : ℤ) (p q r whole : ℕ) (some_p : 0 < p) (some_q : 0 < q) (lowest : IsGcd (unsigned_abs n) r 1) (by_p : p ∣ whole) (by_q : q ∣ whole) (h : n *ℤ pos (p * q) ≡ (l *ℤ pos q +ℤ m *ℤ pos p) *ℤ pos r) where
+  -- the sum's numerator over the common multiple
   abbrev over : ℤ
   over = l *ℤ pos (whole / p) +ℤ m *ℤ pos (whole / q)
 
+  -- n times the multiple is, but for the sign, that numerator times r
   same : unsigned_abs n * whole ≡ unsigned_abs over * r
   same =
       let e : n *ℤ pos whole ≡ over *ℤ pos r = parts l m n p q r (whole / p) (whole / q) whole some_p some_q (div-mul_cancel p by_p) (div-mul_cancel q by_q) h in
       sym (unsigned_abs-mul n (pos whole)) ∙ ap unsigned_abs e ∙ unsigned_abs-mul over (pos r)
 
+  -- r divides the multiple
   divides : r ∣ whole
   divides = coprime_divides (unsigned_abs n) r whole lowest (subst (λ k. r ∣ k) (sym same) (dvd-mul_left r (unsigned_abs over)))
 
+  -- n is no greater than what both numerators over the multiple add up to
   small : 0 < whole → unsigned_abs n ≤ unsigned_abs l * (whole / p) + unsigned_abs m * (whole / q)
   small some =
       let low : unsigned_abs over * r ≤ unsigned_abs over * whole = mul-le-mul_left (unsigned_abs over) (le_of_dvd some divides) in

@@ -79,6 +79,7 @@ module _
     (one_rent : (case : RentCase) (division other : RentDivision) → IsValidRentCase case → IsRentDivision case division → IsRentDivision case other → division ≡ other)
     (one_goods : (case : GoodsCase) (division other : GoodsDivision) → IsGoodsDivision case division → IsGoodsDivision case other → division ≡ other)
   where
+    -- a case of fares has one report
     same_fares : (given : CaseData) (case : FareCase) (d e : FareDivision) (text other : List ℕ) → IsFareDivision case d → IsFareDivision case e → IsFaresReport given case d text → IsFaresReport given case e other → text ≡ other
     same_fares given case d e text other a b ta tb =
         let total : d.total ≡ e.total = a.total ∙ sym b.total in
@@ -88,6 +89,7 @@ module _
         ∙ ap (λ r. fares_report given case e.total r d.fares.items (cent_plan (map fraction_of d.fares.items) (pos e.total))) route
         ∙ ap (λ fs. fares_report given case e.total e.route.items fs (cent_plan (map fraction_of fs) (pos e.total))) fares ∙ sym tb
 
+    -- a case has one table of points for given owners
     same_points : (case : GoodsCase) (owners : List ℕ) (xs ys : List (ArrayVec ℤ MEMBER_ROOM (Unit {0}))) → IsPointsTable case owners xs → IsPointsTable case owners ys → map (λ row. row.items) xs ≡ map (λ row. row.items) ys
     same_points case owners xs ys a b =
         let none : ArrayVec ℤ MEMBER_ROOM (Unit {0}) = record { items = [] } in
@@ -107,12 +109,14 @@ module _
         sym (ap (λ p. get_or (get_or xs p none).items (j + 1 - 1) (pos 0)) place ∙ ap (λ q. get_or (get_or xs i none).items q (pos 0)) back) ∙ one_x ∙ sym one_y
         ∙ (ap (λ p. get_or (get_or ys p none).items (j + 1 - 1) (pos 0)) place ∙ ap (λ q. get_or (get_or ys i none).items q (pos 0)) back)) ∙ sym (get_or-map items ys i none [] there))
 
+    -- a case of goods has one report
     same_goods : (given : CaseData) (case : GoodsCase) (d e : GoodsDivision) (text other : List ℕ) → IsGoodsDivision case d → IsGoodsDivision case e → IsGoodsReport given case d text → IsGoodsReport given case e other → text ≡ other
     same_goods given case d e text other a b ta tb =
         let same = one_goods case d e a b in
         let moved = subst (λ (x : GoodsDivision). IsGoodsReport given case x text) same ta in
         moved.2 ∙ ap (goods_report given case e.owners.items e.pair e.steps) (same_points case e.owners.items moved.0 tb.0 moved.1 tb.1) ∙ sym tb.2
 
+    -- a case of rent has one report
     same_rent : (given : CaseData) (case : RentCase) (d e : RentDivision) (text other : List ℕ) → IsValidRentCase case → IsRentDivision case d → IsRentDivision case e → IsRentReport given case d text → IsRentReport given case e other → text ≡ other
     same_rent given case d e text other valid a b ta tb =
         let n = room_count case in
@@ -144,6 +148,7 @@ module _
         ∙ ap (λ x. rent_report given rent (told_of t.rooms t.prices x s.utilities s.least s.envy)) pays ∙ ap (λ x. rent_report given rent (told_of t.rooms t.prices t.pays x s.least s.envy)) utilities
         ∙ ap (λ x. rent_report given rent (told_of t.rooms t.prices t.pays t.utilities x s.envy)) least ∙ ap (λ x. rent_report given rent (told_of t.rooms t.prices t.pays t.utilities t.least x)) table ∙ sym tb.2
 
+    -- a case of any kind has one report
     pub same_report : (given : CaseData) (made : Case) (division others : Division) (text other : List ℕ) → IsValidCase made → IsDivisionOf made division → IsDivisionOf made others
         → IsReport given made division text → IsReport given made others other → text ≡ other
     same_report given (case.Rent rent) (Rent d) (Rent e) text other valid a b ta tb = same_rent given rent d e text other valid a b ta tb

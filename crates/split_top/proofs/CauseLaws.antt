@@ -159,10 +159,11 @@ settled_too words (Report workers) Check bytes status row too settled = absurd (
 settled_too words Check (Solve others) bytes status row too settled = absurd (apart words (Solve others) tt too row)
 settled_too words Check (Report others) bytes status row too settled = absurd (apart words (Report others) tt too row)
 
--- bytes that hold no case, by their fault or for want of bids
+-- bytes that hold no facts and bids settle status 3
 refused : (bytes : List ℕ) (fault : BodyFault) → case_in bytes ≡ Err fault → Settles (of_body (case_in bytes)) 3
 refused bytes fault is = inl (ap of_body is)
 
+-- bytes whose facts and bids make no case settle status 1
 void : (bytes : List ℕ) (missing : Missing) → Holds bytes (IsVoid missing) → Settles (of_body (case_in bytes)) 1
 void bytes missing h = inl (ap of_body h.1 ∙ ap of_case h.2)
 
@@ -170,9 +171,11 @@ void bytes missing h = inl (ap of_body h.1 ∙ ap of_case h.2)
 held : (bytes : List ℕ) (so : Case → Type 0) (h : Holds bytes (λ given. MakesCase given so)) → of_body (case_in bytes) ≡ Ok h.2.0
 held bytes so h = ap of_body h.1 ∙ ap of_case h.2.1
 
+-- bytes that hold a case above its limit of steps settle status 1
 over : (bytes : List ℕ) (limit : ℕ) → Holds bytes (λ given. MakesCase given (λ case. IsAboveLimit case limit)) → Settles (of_body (case_in bytes)) 1
 over bytes limit h = inr (h.2.0, held bytes (λ case. IsAboveLimit case limit) h, inl (limit, h.2.2, refl))
 
+-- bytes that hold a case above no limit of steps settle status 0
 within : (bytes : List ℕ) → Holds bytes (λ given. MakesCase given (λ case. (limit : ℕ) → IsAboveLimit case limit → ⊥)) → Settles (of_body (case_in bytes)) 0
 within bytes h = inr (h.2.0, held bytes (λ case. (limit : ℕ) → IsAboveLimit case limit → ⊥) h, inr (h.2.2, refl))
 

@@ -1,5 +1,5 @@
 -- A case has one certificate and one report, and its bytes have one text.
-use Rattle.std.proofs.Common.{◌≡◌, ◌≤◌, ℕ, List, All, Ok, length, IfSome, sym, ap, ◌∙◌, subst}
+use Rattle.std.proofs.Common.{◌≡◌, ℕ, List, All, Ok, length, IfSome, sym, ap, ◌∙◌, subst}
 use Rattle.std.specs.Prelude.{Option}
 use Rattle.bid_rules.specs.declared.bids.Bid.{Bid}
 use Rattle.bid_rules.specs.declared.bids.Facts.{Facts}

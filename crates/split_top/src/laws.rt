@@ -1,7 +1,6 @@
 // What holds of the commands' definitions, for all inputs.
-ghost use Rattle.std.specs.Prelude.{◌≡◌, ◌≤◌, ℕ, List, [], Ok, Some, length};
+ghost use Rattle.std.specs.Prelude.{◌≡◌, ℕ, List, [], Ok, Some};
 ghost use Rattle.cert_checker.specs.Judged.{IsJudged, PrintsBest};
-ghost use Rattle.cert_reader.specs.declared.limits.TheConstants.{MOST_BYTES};
 ghost use Rattle.split_top.specs.Causes.{HasCauses, IsComplete, IsDue};
 ghost use Rattle.split_top.specs.Commands.{AreAlike, Names};
 ghost use Rattle.split_top.specs.Texts.{IsOutput, yes_line};

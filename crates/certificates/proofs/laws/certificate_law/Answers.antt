@@ -1,4 +1,4 @@
-use Rattle.std.proofs.Common.{◌≡◌, ◌≤◌, ◌*◌, ◌^◌, ◌∙◌, refl, ℕ, List, ap, sym, subst, length, unsigned_abs, arith}
+use Rattle.std.proofs.Common.{◌≡◌, ◌≤◌, ◌*◌, ◌∙◌, refl, ℕ, List, ap, sym, subst, length, unsigned_abs, arith}
 use Rattle.std.specs.List.{range_with_len}
 use Rattle.std.specs.List.Sorted.{IsPermutation}
 use Rattle.std.proofs.lemmas.List.Elements.{All-weaker}
@@ -6,6 +6,7 @@ use Rattle.bid_rules.specs.declared.cases.Case.{Case}
 use Rattle.bid_rules.specs.declared.cases.Case.TheVariants as case
 use Rattle.bid_rules.specs.declared.cases.FareCase.{FareCase}
 use Rattle.bid_rules.specs.declared.goods.GoodsCase.{GoodsCase}
+use Rattle.bid_rules.specs.declared.limits.TheConstants.{MOST_AMOUNT}
 use Rattle.bid_rules.specs.declared.rents.RentCase.{RentCase}
 use Rattle.bid_rules.specs.Facts.{IsValidCase, IsValidFareCase}
 use Rattle.bid_rules.specs.Goods.{IsValidGoodsCase}
@@ -33,7 +34,7 @@ use Rattle.certificates.proofs.laws.certificate_law.Goals as goal
 
 -- prices are fractions that a text can hold
 prices_short : (c : goal.After-step_count_law) (rent : RentCase) (division : RentDivision) → IsValidRentCase rent → IsRentDivision rent division → AreShort division.prices.items
-prices_short c rent division valid is = All-weaker (λ price. IsWithinLimits price × (unsigned_abs price.num ≤ 10 ^ 12 * price.den)) (λ price. IsSmall price.num × (price.den ≤ 4294967295))
+prices_short c rent division valid is = All-weaker (λ price. IsWithinLimits price × (unsigned_abs price.num ≤ MOST_AMOUNT * price.den)) (λ price. IsSmall price.num × (price.den ≤ 4294967295))
     (λ price h. (let size = h.0.0 in omega (arith, size), let parts = h.0.1 in omega (arith, parts))) division.prices.items (c.division_range_law.ensures.prices rent division valid is)
 
 -- what is known of costs
