@@ -1,5 +1,5 @@
 -- The lines of a certificate of fares, one after another, and what the judge knows behind them.
-use Rattle.std.specs.Prelude.{◌≡◌, ℕ, ℤ, pos, ◌+◌, ◌^◌, ◌<◌, ◌≤◌, List, [], ◌∷◌, ◌++◌, length, map, All, true, false}
+use Rattle.std.specs.Prelude.{◌≡◌, ℕ, ℤ, pos, ◌+◌, ◌^◌, ◌<◌, ◌≤◌, List, [], ◌∷◌, ◌++◌, length, map, All, true, false, ⊤}
 use Rattle.std.specs.List.{enumerate_from}
 use Rattle.bid_rules.specs.declared.limits.TheConstants.{MOST_PLACES, MOST_RIDERS}
 use Rattle.bid_rules.specs.Fractions.{Fraction}
@@ -75,3 +75,8 @@ pub record IsBehindHead (view : FaresView) (said : List Said) (table : TableLine
 abbrev pub IsAt : FaresView → List Said → FaresLines → Type 0
 IsAt view said (Head lines) = IsInHead view said lines.items
 IsAt view said (Table table) = IsBehindHead view said table
+
+-- lines of the head are still to come
+abbrev pub IsGathered : FaresLines → Type 0
+IsGathered (Head lines) = ⊤
+IsGathered (Table table) = ⊥

@@ -1,5 +1,5 @@
 -- The lines of a certificate of goods, one after another, and what the judge knows behind them.
-use Rattle.std.specs.Prelude.{◌≡◌, ℕ, pos, ◌≤◌, List, [], ◌∷◌, ◌++◌, length, map, All}
+use Rattle.std.specs.Prelude.{◌≡◌, ℕ, pos, ◌≤◌, List, [], ◌∷◌, ◌++◌, length, map, All, ⊤}
 use Rattle.bid_rules.specs.declared.limits.TheConstants.{MOST_GOODS, MOST_MEMBERS}
 use Rattle.cert_reader.specs.Gathered.{Gathered, line_said}
 use Rattle.cert_reader.specs.GoodsViews.{GoodsView}
@@ -48,3 +48,8 @@ pub record IsInTree (said : List Said) (state : GoodsState) : Type 0 where
 abbrev pub IsAtGoods : List Said → GoodsLines → Type 0
 IsAtGoods said (Head lines) = said ≡ front_said (map line_said lines.items)
 IsAtGoods said (Tree state) = IsInTree said state
+
+-- no mark of the tree has come
+abbrev pub IsGathered : GoodsLines → Type 0
+IsGathered (Head lines) = ⊤
+IsGathered (Tree state) = ⊥

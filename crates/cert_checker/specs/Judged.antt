@@ -47,6 +47,6 @@ pub record PrintsBest (bytes : List ℕ) : Type 0 where
   pub best : IsBest view
 
 -- what is answered of all bytes that were taken: the verdict on them, where they are text, or why there is none
-abbrev pub IsAnswered : Option (List ℕ) → List ℕ → Result Verdict ReadEnd → Type 0
-IsAnswered left taken (Ok verdict) = IsJudged taken verdict × (length taken ≤ MOST_BYTES) × IsAtEnd left
-IsAnswered left taken (Err end) = IsEnd end left taken
+abbrev pub IsJudgement : Option (List ℕ) → List ℕ → Result Verdict ReadEnd → Type 0
+IsJudgement left taken (Ok verdict) = IsJudged taken verdict × (length taken ≤ MOST_BYTES) × IsAtEnd left
+IsJudgement left taken (Err end) = IsEnd end left taken

@@ -1,10 +1,11 @@
 -- The lines of a text, one after another, and what the judge knows behind them.
-use Rattle.std.specs.Prelude.{◌≡◌, ℕ, List, ◌∷◌, ◌++◌, map}
+use Rattle.std.specs.Prelude.{◌≡◌, ℕ, ◌≤◌, List, ◌∷◌, ◌++◌, length, map, Option, Result, Ok, Err, ⊤}
+use Rattle.cert_reader.specs.declared.ends.ReadEnd.{ReadEnd}
 use Rattle.cert_reader.specs.declared.forms.Counts.{Counts}
 use Rattle.cert_reader.specs.Forms.{AreCounts, forms_of}
 use Rattle.cert_reader.specs.Gathered.{line_said}
 use Rattle.cert_reader.specs.Kinds.{kind_of}
-use Rattle.cert_reader.specs.Reading.{with_mark}
+use Rattle.cert_reader.specs.Reading.{IsEnd, IsOpen, IsRead, Reading, with_mark}
 use Rattle.cert_reader.specs.Shapes.{HasRows}
 use Rattle.cert_reader.specs.Text.{CanSayAll, Said}
 use Rattle.cert_reader.specs.Views.{FaresView, View, counts_of, fares_said, said_of}
@@ -51,3 +52,18 @@ pub record GivesOf (counts : Counts) (said : List Said) (verdict : Verdict) : Ty
   pub is_said : said_of view ≡ said
   pub rows : HasRows view
   pub gives : GivesVerdict view verdict
+
+-- the bytes taken are lines that say this, behind which others come, and the state is the one behind them
+pub record IsUpTo (pieces : Reading) (lines : Lines) (taken : List ℕ) : Type 0 where
+  pub said : List Said
+  pub read : IsRead pieces taken said
+  pub kind : kind_of pieces.counts ≡ kind_of_lines lines
+  pub knows : KnowsLines said lines
+  pub to_come : IsOpen pieces
+  pub some : 2 ≤ pieces.lines
+  pub long : length said ≡ pieces.lines
+
+-- the reading went on up to these bytes, or ended with them
+abbrev pub IsGoneOn : Reading → Lines → Option (List ℕ) → List ℕ → Result ⊤ ReadEnd → Type 0
+IsGoneOn pieces lines left taken (Ok done) = IsUpTo pieces lines taken
+IsGoneOn pieces lines left taken (Err end) = IsEnd end left taken

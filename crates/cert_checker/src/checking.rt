@@ -6,8 +6,7 @@ ghost use Rattle.fare_rules.specs.Rules.{fares_rule};
 ghost use Rattle.goods_rules.specs.Rules.{goods_rule};
 ghost use Rattle.verdicts.specs.Verdicts.{IsVerdict};
 
-use crate::fares::set_count;
-use cert_reader::{Certificate, FaresText, GoodsText, start_count};
+use cert_reader::{Certificate, FaresText, GoodsText, set_count, start_count};
 use fare_rules::{end_fares, fares_certificate_law, start_fares, take_set};
 use goods_rules::{end_goods, goods_certificate_law, start_goods, take_mark};
 use rent_rules::{check_rent, rent_certificate_law};

@@ -1,18 +1,17 @@
 // The lines of a certificate of fares: those of the head are gathered, those of the sets are judged as they come.
-ghost use Rattle.std.specs.Prelude.{◌≡◌, ℕ, ◌+◌, ◌-◌, ◌^◌, ◌<◌, ◌≤◌, ◌++◌, ◌∷◌, [], List, length, map, MatchOption, IsTrue, ◌↔◌};
-ghost use Rattle.bid_rules.specs.declared.limits.TheConstants.{MOST_RIDERS};
+ghost use Rattle.std.specs.Prelude.{◌≡◌, ◌+◌, ◌<◌, ◌++◌, ◌∷◌, [], List, length, map, IsTrue, ◌↔◌};
 ghost use Rattle.split_frac.specs.Frac.{fraction_of};
 ghost use Rattle.cert_reader.specs.Gathered.{Gathered, line_said};
 ghost use Rattle.cert_reader.specs.Text.{Numbers, Said};
 ghost use Rattle.cert_reader.specs.Views.{FaresView, fares_said, says};
 ghost use Rattle.fare_rules.specs.Rules.{fares_rule};
 ghost use Rattle.verdicts.specs.Verdicts.{IsVerdict};
-ghost use Rattle.cert_checker.specs.FaresLines.{IsAt, IsBehindHead, IsInHead, IsNext, IsWhole, front_said, head_said};
+ghost use Rattle.cert_checker.specs.FaresLines.{IsAt, IsBehindHead, IsGathered, IsNext, IsWhole, front_said, head_said};
 
 use arrayvec::ArrayVec;
 use bid_rules::limits::{LEG_ROW_ROOM, RIDER_ROOM};
 use cert_reader::limits::LINE_ROOM;
-use cert_reader::{LineNumbers, number_at, row_at, rows_of, whole_row};
+use cert_reader::{LineNumbers, number_at, row_at, rows_of, set_count, whole_row};
 use fare_rules::{FaresState, PrintedRow, end_fares, start_fares, take_set};
 use verdicts::Verdict;
 
@@ -60,21 +59,35 @@ impl FaresLines {
         FaresLines::Head(HeadLines::new())
     }
 
+    /// Takes a line of the head, and begins with the sets where it was the last. The state of the sets is large, so that it is made here and not where each
+    /// line is taken.
+    #[inline(never)]
+    fn take_head(&mut self, numbers: LineNumbers)
+        requires head { IsGathered self.old }
+        requires next { (view : FaresView) × (said : List Said) × IsNext view said (map fraction_of numbers.items) × IsAt view said self.old }
+        ensures { (view : FaresView) (said : List Said) → IsNext view said (map fraction_of numbers.items) → IsAt view said self.old
+            → IsAt view (said ++ Numbers (map fraction_of numbers.items) ∷ []) self.new }
+    {
+        match self {
+            FaresLines::Head(lines) => {
+                lines.push(numbers);
+                if is_whole(lines.as_slice()) {
+                    *self = FaresLines::Table(begin(lines.as_slice()));
+                }
+            }
+            FaresLines::Table(_) => unreachable!(),
+        }
+    }
+
     /// Takes the next line.
     pub(crate) fn take(&mut self, numbers: LineNumbers)
         requires { (view : FaresView) × (said : List Said) × IsNext view said (map fraction_of numbers.items) × IsAt view said self.old }
         ensures { (view : FaresView) (said : List Said) → IsNext view said (map fraction_of numbers.items) → IsAt view said self.old
             → IsAt view (said ++ Numbers (map fraction_of numbers.items) ∷ []) self.new }
     {
-        let begun = match self {
-            FaresLines::Head(lines) => take_head(lines, numbers),
-            FaresLines::Table(table) => {
-                table.take(numbers);
-                None
-            }
-        };
-        if let Some(table) = begun {
-            *self = FaresLines::Table(table);
+        match self {
+            FaresLines::Head(_) => self.take_head(numbers),
+            FaresLines::Table(table) => table.take(numbers),
         }
     }
 
@@ -87,21 +100,6 @@ impl FaresLines {
             FaresLines::Head(_) => unreachable!(),
             FaresLines::Table(table) => table.verdict(),
         }
-    }
-}
-
-/// Takes a line of the head, and begins with the sets where it was the last.
-fn take_head(lines: &mut HeadLines, numbers: LineNumbers) -> Option<TableLines>
-    requires { (view : FaresView) × (said : List Said) × IsNext view said (map fraction_of numbers.items) × IsInHead view said lines.old.items }
-    ensures { (view : FaresView) (said : List Said) → IsNext view said (map fraction_of numbers.items) → IsInHead view said lines.old.items
-        → MatchOption result (IsInHead view (said ++ Numbers (map fraction_of numbers.items) ∷ []) lines.new.items)
-        (λ table. IsBehindHead view (said ++ Numbers (map fraction_of numbers.items) ∷ []) table) }
-{
-    lines.push(numbers);
-    if is_whole(lines.as_slice()) {
-        Some(begin(lines.as_slice()))
-    } else {
-        None
     }
 }
 
@@ -120,14 +118,6 @@ fn places_of(lines: &[LineNumbers]) -> usize
     ensures { (view : FaresView) (rest : List Said) → IsWhole view → head_said view ≡ map line_said lines.now ++ rest → result ≡ view.places }
 {
     number_at(lines, PLACES) as usize
-}
-
-/// How many sets of riders there are, but for the empty one.
-pub(crate) fn set_count(riders: u8) -> u32
-    requires { riders ≤ MOST_RIDERS }
-    ensures { result ≡ 2 ^ riders - 1 }
-{
-    (1 << riders) - 1
 }
 
 /// Begins with the sets behind the lines of a head.

@@ -1,8 +1,10 @@
 // The verdict on text from a source.
-ghost use Rattle.std.specs.Prelude.{◌≡◌, ℕ, List, ◌≤◌, IsErrOf, Ok};
+ghost use Rattle.std.specs.Prelude.{◌≡◌, ℕ, ◌++◌, List, ◌≤◌, IsErrOf, OnOk, Ok};
 ghost use Rattle.std.specs.Io.KnownBytes.{Consumes};
-ghost use Rattle.cert_checker.specs.Judged.{IsAnswered, PrintsBest};
+ghost use Rattle.cert_checker.specs.Judged.{IsJudgement, PrintsBest};
+ghost use Rattle.cert_checker.specs.Lines.{IsGoneOn, IsUpTo};
 ghost use Rattle.cert_reader.specs.Stream.{faults_after};
+ghost use Rattle.cert_reader.specs.declared.limits.TheConstants.{MOST_BYTES};
 ghost use Rattle.split_base.specs.Faults.{HasRisen};
 
 use crate::laws::certificate_verdict_law;
@@ -19,7 +21,7 @@ use verdicts::Verdict;
 /// - `ReadFault` comes only where the source's count of faults has risen, and at once: the failed read is not tried again.
 /// - `NoMemory` never comes.
 pub fn judge<S: Source>(source: &mut S) -> Result<Verdict, ReadEnd>
-    ensures judged { (taken : List ℕ) × Consumes (S.left source.old) (S.left source.new) taken × IsAnswered (S.left source.new) taken result }
+    ensures judged { (taken : List ℕ) × Consumes (S.left source.old) (S.left source.new) taken × IsJudgement (S.left source.new) taken result }
     ensures best { result ≡ Ok Verdict.Yes → (taken : List ℕ) × Consumes (S.left source.old) (S.left source.new) taken × PrintsBest taken }
     ensures memory { IsErrOf result ReadEnd.NoMemory → ⊥ }
     ensures faults { S.faults source.new ≡ faults_after (S.faults source.old) result }
@@ -42,9 +44,44 @@ pub fn judge<S: Source>(source: &mut S) -> Result<Verdict, ReadEnd>
         match pieces.next(source) {
             Err(end) => return Err(end),
             Ok(Piece::Line { numbers }) => lines.take(numbers),
-            Ok(Piece::Mark { mark }) => lines.take_mark(mark),
+            Ok(Piece::Mark { mark }) => {
+                lines.take_mark(mark);
+                match take_marks(&mut pieces, source, &mut lines) {
+                    Err(end) => return Err(end),
+                    Ok(()) => {}
+                }
+            }
             Ok(Piece::Done) => return Ok(lines.verdict()),
             Ok(Piece::Kind { .. }) => unreachable!(),
         }
     }
+}
+
+/// Takes the other marks of a tree that is being read, to the end of its line, where any are left. A mark is read alone, since a piece has room for a line.
+fn take_marks<S: Source>(
+    pieces: &mut Pieces,
+    source: &mut S,
+    lines: &mut Lines,
+) -> Result<(), ReadEnd>
+    requires known { (taken : List ℕ) × IsUpTo pieces.old lines.old taken }
+    requires few { pieces.old.given ≤ MOST_BYTES }
+    ensures marks { (more : List ℕ) × Consumes (S.left source.old) (S.left source.new) more
+        × ((taken : List ℕ) → IsUpTo pieces.old lines.old taken → IsGoneOn pieces.new lines.new (S.left source.new) (taken ++ more) result) }
+    ensures later { OnOk result (pieces.old.given ≤ pieces.new.given) }
+    ensures few { pieces.new.given ≤ MOST_BYTES }
+    ensures memory { IsErrOf result ReadEnd.NoMemory → ⊥ }
+    ensures faults { S.faults source.new ≡ faults_after (S.faults source.old) result }
+    ensures fault { IsErrOf result ReadEnd.ReadFault → HasRisen (S.faults source.old) (S.faults source.new) }
+    ensures count { S.faults source.old ≤ S.faults source.new }
+    ensures beside { S.beside source.new ≡ S.beside source.old }
+{
+    text_law();
+    'marks: while pieces.is_in_tree() {
+        match pieces.next_in_tree(source) {
+            Err(end) => return Err(end),
+            Ok(Some(mark)) => lines.take_mark(mark),
+            Ok(None) => {}
+        }
+    }
+    Ok(())
 }

@@ -26,7 +26,7 @@ pub use ends::ReadEnd;
 pub use forms::{Counts, LineForm, Word};
 pub use laws::text_law;
 pub use line::LineNumbers;
-pub use order::start_count;
+pub use order::{set_count, start_count};
 pub use pieces::{Piece, Pieces};
 pub use read::read_certificate;
 pub use rows::{number_at, row_at, rows_of, whole_row};

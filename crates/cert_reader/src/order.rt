@@ -194,7 +194,7 @@ fn fares_tail_form(riders: u8, index: u32) -> LineForm
 }
 
 /// How many sets of riders there are, but for the empty one.
-pub(crate) fn set_count(riders: u8) -> u32
+pub fn set_count(riders: u8) -> u32
     requires { riders ≤ MOST_RIDERS }
     ensures { result ≡ 2 ^ riders - 1 }
 {

@@ -92,8 +92,8 @@ impl Pieces {
         self.lines < line_count(self.counts)
     }
 
-    /// Whether a tree is being read.
-    fn is_in_tree(&self) -> bool
+    /// Whether a tree is being read: its line has begun and not ended.
+    pub fn is_in_tree(&self) -> bool
         ensures { result ≡ self.now.in_tree }
     {
         self.in_tree
@@ -220,8 +220,12 @@ impl Pieces {
         }
     }
 
-    /// Takes the next character of the tree, or the end of its line.
-    fn next_in_tree<S: Source>(&mut self, source: &mut S) -> Result<Option<u8>, ReadEnd>
+    /// The next character of the tree that is being read, or `None` at the end of its line. It takes no memory.
+    ///
+    /// A reader of long trees calls it in place of `next`, whose piece has room for a line of numbers.
+    ///
+    /// - `NotText`, `TooLong` and `ReadFault` come as in `next`.
+    pub fn next_in_tree<S: Source>(&mut self, source: &mut S) -> Result<Option<u8>, ReadEnd>
         requires { self.old.in_tree ≡ true }
         ensures mark { Goes self.old (S.left source.old) (S.left source.new) (λ taken said. IsTreeRead self.old self.new (S.left source.new) taken said result) }
         ensures same { (self.new.lines ≡ self.old.lines) × (self.new.counts ≡ self.old.counts) }

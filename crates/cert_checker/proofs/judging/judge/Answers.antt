@@ -7,7 +7,8 @@ use Rattle.cert_reader.specs.Text.{Numbers}
 use Rattle.cert_reader.specs.Views.{says}
 use Rattle.verdicts.specs.declared.verdict.Verdict.TheVariants.{Yes}
 use Rattle.cert_checker.specs.Judged.{IsJudged}
-use Rattle.cert_checker.proofs.LineSteps.{end_goes, judged_so, kind_stays, kinds, line_goes, mark_goes, mark_some, read_long, some_lines}
+use Rattle.cert_checker.proofs.LineSteps.{end_goes, judged_so, kind_stays, kinds, line_goes, some_lines}
+use Rattle.cert_checker.proofs.MarkSteps.{next_mark_goes, up_to_mark}
 use Rattle.cert_checker.proofs.judging.judge.Goals as goal
 
 pub unreachable-requires-in-Ok-Done : goal.unreachable-requires-in-Ok-Done
@@ -23,38 +24,40 @@ pub returns-in-Err-next-clause-judged : goal.returns-in-Err-next-clause-judged
 returns-in-Err-next-clause-judged g c =
     let inv = c.lines.invariant in
     let p = (rw c.in-Err-next.end-is at c.in-Err-next.ensures).piece in
-    (inv.taken ++ p.0, Consumes-trans _ _ _ inv.taken p.0 inv.took p.1, p.2 inv.taken inv.said inv.read)
+    (inv.taken ++ p.0, Consumes-trans _ _ _ inv.taken p.0 inv.took p.1, p.2 inv.taken inv.up_to.said inv.up_to.read)
 
 pub take-requires : goal.take-requires
 take-requires g c =
     let inv = c.lines.invariant in
     let next = rw c.in-Ok-Line-next.field-0-is at c.in-Ok-Line-next.ensures in
     let p = next.piece in
-    let told = p.2 inv.taken inv.said inv.read in
+    let told = p.2 inv.taken inv.up_to.said inv.up_to.read in
     let last = Numbers (map fraction_of c.in-Ok-Line-next.numbers.items) in
-    let rest = c.text_law.ensures.completed c.next-in-lines.new.self (inv.taken ++ p.0) (inv.said ++ last ∷ []) told.3 in
-    let goes = line_goes c.lines.lines c.lines.pieces c.next-in-lines.new.self inv.said rest.0 last (inv.taken ++ p.0) inv.knows inv.kind inv.some inv.long told.1 told.2 told.3 (next.more (λ e. absurd (cc))).0 rest.1 in
-    (inv.said, goes.0, goes.1, goes.2)
+    let rest = c.text_law.ensures.completed c.next-in-lines.new.self (inv.taken ++ p.0) (inv.up_to.said ++ last ∷ []) told.3 in
+    let goes = line_goes c.lines.lines c.lines.pieces c.next-in-lines.new.self inv.up_to.said rest.0 last (inv.taken ++ p.0) inv.up_to.knows inv.up_to.kind inv.up_to.some inv.up_to.long told.1 told.2 told.3 (next.more (λ e. absurd (cc))).0 rest.1 in
+    (inv.up_to.said, goes.0, goes.1, goes.2)
 
 pub lines-preserved-in-Ok-Line-next : goal.lines-preserved-in-Ok-Line-next
 lines-preserved-in-Ok-Line-next g c =
     let inv = c.lines.invariant in
     let next = rw c.in-Ok-Line-next.field-0-is at c.in-Ok-Line-next.ensures in
     let p = next.piece in
-    let told = p.2 inv.taken inv.said inv.read in
+    let told = p.2 inv.taken inv.up_to.said inv.up_to.read in
     let last = Numbers (map fraction_of c.in-Ok-Line-next.numbers.items) in
-    let rest = c.text_law.ensures.completed c.next-in-lines.new.self (inv.taken ++ p.0) (inv.said ++ last ∷ []) told.3 in
-    let goes = line_goes c.lines.lines c.lines.pieces c.next-in-lines.new.self inv.said rest.0 last (inv.taken ++ p.0) inv.knows inv.kind inv.some inv.long told.1 told.2 told.3 (next.more (λ e. absurd (cc))).0 rest.1 in
+    let rest = c.text_law.ensures.completed c.next-in-lines.new.self (inv.taken ++ p.0) (inv.up_to.said ++ last ∷ []) told.3 in
+    let goes = line_goes c.lines.lines c.lines.pieces c.next-in-lines.new.self inv.up_to.said rest.0 last (inv.taken ++ p.0) inv.up_to.knows inv.up_to.kind inv.up_to.some inv.up_to.long told.1 told.2 told.3 (next.more (λ e. absurd (cc))).0 rest.1 in
     record {
       taken = inv.taken ++ p.0;
-      said = inv.said ++ last ∷ [];
       took = Consumes-trans _ _ _ inv.taken p.0 inv.took p.1;
-      read = told.3;
-      kind = kind_stays c.lines.pieces.lines c.lines.pieces.counts c.next-in-lines.new.self.counts inv.some told.2 ∙ inv.kind ∙ sym c.take.ensures.kind;
-      knows = c.take.ensures.knows inv.said goes.0 goes.1 goes.2;
-      to_come = (next.more (λ e. absurd (cc))).0;
-      some = (let one = told.1 in let some = inv.some in omega arith);
-      long = length-append inv.said (last ∷ []) ∙ (let one = told.1 in let long = inv.long in omega arith);
+      up_to = record {
+        said = inv.up_to.said ++ last ∷ [];
+        read = told.3;
+        kind = kind_stays c.lines.pieces.lines c.lines.pieces.counts c.next-in-lines.new.self.counts inv.up_to.some told.2 ∙ inv.up_to.kind ∙ sym c.take.ensures.kind;
+        knows = c.take.ensures.knows inv.up_to.said goes.0 goes.1 goes.2;
+        to_come = (next.more (λ e. absurd (cc))).0;
+        some = (let one = told.1 in let some = inv.up_to.some in omega arith);
+        long = length-append inv.up_to.said (last ∷ []) ∙ (let one = told.1 in let long = inv.up_to.long in omega arith);
+      };
       faults = next.faults ∙ inv.faults;
       beside = next.beside ∙ inv.beside;
     }
@@ -64,32 +67,57 @@ take_mark-requires g c =
     let inv = c.lines.invariant in
     let next = rw c.in-Ok-Mark-next.field-0-is at c.in-Ok-Mark-next.ensures in
     let p = next.piece in
-    let told = p.2 inv.taken inv.said inv.read in
+    let told = p.2 inv.taken inv.up_to.said inv.up_to.read in
     let mark = c.in-Ok-Mark-next.mark in
-    let rest = c.text_law.ensures.completed c.next-in-lines.new.self (inv.taken ++ p.0) (with_mark inv.said mark) told.2 in
-    (inv.said, mark_goes c.lines.lines c.lines.pieces c.next-in-lines.new.self inv.said rest.0 mark (inv.taken ++ p.0) inv.knows inv.kind told.1 told.2 rest.1)
+    let rest = c.text_law.ensures.completed c.next-in-lines.new.self (inv.taken ++ p.0) (with_mark inv.up_to.said mark) told.2 in
+    (inv.up_to.said, next_mark_goes c.lines.lines c.lines.pieces c.next-in-lines.new.self inv.taken p.0 rest.0 mark inv.up_to told.1 told.2 rest.1)
+
+pub take_marks-requires-clause-known : goal.take_marks-requires-clause-known
+take_marks-requires-clause-known g c =
+    let inv = c.lines.invariant in
+    let next = rw c.in-Ok-Mark-next.field-0-is at c.in-Ok-Mark-next.ensures in
+    let p = next.piece in
+    let told = p.2 inv.taken inv.up_to.said inv.up_to.read in
+    let mark = c.in-Ok-Mark-next.mark in
+    let new = c.next-in-lines.new.self in
+    let rest = c.text_law.ensures.completed new (inv.taken ++ p.0) (with_mark inv.up_to.said mark) told.2 in
+    let goes = next_mark_goes c.lines.lines c.lines.pieces new inv.taken p.0 rest.0 mark inv.up_to told.1 told.2 rest.1 in
+    let up_to = up_to_mark c.lines.lines c.take_mark.new.self c.lines.pieces new inv.taken p.0 mark inv.up_to told.1 told.2 (next.more (λ e. absurd (cc))).0 c.take_mark.ensures.kind (c.take_mark.ensures.knows inv.up_to.said goes) in
+    (inv.taken ++ p.0, up_to)
+
+pub returns-in-Err-take_marks-clause-judged : goal.returns-in-Err-take_marks-clause-judged
+returns-in-Err-take_marks-clause-judged g c =
+    let inv = c.lines.invariant in
+    let next = rw c.in-Ok-Mark-next.field-0-is at c.in-Ok-Mark-next.ensures in
+    let p = next.piece in
+    let told = p.2 inv.taken inv.up_to.said inv.up_to.read in
+    let mark = c.in-Ok-Mark-next.mark in
+    let new = c.next-in-lines.new.self in
+    let rest = c.text_law.ensures.completed new (inv.taken ++ p.0) (with_mark inv.up_to.said mark) told.2 in
+    let goes = next_mark_goes c.lines.lines c.lines.pieces new inv.taken p.0 rest.0 mark inv.up_to told.1 told.2 rest.1 in
+    let up_to = up_to_mark c.lines.lines c.take_mark.new.self c.lines.pieces new inv.taken p.0 mark inv.up_to told.1 told.2 (next.more (λ e. absurd (cc))).0 c.take_mark.ensures.kind (c.take_mark.ensures.knows inv.up_to.said goes) in
+    let q = c.in-Err-take_marks.ensures.marks in
+    ((inv.taken ++ p.0) ++ q.0, Consumes-trans _ _ _ (inv.taken ++ p.0) q.0 (Consumes-trans _ _ _ inv.taken p.0 inv.took p.1) q.1, q.2 (inv.taken ++ p.0) up_to)
 
 pub lines-preserved : goal.lines-preserved
 lines-preserved g c =
     let inv = c.lines.invariant in
     let next = rw c.in-Ok-Mark-next.field-0-is at c.in-Ok-Mark-next.ensures in
     let p = next.piece in
-    let told = p.2 inv.taken inv.said inv.read in
+    let told = p.2 inv.taken inv.up_to.said inv.up_to.read in
     let mark = c.in-Ok-Mark-next.mark in
-    let rest = c.text_law.ensures.completed c.next-in-lines.new.self (inv.taken ++ p.0) (with_mark inv.said mark) told.2 in
-    let goes = mark_goes c.lines.lines c.lines.pieces c.next-in-lines.new.self inv.said rest.0 mark (inv.taken ++ p.0) inv.knows inv.kind told.1 told.2 rest.1 in
+    let new = c.next-in-lines.new.self in
+    let rest = c.text_law.ensures.completed new (inv.taken ++ p.0) (with_mark inv.up_to.said mark) told.2 in
+    let goes = next_mark_goes c.lines.lines c.lines.pieces new inv.taken p.0 rest.0 mark inv.up_to told.1 told.2 rest.1 in
+    let up_to = up_to_mark c.lines.lines c.take_mark.new.self c.lines.pieces new inv.taken p.0 mark inv.up_to told.1 told.2 (next.more (λ e. absurd (cc))).0 c.take_mark.ensures.kind (c.take_mark.ensures.knows inv.up_to.said goes) in
+    let marks = c.in-Ok.ensures in
+    let q = marks.marks in
     record {
-      taken = inv.taken ++ p.0;
-      said = with_mark inv.said mark;
-      took = Consumes-trans _ _ _ inv.taken p.0 inv.took p.1;
-      read = told.2;
-      kind = ap kind_of told.1 ∙ inv.kind ∙ sym c.take_mark.ensures.kind;
-      knows = c.take_mark.ensures.knows inv.said goes;
-      to_come = (next.more (λ e. absurd (cc))).0;
-      some = mark_some c.lines.pieces c.next-in-lines.new.self inv.said mark (inv.taken ++ p.0) inv.some inv.long told.2;
-      long = read_long c.next-in-lines.new.self (inv.taken ++ p.0) (with_mark inv.said mark) told.2;
-      faults = next.faults ∙ inv.faults;
-      beside = next.beside ∙ inv.beside;
+      taken = (inv.taken ++ p.0) ++ q.0;
+      took = Consumes-trans _ _ _ (inv.taken ++ p.0) q.0 (Consumes-trans _ _ _ inv.taken p.0 inv.took p.1) q.1;
+      up_to = q.2 (inv.taken ++ p.0) up_to;
+      faults = marks.faults ∙ next.faults ∙ inv.faults;
+      beside = marks.beside ∙ next.beside ∙ inv.beside;
     }
 
 pub returns-in-Ok-Done-next-clause-judged : goal.returns-in-Ok-Done-next-clause-judged
@@ -97,12 +125,12 @@ returns-in-Ok-Done-next-clause-judged g c =
     let inv = c.lines.invariant in
     let next = rw c.in-Ok-Done-next.field-0-is at c.in-Ok-Done-next.ensures in
     let p = next.piece in
-    let told = p.2 inv.taken inv.said inv.read in
+    let told = p.2 inv.taken inv.up_to.said inv.up_to.read in
     let counts = c.next-in-lines.new.self.counts in
-    let goes = end_goes c.lines.lines c.lines.pieces c.next-in-lines.new.self inv.said (inv.taken ++ p.0) inv.knows inv.kind inv.some told.1 told.2 in (
+    let goes = end_goes c.lines.lines c.lines.pieces c.next-in-lines.new.self inv.up_to.said (inv.taken ++ p.0) inv.up_to.knows inv.up_to.kind inv.up_to.some told.1 told.2 in (
       inv.taken ++ p.0,
       Consumes-trans _ _ _ inv.taken p.0 inv.took p.1,
-      (judged_so (inv.taken ++ p.0) counts (inv.said ++ says [] ∷ []) c.verdict.result told.2 (c.verdict.ensures inv.said goes), told.3, told.4),
+      (judged_so (inv.taken ++ p.0) counts (inv.up_to.said ++ says [] ∷ []) c.verdict.result told.2 (c.verdict.ensures inv.up_to.said goes), told.3, told.4),
     )
 
 pub returns-in-Ok-Done-next-clause-best : goal.returns-in-Ok-Done-next-clause-best
@@ -110,14 +138,14 @@ returns-in-Ok-Done-next-clause-best g c agreed =
     let inv = c.lines.invariant in
     let next = rw c.in-Ok-Done-next.field-0-is at c.in-Ok-Done-next.ensures in
     let p = next.piece in
-    let told = p.2 inv.taken inv.said inv.read in
+    let told = p.2 inv.taken inv.up_to.said inv.up_to.read in
     let counts = c.next-in-lines.new.self.counts in
-    let goes = end_goes c.lines.lines c.lines.pieces c.next-in-lines.new.self inv.said (inv.taken ++ p.0) inv.knows inv.kind inv.some told.1 told.2 in
+    let goes = end_goes c.lines.lines c.lines.pieces c.next-in-lines.new.self inv.up_to.said (inv.taken ++ p.0) inv.up_to.knows inv.up_to.kind inv.up_to.some told.1 told.2 in
     let same : c.verdict.result ≡ Yes = cc in (
       inv.taken ++ p.0,
       Consumes-trans _ _ _ inv.taken p.0 inv.took p.1,
       c.certificate_verdict_law.ensures.best (inv.taken ++ p.0)
-          (subst (IsJudged (inv.taken ++ p.0)) same (judged_so (inv.taken ++ p.0) counts (inv.said ++ says [] ∷ []) c.verdict.result told.2 (c.verdict.ensures inv.said goes))),
+          (subst (IsJudged (inv.taken ++ p.0)) same (judged_so (inv.taken ++ p.0) counts (inv.up_to.said ++ says [] ∷ []) c.verdict.result told.2 (c.verdict.ensures inv.up_to.said goes))),
     )
 
 pub returns-in-Err-clause-judged : goal.returns-in-Err-clause-judged
@@ -154,14 +182,16 @@ lines-init g c =
     let told = p.2 [] [] c.new-pieces.ensures.read in
     record {
       taken = p.0;
-      said = says (pos 1 ∷ []) ∷ says [] ∷ [];
       took = p.1;
-      read = told.3;
-      kind = sym told.2 ∙ sym c.new-lines.ensures.kind;
-      knows = c.new-lines.ensures.knows;
-      to_come = (next.more (λ e. absurd (cc))).0;
-      some = (let two = told.1 in omega (arith, two));
-      long = sym told.1;
+      up_to = record {
+        said = says (pos 1 ∷ []) ∷ says [] ∷ [];
+        read = told.3;
+        kind = sym told.2 ∙ sym c.new-lines.ensures.kind;
+        knows = c.new-lines.ensures.knows;
+        to_come = (next.more (λ e. absurd (cc))).0;
+        some = (let two = told.1 in omega (arith, two));
+        long = sym told.1;
+      };
       faults = next.faults;
       beside = next.beside;
     }
@@ -171,14 +201,14 @@ verdict-requires g c =
     let inv = c.lines.invariant in
     let next = rw c.in-Ok-Done-next.field-0-is at c.in-Ok-Done-next.ensures in
     let p = next.piece in
-    let told = p.2 inv.taken inv.said inv.read in
-    (inv.said, end_goes c.lines.lines c.lines.pieces c.next-in-lines.new.self inv.said (inv.taken ++ p.0) inv.knows inv.kind inv.some told.1 told.2)
+    let told = p.2 inv.taken inv.up_to.said inv.up_to.read in
+    (inv.up_to.said, end_goes c.lines.lines c.lines.pieces c.next-in-lines.new.self inv.up_to.said (inv.taken ++ p.0) inv.up_to.knows inv.up_to.kind inv.up_to.some told.1 told.2)
 
 pub unreachable-requires-in-Ok-Kind-next : goal.unreachable-requires-in-Ok-Kind-next
 unreachable-requires-in-Ok-Kind-next g c =
     let inv = c.lines.invariant in
     let next = rw c.in-Ok-Kind-next.field-0-is at c.in-Ok-Kind-next.ensures in
-    let told = next.piece.2 inv.taken inv.said inv.read in
+    let told = next.piece.2 inv.taken inv.up_to.said inv.up_to.read in
     let none = told.0 in
-    let some = inv.some in
+    let some = inv.up_to.some in
     omega (arith, none, some)

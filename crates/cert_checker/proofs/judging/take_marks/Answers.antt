@@ -1,0 +1,82 @@
+use Rattle.std.proofs.Common.{arith, ◌≤◌, ◌∙◌, ◌++◌, [], append-nil, append_assoc, refl, subst, sym}
+use Rattle.std.proofs.KnownBytes.{Consumes-nil, Consumes-trans}
+use Rattle.cert_reader.specs.Reading.{IsEnd, with_mark}
+use Rattle.cert_checker.specs.Lines.{IsUpTo}
+use Rattle.cert_checker.proofs.MarkSteps.{next_mark_goes, still_open, up_to_end, up_to_mark}
+use Rattle.cert_checker.proofs.judging.take_marks.Goals as goal
+
+pub marks-init : goal.marks-init
+marks-init g c = record {
+  more = [];
+  took = Consumes-nil _;
+  goes = λ taken up_to. subst (IsUpTo c.args.pieces.now c.args.lines.now) (sym (append-nil taken)) up_to;
+  later = omega arith;
+  few = c.requires.few;
+  faults = refl;
+  beside = refl;
+}
+
+pub returns-in-Err-clause-marks : goal.returns-in-Err-clause-marks
+returns-in-Err-clause-marks g c =
+    let inv = c.marks.invariant in
+    let p = (rw c.in-Err.end-is at c.in-Err.ensures).mark in (
+      inv.more ++ p.0,
+      Consumes-trans _ _ _ inv.more p.0 inv.took p.1,
+      λ taken up_to. (let up = inv.goes taken up_to in subst (IsEnd c.in-Err.end (g.S.Source.left c.next_in_tree.new.source)) (append_assoc taken inv.more p.0) (p.2 (taken ++ inv.more) up.said up.read)),
+    )
+
+pub take_mark-requires : goal.take_mark-requires
+take_mark-requires g c =
+    let known = c.requires.known in
+    let inv = c.marks.invariant in
+    let up = inv.goes known.0 known.1 in
+    let next = rw c.in-Ok-Some.field-0-is at c.in-Ok-Some.ensures in
+    let p = next.mark in
+    let mark = c.in-Ok-Some.mark in
+    let told = p.2 (known.0 ++ inv.more) up.said up.read in
+    let rest = c.text_law.ensures.completed c.next_in_tree.new.self ((known.0 ++ inv.more) ++ p.0) (with_mark up.said mark) told.1 in
+    (up.said, next_mark_goes c.marks.lines c.marks.pieces c.next_in_tree.new.self (known.0 ++ inv.more) p.0 rest.0 mark up told.0 told.1 rest.1)
+
+pub marks-preserved-in-Ok-Some : goal.marks-preserved-in-Ok-Some
+marks-preserved-in-Ok-Some g c =
+    let inv = c.marks.invariant in
+    let next = rw c.in-Ok-Some.field-0-is at c.in-Ok-Some.ensures in
+    let p = next.mark in
+    let mark = c.in-Ok-Some.mark in
+    let new = c.next_in_tree.new.self in
+    record {
+      more = inv.more ++ p.0;
+      took = Consumes-trans _ _ _ inv.more p.0 inv.took p.1;
+      goes = λ taken up_to. (
+          let up = inv.goes taken up_to in
+          let told = p.2 (taken ++ inv.more) up.said up.read in
+          let rest = c.text_law.ensures.completed new ((taken ++ inv.more) ++ p.0) (with_mark up.said mark) told.1 in
+          let goes = next_mark_goes c.marks.lines c.marks.pieces new (taken ++ inv.more) p.0 rest.0 mark up told.0 told.1 rest.1 in
+          subst (IsUpTo new c.take_mark.new.self) (append_assoc taken inv.more p.0)
+          (up_to_mark c.marks.lines c.take_mark.new.self c.marks.pieces new (taken ++ inv.more) p.0 mark up told.0 told.1 (still_open c.marks.pieces new next.same.0 next.same.1 up.to_come) c.take_mark.ensures.kind (c.take_mark.ensures.knows up.said goes))
+          );
+      later = (let later = inv.later in let takes = next.takes in omega (arith, later, takes));
+      few = next.few;
+      faults = next.faults ∙ inv.faults;
+      beside = next.beside ∙ inv.beside;
+    }
+
+pub marks-preserved : goal.marks-preserved
+marks-preserved g c =
+    let inv = c.marks.invariant in
+    let next = rw c.in-Ok-None.field-0-is at c.in-Ok-None.ensures in
+    let p = next.mark in
+    let new = c.next_in_tree.new.self in
+    record {
+      more = inv.more ++ p.0;
+      took = Consumes-trans _ _ _ inv.more p.0 inv.took p.1;
+      goes = λ taken up_to. (
+          let up = inv.goes taken up_to in
+          subst (IsUpTo new c.marks.lines) (append_assoc taken inv.more p.0)
+          (up_to_end c.marks.lines c.marks.pieces new (taken ++ inv.more) p.0 up next.same.0 next.same.1 (p.2 (taken ++ inv.more) up.said up.read))
+          );
+      later = (let later = inv.later in let takes = next.takes in omega (arith, later, takes));
+      few = next.few;
+      faults = next.faults ∙ inv.faults;
+      beside = next.beside ∙ inv.beside;
+    }
