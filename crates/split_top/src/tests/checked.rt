@@ -20,10 +20,23 @@ fn with_lines(
     Ok(text)
 }
 
+/// A text with some others behind it.
+fn with_more(alloc: Global, text: &str, more: &str, times: usize) -> Result<String, AllocError> {
+    let mut text = String::from_str(alloc, text)?;
+    for _ in 0..times {
+        text.push_str(more)?;
+    }
+    Ok(text)
+}
+
+/// What a text of one member would say.
+const ALONE: &str =
+    "fairsplit 1\nkind rent\nmembers 1\nrent 900\nvalues 900\nrooms 1\nleft 0\nright 900\nwalks 0\nranks 0\nprices 900\nend\n";
+
 #[test]
 fn judges_certificates(rt: HostRuntime) -> Result<(), Fail> {
     let alloc = rt.alloc();
-    let rows: [(&[(usize, &str)], u8, &str); 12] = [
+    let rows: [(&[(usize, &str)], u8, &str); 16] = [
         (&[], 0, "yes\n"),
         (&[(13, "prices 2101/3 100 100")], 1, "no 7\n"),
         (&[(8, "rooms 2 1 3")], 1, "no 4\n"),
@@ -41,7 +54,15 @@ fn judges_certificates(rt: HostRuntime) -> Result<(), Fail> {
             "refused: line 5\n",
         ),
         (&[(6, "values 700 200 -0")], 3, "refused: line 6\n"),
+        (&[(8, "rooms 01 2 3")], 3, "refused: line 8\n"),
         (&[(13, "prices 1400/2 100 100")], 3, "refused: line 13\n"),
+        (&[(13, "prices 700/1 100 100")], 3, "refused: line 13\n"),
+        (&[(13, "prices 0/2 100 100")], 3, "refused: line 13\n"),
+        (
+            &[(13, "prices 1/4294967296 100 100")],
+            3,
+            "refused: line 13\n",
+        ),
         (&[(14, "end ")], 3, "refused: line 14\n"),
         (&[(14, "end\n ")], 3, "refused: line 15\n"),
     ];
@@ -50,6 +71,11 @@ fn judges_certificates(rt: HostRuntime) -> Result<(), Fail> {
         checks(&rt, alloc, certificate.as_bytes(), code, text)?;
     }
     checks(&rt, alloc, TAXI_CERTIFICATE.as_bytes(), 0, "yes\n")?;
+    let crowded = with_lines(alloc, TAXI_CERTIFICATE, &[(3, "riders 11")])?;
+    checks(&rt, alloc, crowded.as_bytes(), 3, "refused: line 3\n")?;
+    checks(&rt, alloc, ALONE.as_bytes(), 1, "no 1\n")?;
+    let spaced = with_more(alloc, FLAT_CERTIFICATE, " ", 1)?;
+    checks(&rt, alloc, spaced.as_bytes(), 3, "refused: line 15\n")?;
     checks(&rt, alloc, b"", 3, "refused: line 1\n")?;
     checks(
         &rt,
@@ -63,9 +89,13 @@ fn judges_certificates(rt: HostRuntime) -> Result<(), Fail> {
 #[test]
 fn judges_certificates_of_goods(rt: HostRuntime) -> Result<(), Fail> {
     let alloc = rt.alloc();
-    let rows: [(&[(usize, &str)], u8, &str); 7] = [
+    let rows: [(&[(usize, &str)], u8, &str); 11] = [
         (&[], 0, "yes\n"),
         (&[(10, "steps 7")], 0, "yes\n"),
+        (&[(11, "tree =")], 1, "no 3\n"),
+        (&[(11, "tree ++++=")], 1, "no 3\n"),
+        (&[(11, "tree ++-+--++---")], 1, "no 5\n"),
+        (&[(11, "tree ++-+-=++=--")], 1, "no 6\n"),
         (&[(9, "owners 2 1 1")], 1, "no 5\n"),
         (
             &[(7, "values 40000000000000000000000000 300 300")],
@@ -80,7 +110,18 @@ fn judges_certificates_of_goods(rt: HostRuntime) -> Result<(), Fail> {
         let certificate = with_lines(alloc, TIE_CERTIFICATE, changes)?;
         checks(&rt, alloc, certificate.as_bytes(), code, text)?;
     }
-    Ok(())
+    let spaced = with_more(alloc, TIE_CERTIFICATE, " ", 1)?;
+    checks(&rt, alloc, spaced.as_bytes(), 3, "refused: line 13\n")?;
+    let Some((before_end, _)) = TIE_CERTIFICATE.split_once("end") else {
+        return Err(Fail::from("no end"));
+    };
+    checks(&rt, alloc, before_end.as_bytes(), 3, "refused: line 12\n")?;
+    let Some((before_marks, _)) = TIE_CERTIFICATE.split_once("++") else {
+        return Err(Fail::from("no tree"));
+    };
+    let mut deep = with_more(alloc, before_marks, "+", 3_000_000)?;
+    deep.push_str("\nend\n")?;
+    checks(&rt, alloc, deep.as_bytes(), 1, "no 3\n")
 }
 
 #[test]
