@@ -76,7 +76,7 @@ abbrev pub IsAt : FaresView → List Said → FaresLines → Type 0
 IsAt view said (Head lines) = IsInHead view said lines.items
 IsAt view said (Table table) = IsBehindHead view said table
 
--- lines of the head are still to come
-abbrev pub IsGathered : FaresLines → Type 0
-IsGathered (Head lines) = ⊤
-IsGathered (Table table) = ⊥
+-- no line of the table has come
+abbrev pub HasNoTable : FaresLines → Type 0
+HasNoTable (Head lines) = ⊤
+HasNoTable (Table table) = ⊥

@@ -50,6 +50,6 @@ IsAtGoods said (Head lines) = said ≡ front_said (map line_said lines.items)
 IsAtGoods said (Tree state) = IsInTree said state
 
 -- no mark of the tree has come
-abbrev pub IsGathered : GoodsLines → Type 0
-IsGathered (Head lines) = ⊤
-IsGathered (Tree state) = ⊥
+abbrev pub HasNoTree : GoodsLines → Type 0
+HasNoTree (Head lines) = ⊤
+HasNoTree (Tree state) = ⊥

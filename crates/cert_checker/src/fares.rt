@@ -6,7 +6,7 @@ ghost use Rattle.cert_reader.specs.Text.{Numbers, Said};
 ghost use Rattle.cert_reader.specs.Views.{FaresView, fares_said, says};
 ghost use Rattle.fare_rules.specs.Rules.{fares_rule};
 ghost use Rattle.verdicts.specs.Verdicts.{IsVerdict};
-ghost use Rattle.cert_checker.specs.FaresLines.{IsAt, IsBehindHead, IsGathered, IsNext, IsWhole, front_said, head_said};
+ghost use Rattle.cert_checker.specs.FaresLines.{HasNoTable, IsAt, IsBehindHead, IsNext, IsWhole, front_said, head_said};
 
 use arrayvec::ArrayVec;
 use bid_rules::limits::{LEG_ROW_ROOM, RIDER_ROOM};
@@ -63,7 +63,7 @@ impl FaresLines {
     /// line is taken.
     #[inline(never)]
     fn take_head(&mut self, numbers: LineNumbers)
-        requires head { IsGathered self.old }
+        requires head { HasNoTable self.old }
         requires next { (view : FaresView) × (said : List Said) × IsNext view said (map fraction_of numbers.items) × IsAt view said self.old }
         ensures { (view : FaresView) (said : List Said) → IsNext view said (map fraction_of numbers.items) → IsAt view said self.old
             → IsAt view (said ++ Numbers (map fraction_of numbers.items) ∷ []) self.new }

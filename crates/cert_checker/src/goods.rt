@@ -1,7 +1,7 @@
 // The lines of a certificate of goods: those before the tree are gathered, the marks of the tree are judged as they come.
 ghost use Rattle.std.specs.Prelude.{◌≡◌, ℕ, ◌++◌, ◌∷◌, [], List, map};
 ghost use Rattle.cert_checker.specs.FaresLines.{front_said};
-ghost use Rattle.cert_checker.specs.GoodsLines.{GoodsGoOn, IsAtGoods, IsGathered, IsWholeGoods, before_tree};
+ghost use Rattle.cert_checker.specs.GoodsLines.{GoodsGoOn, HasNoTree, IsAtGoods, IsWholeGoods, before_tree};
 ghost use Rattle.cert_reader.specs.Gathered.{line_said};
 ghost use Rattle.cert_reader.specs.GoodsViews.{GoodsView};
 ghost use Rattle.cert_reader.specs.Reading.{with_mark};
@@ -68,7 +68,7 @@ impl GoodsLines {
     /// Takes the first mark of the tree. The state of the tree is large, so that it is made here and not where each mark is taken.
     #[inline(never)]
     fn begin_tree(&mut self, mark: u8)
-        requires gathered { IsGathered self.old }
+        requires head { HasNoTree self.old }
         requires goes { (said rest : List Said) × GoodsGoOn (with_mark said mark) rest × IsAtGoods said self.old }
         ensures { (said rest : List Said) → GoodsGoOn (with_mark said mark) rest → IsAtGoods said self.old → IsAtGoods (with_mark said mark) self.new }
     {

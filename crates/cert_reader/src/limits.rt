@@ -1,5 +1,4 @@
 // The limits of certificate texts. What they count, members, riders and places, has its limits in `bid_rules`.
-use bid_rules::limits::MOST_RIDERS;
 
 /// The most bytes of a certificate text.
 pub const MOST_BYTES: usize = 4_000_000;
@@ -9,10 +8,6 @@ pub const MOST_DIGITS: usize = 25;
 pub const MOST_DENOMINATOR: u64 = 4_294_967_295;
 /// The most numbers of a line.
 pub const LINE_ROOM: usize = 24;
-/// The most sets of riders, but for the empty one.
-pub const MOST_SETS: u32 = (1 << MOST_RIDERS) - 1;
-/// The most numbers of the table of a certificate of fares.
-pub const MOST_TABLE_NUMBERS: usize = 6_133;
 /// The most bytes of a line of numbers, without its LF: a word of at most 10 bytes and 24 numbers, each with a space, a sign, 25 digits, a slash and 10 digits,
 /// are 922.
 pub const LONGEST_LINE: usize = 1024;

@@ -1,5 +1,5 @@
 pub mod Rows
-pub mod Starts
+pub mod SetLists
 pub mod Tables
 pub mod Fits
 pub mod Sizes

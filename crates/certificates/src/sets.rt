@@ -10,9 +10,8 @@ ghost use Rattle.fare_lines.specs.Lines.{cost_line};
 use crate::lines::push_amounts;
 use arrayvec::ArrayVec;
 use cert_reader::Word;
-use fare_laws::coalition_law;
 use fare_routes::Costs;
-use fare_rules::{START_ROOM, starts_of};
+use fare_rules::{START_ROOM, starts_law, starts_of};
 use split_base::NoMemory;
 
 /// Room for the number of a set and an entry a start.
@@ -25,7 +24,7 @@ fn set_numbers(costs: &Costs, count: u8, set: u16) -> ArrayVec<u32, SET_ROOM>
     requires set { set < 2 ^ count }
     ensures { map pos result.items ≡ pos set ∷ cost_line costs.now set }
 {
-    coalition_law();
+    starts_law();
     let starts = starts_of(count, set);
     let mut numbers = ArrayVec::new();
     numbers.push(u32::from(set));

@@ -11,13 +11,13 @@ use Rattle.bid_rules.specs.Fares.{least, place_of, route_cost}
 use Rattle.fare_laws.specs.Entries.{AreEntries, IsDeparture, cost_by, costs_from, entry_by, without}
 use Rattle.cert_reader.specs.Sets.{starts}
 use Rattle.fare_rules.specs.Entries.{HasLines, entry_of}
+use Rattle.split_lemmas.proofs.FilteredLists.{placed}
 use Rattle.fare_lines.specs.Lines.{cost_line, cost_lines}
 use Rattle.fare_lines.proofs.Members.{map_same}
-use Rattle.fare_lines.proofs.Starts.{HaveBits, listed, placed}
 
 -- what is known of sets of riders and of what their routes cost
 pub record SetFacts : Type 0 where
-  pub bits : HaveBits
+  pub listed : (n at set : ℕ) → IsDeparture n at set → Contains (starts n set) at
   pub within : (n set : ℕ) → set < 2 ^ n ↔ All (λ rider. (1 ≤ rider) × (rider ≤ n)) (riders_in set)
   pub number : (set rider : ℕ) → Contains (riders_in set) rider → 2 ^ (rider - 1) ≤ set
   pub apart : (set rider : ℕ) → Contains (riders_in set) rider → Contains (riders_in (without set rider)) rider → ⊥
@@ -35,7 +35,7 @@ entry_is facts case at (suc before) start =
     let n = length case.at.items in
     let set : ℕ = suc before in
     let f : ℕ → ℤ = λ from. pos (costs_from case from set) in
-    let there = placed at (starts n set) (listed facts.bits n at set start) in
+    let there = placed at (starts n set) (facts.listed n at set start) in
     let k : ℕ = position_or_len (λ other. other == at) (starts n set) in
     let line : get_or (cost_lines case) before [] ≡ cost_line case set = ap (λ i. get_or (cost_lines case) i []) (let e : before ≡ set - 1 = omega arith in e) ∙ line_at case set start.some start.within in
     let own : get_or (cost_line case set) k (pos 0) ≡ f (get_or (starts n set) k 0) = get_or-map f (starts n set) k 0 (pos 0) there.0 in

@@ -1,4 +1,3 @@
 pub mod Members
-pub mod Starts
 pub mod Costs
 pub mod Passes

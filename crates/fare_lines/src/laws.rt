@@ -12,6 +12,7 @@ ghost use Rattle.verdicts.specs.declared.verdict.Verdict.TheVariants.{Yes};
 ghost use Rattle.verdicts.specs.Verdicts.{IsVerdict};
 
 use fare_laws::{coalition_law, lowest_route_law, orders_law, route_set_law, without_rider_law};
+use fare_rules::starts_law;
 
 /// The lines for the solver's division print the case, of the most members that there may be, and keep all rules.
 pub fn fare_lines_law()
@@ -23,5 +24,6 @@ pub fn fare_lines_law()
     lowest_route_law();
     orders_law();
     route_set_law();
+    starts_law();
     without_rider_law();
 }

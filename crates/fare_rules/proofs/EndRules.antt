@@ -1,5 +1,5 @@
 -- The rules that are asked when all lines of sets have come.
-use Rattle.std.proofs.Common.{◌≡◌, ℕ, zero, suc, ℤ, pos, ◌+◌, ◌-◌, ◌^◌, ◌<◌, ◌≤◌, ◌↔◌, List, [], ◌∷◌, length, map, All, ◌≤ℤ◌, inl, inr, slice_index_or, Contains, arith, refl, sym, ap, ◌∙◌, subst, unsigned_abs}
+use Rattle.std.proofs.Common.{◌≡◌, ℕ, ℤ, pos, ◌+◌, ◌-◌, ◌^◌, ◌<◌, ◌≤◌, List, [], ◌∷◌, length, map, All, ◌≤ℤ◌, inl, inr, slice_index_or, Contains, arith, refl, sym, ap, ◌∙◌, subst, unsigned_abs}
 use Rattle.std.specs.List.{AllZip, range_with_len}
 use Rattle.std.specs.List.Sorted.{IsPermutation}
 use Rattle.std.proofs.lemmas.List.{length-map}
@@ -8,7 +8,7 @@ use Rattle.bid_rules.specs.Coalitions.{riders_in}
 use Rattle.bid_rules.specs.Fares.{IsLeastRoute, riders_of, sum_of_marginal_costs}
 use Rattle.bid_rules.specs.Fractions.{Fraction, IsQuotient}
 use Rattle.bid_rules.specs.Orders.{factorial}
-use Rattle.fare_laws.specs.Entries.{AreEntries, IsLowestRoute, entry_by, without}
+use Rattle.fare_laws.specs.Entries.{AreEntries, IsLowestRoute, without}
 use Rattle.cert_reader.specs.Views.{FaresView}
 use Rattle.fare_rules.specs.Entries.{HasLines, entry_of}
 use Rattle.fare_rules.specs.Head.{cost_line}

@@ -1,7 +1,7 @@
 -- The fares of all riders, one after another.
-use Rattle.std.proofs.Common.{arith, ◌≡◌, ◌≤◌, ◌<◌, ◌+◌, ◌∙◌, ℕ, zero, suc, ℤ, pos, List, [], ◌∷◌, length, map, get_or, ap, sym, subst, unsigned_abs, to_z, of_z}
+use Rattle.std.proofs.Common.{arith, ◌≡◌, ◌≤◌, ◌<◌, ◌+◌, ℕ, suc, ℤ, pos, List, [], ◌∷◌, length, map, get_or, sym, subst, unsigned_abs, to_z, of_z}
 use Rattle.std.specs.Int.{w128}
-use Rattle.std.specs.List.{AllZip, range_with_len}
+use Rattle.std.specs.List.{AllZip}
 use Rattle.std.proofs.lemmas.List.{length-map}
 use Rattle.std.proofs.lemmas.List.FromFn.{get_or-range_with_len, length-range_with_len}
 use Rattle.std.proofs.lemmas.Int.{ints}

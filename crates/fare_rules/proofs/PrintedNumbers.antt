@@ -1,5 +1,5 @@
 -- Printed numbers, as those of a case.
-use Rattle.std.proofs.Common.{◌≡◌, ℕ, zero, suc, ℤ, pos, ◌+◌, ◌-◌, ◌<◌, ◌≤◌, List, [], ◌∷◌, ◌++◌, length, map, get_or, flat_map, All, arith, ap, ◌∙◌, refl, sym, subst, unsigned_abs, ◌≤ℤ◌}
+use Rattle.std.proofs.Common.{◌≡◌, ℕ, zero, suc, ℤ, pos, ◌+◌, ◌-◌, ◌<◌, ◌≤◌, List, [], ◌∷◌, ◌++◌, length, map, get_or, flat_map, All, arith, refl, subst, unsigned_abs, ◌≤ℤ◌}
 use Rattle.std.proofs.lemmas.List.{get_or_default, length-map, length-append, get_or_append_left, get_or-append-add}
 use Rattle.std.proofs.lemmas.List.Concat.{flat_map-cons}
 use Rattle.std.proofs.lemmas.List.Elements.{All-nil, All-cons}
@@ -12,12 +12,12 @@ use Rattle.arrayvec.specs.declared.array_vec.ArrayVec.{ArrayVec}
 use Rattle.split_lemmas.proofs.OrderLaws.{All-from_map}
 
 -- a row without signs
-abbrev pub unsigned_row : ArrayVec ℤ 12 (Unit {0}) → ArrayVec ℕ 12 (Unit {0})
-unsigned_row row = record { items = map unsigned_abs row.items }
+abbrev pub unsigned_row : List ℤ → ArrayVec ℕ 12 (Unit {0})
+unsigned_row row = record { items = map unsigned_abs row }
 
 -- rows without signs
 abbrev pub unsigned_rows : List (List ℤ) → List (ArrayVec ℕ 12 (Unit {0}))
-unsigned_rows rows = map (λ row. record { items = map unsigned_abs row }) rows
+unsigned_rows rows = map unsigned_row rows
 
 -- the number at a place of a list without signs
 pub unsigned_at : (xs : List ℤ) (i : ℕ) → get_or (map unsigned_abs xs) i 0 ≡ unsigned_abs (get_or xs i (pos 0))
@@ -43,22 +43,14 @@ all_parts {X} {Y} P f (x ∷ xs) h =
     (λ i d l. subst P (get_or_append_left (f x) (flat_map f xs) d i l) (both i d (omega (arith, long, l))))
     (all_parts P f xs (λ i d l. subst P (get_or-append-add (f x) (flat_map f xs) i d) (both (length (f x) + i) d (omega (arith, long, l)))))
 
--- the legs without signs, row by row
-pub legs_same : (rows : List (ArrayVec ℤ 12 (Unit {0}))) → unsigned_rows (map (λ row. row.items) rows) ≡ map unsigned_row rows
-legs_same [] = refl
-legs_same (row ∷ rows) = ap (λ rest. unsigned_row row ∷ rest) (legs_same rows)
-
 -- the legs of a printed case are from 0 to the limit of cents
-pub legs_bounded : (rows : List (ArrayVec ℤ 12 (Unit {0}))) → All (λ row. All (λ cents. pos 0 ≤ℤ cents) row) (map (λ row. row.items) rows)
-    → All (λ cents. cents ≤ 1000000) (flat_map (λ row. row.items) (unsigned_rows (map (λ row. row.items) rows)))
-    → All (λ row. All (λ cents. (pos 0 ≤ℤ cents) × (cents ≤ℤ pos 1000000)) row.items) rows
+pub legs_bounded : (rows : List (List ℤ)) → All (λ row. All (λ cents. pos 0 ≤ℤ cents) row) rows
+    → All (λ cents. cents ≤ 1000000) (flat_map (λ row. row.items) (unsigned_rows rows)) → All (λ row. All (λ cents. (pos 0 ≤ℤ cents) × (cents ≤ℤ pos 1000000)) row) rows
 legs_bounded rows low high k d l =
-    let lows = All-from_map (λ row. All (λ cents. pos 0 ≤ℤ cents) row) (λ (row : ArrayVec ℤ 12 (Unit {0})). row.items) rows low in
-    let parts = all_parts (λ cents. cents ≤ 1000000) (λ (row : ArrayVec ℕ 12 (Unit {0})). row.items) (map unsigned_row rows)
-    (subst (λ legs. All (λ cents. cents ≤ 1000000) (flat_map (λ row. row.items) legs)) (legs_same rows) high) in
+    let parts = all_parts (λ cents. cents ≤ 1000000) (λ (row : ArrayVec ℕ 12 (Unit {0})). row.items) (unsigned_rows rows) high in
     let highs = All-from_map (λ (row : ArrayVec ℕ 12 (Unit {0})). All (λ cents. cents ≤ 1000000) row.items) unsigned_row rows parts in
-    let row : ArrayVec ℤ 12 (Unit {0}) = get_or rows k d in
-    bounded 1000000 row.items (lows k d l) (λ i m. highs k d l i 0 (omega (arith, m, length-map row.items unsigned_abs)))
+    let row : List ℤ = get_or rows k d in
+    bounded 1000000 row (low k d l) (λ i m. highs k d l i 0 (omega (arith, m, length-map row unsigned_abs)))
 
 -- the numbers of members or places of a printed case
 pub small_bounded : (most : ℕ) (xs : List ℤ) → most ≤ 12 → All (λ x. pos 0 ≤ℤ x) xs → All (λ x. (1 ≤ x) × (x ≤ most)) (map unsigned_abs xs) → All (λ x. (pos 0 ≤ℤ x) × (x ≤ℤ pos 12)) xs

@@ -1,5 +1,5 @@
 -- The lines of sets, one after another, and the row of costs that a line is compared with.
-use Rattle.std.proofs.Common.{arith, ◌≡◌, ◌≢◌, ◌≤◌, ◌<◌, ◌+◌, ◌-◌, ◌∙◌, ℕ, zero, suc, ℤ, pos, All, List, [], ◌∷◌, ◌++◌, length, map, get_or, ap, sym, subst, refl, ⊎_elim, inl, inr, unsigned_abs, ◌^◌}
+use Rattle.std.proofs.Common.{arith, ◌≡◌, ◌≤◌, ◌<◌, ◌+◌, ◌-◌, ◌∙◌, ℕ, ℤ, pos, All, List, [], ◌∷◌, ◌++◌, length, map, get_or, ap, sym, subst, refl, ⊎_elim, inl, inr, unsigned_abs}
 use Rattle.std.specs.List.{range_with_len}
 use Rattle.std.proofs.lemmas.Bool.{cases_lt}
 use Rattle.std.proofs.lemmas.List.{length-append, length-map, get_or_append_left, get_or-append-add}
@@ -13,9 +13,7 @@ use Rattle.set_costs.specs.Table.{ListsCosts, route_costs}
 use Rattle.fare_rules.specs.Head.{AreCostLines, HasOtherLine, cost_line}
 use Rattle.cert_reader.specs.Views.{FaresView}
 use Rattle.fare_rules.specs.Printed.{printed_case}
-use Rattle.fare_rules.specs.Rules.{HasCase}
 use Rattle.fare_rules.specs.State.{StandsFor}
-use Rattle.fare_rules.specs.declared.state.FaresState.{FaresState}
 use Rattle.fare_rules.specs.declared.state.FaresState.TheVariants.{Broken, Filling}
 use Rattle.arrayvec.specs.declared.array_vec.ArrayVec.{ArrayVec}
 use Rattle.fare_rules.proofs.StartLists.{starts_within}

@@ -1,8 +1,11 @@
 // What the rules give.
-ghost use Rattle.std.specs.Prelude.{◌≡◌};
+ghost use Rattle.std.specs.Prelude.{◌≡◌, ℕ, ◌≤◌, All, Contains};
+ghost use Rattle.bid_rules.specs.Coalitions.{riders_in};
 ghost use Rattle.bid_rules.specs.Facts.{IsValidFareCase};
 ghost use Rattle.bid_rules.specs.Fares.{FareBest};
+ghost use Rattle.cert_reader.specs.Sets.{starts};
 ghost use Rattle.cert_reader.specs.Views.{FaresView};
+ghost use Rattle.fare_laws.specs.Entries.{IsDeparture};
 ghost use Rattle.fare_rules.specs.Printed.{printed_case, printed_route};
 ghost use Rattle.fare_rules.specs.Rules.{fares_rule};
 ghost use Rattle.verdicts.specs.declared.verdict.Verdict.{Verdict};
@@ -21,4 +24,13 @@ pub fn fares_certificate_law()
     without_rider_law();
     route_set_law();
     lowest_route_law();
+}
+
+/// The starts of a set of riders among 1 to n: each place of departure is one, each is the origin or one of the n, and none is a rider of the set.
+pub fn starts_law()
+    ensures listed { (n at set : ℕ) → IsDeparture n at set → Contains (starts n set) at }
+    ensures within { (n set : ℕ) → All (λ at. at ≤ n) (starts n set) }
+    ensures apart { (n set : ℕ) → All (λ at. Contains (riders_in set) at → ⊥) (starts n set) }
+{
+    coalition_law();
 }

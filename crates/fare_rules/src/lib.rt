@@ -13,6 +13,6 @@ mod state;
 mod tests;
 
 pub use case::PrintedRow;
-pub use laws::fares_certificate_law;
+pub use laws::{fares_certificate_law, starts_law};
 pub use lines::{START_ROOM, starts_of};
 pub use state::{FaresState, end_fares, start_fares, take_set};

@@ -1,9 +1,8 @@
 -- One mark at a node, under any rule on leaves.
-use Rattle.std.proofs.Common.{arith, refl, ◌≡◌, ◌≢◌, sym, ◌↔◌, ◌<◌, ◌≤◌, ◌∷◌, List, ℕ, zero, suc, subst, reverse, length, Bool, true, false, IsTrue, ◌⊎◌, inl, inr, ⊎_elim}
+use Rattle.std.proofs.Common.{arith, refl, ◌≡◌, ◌≢◌, sym, ◌↔◌, ◌<◌, ◌≤◌, ◌∷◌, List, ℕ, subst, reverse, length, Bool, true, false, IsTrue, ◌⊎◌, inl, inr, ⊎_elim}
 use Rattle.std.proofs.lemmas.List.{length-reverse, reverse-reverse}
 use Rattle.std.proofs.lemmas.Bool.{cases_lt}
-use Rattle.goods_rules.specs.declared.walk.Kept.{Kept}
-use Rattle.goods_rules.specs.Ahead.{FinishesBehind, CanStand, FinishesTree, holds_so_far}
+use Rattle.goods_rules.specs.Ahead.{FinishesBehind, CanStand, FinishesTree}
 use Rattle.goods_rules.proofs.PathSteps.{leaf_back, leaf_up, no_mark}
 
 -- a mark that does not fit stands in no tree

@@ -1,5 +1,5 @@
 -- Printed numbers, as those of a case.
-use Rattle.std.proofs.Common.{◌≡◌, ℕ, ℤ, pos, ◌<◌, ◌≤◌, List, [], ◌∷◌, length, map, get_or, sum, All, arith, ap, ◌∙◌, refl, sym, unsigned_abs, ◌≤ℤ◌}
+use Rattle.std.proofs.Common.{◌≡◌, ℕ, ℤ, pos, ◌<◌, ◌≤◌, List, length, map, get_or, sum, All, arith, ap, ◌∙◌, sym, unsigned_abs, ◌≤ℤ◌}
 use Rattle.std.proofs.lemmas.Int.{ints}
 use Rattle.std.proofs.lemmas.List.{length-map, get_or-map}
 use Rattle.std.proofs.lemmas.List.Sums.{get_or-le-sum_by}
@@ -12,11 +12,6 @@ use Rattle.goods_rules.specs.Rules.{HasCase}
 -- a row without signs
 abbrev pub unsigned_row : List ℤ → ArrayVec ℕ 24 (Unit {0})
 unsigned_row row = record { items = map unsigned_abs row }
-
--- the points without signs, row by row
-pub rows_same : (rows : List (ArrayVec ℤ 24 (Unit {0}))) → map unsigned_row (map (λ row. row.items) rows) ≡ map (λ row. record { items = map unsigned_abs row.items }) rows
-rows_same [] = refl
-rows_same (row ∷ rows) = ap (λ rest. unsigned_row row.items ∷ rest) (rows_same rows)
 
 -- numbers that are 0 or more, and at most a limit without their signs, are from 0 to the limit
 bounded : (limit : ℕ) (xs : List ℤ) → All (λ x. pos 0 ≤ℤ x) xs → ((i : ℕ) → i < length xs → get_or (map unsigned_abs xs) i 0 ≤ limit) → All (λ x. (pos 0 ≤ℤ x) × (x ≤ℤ pos limit)) xs

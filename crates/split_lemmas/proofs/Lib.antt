@@ -2,6 +2,7 @@ pub mod CompleteOrders
 pub mod Counts
 pub mod DistinctOrders
 pub mod Factorials
+pub mod FilteredLists
 pub mod FractionLaws
 pub mod GoodsMembers
 pub mod ListOrder

@@ -1,7 +1,6 @@
-use Rattle.std.proofs.Common.{ℕ, pos, ◌⊎◌, arith, ◌≡◌, ◌∙◌, ◌++◌, ◌∷◌, [], ap, subst, sym, length-append, map}
+use Rattle.std.proofs.Common.{ℕ, pos, ◌⊎◌, arith, ◌≡◌, ◌∙◌, ◌++◌, ◌∷◌, [], subst, sym, length-append, map}
 use Rattle.std.proofs.KnownBytes.{Consumes-trans}
 use Rattle.split_frac.specs.Frac.{fraction_of}
-use Rattle.cert_reader.specs.Kinds.{kind_of}
 use Rattle.cert_reader.specs.Reading.{with_mark}
 use Rattle.cert_reader.specs.Text.{Numbers}
 use Rattle.cert_reader.specs.Views.{says}

@@ -1,4 +1,4 @@
-use Rattle.std.proofs.Common.{arith, ◌≤◌, ◌∙◌, ◌++◌, [], append-nil, append_assoc, refl, subst, sym}
+use Rattle.std.proofs.Common.{arith, ◌∙◌, ◌++◌, [], append-nil, append_assoc, refl, subst, sym}
 use Rattle.std.proofs.KnownBytes.{Consumes-nil, Consumes-trans}
 use Rattle.cert_reader.specs.Reading.{IsEnd, with_mark}
 use Rattle.cert_checker.specs.Lines.{IsUpTo}

@@ -8,7 +8,7 @@ returns-clause-case c = printed_is
 pub returns-clause-passes : goal.returns-clause-passes
 returns-clause-passes c case division valid is =
     let sets : SetFacts = record {
-      bits = c.coalition_law.ensures.bits;
+      listed = c.starts_law.ensures.listed;
       within = c.coalition_law.ensures.within;
       number = c.without_rider_law.ensures.number;
       apart = c.without_rider_law.ensures.apart;

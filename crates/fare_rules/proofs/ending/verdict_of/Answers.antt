@@ -1,8 +1,7 @@
-use Rattle.std.proofs.Common.{arith, ◌≡◌, ◌∙◌, ℕ, ℤ, List, length, map, ap, sym, subst, unsigned_abs}
+use Rattle.std.proofs.Common.{◌≡◌, ◌∙◌, length, map, ap, sym, subst, unsigned_abs}
 use Rattle.bid_rules.specs.declared.cases.FareCase.{FareCase}
 use Rattle.bid_rules.specs.Fares.{IsLeastRoute}
 use Rattle.split_frac.specs.Frac.{fraction_of}
-use Rattle.cert_reader.specs.Views.{FaresView}
 use Rattle.fare_rules.specs.Printed.{printed_case, printed_route}
 use Rattle.fare_rules.proofs.EndRules.{all_kept, fares_broken, four_kept, has_route, means_of, no_order, route_broken, route_kept, tested_means, tested_route, three_kept, two_kept}
 use Rattle.fare_rules.proofs.LineLaws.{are_entries}

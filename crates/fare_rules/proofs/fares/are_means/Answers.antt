@@ -1,16 +1,9 @@
-use Rattle.std.proofs.Common.{arith, ◌≡◌, ◌≤◌, ◌<◌, ◌+◌, ◌∙◌, ℕ, ℤ, pos, List, length, map, get_or, ap, sym, subst, IsTrue, false, refl, below_more, FitsSigned, to_z, of_z}
-use Rattle.std.specs.Int.{w128}
-use Rattle.std.specs.List.{AllZip, range_with_len}
-use Rattle.std.proofs.lemmas.List.{get_or-map, length-map}
-use Rattle.std.proofs.lemmas.List.FromFn.{get_or-range_with_len, length-range_with_len}
-use Rattle.std.proofs.lemmas.Int.{ints}
-use Rattle.bid_rules.specs.declared.cases.FareCase.{FareCase}
-use Rattle.bid_rules.specs.Fares.{riders_of, sum_of_marginal_costs}
-use Rattle.bid_rules.specs.Fractions.{Fraction, IsQuotient}
+use Rattle.std.proofs.Common.{arith, ◌≡◌, ◌<◌, ◌+◌, ◌∙◌, ℕ, pos, List, length, map, get_or, ap, sym, subst, IsTrue, false, refl, below_more}
+use Rattle.std.proofs.lemmas.List.{get_or-map}
+use Rattle.bid_rules.specs.Fractions.{IsQuotient}
 use Rattle.bid_rules.specs.Orders.{factorial}
 use Rattle.split_frac.specs.Frac.{fraction_of}
 use Rattle.split_frac.specs.declared.frac.Frac.{Frac}
-use Rattle.split_lemmas.proofs.Zipped.{AllZip-get_or}
 use Rattle.fare_rules.proofs.Means.{IsMean, kept_sum, means_from_each, mean_of_each}
 use Rattle.fare_rules.proofs.fares.are_means.Goals as goal
 

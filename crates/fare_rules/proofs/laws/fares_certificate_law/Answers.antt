@@ -1,4 +1,4 @@
-use Rattle.std.proofs.Common.{arith, ◌≡◌, ◌-◌, ◌^◌, length, subst, sym, unsigned_abs}
+use Rattle.std.proofs.Common.{arith, ◌-◌, ◌^◌, length, subst, sym, unsigned_abs}
 use Rattle.std.proofs.lemmas.List.{length-map}
 use Rattle.fare_laws.specs.Entries.{AreEntries, IsLowestRoute}
 use Rattle.fare_rules.specs.Entries.{entry_of}

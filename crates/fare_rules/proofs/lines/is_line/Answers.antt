@@ -1,6 +1,6 @@
-use Rattle.std.proofs.Common.{arith, ◌<◌, ◌≤◌, ◌+◌, ◌∙◌, ℕ, ℤ, pos, All, ap, sym, subst, length, map, get_or, IsTrue, refl, Bool, true, false}
+use Rattle.std.proofs.Common.{arith, ◌∙◌, ℕ, ℤ, pos, ap, length, get_or, refl, true, false}
 use Rattle.cert_reader.specs.Sets.{starts}
-use Rattle.fare_rules.proofs.StartLists.{made, read_at, starts_within}
+use Rattle.fare_rules.proofs.StartLists.{made, starts_within}
 use Rattle.fare_rules.proofs.lines.is_line.Goals as goal
 
 pub bounds-row-from : goal.bounds-row-from

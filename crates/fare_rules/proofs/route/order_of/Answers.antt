@@ -1,6 +1,4 @@
-use Rattle.std.proofs.Common.{arith, ◌≡◌, ◌≤◌, ◌≤ℤ◌, ◌∙◌, ℕ, ℤ, pos, All, List, length, map, Contains, ap, sym, subst, unsigned_abs, IsTrue, get_or}
-use Rattle.std.specs.List.{range_with_len}
-use Rattle.std.specs.List.Sorted.{IsPermutation}
+use Rattle.std.proofs.Common.{◌≡◌, ◌∙◌, map, unsigned_abs}
 use Rattle.std.proofs.lemmas.List.{length-map}
 use Rattle.split_lemmas.proofs.RangePermutations.{permutation_from_each, permutation_to_each}
 use Rattle.fare_rules.proofs.PrintedNumbers.{route_bounded}

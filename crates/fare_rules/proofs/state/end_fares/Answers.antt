@@ -1,7 +1,6 @@
-use Rattle.std.proofs.Common.{arith, ◌≡◌, ◌≤◌, ◌<◌, ◌+◌, ◌^◌, ◌∙◌, ap, sym, subst, length, map, inl, inr, refl, unsigned_abs}
+use Rattle.std.proofs.Common.{arith, ◌^◌, ◌∙◌, ap, sym, subst, length}
 use Rattle.std.proofs.lemmas.List.{length-map}
 use Rattle.bid_rules.specs.declared.cases.FareCase.{FareCase}
-use Rattle.cert_reader.specs.Views.{FaresView}
 use Rattle.split_frac.specs.Frac.{fraction_of}
 use Rattle.fare_rules.specs.Head.{AreCostLines}
 use Rattle.fare_rules.specs.Printed.{printed_case}

@@ -1,6 +1,6 @@
-use Rattle.std.proofs.Common.{arith, ◌≡◌, ◌<◌, ◌+◌, ◌^◌, ◌∙◌, ap, sym, subst, length, inl, inr, true, false}
+use Rattle.std.proofs.Common.{arith, ◌^◌, ◌∙◌, ap, sym, subst, true}
 use Rattle.fare_rules.specs.State.{StandsFor}
-use Rattle.fare_rules.proofs.SetLines.{rider_count, stands_broken, stands_more, stands_still}
+use Rattle.fare_rules.proofs.SetLines.{rider_count, stands_broken}
 use Rattle.fare_rules.proofs.state.take_set.Goals as goal
 use Rattle.fare_rules.proofs.state.take_set.Goals.{in-Filling, in-Broken}
 

@@ -10,14 +10,14 @@ returns-in_default c h =
     c.in_default.ensures (rw c.as_slice.ensures.value (rooms_bounded c.len-count.result c.args.text.now.rooms.items (omega arith)
     h.positive (rw count h.assignment)))
 
-pub returns-then-are_all_taken : goal.returns-then-are_all_taken
-returns-then-are_all_taken c =
+pub returns-then-has_each : goal.returns-then-has_each
+returns-then-has_each c =
     let text = c.args.text.now in
     let bounded = c.in-Some.ensures.0 in
     let count = c.len-count.ensures.value in
     let numbers : c.in-Some.rooms.items ≡ map unsigned_abs text.rooms.items = c.in-Some.ensures.1 ∙ ap (map unsigned_abs) c.as_slice.ensures.value in
     let same : c.as_slice-2.result.now ≡ map unsigned_abs text.rooms.items = c.as_slice-2.ensures.value ∙ numbers in
-    let each = rw same at (c.are_all_taken.ensures.0 c.if-are_all_taken.true) in (
+    let each = rw same at (c.has_each.ensures.0 c.if-has_each.true) in (
       record {
         positive = rw (← c.as_slice.ensures.value) (positive_from c.len-count.result c.as_slice.result.now bounded);
         assignment = permutation_from_each (length text.rooms.items) (map unsigned_abs text.rooms.items) (length-map text.rooms.items unsigned_abs) (λ k low high. each k low (omega (arith, count)));
@@ -25,12 +25,12 @@ returns-then-are_all_taken c =
       numbers,
     )
 
-pub returns-else-are_all_taken : goal.returns-else-are_all_taken
-returns-else-are_all_taken c h =
+pub returns-else-has_each : goal.returns-else-has_each
+returns-else-has_each c h =
     let text = c.args.text.now in
     let numbers : c.in-Some.rooms.items ≡ map unsigned_abs text.rooms.items = c.in-Some.ensures.1 ∙ ap (map unsigned_abs) c.as_slice.ensures.value in
     let same : c.as_slice-2.result.now ≡ map unsigned_abs text.rooms.items = c.as_slice-2.ensures.value ∙ numbers in
     let count = c.len-count.ensures.value in
-    let back = c.are_all_taken.ensures.1 (rw same (λ k low high. permutation_to_each (length text.rooms.items) (map unsigned_abs text.rooms.items) h.assignment k low (omega (arith, count)))) in
-    let no = c.if-are_all_taken.false in
+    let back = c.has_each.ensures.1 (rw same (λ k low high. permutation_to_each (length text.rooms.items) (map unsigned_abs text.rooms.items) h.assignment k low (omega (arith, count)))) in
+    let no = c.if-has_each.false in
     cc

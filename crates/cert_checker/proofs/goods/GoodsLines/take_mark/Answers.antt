@@ -1,11 +1,11 @@
 use Rattle.std.proofs.Common.{◌∙◌, ◌++◌, ◌∷◌, [], ap, subst, sym}
-use Rattle.cert_checker.specs.GoodsLines.{IsGathered}
+use Rattle.cert_checker.specs.GoodsLines.{HasNoTree}
 use Rattle.cert_reader.specs.Reading.{with_mark}
 use Rattle.cert_checker.proofs.TreeParts.{mark_more}
 use Rattle.cert_checker.proofs.goods.GoodsLines.take_mark.Goals as goal
 
-pub begin_tree-requires-clause-gathered : goal.begin_tree-requires-clause-gathered
-begin_tree-requires-clause-gathered c = subst IsGathered (sym c.in-Head.is) tt
+pub begin_tree-requires-clause-head : goal.begin_tree-requires-clause-head
+begin_tree-requires-clause-head c = subst HasNoTree (sym c.in-Head.is) tt
 
 pub returns-in-Tree : goal.returns-in-Tree
 returns-in-Tree c said rest goes known =

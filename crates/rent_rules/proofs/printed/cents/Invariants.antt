@@ -1,9 +1,0 @@
-use Rattle.std.proofs.Common.{◌≡◌, ℕ, pos, ◌<◌, ◌≤ℤ◌, length, map, take, unsigned_abs, get_or}
-use Rattle.rent_rules.proofs.printed.cents.Given as goal
-
-abbrev pub invariant-loop-k : goal.invariant-loop-k
-invariant-loop-k l = record {
-  count : length l.row.items ≡ l.k;
-  items : l.row.items ≡ map unsigned_abs (take l.k l.numbers);
-  low : (i : ℕ) → i < l.k → pos 0 ≤ℤ get_or l.numbers i (pos 0);
-}
