@@ -1,10 +1,10 @@
 -- The words that were taken so far, at the end, at one more and at one that is no UTF-8.
-use Rattle.std.proofs.Common.{◌≡◌, ℕ, ◌+◌, ◌-◌, ◌<◌, ◌≤◌, ◌++◌, None, Some, IfSome, List, [], ◌∷◌, All, length, take, drop, get_or, map, string_bytes, zero, arith, inl, inr, sym, ap, ◌∙◌, subst, suc, refl, length-drop}
+use Rattle.std.proofs.Common.{◌≡◌, ℕ, ◌+◌, ◌-◌, ◌<◌, ◌≤◌, ◌++◌, None, Some, IfSome, List, [], ◌∷◌, All, length, take, drop, get_or, map, string_bytes, zero, arith, inl, inr, sym, ap, ◌∙◌, subst, suc, length-drop}
 use Rattle.std.specs.Prelude.{Option}
 use Rattle.std.specs.declared.string.String.{String}
 use Rattle.std.specs.Str.{IsUtf8}
 use Rattle.std.proofs.lemmas.Str.{IsUtf8-string_bytes}
-use Rattle.std.proofs.lemmas.List.{take_all, map-append}
+use Rattle.std.proofs.lemmas.List.{take_all}
 use Rattle.std.proofs.lemmas.List.Elements.{All-cons, All-get_or, All-map, All-nil}
 use Rattle.std.proofs.Math.Seq.{take-suc}
 use Rattle.fairsplit.specs.Words.{IsWords}

@@ -1,9 +1,9 @@
 -- What a reply names, in the host after the event.
-use Rattle.std.proofs.Common.{◌≡◌, ℕ, zero, suc, ◌+◌, ◌-◌, ◌⊎◌, inl, inr, Bool, true, false, ◌||◌, ◌==◌, List, [], ◌∷◌, ◌++◌, length, map, if◌then◌else◌, is_some, slice_get, Option, None, Some, option_map, refl, ap, sym, subst, ◌∙◌, arith, true≢false}
+use Rattle.std.proofs.Common.{◌≡◌, ℕ, zero, suc, ◌+◌, ◌-◌, inl, inr, Bool, true, false, ◌||◌, ◌==◌, List, [], ◌∷◌, ◌++◌, length, if◌then◌else◌, is_some, slice_get, Option, None, Some, option_map, refl, ap, sym, subst, ◌∙◌, arith, true≢false}
 use Rattle.std.proofs.lemmas.Bool.{ne_eqb}
 use Rattle.bid_rules.specs.declared.bids.Bid.{Bid}
 use Rattle.sealed_core.specs.Host.{CreationView, EventView, HostView, InstanceView, Closed, Created, apply, as_closed, changed, fresh, instance_at, kept_bid, kept_turn}
-use Rattle.sealed_core.specs.Sealed.{PublicFacts, applied, public_of}
+use Rattle.sealed_core.specs.Sealed.{applied, public_of}
 use Rattle.reply_texts.specs.Telling.{IsCloseOf, is_close, public_if}
 
 -- the instance at the changed place

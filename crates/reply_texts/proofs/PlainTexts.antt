@@ -1,5 +1,5 @@
 -- No reply has a float, so each has a text.
-use Rattle.std.proofs.Common.{◌≡◌, ℕ, ℤ, pos, negsuc, List, [], ◌∷◌, map, length, Bool, true, false, Option, None, Some, option_map, is_some, refl, ap, sym, ◌∙◌, true≢false}
+use Rattle.std.proofs.Common.{◌≡◌, ℕ, ℤ, pos, negsuc, List, [], ◌∷◌, map, true, false, Option, None, Some, option_map, is_some, refl, ap, sym, ◌∙◌, true≢false}
 use Rattle.serde_json.specs.Data.{Data}
 use Rattle.serde_json.specs.View.{items_of}
 use Rattle.serde_json.specs.Written.{has_float, items_have_float}
@@ -17,8 +17,8 @@ use Rattle.sealed_core.specs.declared.replies.Refusal.{Refusal}
 use Rattle.sealed_core.specs.declared.replies.Refusal.TheVariants as refusal
 use Rattle.sealed_core.specs.declared.replies.Reply.{Reply}
 use Rattle.sealed_core.specs.declared.replies.Reply.TheVariants as reply
-use Rattle.sealed_core.specs.Host.{HostView, InstanceView, instance_at, kept_bid, kept_turn}
-use Rattle.sealed_core.specs.Sealed.{PublicFacts, public_of}
+use Rattle.sealed_core.specs.Host.{HostView, InstanceView, kept_bid, kept_turn}
+use Rattle.sealed_core.specs.Sealed.{PublicFacts}
 use Rattle.reply_texts.specs.declared.refusals.ServiceRefusal.{ServiceRefusal}
 use Rattle.reply_texts.specs.declared.refusals.ServiceRefusal.TheVariants as service
 use Rattle.reply_texts.specs.Divisions.{of_fares, of_goods, of_rent}

@@ -1,15 +1,12 @@
 -- The route of a shared fare goes through riders.
-use Rattle.std.proofs.Common.{◌≡◌, ℕ, ◌<◌, ◌≤◌, List, All, length, map, Contains, ◌↔◌, arith, sym, subst, ◌∙◌}
+use Rattle.std.proofs.Common.{ℕ, ◌<◌, ◌≤◌, List, All, length, Contains, ◌↔◌, arith, sym, subst}
 use Rattle.std.specs.List.Sorted.{IsPermutation}
-use Rattle.std.proofs.lemmas.List.{length-map}
 use Rattle.std.proofs.lemmas.List.FromFn.{get_or-range_with_len, length-range_with_len}
 use Rattle.std.proofs.lemmas.List.Sorted.{All-permutation}
-use Rattle.split_frac.specs.Frac.{fraction_of}
 use Rattle.bid_rules.specs.declared.cases.FareCase.{FareCase}
 use Rattle.bid_rules.specs.Facts.{IsValidFareCase}
 use Rattle.bid_rules.specs.Fares.{riders_of}
 use Rattle.bid_rules.specs.Orders.{orders as all_orders}
-use Rattle.split_lemmas.proofs.Zipped.{length-AllZip}
 use Rattle.shapley_core.specs.Division.{IsFareDivision}
 use Rattle.shapley_core.specs.declared.division.FareDivision.{FareDivision}
 

@@ -1,21 +1,19 @@
 -- What is told of an instance that isn't closed is written from the caller's view.
-use Rattle.std.proofs.Common.{◌≡◌, ℕ, zero, suc, ◌+◌, ◌<◌, ◌≤◌, max, Bool, true, false, not, ◌&&◌, ◌==◌, List, [], ◌∷◌, length, if◌then◌else◌, is_some, Option, None, Some, option_map, Ok, Err, refl, ap, sym, subst, ◌∙◌, arith, true≢false}
+use Rattle.std.proofs.Common.{◌≡◌, ℕ, max, Bool, true, false, not, ◌&&◌, ◌==◌, List, [], ◌∷◌, if◌then◌else◌, Option, None, Some, option_map, refl, ap, sym, subst, ◌∙◌, true≢false}
 use Rattle.std.proofs.lemmas.Bool.{cond_both, eqb-true, not-false}
-use Rattle.serde_json.specs.Data.{Data}
 use Rattle.serde_json.specs.Written.{compact_text}
-use Rattle.bid_rules.specs.declared.bids.Bid.{Bid}
 use Rattle.sealed_core.specs.declared.commands.Ask.{Ask}
 use Rattle.sealed_core.specs.declared.commands.Ask.TheVariants as asks
 use Rattle.sealed_core.specs.declared.replies.Refusal.TheVariants as refusal
 use Rattle.sealed_core.specs.declared.replies.Reply.{Reply}
 use Rattle.sealed_core.specs.declared.replies.Reply.TheVariants as reply
-use Rattle.sealed_core.specs.Host.{EventView, HostView, InstanceView, Closed, apply, instance_at, kept_bid, kept_turn}
+use Rattle.sealed_core.specs.Host.{EventView, HostView, InstanceView, Closed, instance_at, kept_bid, kept_turn}
 use Rattle.sealed_core.specs.Sealed.{Asked, Caller, PublicFacts, View, applied, caller_number, caller_with, heard, heard_of, host_after, is_closed, is_shut, next, own_bid, own_turn, public_of, same_caller, view, view_of, views}
-use Rattle.sealed_core.specs.Step.{Answer, CommandView, Create, To, Standing, standing_of, says, refused, answer_ask, answer_caller, is_over, may_ask, answer_to, caller_by, caller_in, holder, step}
-use Rattle.reply_texts.specs.Replies.{of_created, of_own, of_reply, of_status, status_of}
+use Rattle.sealed_core.specs.Step.{Answer, CommandView, Create, To, Standing, standing_of, refused, answer_ask, answer_caller, is_over, may_ask, answer_to, caller_by, caller_in, holder, step}
+use Rattle.reply_texts.specs.Replies.{of_own, of_reply, of_status, status_of}
 use Rattle.reply_texts.specs.Sealing.{ShowSame, Told, is_creation, told, told_all, told_in, told_of, value_in}
 use Rattle.reply_texts.proofs.After.{closed_at}
-use Rattle.reply_texts.proofs.Answered.{good_ask, held}
+use Rattle.reply_texts.proofs.Answered.{good_ask}
 
 -- the view of a caller of an instance that is found
 abbrev seen : HostView → Option InstanceView → Caller → View

@@ -49,8 +49,8 @@ fn prices_of_members(rooms: &[u8], prices: &[Frac]) -> ArrayVec<Frac, MEMBER_ROO
     amounts
 }
 
-/// What each member pays of a rent, in whole cents.
-fn rent_pays(case: &RentCase, division: &RentDivision) -> ArrayVec<i64, MEMBER_ROOM>
+/// What each member pays of a rent, in whole cents: the cent plan of the members' exact prices, which sums to the rent.
+pub fn rent_pays(case: &RentCase, division: &RentDivision) -> ArrayVec<i64, MEMBER_ROOM>
     requires case { IsValidRentCase case.now }
     requires division { IsRentDivision case.now division.now }
     ensures { result.items ≡ cent_plan (prices_by_member division.now.best.rooms.items (map fraction_of division.now.prices.items)) (pos case.now.facts.rent) }

@@ -10,7 +10,7 @@ mod replies;
 mod statuses;
 mod values;
 
-pub use divisions::division_text;
+pub use divisions::{division_text, rent_pays};
 pub use laws::{shown_law, telling_law, text_sealing_law};
 pub use refusals::{ServiceRefusal, memory_text, service_refusal_text};
 pub use replies::{is_publication, reply_status, reply_text};

@@ -1,24 +1,20 @@
 -- A creation that is read keeps its rules.
-use Rattle.std.proofs.Common.{◌≡◌, ◌≤◌, ℕ, List, length, Bool, true, option_and_then, Option, Some, None, Result, Ok, Err, All, IfOk, refl, ap, sym, subst, ◌∙◌}
-use Rattle.std.specs.Result.{result_map_both}
+use Rattle.std.proofs.Common.{◌≡◌, ◌≤◌, ℕ, List, length, Bool, true, option_and_then, Option, Some, Ok, All, sym, subst}
 use Rattle.std.proofs.lemmas.Option.{option_and_then_some}
 use Rattle.serde_json.specs.Data.{Data}
 use Rattle.serde_json.specs.Find.{as_str}
-use Rattle.bid_rules.specs.declared.bids.Facts.{Facts}
 use Rattle.bid_rules.specs.declared.limits.TheConstants.{ITEM_ROOM, MEMBER_ROOM, MOST_GOODS, MOST_PLACES, MOST_RENT, PLACE_ROOM, USUAL_STEPS}
 use Rattle.sealed_core.specs.declared.limits.TheConstants.{LAST_DEADLINE}
-use Rattle.sealed_core.specs.declared.fields.BodyFault.{BodyFault}
-use Rattle.sealed_core.specs.declared.fields.BodyFault.TheVariants.{Json, Field}
 use Rattle.sealed_core.specs.declared.fields.FieldName.{FieldName}
 use Rattle.sealed_core.specs.declared.fields.FieldName.TheVariants as field
 use Rattle.sealed_core.specs.declared.creations.Creation.{Creation}
-use Rattle.sealed_core.specs.Host.{CreationView, IsCheckedCreation, IsName, IsTag, creation_view}
+use Rattle.sealed_core.specs.Host.{CreationView, IsCheckedCreation, IsName, creation_view}
 use Rattle.sealed_core.specs.Rules.{is_name, is_tag}
 use Rattle.split_json.specs.declared.rules.Kind.{Kind}
 use Rattle.split_json.specs.declared.rules.Kind.TheVariants as kind
-use Rattle.split_json.specs.Bodies.{creation_of, creation_of_object, deadline_in, tag_in}
-use Rattle.split_json.specs.Reading.{HeadData, allowed, fares_facts, fares_head, free_fares, goods_facts, goods_head, head_of_object, held, held_or, rent_facts, rent_head, rest_of_head, ◌>>=◌}
-use Rattle.split_json.specs.Rules.{each, elements, kind_in, legs_in, list_in, name_in, names_in, number_in, passing}
+use Rattle.split_json.specs.Bodies.{creation_of_object, deadline_in, tag_in}
+use Rattle.split_json.specs.Reading.{HeadData, allowed, fares_facts, fares_head, free_fares, goods_facts, goods_head, head_of_object, held, held_or, rent_facts, rent_head, rest_of_head}
+use Rattle.split_json.specs.Rules.{each, elements, kind_in, legs_in, name_in, names_in, number_in, passing}
 use Rattle.split_json.proofs.ReadyCases.{both-ok, chosen-some, each-some, head_of_object-ready, held-ok}
 
 -- a value that passed a test

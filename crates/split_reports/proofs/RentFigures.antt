@@ -1,18 +1,16 @@
 -- What the lines of a rent ask of the division.
-use Rattle.std.proofs.Common.{◌≡◌, ℕ, ◌+◌, ◌-◌, ◌*◌, ◌<◌, ◌≤◌, List, [], ◌∷◌, ◌++◌, All, length, map, take, get_or, pos, arith, sym, ap, subst, ◌∙◌}
+use Rattle.std.proofs.Common.{◌≡◌, ℕ, ◌*◌, ◌≤◌, List, All, length, map, arith, sym, ap, subst, ◌∙◌}
 use Rattle.std.specs.Prelude.{unsigned_abs}
-use Rattle.std.proofs.lemmas.List.{get_or-map, get_or_default, length-map, map-append, map_more}
+use Rattle.std.proofs.lemmas.List.{get_or_default, length-map}
 use Rattle.std.proofs.lemmas.List.Elements.{All-weaker}
 use Rattle.std.proofs.lemmas.List.FromFn.{length-map-range_with_len}
 use Rattle.bid_rules.specs.declared.limits.TheConstants.{MOST_AMOUNT}
-use Rattle.split_frac.specs.declared.frac.Frac.{Frac}
 use Rattle.split_frac.specs.Frac.{IsWithinLimits, fraction_of}
 use Rattle.bid_rules.specs.declared.rents.RentCase.{RentCase}
-use Rattle.bid_rules.specs.Cents.{amount_at, prices_by_member}
 use Rattle.bid_rules.specs.Fractions.{Fraction}
 use Rattle.bid_rules.specs.Rent.{IsValidRentCase, RentBest, room_count}
 use Rattle.split_lemmas.proofs.RoomPlaces.{room_range, rooms_length}
-use Rattle.envy_check.specs.Envy.{ArePrices, IsAmount}
+use Rattle.envy_check.specs.Envy.{ArePrices}
 use Rattle.rent_maximin.specs.Division.{IsRentDivision}
 use Rattle.rent_maximin.specs.declared.division.RentDivision.{RentDivision}
 use Rattle.split_json.specs.Reading.{CaseData}
@@ -41,10 +39,6 @@ best_prices case division valid is within = record {
   common = record { whole = room_count case; some = omega (arith, valid.facts.0.0); small = omega (arith, valid.facts.0.1); divides = is.price_parts };
 }
 
--- and of which there may be a cent plan
-pub price_amounts : (prices : List Frac) → All (λ price. IsWithinLimits price × (unsigned_abs price.num ≤ MOST_AMOUNT * price.den)) prices → All IsAmount prices
-price_amounts prices within = All-weaker (λ price. IsWithinLimits price × (unsigned_abs price.num ≤ MOST_AMOUNT * price.den)) IsAmount (λ price h. (h.1, h.0.1)) prices within
-
 -- there is a figure of each kind for each member
 pub figures_each : (given : CaseData) (case : RentCase) (division : RentDivision) (told : RentTold) → length given.members ≡ room_count case → length given.items ≡ room_count case
     → IsRentDivision case division → AreFiguresOf case division told → AreFigures given told
@@ -65,28 +59,3 @@ figures_each given case division told members items is are =
       utilities = utilities ∙ sym members;
       envy = envy ∙ sym members;
     }
-
--- one more price by member
-pub price_more : (prices : List Frac) (rooms : List ℕ) (i : ℕ) (amounts : List Frac) (price : Frac) → i < length rooms → All (IsRoom (length prices)) rooms
-    → price ≡ get_or prices (get_or rooms i 0 - 1) price → map fraction_of amounts ≡ prices_by_member (take i rooms) (map fraction_of prices)
-    → map fraction_of (amounts ++ price ∷ []) ≡ prices_by_member (take (i + 1) rooms) (map fraction_of prices)
-price_more prices rooms i amounts price l all is before =
-    let place : ℕ = get_or rooms i 0 - 1 in
-    let here = all i 0 l in
-    let within : place < length prices = omega (arith, here.0, here.1) in
-    let amount : ℕ → Fraction = λ room. amount_at (map fraction_of prices) (room - 1) in
-    let same : fraction_of price ≡ amount (get_or rooms i 0) = ap fraction_of is ∙ sym (get_or-map fraction_of prices place price (pos 0, 1) within) in
-    map-append fraction_of amounts (price ∷ []) ∙ ap (λ xs. xs ++ fraction_of price ∷ []) before ∙ ap (λ x. map amount (take i rooms) ++ x ∷ []) same ∙ sym (map_more amount rooms i 0 l)
-
--- the division's rooms are numbers of rooms, of which each has a price
-pub rooms_within : (case : RentCase) (division : RentDivision) (rooms : List ℕ) (prices : List Frac) → IsRentDivision case division → rooms ≡ division.best.rooms.items → prices ≡ division.prices.items
-    → All (IsRoom (length prices)) rooms
-rooms_within case division rooms prices is same_rooms same_prices =
-    let count : length prices ≡ room_count case = ap length same_prices ∙ price_count case division is in
-    subst (λ xs. All (IsRoom (length prices)) xs) (sym same_rooms) (subst (λ m. All (IsRoom m) division.best.rooms.items) (sym count) (best_rooms case division.best.rooms.items (map fraction_of division.prices.items) is.best))
-
--- the prices by member, as they are listed
-pub prices_listed : (division : RentDivision) (rooms : List ℕ) (prices amounts : List Frac) → rooms ≡ division.best.rooms.items → prices ≡ division.prices.items
-    → map fraction_of amounts ≡ prices_by_member rooms (map fraction_of prices) → map fraction_of amounts ≡ prices_by_member division.best.rooms.items (map fraction_of division.prices.items)
-prices_listed division rooms prices amounts same_rooms same_prices listed =
-    listed ∙ ap (λ xs. prices_by_member xs (map fraction_of prices)) same_rooms ∙ ap (λ xs. prices_by_member division.best.rooms.items (map fraction_of xs)) same_prices

@@ -1,9 +1,8 @@
 // The report of a rent.
 ghost use Rattle.std.specs.Prelude.{◌≡◌, ◌≤◌, ◌++◌, ◌∷◌, length, map, slice_index, All, IfOk, OnOk, string_bytes};
-ghost use Rattle.bid_rules.specs.Cents.{prices_by_member};
 ghost use Rattle.bid_rules.specs.Rent.{IsValidRentCase, room_count};
 ghost use Rattle.bid_rules.specs.declared.limits.TheConstants.{MEMBER_ROOM};
-ghost use Rattle.envy_check.specs.Envy.{ArePrices, IsAmount};
+ghost use Rattle.envy_check.specs.Envy.{ArePrices};
 ghost use Rattle.rent_maximin.specs.Division.{IsRentDivision};
 ghost use Rattle.split_frac.specs.Frac.{fraction_of};
 ghost use Rattle.split_json.specs.Reading.{shown};
@@ -14,9 +13,9 @@ use crate::text::{amount_at, fraction_at, named};
 use arrayvec::ArrayVec;
 use bid_rules::RentCase;
 use bid_rules::limits::MEMBER_ROOM;
-use envy_check::{cent_plan, envy_table, utility_at};
-use rent_laws::best_rent_law;
+use envy_check::{envy_table, utility_at};
 use rent_maximin::{RentDivision, division_range_law};
+use reply_texts::rent_pays;
 use split_base::NoMemory;
 use split_frac::Frac;
 use split_json::CaseInput;
@@ -136,21 +135,6 @@ fn rent_text(
     Ok(lines.into_bytes())
 }
 
-/// The price of each member's room, in the order of the members.
-fn prices_of_members(rooms: &[u8], prices: &[Frac]) -> ArrayVec<Frac, MEMBER_ROOM>
-    requires few { length rooms.now ≤ MEMBER_ROOM }
-    requires rooms { All (λ room. (1 ≤ room) × (room ≤ length prices.now)) rooms.now }
-    requires amounts { All IsAmount prices.now }
-    ensures prices { map fraction_of result.items ≡ prices_by_member rooms.now (map fraction_of prices.now) }
-    ensures amounts { All IsAmount result.items }
-{
-    let mut amounts = ArrayVec::new();
-    for room in rooms {
-        amounts.push(prices[*room as usize - 1]);
-    }
-    amounts
-}
-
 /// The utility of each member with their own room.
 fn utilities_of(case: &RentCase, rooms: &[u8], prices: &[Frac]) -> ArrayVec<Frac, MEMBER_ROOM>
     requires case { IsValidRentCase case.now }
@@ -172,14 +156,12 @@ fn figures_of<'a>(case: &RentCase, division: &'a RentDivision) -> RentFigures<'a
     requires division { IsRentDivision case.now division.now }
     ensures { AreFiguresOf case.now division.now (figures_shown result) }
 {
-    best_rent_law();
     division_range_law();
     let rooms = division.best.rooms.as_slice();
     let prices = division.prices.as_slice();
-    let amounts = prices_of_members(rooms, prices);
     RentFigures {
         division,
-        pays: cent_plan(amounts.as_slice(), i64::from(case.facts.rent)),
+        pays: rent_pays(case, division),
         utilities: utilities_of(case, rooms, prices),
         envy: envy_table(case, rooms, prices),
     }

@@ -1,4 +1,4 @@
-use Rattle.std.proofs.Common.{rules, arith, map, string_bytes, ◌≡◌, ◌++◌, ◌∷◌, [], IfSome, ◌<◌, length, get_or, ap, ◌∙◌}
+use Rattle.std.proofs.Common.{rules, map, string_bytes, ◌≡◌, ◌++◌, ◌∷◌, [], ap, ◌∙◌}
 use Rattle.std.proofs.lemmas.List.{map-append}
 use Rattle.fairsplit.proofs.WordLists.{ended, no_words, one_more}
 use Rattle.fairsplit.proofs.words.words_of.Goals as goal

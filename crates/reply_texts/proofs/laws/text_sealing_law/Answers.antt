@@ -1,7 +1,5 @@
-use Rattle.std.proofs.Common.{sym, ap, ◌∙◌, List}
-use Rattle.sealed_core.specs.Sealed.{View, caller_number, empty, heard, view, views}
-use Rattle.sealed_core.specs.Step.{To, step}
-use Rattle.sealed_core.specs.declared.replies.Reply.{Reply}
+use Rattle.std.proofs.Common.{sym, ap, ◌∙◌}
+use Rattle.sealed_core.specs.Sealed.{caller_number, empty, heard, view, views}
 use Rattle.reply_texts.specs.Sealing.{told_in}
 use Rattle.reply_texts.proofs.Sealed.{tells, told_is, told_run}
 use Rattle.reply_texts.proofs.laws.text_sealing_law.Goals as goal

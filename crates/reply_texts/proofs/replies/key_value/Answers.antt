@@ -1,4 +1,4 @@
-use Rattle.std.proofs.Common.{sym, subst, List, ℕ}
+use Rattle.std.proofs.Common.{sym, subst}
 use Rattle.std.specs.Str.{IsUtf8}
 use Rattle.reply_texts.proofs.KeyTexts.{digits_are_utf8}
 use Rattle.reply_texts.proofs.replies.key_value.Goals as goal

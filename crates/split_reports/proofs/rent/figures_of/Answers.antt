@@ -1,35 +1,14 @@
-use Rattle.std.proofs.Common.{◌≡◌, ◌≤◌, ℕ, List, All, length, map, pos, arith, refl, sym, ap, ◌∙◌, subst, to_z, of_z, w64}
-use Rattle.std.proofs.lemmas.Int.{ints}
+use Rattle.std.proofs.Common.{◌≡◌, ◌≤◌, ℕ, List, All, length, map, refl, sym, ap, ◌∙◌, subst}
 use Rattle.std.proofs.lemmas.Simd.{map-map}
-use Rattle.bid_rules.specs.Cents.{cent_plan}
-use Rattle.bid_rules.specs.Fractions.{Fraction, IsQuotient, sum_of_fractions}
+use Rattle.bid_rules.specs.Fractions.{Fraction}
 use Rattle.bid_rules.specs.Rent.{room_count}
 use Rattle.split_lemmas.proofs.RoomPlaces.{rooms_length}
-use Rattle.envy_check.specs.Envy.{ArePrices, IsAmount, IsEnvyTable, rows_of}
+use Rattle.envy_check.specs.Envy.{ArePrices, IsEnvyTable, rows_of}
 use Rattle.split_frac.specs.declared.frac.Frac.{Frac}
 use Rattle.split_frac.specs.Frac.{fraction_of}
 use Rattle.split_reports.specs.Rent.{AreUtilities}
-use Rattle.split_reports.proofs.RentFigures.{best_prices, best_rooms, price_amounts, prices_listed, rooms_within}
+use Rattle.split_reports.proofs.RentFigures.{best_prices, best_rooms}
 use Rattle.split_reports.proofs.rent.figures_of.Goals as goal
-
-pub prices_of_members-amounts-requires-clause-rooms : goal.prices_of_members-amounts-requires-clause-rooms
-prices_of_members-amounts-requires-clause-rooms c =
-    rooms_within c.args.case.now c.args.division.now c.as_slice-rooms.result.now c.as_slice-prices.result.now c.requires.division c.as_slice-rooms.ensures.value c.as_slice-prices.ensures.value
-
-pub prices_of_members-amounts-requires-clause-amounts : goal.prices_of_members-amounts-requires-clause-amounts
-prices_of_members-amounts-requires-clause-amounts c =
-    let within = c.division_range_law.ensures.prices c.args.case.now c.args.division.now c.requires.case c.requires.division in
-    subst (λ (xs : List Frac). All IsAmount xs) (sym c.as_slice-prices.ensures.value) (price_amounts c.args.division.now.prices.items within)
-
-pub cent_plan-requires-clause-sum : goal.cent_plan-requires-clause-sum
-cent_plan-requires-clause-sum c =
-    let division = c.args.division.now in
-    let case = c.args.case.now in
-    let whole : to_z w64 (of_z w64 c.from.result) ≡ pos case.facts.rent = omega (arith, ints) in
-    let listed = ap (λ (xs : List Frac). map fraction_of xs) c.as_slice.ensures.value
-    ∙ prices_listed division c.as_slice-rooms.result.now c.as_slice-prices.result.now c.prices_of_members-amounts.result.items c.as_slice-rooms.ensures.value c.as_slice-prices.ensures.value c.prices_of_members-amounts.ensures.prices in
-    let sum = c.best_rent_law.ensures.by_member case division.best.rooms.items (map fraction_of division.prices.items) c.requires.division.best in
-    subst (λ z. IsQuotient (sum_of_fractions (map fraction_of c.as_slice.result.now)) z 1) (sym whole) (subst (λ fs. IsQuotient (sum_of_fractions fs) (pos case.facts.rent) 1) (sym listed) sum)
 
 pub utilities_of-requires-clause-count : goal.utilities_of-requires-clause-count
 utilities_of-requires-clause-count c = ap length c.as_slice-rooms.ensures.value ∙ rooms_length (room_count c.args.case.now) c.args.division.now.best.rooms.items c.requires.division.best.priced.assignment
@@ -55,16 +34,13 @@ returns c =
     let case = c.args.case.now in
     let rooms = c.as_slice-rooms.ensures.value in
     let prices = c.as_slice-prices.ensures.value in
-    let whole : to_z w64 (of_z w64 c.from.result) ≡ pos case.facts.rent = omega (arith, ints) in
-    let listed = ap (λ (xs : List Frac). map fraction_of xs) c.as_slice.ensures.value
-    ∙ prices_listed division c.as_slice-rooms.result.now c.as_slice-prices.result.now c.prices_of_members-amounts.result.items rooms prices c.prices_of_members-amounts.ensures.prices in
     let entries : List (List Fraction) = map (map fraction_of) (map (λ row. row.items) c.envy_table.result.items) in
     let table : rows_of c.envy_table.result ≡ map (map fraction_of) (map (λ row. row.items) c.envy_table.result.items) = sym (map-map _ _ c.envy_table.result.items) in
     record {
       rooms = refl;
       prices = refl;
       least = refl;
-      pays = c.cent_plan.ensures.plan ∙ ap (λ fs. cent_plan fs (to_z w64 (of_z w64 c.from.result))) listed ∙ ap (cent_plan _) whole;
+      pays = c.rent_pays.ensures;
       utilities = subst (λ (xs : List ℕ). AreUtilities case xs (map fraction_of division.prices.items) (map fraction_of c.utilities_of.result.items)) rooms
           (subst (λ (xs : List Frac). AreUtilities case c.as_slice-rooms.result.now (map fraction_of xs) (map fraction_of c.utilities_of.result.items)) prices c.utilities_of.ensures);
       envy = subst (λ (xs : List ℕ). IsEnvyTable case xs (map fraction_of division.prices.items) entries) rooms
