@@ -1,3 +1,4 @@
+pub mod MarkRuns
 pub mod TreeMarks
 pub mod TreeSizes
 pub mod BestAnswer

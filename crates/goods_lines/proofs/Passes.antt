@@ -1,5 +1,5 @@
 -- The canonical lines of goods keep all rules.
-use Rattle.std.proofs.Common.{◌≡◌, ℕ, ℤ, pos, zero, suc, ◌-◌, ◌<◌, ◌≤◌, ◌≤ℤ◌, List, length, map, get_or, slice_index, unsigned_abs, All, arith, sym, ap, ◌∙◌, subst}
+use Rattle.std.proofs.Common.{◌≡◌, ℕ, pos, zero, suc, ◌-◌, ◌<◌, ◌≤◌, ◌≤ℤ◌, List, length, map, get_or, slice_index, unsigned_abs, All, arith, sym, ap, ◌∙◌, subst}
 use Rattle.std.proofs.lemmas.Int.{ints}
 use Rattle.std.proofs.lemmas.List.{get_or-map, length-map}
 use Rattle.arrayvec.specs.declared.array_vec.ArrayVec.{ArrayVec}

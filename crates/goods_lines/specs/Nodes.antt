@@ -2,10 +2,8 @@
 use Rattle.std.specs.Prelude.{◌≡◌, ℕ, ◌≤◌, List, length}
 use Rattle.bid_rules.specs.declared.goods.GoodsCase.{GoodsCase}
 use Rattle.bid_rules.specs.Goods.{AreOwners, IsValidGoodsCase, pair_of}
-use Rattle.nash_bounds.specs.Lanes.{IsFork, IsLanes}
-use Rattle.nash_bounds.specs.Reach.{IsFlat}
+use Rattle.nash_bounds.specs.Lanes.{IsLanes}
 use Rattle.goods_lines.specs.declared.answer.Answer.{Answer}
-use Rattle.goods_lines.specs.declared.node.Fork.{Fork}
 use Rattle.goods_lines.specs.declared.node.Node.{Node}
 
 -- an owner for each good, with the pair of these owners
@@ -19,8 +17,3 @@ pub record IsNode (case : GoodsCase) (node : Node) : Type 0 where
   pub short : length node.owners.items ≤ case.facts.goods
   pub owned : AreOwners case node.owners.items
   pub lanes : IsLanes case node.owners.items node.lanes
-
--- the lanes of these owners without the next good, and the same at a level
-pub record IsForked (case : GoodsCase) (owners : List ℕ) (fork : Fork) : Type 0 where
-  pub lanes : IsFork case owners fork.lanes
-  pub flat : IsFlat fork.lanes fork.flat

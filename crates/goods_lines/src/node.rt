@@ -1,21 +1,22 @@
 // The nodes of a tree: owners of the first few goods in search order, of whom the tree leaves out those who show no better allocation.
-ghost use Rattle.std.specs.Prelude.{◌≡◌, ◌+◌, ◌<◌, ◌≤◌, ◌++◌, [], ◌∷◌, length, true, false, IfSome, IsNone};
-ghost use Rattle.bid_rules.specs.Goods.{IsValidGoodsCase, player_count};
+ghost use Rattle.std.specs.Prelude.{◌≡◌, ℕ, List, ◌<◌, ◌≤◌, ◌++◌, [], ◌∷◌, length, true, false};
+ghost use Rattle.bid_rules.specs.Goods.{AreOwners, IsValidGoodsCase, player_count};
 ghost use Rattle.bid_rules.specs.declared.limits.TheConstants.{MEMBER_ROOM};
-ghost use Rattle.goods_lines.specs.Nodes.{IsAnswer, IsForked, IsNode};
+ghost use Rattle.goods_lines.specs.Nodes.{IsAnswer, IsNode};
 ghost use Rattle.nash_bounds.specs.LeftOut.{may_be_left};
-ghost use Rattle.nash_bounds.specs.Lanes.{IsFork, IsLaneTable, HasFreeGood};
+ghost use Rattle.nash_bounds.specs.Lanes.{IsFork, IsLanes, IsLaneTable, HasFreeGood};
+ghost use Rattle.nash_bounds.specs.Reach.{IsFlat};
 
 use crate::answer::{Answer, leaves_out};
 use arrayvec::ArrayVec;
 use bid_rules::GoodsCase;
 use bid_rules::limits::{ITEM_ROOM, WHOLE_POINTS};
 use nash_bounds::{
-    Flat, LaneTable, Lanes, empty_prefix, flat_of, fork, give, lanes_of, may_reach, next_bound,
+    Flat, LaneTable, Lanes, empty_prefix, flat_of, fork, give, lane_bound, lanes_of, may_reach,
     open_prefixes_law,
 };
 
-/// A node of the tree.
+/// A node of the tree. There is one, which goes from node to node.
 #[derive(Drop)]
 pub(crate) struct Node {
     /// The owner, a player from 1, of each of the first few goods in search order.
@@ -24,15 +25,6 @@ pub(crate) struct Node {
     pub(crate) lanes: Lanes,
     /// A level near that of the node's bound, in points.
     pub(crate) level: u32,
-}
-
-/// A node whose next good goes to someone: what its children have in common.
-#[derive(Clone, Copy)]
-pub(crate) struct Fork {
-    /// The node's lanes without the next good.
-    pub(crate) lanes: Lanes,
-    /// These lanes at one level.
-    pub(crate) flat: Flat,
 }
 
 /// The node without owners, at which a tree begins.
@@ -49,76 +41,131 @@ pub(crate) fn root_of(case: &GoodsCase) -> Node
     }
 }
 
-/// What the children of a node have in common.
-pub(crate) fn fork_of(case: &GoodsCase, table: &LaneTable, node: &Node) -> Fork
-    requires table { IsLaneTable case.now table.now }
-    requires node { IsNode case.now node.now }
-    requires shorter { length node.now.owners.items < case.now.facts.goods }
-    ensures { IsForked case.now node.now.owners.items result }
-{
-    let mut lanes = node.lanes;
-    fork(case, table, node.owners.as_slice(), &mut lanes);
-    let flat = flat_of(case, table, node.owners.as_slice(), &lanes, node.level);
-    Fork { lanes, flat }
-}
-
-/// The owners and one more.
-fn longer(owners: &[u8], owner: u8) -> ArrayVec<u8, ITEM_ROOM>
-    requires { length owners.now < ITEM_ROOM }
-    ensures { result.items ≡ owners.now ++ owner ∷ [] }
-{
-    let mut list = ArrayVec::new();
-    list.try_extend_from_slice(owners).unwrap();
-    list.push(owner);
-    list
-}
-
-/// The child whose next good goes to the owner, unless a tree may leave it out.
-///
-/// Most children cannot reach the answer's pair by a test that is cheaper than their bound, so it comes first.
-pub(crate) fn open_child(
-    case: &GoodsCase,
-    table: &LaneTable,
-    answer: &Answer,
-    node: &Node,
-    fork: &Fork,
-    owner: u8,
-) -> Option<Node>
-    requires table { IsLaneTable case.now table.now }
-    requires answer { IsAnswer case.now answer.now }
-    requires node { IsNode case.now node.now }
-    requires shorter { length node.now.owners.items < case.now.facts.goods }
-    requires fork { IsForked case.now node.now.owners.items fork.now }
-    requires owner_low { 1 ≤ owner }
-    requires owner_high { owner ≤ player_count case.now }
-    ensures node { IfSome result (IsNode case.now) }
-    ensures owners { IfSome result (λ child. child.owners.items ≡ node.now.owners.items ++ owner ∷ []) }
-    ensures open { IfSome result (λ child. may_be_left case.now answer.now.owners.items child.owners.items ≡ false) }
-    ensures left { IsNone result → may_be_left case.now answer.now.owners.items (node.now.owners.items ++ owner ∷ []) ≡ true }
-{
-    open_prefixes_law();
-    let path = node.owners.as_slice();
-    if !may_reach(
-        case,
-        table,
-        path,
-        owner,
-        &fork.lanes,
-        &fork.flat,
-        answer.pair,
-    ) {
-        return None;
+impl Node {
+    /// The node's lanes without the next good, which its children have in common.
+    pub(crate) fn fork(&self, case: &GoodsCase, table: &LaneTable) -> Lanes
+        requires table { IsLaneTable case.now table.now }
+        requires node { IsNode case.now self.now }
+        requires shorter { length self.now.owners.items < case.now.facts.goods }
+        ensures { IsFork case.now self.now.owners.items result }
+    {
+        let mut lanes = self.lanes;
+        fork(case, table, self.owners.as_slice(), &mut lanes);
+        lanes
     }
-    let bound = next_bound(case, table, path, owner, &fork.lanes, fork.flat.level);
-    let owners = longer(path, owner);
-    if leaves_out(answer, bound, owners.as_slice()) {
-        return None;
+
+    /// These lanes at one level.
+    pub(crate) fn flat(&self, case: &GoodsCase, table: &LaneTable, lanes: &Lanes) -> Flat
+        requires table { IsLaneTable case.now table.now }
+        requires node { IsNode case.now self.now }
+        requires shorter { length self.now.owners.items < case.now.facts.goods }
+        requires lanes { IsFork case.now self.now.owners.items lanes.now }
+        ensures { IsFlat lanes.now result }
+    {
+        flat_of(case, table, self.owners.as_slice(), lanes, self.level)
     }
-    let mut lanes = fork.lanes;
-    give(case, table, path, owner, &mut lanes);
-    Some(Node {
-        owners,
-        lanes,
-        level: fork.flat.level,
-    })
+
+    /// Goes down to the child whose next good goes to the owner.
+    fn descend(&mut self, case: &GoodsCase, table: &LaneTable, lanes: &Lanes, level: u32, owner: u8)
+        requires table { IsLaneTable case.now table.now }
+        requires open { HasFreeGood case.now self.old.owners.items }
+        requires lanes { IsFork case.now self.old.owners.items lanes.now }
+        requires owner_low { 1 ≤ owner }
+        requires owner_high { owner ≤ player_count case.now }
+        ensures owners { self.new.owners.items ≡ self.old.owners.items ++ owner ∷ [] }
+        ensures lanes { IsLanes case.now (self.old.owners.items ++ owner ∷ []) self.new.lanes }
+    {
+        self.lanes = *lanes;
+        give(case, table, self.owners.as_slice(), owner, &mut self.lanes);
+        self.owners.push(owner);
+        self.level = level;
+    }
+
+    /// Goes up to the parent.
+    pub(crate) fn ascend(&mut self)
+        ensures { (owners : List ℕ) (owner : ℕ) → self.old.owners.items ≡ owners ++ owner ∷ [] → self.new.owners.items ≡ owners }
+    {
+        let _ = self.owners.pop();
+    }
+
+    /// Whether the tree may leave out the node.
+    fn is_left_out(&self, case: &GoodsCase, answer: &Answer) -> bool
+        requires valid { IsValidGoodsCase case.now }
+        requires few { player_count case.now ≤ MEMBER_ROOM }
+        requires answer { IsAnswer case.now answer.now }
+        requires short { length self.now.owners.items ≤ case.now.facts.goods }
+        requires lanes { IsLanes case.now self.now.owners.items self.now.lanes }
+        ensures { result ≡ may_be_left case.now answer.now.owners.items self.now.owners.items }
+    {
+        let bound = lane_bound(case, self.owners.as_slice(), &self.lanes, self.level);
+        leaves_out(answer, bound, self.owners.as_slice())
+    }
+
+    /// Whether the child whose next good goes to the owner could reach the answer's pair; only if not, the tree may leave it out.
+    ///
+    /// Most children cannot, and this test is cheaper than that by their bound.
+    fn may_reach(
+        &self,
+        case: &GoodsCase,
+        table: &LaneTable,
+        answer: &Answer,
+        lanes: &Lanes,
+        flat: &Flat,
+        owner: u8,
+    ) -> bool
+        requires table { IsLaneTable case.now table.now }
+        requires answer { IsAnswer case.now answer.now }
+        requires open { HasFreeGood case.now self.now.owners.items }
+        requires lanes { IsFork case.now self.now.owners.items lanes.now }
+        requires flat { IsFlat lanes.now flat.now }
+        requires owner_low { 1 ≤ owner }
+        requires owner_high { owner ≤ player_count case.now }
+        ensures { result ≡ false → may_be_left case.now answer.now.owners.items (self.now.owners.items ++ owner ∷ []) ≡ true }
+    {
+        open_prefixes_law();
+        may_reach(
+            case,
+            table,
+            self.owners.as_slice(),
+            owner,
+            lanes,
+            flat,
+            answer.pair,
+        )
+    }
+
+    /// Goes down to the child whose next good goes to the owner, unless the tree may leave it out; whether it did.
+    pub(crate) fn open_child(
+        &mut self,
+        case: &GoodsCase,
+        table: &LaneTable,
+        answer: &Answer,
+        lanes: &Lanes,
+        flat: &Flat,
+        owner: u8,
+    ) -> bool
+        requires table { IsLaneTable case.now table.now }
+        requires answer { IsAnswer case.now answer.now }
+        requires open { HasFreeGood case.now self.old.owners.items }
+        requires owned { AreOwners case.now self.old.owners.items }
+        requires lanes { IsFork case.now self.old.owners.items lanes.now }
+        requires flat { IsFlat lanes.now flat.now }
+        requires owner_low { 1 ≤ owner }
+        requires owner_high { owner ≤ player_count case.now }
+        ensures node { result ≡ true → IsNode case.now self.new }
+        ensures owners { result ≡ true → self.new.owners.items ≡ self.old.owners.items ++ owner ∷ [] }
+        ensures open { result ≡ true → may_be_left case.now answer.now.owners.items (self.old.owners.items ++ owner ∷ []) ≡ false }
+        ensures same { result ≡ false → self.new.owners.items ≡ self.old.owners.items }
+        ensures left { result ≡ false → may_be_left case.now answer.now.owners.items (self.old.owners.items ++ owner ∷ []) ≡ true }
+    {
+        if !self.may_reach(case, table, answer, lanes, flat, owner) {
+            return false;
+        }
+        self.descend(case, table, lanes, flat.level, owner);
+        if self.is_left_out(case, answer) {
+            self.ascend();
+            return false;
+        }
+        true
+    }
 }

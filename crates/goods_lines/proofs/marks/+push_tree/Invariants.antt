@@ -1,5 +1,7 @@
-use Rattle.std.proofs.Common.{◌≡◌, ◌+◌, ◌-◌, ◌++◌, ◌∷◌, length, string_bytes}
+use Rattle.std.proofs.Common.{◌≡◌, ◌+◌, ◌-◌, ◌≤◌, ◌++◌, ◌∷◌, length, string_bytes}
 use Rattle.cert_reader.specs.declared.marks.TheConstants.{INNER_NODE}
+use Rattle.goods_lines.specs.Waiting.{with_waiting}
+use Rattle.goods_lines.specs.declared.marks.TheConstants.{MOST_WAITING}
 use Rattle.goods_lines.proofs.TreeMarks.{children_marks}
 use Rattle.goods_lines.proofs.marks.+push_tree.Given as goal
 
@@ -7,4 +9,9 @@ abbrev pub decreases-push_tree : goal.decreases-push_tree
 decreases-push_tree l = l.case.now.facts.goods - length l.node.now.owners.items
 
 abbrev pub invariant-loop-k : goal.invariant-loop-k
-invariant-loop-k l = string_bytes l.text ≡ string_bytes l.fn.text ++ INNER_NODE ∷ children_marks l.case l.answer.owners.items (l.case.facts.goods - (length l.node.owners.items + 1)) l.node.owners.items l.k
+invariant-loop-k l = record {
+  owners : l.node.owners.items ≡ l.fn.node.owners.items;
+  few : l.waiting ≤ MOST_WAITING;
+  marks : with_waiting (string_bytes l.text) l.waiting
+      ≡ with_waiting (string_bytes l.fn.text) l.before ++ INNER_NODE ∷ children_marks l.case l.answer.owners.items (l.case.facts.goods - (length l.fn.node.owners.items + 1)) l.fn.node.owners.items l.k;
+}
