@@ -7,7 +7,7 @@ ghost use Rattle.printed_numbers.specs.Ranges.{AreBetween};
 
 use arrayvec::ArrayVec;
 use bid_rules::limits::{
-    LEG_ROW_ROOM, MOST_FARE_CENTS, MOST_PLACES, MOST_RIDERS, PLACE_ROOM, RIDER_ROOM,
+    LEG_ROW_ROOM, MOST_FARE_CENTS, MOST_MEMBERS, MOST_PLACES, MOST_RIDERS, PLACE_ROOM, RIDER_ROOM,
 };
 use bid_rules::{FareCase, Fares};
 use printed_numbers::{members_between, rows_of_amounts};
@@ -53,7 +53,7 @@ pub(crate) fn case_of(
     let Some(facts) = facts_of(places, flag, legs) else {
         return None;
     };
-    let Some(members) = members_between(who, 0, MOST_PLACES) else {
+    let Some(members) = members_between(who, 0, MOST_MEMBERS) else {
         return None;
     };
     let Some(stops) = members_between(at, 0, MOST_PLACES) else {
