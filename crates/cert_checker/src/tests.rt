@@ -1,102 +1,42 @@
-// The certificates of the flat for three, of an estate for two and of the taxi for two, and forged ones: one line of them changed.
+// Printed certificates, and forged ones: one line of them changed.
 use crate::{check, judge};
 use cert_reader::{ReadEnd, read_certificate};
+use printed_certificates::{ESTATE, FLAT, TAXI, with_line};
 use split_base::MemSource;
 use std::alloc::Global;
 use std::process::Abort;
 use std::test::Fail;
 use verdicts::Verdict;
 
-const FLAT: [&str; 14] = [
-    "fairsplit 1",
-    "kind rent",
-    "members 3",
-    "rent 900",
-    "values 800 100 0",
-    "values 700 200 0",
-    "values 300 300 300",
-    "rooms 1 2 3",
-    "left 0 0 2702",
-    "right 21600 5397 5396",
-    "walks 0 0 100",
-    "ranks 0 0 1",
-    "prices 700 100 100",
-    "end",
-];
-
-const ESTATE: [&str; 12] = [
-    "fairsplit 1",
-    "kind goods",
-    "players 2",
-    "goods 3",
-    "limit 100000",
-    "who 1 2",
-    "values 400 300 300",
-    "values 400 300 300",
-    "owners 1 2 2",
-    "steps 2",
-    "tree ++-+-=++---",
-    "end",
-];
-
-const TAXI: [&str; 16] = [
-    "fairsplit 1",
-    "kind fares",
-    "riders 2",
-    "places 2",
-    "flag 300",
-    "legs 1000 1500",
-    "legs 0 700",
-    "legs 900 0",
-    "who 1 2",
-    "at 1 2",
-    "set 1 1000 900",
-    "set 2 1500 700",
-    "set 3 1700",
-    "route 1 2",
-    "fares 750 1250",
-    "end",
-];
-
-/// A source of the lines, of which the one at a place is another. Some of its reads fail.
-fn source_of(
-    alloc: Global,
-    lines: &[&str],
-    changed: (usize, &str),
-    fails: &[u64],
-) -> Result<MemSource, Fail> {
-    let mut bytes = Vec::new(alloc);
-    for (index, line) in lines.iter().enumerate() {
-        let text = if index == changed.0 { changed.1 } else { *line };
-        bytes.extend_from_slice(text.as_bytes())?;
-        bytes.push(b'\n')?;
-    }
-    Ok(MemSource::new(bytes, Vec::new(alloc), fails.to_vec(alloc)?))
+/// A source of the text. Some of its reads fail.
+fn source_of(alloc: Global, text: &[u8], fails: &[u64]) -> Result<MemSource, Fail> {
+    Ok(MemSource::new(text.to_vec(alloc)?, Vec::new(alloc), fails.to_vec(alloc)?))
 }
 
-/// What the judge says of the lines, of which the one with the number, from 1, is another.
+/// What the judge says of the text with another line of this number, counted from 1.
 fn told(
     alloc: Global,
-    lines: &[&str],
+    text: &str,
     number: usize,
     line: &str,
 ) -> Result<Result<Verdict, ReadEnd>, Fail> {
-    let mut source = source_of(alloc, lines, (number.wrapping_sub(1), line), &[])?;
+    let changed = with_line(alloc, text, number, line)?;
+    let mut source = source_of(alloc, changed.as_slice(), &[])?;
     Ok(judge(&mut source))
 }
 
 #[test]
 fn accepts_the_printed_ones(rt: HostRuntime) -> Result<(), Fail> {
     let alloc = rt.alloc();
-    for lines in [FLAT.as_slice(), ESTATE.as_slice(), TAXI.as_slice()] {
-        let mut source = source_of(alloc, lines, (99, ""), &[])?;
+    for text in [FLAT.as_bytes(), ESTATE.as_bytes(), TAXI.as_bytes()] {
+        let mut source = source_of(alloc, text, &[])?;
         assert_eq!(rt; judge(&mut source), Ok(Verdict::Yes));
-        let mut again = source_of(alloc, lines, (99, ""), &[])?;
+        let mut again = source_of(alloc, text, &[])?;
         let Ok(certificate) = read_certificate(alloc, &mut again) else {
             return Err(Fail::from("no text"));
         };
         assert_eq!(rt; check(&certificate), Verdict::Yes);
-        let mut failing = source_of(alloc, lines, (99, ""), &[2])?;
+        let mut failing = source_of(alloc, text, &[2])?;
         assert_eq!(rt; judge(&mut failing), Err(ReadEnd::ReadFault));
     }
     let mut nothing = MemSource::new(Vec::new(alloc), Vec::new(alloc), Vec::new(alloc));
@@ -115,7 +55,7 @@ fn refuses_forged_rents(rt: HostRuntime) -> Result<(), Fail> {
         (14, "end 0", 14),
     ];
     for (number, line, place) in broken {
-        let answer = told(alloc, &FLAT, number, line)?;
+        let answer = told(alloc, FLAT, number, line)?;
         assert_eq!(rt; answer, Err(ReadEnd::NotText { line: place }), "{line}");
     }
     let forged = [
@@ -134,7 +74,7 @@ fn refuses_forged_rents(rt: HostRuntime) -> Result<(), Fail> {
         (13, "prices 2101/3 100 100", 7),
     ];
     for (number, line, rule) in forged {
-        let answer = told(alloc, &FLAT, number, line)?;
+        let answer = told(alloc, FLAT, number, line)?;
         assert_eq!(rt; answer, Ok(Verdict::No { rule }), "{line}");
     }
     Ok(())
@@ -153,7 +93,7 @@ fn refuses_forged_goods(rt: HostRuntime) -> Result<(), Fail> {
         (12, "end\n ", 13),
     ];
     for (number, line, place) in broken {
-        let answer = told(alloc, &ESTATE, number, line)?;
+        let answer = told(alloc, ESTATE, number, line)?;
         assert_eq!(rt; answer, Err(ReadEnd::NotText { line: place }), "{line}");
     }
     let forged = [
@@ -169,10 +109,10 @@ fn refuses_forged_goods(rt: HostRuntime) -> Result<(), Fail> {
         (11, "tree ++-+==++---", 6),
     ];
     for (number, line, rule) in forged {
-        let answer = told(alloc, &ESTATE, number, line)?;
+        let answer = told(alloc, ESTATE, number, line)?;
         assert_eq!(rt; answer, Ok(Verdict::No { rule }), "{line}");
     }
-    let steps = told(alloc, &ESTATE, 10, "steps 7")?;
+    let steps = told(alloc, ESTATE, 10, "steps 7")?;
     assert_eq!(rt; steps, Ok(Verdict::Yes));
     Ok(())
 }
@@ -187,7 +127,7 @@ fn refuses_forged_fares(rt: HostRuntime) -> Result<(), Fail> {
         (12, "set 3 1500 700", 12),
     ];
     for (number, line, place) in broken {
-        let answer = told(alloc, &TAXI, number, line)?;
+        let answer = told(alloc, TAXI, number, line)?;
         assert_eq!(rt; answer, Err(ReadEnd::NotText { line: place }), "{line}");
     }
     let forged = [
@@ -205,7 +145,7 @@ fn refuses_forged_fares(rt: HostRuntime) -> Result<(), Fail> {
         (15, "fares 751 1250", 5),
     ];
     for (number, line, rule) in forged {
-        let answer = told(alloc, &TAXI, number, line)?;
+        let answer = told(alloc, TAXI, number, line)?;
         assert_eq!(rt; answer, Ok(Verdict::No { rule }), "{line}");
     }
     Ok(())

@@ -2,59 +2,12 @@ ghost use Rattle.std.specs.Prelude.{OnOk};
 ghost use Rattle.cert_reader.specs.Reading.{IsOpen};
 
 use crate::{Certificate, LineNumbers, Piece, Pieces, ReadEnd, RentText, read_certificate};
+use printed_certificates::{ESTATE, FLAT, TAXI, with_line};
 use split_base::MemSource;
 use split_frac::Frac;
 use std::alloc::Global;
 use std::process::Abort;
 use std::test::Fail;
-
-const FLAT: &str = "fairsplit 1
-kind rent
-members 3
-rent 900
-values 800 100 0
-values 700 200 0
-values 300 300 300
-rooms 1 2 3
-left 0 0 2702
-right 21600 5397 5396
-walks 0 0 100
-ranks 0 0 1
-prices 700 100 100
-end
-";
-
-const SHARES: &str = "fairsplit 1
-kind goods
-players 2
-goods 3
-limit 100000
-who 1 2
-values 400 300 300
-values 400 300 300
-owners 1 2 2
-steps 2
-tree ++-+-=++---
-end
-";
-
-const TAXI: &str = "fairsplit 1
-kind fares
-riders 2
-places 2
-flag 300
-legs 1000 1500
-legs 0 700
-legs 900 0
-who 1 2
-at 1 2
-set 1 1000 900
-set 2 1500 700
-set 3 1700
-route 1 2
-fares 750 1250
-end
-";
 
 /// What reading a text answers, from a source that gives it in these pieces and whose calls of these numbers fail.
 fn read(
@@ -76,21 +29,6 @@ fn refusal(rt: &impl Abort, alloc: Global, text: &[u8]) -> Result<ReadEnd, Fail>
         Ok(_) => Err(Fail::from("a certificate")),
         Err(end) => Ok(end),
     }
-}
-
-/// The text with another line of this number, counted from 1.
-fn with_line(alloc: Global, text: &str, number: usize, line: &str) -> Result<Vec<u8>, Fail> {
-    let mut changed = Vec::new(alloc);
-    for (index, old) in text.lines().enumerate() {
-        let new = if index.saturating_add(1) == number {
-            line
-        } else {
-            old
-        };
-        changed.extend_from_slice(new.as_bytes())?;
-        changed.push(b'\n')?;
-    }
-    Ok(changed)
 }
 
 /// A certificate that is one of a rent.
@@ -159,7 +97,7 @@ fn reads_a_rent(rt: HostRuntime) -> Result<(), Fail> {
 #[test]
 fn reads_goods(rt: HostRuntime) -> Result<(), Fail> {
     let alloc = rt.alloc();
-    let Ok(Certificate::Goods(text)) = read(&rt, alloc, SHARES.as_bytes(), &[114, 1], &[])? else {
+    let Ok(Certificate::Goods(text)) = read(&rt, alloc, ESTATE.as_bytes(), &[114, 1], &[])? else {
         return Err(Fail::from("no certificate of goods"));
     };
     assert_eq!(rt; text.goods, 3);
@@ -244,7 +182,7 @@ fn tells_the_pieces_of_fares(rt: HostRuntime) -> Result<(), Fail> {
 fn tells_the_pieces_of_a_tree(rt: HostRuntime) -> Result<(), Fail> {
     let alloc = rt.alloc();
     let mut source = MemSource::new(
-        SHARES.as_bytes().to_vec(alloc)?,
+        ESTATE.as_bytes().to_vec(alloc)?,
         Vec::new(alloc),
         Vec::new(alloc),
     );
@@ -291,12 +229,12 @@ fn names_the_first_broken_line(rt: HostRuntime) -> Result<(), Fail> {
         (FLAT, 13, "prices 0/2 100 100"),
         (FLAT, 13, "prices 1/4294967296 100 100"),
         (FLAT, 14, "end 0"),
-        (SHARES, 3, "players 13"),
-        (SHARES, 4, "goods 25"),
-        (SHARES, 7, "values 10000000000000000000000000 300 300"),
-        (SHARES, 11, "tree "),
-        (SHARES, 11, "tree ++-+-=++--x"),
-        (SHARES, 11, "trees ++-+-=++---"),
+        (ESTATE, 3, "players 13"),
+        (ESTATE, 4, "goods 25"),
+        (ESTATE, 7, "values 10000000000000000000000000 300 300"),
+        (ESTATE, 11, "tree "),
+        (ESTATE, 11, "tree ++-+-=++--x"),
+        (ESTATE, 11, "trees ++-+-=++---"),
         (TAXI, 3, "riders 11"),
         (TAXI, 4, "places 13"),
         (TAXI, 12, "set 3 1500 700"),
@@ -334,7 +272,7 @@ fn finds_the_end(rt: HostRuntime) -> Result<(), Fail> {
 #[test]
 fn finds_the_end_behind_a_tree(rt: HostRuntime) -> Result<(), Fail> {
     let alloc = rt.alloc();
-    let shares = SHARES.as_bytes();
+    let shares = ESTATE.as_bytes();
     assert_eq!(rt;
         refusal(&rt, alloc, &shares[..shares.len() - 5])?,
         ReadEnd::NotText { line: 11 }

@@ -7,59 +7,12 @@ use arrayvec::ArrayVec;
 use bid_rules::limits::USUAL_STEPS;
 use bid_rules::{Case, FareCase, Fares, Goods, GoodsCase, Rent, RentCase};
 use nash_search::search_alone;
+use printed_certificates::{ESTATE, FLAT, TAXI};
 use rent_maximin::solve_rent;
 use shapley_core::solve_fares;
 use std::alloc::Global;
 use std::process::Abort;
 use std::test::Fail;
-
-const FLAT: &str = "fairsplit 1
-kind rent
-members 3
-rent 900
-values 800 100 0
-values 700 200 0
-values 300 300 300
-rooms 1 2 3
-left 0 0 2702
-right 21600 5397 5396
-walks 0 0 100
-ranks 0 0 1
-prices 700 100 100
-end
-";
-
-const ESTATE: &str = "fairsplit 1
-kind goods
-players 2
-goods 3
-limit 100000
-who 1 2
-values 400 300 300
-values 400 300 300
-owners 1 2 2
-steps 2
-tree ++-+-=++---
-end
-";
-
-const TAXI: &str = "fairsplit 1
-kind fares
-riders 2
-places 2
-flag 300
-legs 1000 1500
-legs 0 700
-legs 900 0
-who 1 2
-at 1 2
-set 1 1000 900
-set 2 1500 700
-set 3 1700
-route 1 2
-fares 750 1250
-end
-";
 
 /// All legs cost nothing but those from the origin to places 1 to 9.
 const FREE_LAST: [&[u32]; 11] = [
