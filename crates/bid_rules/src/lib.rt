@@ -18,10 +18,3 @@ pub use fares::{Fares, check_fares, leg_place_law};
 pub use goods::{Goods, GoodsCase, check_goods};
 pub use pair::Pair;
 pub use rents::{Rent, RentCase, check_rent, rent_value_law};
-
-#[cfg(test)]
-mod goods_tests;
-#[cfg(test)]
-mod rent_tests;
-#[cfg(test)]
-mod tests;

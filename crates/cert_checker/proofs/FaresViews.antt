@@ -1,16 +1,14 @@
 -- Each text of fares says some view; and how what it says is cut.
-use Rattle.std.proofs.Common.{◌≡◌, ℕ, pos, ◌+◌, ◌-◌, ◌^◌, List, [], ◌∷◌, ◌++◌, length, map, All, false, get_or, arith, refl, sym, ap, ◌∙◌, subst, append_assoc, replicate}
+use Rattle.std.proofs.Common.{◌≡◌, ℕ, pos, ◌+◌, ◌-◌, ◌^◌, List, [], ◌∷◌, ◌++◌, length, map, get_or, arith, refl, sym, ap, ◌∙◌, subst, append_assoc, replicate}
 use Rattle.std.proofs.lemmas.Nat.{pow_pos}
-use Rattle.bid_rules.specs.Fractions.{Fraction}
 use Rattle.cert_reader.specs.declared.forms.Counts.TheVariants.{Fares}
 use Rattle.cert_reader.specs.declared.forms.Word.TheVariants as word
 use Rattle.cert_reader.specs.Forms.{AreCounts, fares_forms, fares_tail, fractions_of, led_by, numbers_of, rider_forms, set_form}
-use Rattle.cert_reader.specs.Numbers.{IsNumber}
 use Rattle.cert_reader.specs.Sets.{sets_of}
-use Rattle.cert_reader.specs.Text.{CanSay, CanSayAll, Marks, Numbers, Said}
+use Rattle.cert_reader.specs.Text.{CanSay, CanSayAll, Numbers, Said}
 use Rattle.cert_reader.specs.Views.{FaresView, fares_said, says}
 use Rattle.cert_checker.specs.FaresLines.{AreWritten, IsWhole, front_said, head_said, sets_said}
-use Rattle.cert_checker.proofs.SaidLists.{can_cut, can_first, can_rows, can_sets, empty_said, no_line_said, one_said, only, row_of}
+use Rattle.cert_checker.proofs.SaidLists.{can_cut, can_first, can_rows, can_sets, empty_said, fractions_in, no_line_said, one_said, only, row_of}
 
 -- what the lines behind the sets say
 abbrev pub last_said : FaresView → List Said
@@ -21,18 +19,6 @@ pub fares_cut : (view : FaresView) → fares_said view ≡ front_said (head_said
 fares_cut view =
     ap (λ xs. says (pos 1 ∷ []) ∷ says [] ∷ says (pos (length view.who) ∷ []) ∷ says (pos view.places ∷ []) ∷ says (view.flag ∷ []) ∷ xs)
     (sym (append_assoc (map says view.legs) (says view.who ∷ says view.at ∷ []) (sets_said 1 view.sets ++ last_said view)))
-
--- a line of fractions
-record IsFractions (count : ℕ) (said : Said) : Type 0 where
-  row : List Fraction
-  is : said ≡ Numbers row
-  long : length row ≡ count
-  written : All (IsNumber false) row
-
--- a line that the form of fares allows is a line of that many fractions
-fractions_in : (count : ℕ) (said : Said) → CanSay (fractions_of word.Fares count) said → IsFractions count said
-fractions_in count (Numbers numbers) h = record { row = numbers; is = refl; long = h.each; written = h.written }
-fractions_in count (Marks marks) h = absurd h
 
 -- lines that are those of a view
 joined : (v : FaresView) (said : List Said) (a b c d e w t r f z : Said) (ls ss : List Said) (ma mb mc md me ml mw mt ms mr mf mz : List Said)
@@ -73,7 +59,7 @@ fares_view_of n places said counts h =
     let at = row_of word.At n t.first t.can in
     let sets = can_sets n 1 (2 ^ n - 1) s.front s.can in
     let route = row_of word.Route n r.first r.can in
-    let fares = fractions_in n f.first f.can in
+    let fares = fractions_in word.Fares n f.first f.can in
     let one : flag.row ≡ get_or flag.row 0 (pos 0) ∷ [] = only flag.row flag.long in
     let view : FaresView = record { places = places; flag = get_or flag.row 0 (pos 0); legs = legs.rows; who = who.row; at = at.row; sets = sets.rows; route = route.row; fares = fares.row } in
     record {

@@ -18,13 +18,11 @@ use Rattle.verdicts.specs.declared.verdict.Verdict.{Verdict}
 use Rattle.verdicts.specs.declared.verdict.Verdict.TheVariants.{Yes}
 use Rattle.verdicts.specs.Verdicts.{IsVerdict}
 use Rattle.verdict_lemmas.proofs.Order.{one_verdict}
-use Rattle.cert_checker.specs.Judged.{GivesVerdict, IsBest}
+use Rattle.cert_checker.specs.Judged.{GivesVerdict, IsBest, rule_count, rule_of}
 
 -- a view has one verdict
 pub verdict_once : (view : View) (a b : Verdict) → GivesVerdict view a → GivesVerdict view b → b ≡ a
-verdict_once (OfRent view) a b h k = sym (one_verdict (rent_rule view) 7 a b h k)
-verdict_once (OfGoods view) a b h k = sym (one_verdict (goods_rule view) 6 a b h k)
-verdict_once (OfFares view) a b h k = sym (one_verdict (fares_rule view) 5 a b h k)
+verdict_once view a b h k = sym (one_verdict (rule_of view) (rule_count view) a b h k)
 
 -- a view whose rules all hold has its rows
 pub rows_kept : (view : View) → GivesVerdict view Yes → HasRows view

@@ -9,3 +9,7 @@ pub mod Kept
 pub mod TreeParts
 pub mod GoodsViews
 pub mod NoTrees
+pub mod Judgements
+pub mod RentViews
+pub mod SaidViews
+pub mod SameTrees

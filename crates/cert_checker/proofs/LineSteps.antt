@@ -23,6 +23,7 @@ use Rattle.cert_checker.specs.Judged.{IsJudged}
 use Rattle.cert_checker.specs.Lines.{GivesOf, GoesOn, KnowsLines, MarkGoesOn, kind_of_lines}
 use Rattle.cert_checker.proofs.FaresViews.{fares_view_of}
 use Rattle.cert_checker.proofs.GoodsViews.{goods_view_of}
+use Rattle.cert_checker.proofs.Judgements.{judged}
 use Rattle.cert_checker.proofs.NoTrees.{no_mark_said, no_tree_fares, no_tree_rent}
 use Rattle.cert_checker.proofs.SaidLists.{can_many}
 
@@ -201,12 +202,9 @@ end_goes lines a b said taken knows kind some agree text = record {
 
 -- the verdict on what a text says is that on its bytes
 pub judged_so : (taken : List ℕ) (counts : Counts) (said : List Said) (verdict : Verdict) → IsText taken counts said → GivesOf counts said verdict → IsJudged taken verdict
-judged_so taken counts said verdict text gives = record {
-  view = gives.view;
-  is_text = subst (λ c. IsText taken c (said_of gives.view)) (sym gives.counted) (subst (IsText taken counts) (sym gives.is_said) text);
-  rows = gives.rows;
-  gives = gives.gives;
-}
+judged_so taken counts said verdict text gives =
+    let is_text = subst (λ c. IsText taken c (said_of gives.view)) (sym gives.counted) (subst (IsText taken counts) (sym gives.is_said) text) in
+    judged taken gives.view verdict (record { is_text = is_text; rows = gives.rows }) gives.gives
 
 -- a rent of which all lines were gathered
 pub rent_so : (counts : Counts) (said : List Said) (lines : List Gathered) → AreCounts counts → kind_of counts ≡ 1 → CanSayAll (forms_of counts) (said ++ says [] ∷ []) → said ≡ front_said (map line_said lines)

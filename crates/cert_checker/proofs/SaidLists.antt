@@ -1,11 +1,11 @@
 -- What lines say, line by line: whole numbers, and lists of lines one after another.
-use Rattle.std.proofs.Common.{◌≡◌, ℕ, ℤ, pos, zero, suc, ◌+◌, List, [], ◌∷◌, ◌++◌, length, map, get_or, replicate, All, true, arith, refl, sym, ap, ◌∙◌, subst}
+use Rattle.std.proofs.Common.{◌≡◌, ℕ, ℤ, pos, zero, suc, ◌+◌, List, [], ◌∷◌, ◌++◌, length, map, get_or, replicate, All, true, false, arith, refl, sym, ap, ◌∙◌, subst}
 use Rattle.std.specs.List.{range_with_len}
 use Rattle.std.proofs.lemmas.List.{length-map}
 use Rattle.std.proofs.lemmas.List.Elements.{All-cons, All-head, All-nil, All-tail}
 use Rattle.bid_rules.specs.Fractions.{Fraction}
 use Rattle.cert_reader.specs.declared.forms.Word.{Word}
-use Rattle.cert_reader.specs.Forms.{Form, led_by, numbers_of, set_form}
+use Rattle.cert_reader.specs.Forms.{Form, fractions_of, led_by, numbers_of, set_form}
 use Rattle.cert_reader.specs.Numbers.{IsNumber}
 use Rattle.cert_reader.specs.Text.{CanSay, CanSayAll, Marks, Numbers, Said, wholes}
 use Rattle.cert_reader.specs.Views.{says}
@@ -56,6 +56,18 @@ row_of word count (Numbers numbers) h = (let same = whole_numbers numbers h.writ
   written = subst (All (IsNumber true)) (sym same) h.written;
 })
 row_of word count (Marks marks) h = absurd h
+
+-- a line of so many fractions
+pub record IsFractions (count : ℕ) (said : Said) : Type 0 where
+  pub row : List Fraction
+  pub is : said ≡ Numbers row
+  pub long : length row ≡ count
+  pub written : All (IsNumber false) row
+
+-- a line that a form of fractions allows is a line of that many fractions
+pub fractions_in : (word : Word) (count : ℕ) (said : Said) → CanSay (fractions_of word count) said → IsFractions count said
+fractions_in word count (Numbers numbers) h = record { row = numbers; is = refl; long = h.each; written = h.written }
+fractions_in word count (Marks marks) h = absurd h
 
 -- a line of whole numbers, of which the first is set
 pub record IsLedRow (lead count : ℕ) (said : Said) : Type 0 where

@@ -1,5 +1,5 @@
 -- What a judge says of certificate text, and what its yes shows.
-use Rattle.std.specs.Prelude.{◌≡◌, ℕ, ◌≤◌, List, length, Option, Result, Ok, Err}
+use Rattle.std.specs.Prelude.{◌≡◌, ℕ, ◌<◌, ◌≤◌, List, length, Option, Result, Ok, Err}
 use Rattle.std.specs.Io.KnownBytes.{IsAtEnd}
 use Rattle.bid_rules.specs.Facts.{IsValidFareCase}
 use Rattle.bid_rules.specs.Fares.{FareBest}
@@ -18,20 +18,49 @@ use Rattle.goods_rules.specs.Rules.{goods_rule}
 use Rattle.rent_rules.specs.Printed as rent
 use Rattle.rent_rules.specs.Rules.{rent_rule}
 use Rattle.verdicts.specs.declared.verdict.Verdict.{Verdict}
+use Rattle.verdicts.specs.declared.verdict.Verdict.TheVariants.{Yes, No}
 use Rattle.verdicts.specs.Verdicts.{IsVerdict}
+
+-- the rules of the view's kind, by number from 1
+abbrev pub rule_of : View → ℕ → Type 0
+rule_of (OfRent view) number = rent_rule view number
+rule_of (OfGoods view) number = goods_rule view number
+rule_of (OfFares view) number = fares_rule view number
+
+-- how many rules its kind has
+abbrev pub rule_count : View → ℕ
+rule_count (OfRent view) = 7
+rule_count (OfGoods view) = 6
+rule_count (OfFares view) = 5
 
 -- the verdict of the rules of its kind
 abbrev pub GivesVerdict : View → Verdict → Type 0
-GivesVerdict (OfRent view) verdict = IsVerdict (rent_rule view) 7 verdict
-GivesVerdict (OfGoods view) verdict = IsVerdict (goods_rule view) 6 verdict
-GivesVerdict (OfFares view) verdict = IsVerdict (fares_rule view) 5 verdict
+GivesVerdict view verdict = IsVerdict (rule_of view) (rule_count view) verdict
 
--- the bytes are certificate text, and the rules give it this verdict
-pub record IsJudged (bytes : List ℕ) (verdict : Verdict) : Type 0 where
-  pub view : View
+-- the bytes are certificate text, and the view is what it says
+pub record SaysView (bytes : List ℕ) (view : View) : Type 0 where
   pub is_text : IsText bytes (counts_of view) (said_of view)
   pub rows : HasRows view
-  pub gives : GivesVerdict view verdict
+
+-- the bytes are certificate text, and all rules of its kind hold
+pub record IsCertificate (bytes : List ℕ) : Type 0 where
+  pub view : View
+  pub says : SaysView bytes view
+  pub rules : (number : ℕ) → 1 ≤ number → number ≤ rule_count view → rule_of view number
+
+-- the bytes are certificate text, and of the rules of its kind this is the first that does not hold
+pub record BreaksRule (bytes : List ℕ) (number : ℕ) : Type 0 where
+  pub view : View
+  pub says : SaysView bytes view
+  pub low : 1 ≤ number
+  pub high : number ≤ rule_count view
+  pub before : (other : ℕ) → 1 ≤ other → other < number → rule_of view other
+  pub broken : rule_of view number → ⊥
+
+-- the verdict on bytes: yes where they are a certificate, and no with the first rule that they break, where they are certificate text
+abbrev pub IsJudged : List ℕ → Verdict → Type 0
+IsJudged bytes Yes = IsCertificate bytes
+IsJudged bytes (No number) = BreaksRule bytes number
 
 -- the printed case is valid, and the printed division is the one that its rule gives for the case; owners are printed by good number
 abbrev pub IsBest : View → Type 0

@@ -1,7 +1,8 @@
 // The verdict on a certificate that was read.
-ghost use Rattle.std.specs.Prelude.{◌≡◌};
-ghost use Rattle.cert_checker.specs.Judged.{GivesVerdict, IsBest};
-ghost use Rattle.cert_reader.specs.Views.{fares_view, goods_view, view_of};
+ghost use Rattle.std.specs.Prelude.{◌≡◌, ℕ, List};
+ghost use Rattle.cert_checker.specs.Judged.{GivesVerdict, IsBest, IsJudged};
+ghost use Rattle.cert_reader.specs.Text.{IsText};
+ghost use Rattle.cert_reader.specs.Views.{counts_of, fares_view, goods_view, said_of, view_of};
 ghost use Rattle.fare_rules.specs.Rules.{fares_rule};
 ghost use Rattle.goods_rules.specs.Rules.{goods_rule};
 ghost use Rattle.verdicts.specs.Verdicts.{IsVerdict};
@@ -12,9 +13,11 @@ use goods_rules::{end_goods, goods_certificate_law, start_goods, take_mark};
 use rent_rules::{check_rent, rent_certificate_law};
 use verdicts::Verdict;
 
-/// Whether all rules of its kind hold for the certificate, or the first that does not. It takes no memory.
+/// Whether all rules of its kind hold for the certificate, or the first that does not: so this is the verdict on the bytes from which it was read, the one
+/// that `judge` gives of them. It takes no memory.
 pub fn check(certificate: &Certificate) -> Verdict
     ensures verdict { GivesVerdict (view_of certificate.now) result }
+    ensures judged { (bytes : List ℕ) → IsText bytes (counts_of (view_of certificate.now)) (said_of (view_of certificate.now)) → IsJudged bytes result }
     ensures best { result ≡ Verdict.Yes → IsBest (view_of certificate.now) }
 {
     rent_certificate_law();

@@ -1,7 +1,7 @@
 // The verdict on text from a source.
 ghost use Rattle.std.specs.Prelude.{◌≡◌, ℕ, ◌++◌, List, ◌≤◌, IsErrOf, OnOk, Ok};
 ghost use Rattle.std.specs.Io.KnownBytes.{Consumes};
-ghost use Rattle.cert_checker.specs.Judged.{IsJudgement, PrintsBest};
+ghost use Rattle.cert_checker.specs.Judged.{IsCertificate, IsJudgement, PrintsBest};
 ghost use Rattle.cert_checker.specs.Lines.{IsGoneOn, IsUpTo};
 ghost use Rattle.cert_reader.specs.Stream.{faults_after};
 ghost use Rattle.cert_reader.specs.declared.limits.TheConstants.{MOST_BYTES};
@@ -22,7 +22,7 @@ use verdicts::Verdict;
 /// - `NoMemory` never comes.
 pub fn judge<S: Source>(source: &mut S) -> Result<Verdict, ReadEnd>
     ensures judged { (taken : List ℕ) × Consumes (S.left source.old) (S.left source.new) taken × IsJudgement (S.left source.new) taken result }
-    ensures best { result ≡ Ok Verdict.Yes → (taken : List ℕ) × Consumes (S.left source.old) (S.left source.new) taken × PrintsBest taken }
+    ensures best { result ≡ Ok Verdict.Yes → (taken : List ℕ) × Consumes (S.left source.old) (S.left source.new) taken × IsCertificate taken × PrintsBest taken }
     ensures memory { IsErrOf result ReadEnd.NoMemory → ⊥ }
     ensures faults { S.faults source.new ≡ faults_after (S.faults source.old) result }
     ensures fault { IsErrOf result ReadEnd.ReadFault → HasRisen (S.faults source.old) (S.faults source.new) }

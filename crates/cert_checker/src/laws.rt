@@ -1,26 +1,58 @@
 // What callers may rest on: the statements of a function whose body only calls other laws.
-ghost use Rattle.std.specs.Prelude.{◌≡◌, ℕ, List};
-ghost use Rattle.cert_checker.specs.Judged.{GivesVerdict, IsJudged, PrintsBest};
-ghost use Rattle.cert_reader.specs.Text.{IsBrokenText, IsText};
-ghost use Rattle.cert_reader.specs.Views.{View, counts_of, said_of};
+ghost use Rattle.std.specs.Prelude.{◌≡◌, ◌↔◌, ℕ, List, length, true};
+ghost use Rattle.bid_rules.specs.declared.goods.GoodsCase.{GoodsCase};
+ghost use Rattle.bid_rules.specs.Goods.{IsValidGoodsCase, pair_of};
+ghost use Rattle.cert_checker.specs.GoodsLeaves.{HasLeaves, IsBeyond, MayStand, StandsAbove, StandsAtLeaf};
+ghost use Rattle.cert_checker.specs.Judged.{GivesVerdict, IsCertificate, IsJudged, PrintsBest, SaysView};
+ghost use Rattle.cert_reader.specs.declared.certificate.Certificate.{Certificate};
+ghost use Rattle.cert_reader.specs.declared.forms.Counts.{Counts};
+ghost use Rattle.cert_reader.specs.GoodsViews.{GoodsView};
+ghost use Rattle.cert_reader.specs.Text.{IsBrokenText, IsText, Said};
+ghost use Rattle.cert_reader.specs.Views.{View, counts_of, said_of, view_of};
+ghost use Rattle.goods_rules.specs.Printed.{printed_case};
+ghost use Rattle.goods_rules.specs.Rules.{goods_rule};
+ghost use Rattle.nash_bounds.specs.LeftOut.{may_be_left};
 ghost use Rattle.verdicts.specs.declared.verdict.Verdict.{Verdict};
 ghost use Rattle.verdicts.specs.declared.verdict.Verdict.TheVariants.{Yes};
 
 use cert_reader::text_law;
 use fare_rules::fares_certificate_law;
 use goods_rules::goods_certificate_law;
+use nash_bounds::{bound_law, open_prefixes_law, whole_list_law};
 use rent_rules::rent_certificate_law;
 
-/// Bytes have at most one verdict, and none where they have a broken line. Text whose rules all hold is judged with yes, and where bytes are judged with
-/// yes, they print a valid case and the division that its rule gives: best rooms and prices, owners, or fares and a route.
+/// Bytes have at most one verdict, and none where they have a broken line. Text says a view, has the verdict of the rules on it, yes or no, and is never
+/// without one. So has the text of a certificate that was read: what `check` says of the certificate. Text whose rules all hold is a certificate, and
+/// certificates print a valid case and the division that its rule gives: best rooms and prices, owners, or fares and a route.
 pub fn certificate_verdict_law()
     ensures one { (bytes : List ℕ) (verdict other : Verdict) → IsJudged bytes verdict → IsJudged bytes other → other ≡ verdict }
     ensures whole { (bytes : List ℕ) (verdict : Verdict) (line : ℕ) → IsJudged bytes verdict → IsBrokenText bytes line → ⊥ }
-    ensures best { (bytes : List ℕ) → IsJudged bytes Yes → PrintsBest bytes }
-    ensures kept { (bytes : List ℕ) (view : View) → IsText bytes (counts_of view) (said_of view) → GivesVerdict view Yes → IsJudged bytes Yes }
+    ensures said { (bytes : List ℕ) (counts : Counts) (said : List Said) → IsText bytes counts said → (view : View) × SaysView bytes view }
+    ensures verdict { (bytes : List ℕ) (view : View) (verdict : Verdict) → SaysView bytes view → IsJudged bytes verdict ↔ GivesVerdict view verdict }
+    ensures some { (bytes : List ℕ) (counts : Counts) (said : List Said) → IsText bytes counts said → ((verdict : Verdict) → IsJudged bytes verdict → ⊥) → ⊥ }
+    ensures checked { (bytes : List ℕ) (certificate : Certificate) (verdict : Verdict) → IsText bytes (counts_of (view_of certificate)) (said_of (view_of certificate))
+        → IsJudged bytes verdict ↔ GivesVerdict (view_of certificate) verdict }
+    ensures best { (bytes : List ℕ) → IsCertificate bytes → PrintsBest bytes }
+    ensures kept { (bytes : List ℕ) (view : View) → IsText bytes (counts_of view) (said_of view) → GivesVerdict view Yes → IsCertificate bytes }
 {
     text_law();
     rent_certificate_law();
     goods_certificate_law();
     fares_certificate_law();
+}
+
+/// What the fourth and the fifth rule of goods ask, with the bound by its definition. The rules say it by a function: a node may be left out exactly where
+/// the greatest pair of any list that the node allows is below the answer's pair, or the same and the node's owners are after the answer's first ones. So
+/// the rules hold exactly where the marks are one tree whose `-` may all stand, by that definition, above the length of all goods or at it. There the
+/// greatest pair is the allocation's own.
+pub fn goods_leaves_law()
+    ensures stands { (case : GoodsCase) (answer owners : List ℕ) → IsValidGoodsCase case → may_be_left case answer owners ≡ true ↔ MayStand case answer owners }
+    ensures above { (view : GoodsView) → IsValidGoodsCase (printed_case view) → goods_rule view 4 ↔ HasLeaves StandsAbove view }
+    ensures leaves { (view : GoodsView) → IsValidGoodsCase (printed_case view) → goods_rule view 5 ↔ HasLeaves StandsAtLeaf view }
+    ensures whole_list { (case : GoodsCase) (answer owners : List ℕ) → IsValidGoodsCase case → length owners ≡ case.facts.goods
+        → MayStand case answer owners ↔ IsBeyond case answer owners (pair_of case owners) }
+{
+    bound_law();
+    open_prefixes_law();
+    whole_list_law();
 }

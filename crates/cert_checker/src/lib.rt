@@ -8,9 +8,7 @@ mod judging;
 mod laws;
 mod lines;
 mod rent;
-#[cfg(test)]
-mod tests;
 
 pub use checking::check;
 pub use judging::judge;
-pub use laws::certificate_verdict_law;
+pub use laws::{certificate_verdict_law, goods_leaves_law};

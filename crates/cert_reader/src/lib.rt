@@ -32,6 +32,3 @@ pub use read::read_certificate;
 pub use rows::{number_at, row_at, rows_of, whole_row};
 pub use table::Table;
 pub use tree::Tree;
-
-#[cfg(test)]
-mod tests;

@@ -2,9 +2,9 @@
 use Rattle.std.specs.Prelude.{◌≡◌, ℕ, List, []}
 use Rattle.bid_rules.specs.declared.cases.Case.{Case}
 use Rattle.bid_rules.specs.declared.cases.Case.TheVariants as case
-use Rattle.certificates.specs.declared.division.Division.{Division}
-use Rattle.certificates.specs.declared.division.Division.TheVariants.{Rent, Goods, Fares}
-use Rattle.certificates.specs.Division.{IsDivisionOf}
+use Rattle.divisions.specs.declared.division.Division.{Division}
+use Rattle.divisions.specs.declared.division.Division.TheVariants.{Rent, Goods, Fares}
+use Rattle.divisions.specs.Division.{IsDivisionOf}
 use Rattle.cert_reader.specs.Forms.{forms_of}
 use Rattle.cert_reader.specs.Text.{text_of}
 use Rattle.cert_reader.specs.Views.{OfFares, OfGoods, OfRent, View, counts_of, said_of}

@@ -2,10 +2,9 @@
 ghost use Rattle.std.specs.Prelude.{◌≡◌, ◌≤◌, ℕ, List, length};
 ghost use Rattle.bid_rules.specs.declared.cases.Case.{Case};
 ghost use Rattle.bid_rules.specs.Facts.{IsValidCase};
-ghost use Rattle.cert_checker.specs.Judged.{IsJudged};
+ghost use Rattle.cert_checker.specs.Judged.{IsCertificate};
 ghost use Rattle.cert_reader.specs.declared.limits.TheConstants.{MOST_BYTES};
 ghost use Rattle.certificates.specs.Canonical.{IsCanonical};
-ghost use Rattle.verdicts.specs.declared.verdict.Verdict.TheVariants.{Yes};
 
 use cert_checker::certificate_verdict_law;
 use fare_laws::{coalition_law, orders_law, route_cost_law};
@@ -18,9 +17,9 @@ use rent_maximin::{division_range_law, one_rent_division_law};
 use shapley_core::division_law;
 
 /// The canonical certificate of a case is certificate text whose rules all hold, so that the verdict on it is yes. It has at most
-/// 4,000,000 bytes, and a case has one.
+/// 4,000,000 bytes, and a case has at most one.
 pub fn certificate_law()
-    ensures certificate { (case : Case) (text : List ℕ) → IsValidCase case → IsCanonical case text → IsJudged text Yes }
+    ensures certificate { (case : Case) (text : List ℕ) → IsValidCase case → IsCanonical case text → IsCertificate text }
     ensures short { (case : Case) (text : List ℕ) → IsValidCase case → IsCanonical case text → length text ≤ MOST_BYTES }
     ensures one { (case : Case) (text other : List ℕ) → IsValidCase case → IsCanonical case text → IsCanonical case other → text ≡ other }
 {

@@ -1,7 +1,6 @@
-//! The division of a case, of whatever kind, and its canonical certificate.
+//! The canonical certificate of a case of whatever kind.
 #![tactic(auto)]
 
-mod division;
 mod fares;
 mod goods;
 mod laws;
@@ -10,9 +9,6 @@ mod rent;
 mod sets;
 mod write;
 
-pub use division::Division;
+pub use divisions::Division;
 pub use laws::certificate_law;
 pub use write::write_certificate;
-
-#[cfg(test)]
-mod tests;

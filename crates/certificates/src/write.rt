@@ -1,18 +1,17 @@
 // The canonical certificate of a case of any kind.
 ghost use Rattle.std.specs.Prelude.{◌≡◌, ◌≤◌, ◌++◌, length, IfOk, OnOk, string_bytes};
 ghost use Rattle.bid_rules.specs.Facts.{IsValidCase};
-ghost use Rattle.cert_checker.specs.Judged.{IsJudged};
+ghost use Rattle.cert_checker.specs.Judged.{IsCertificate};
 ghost use Rattle.cert_reader.specs.declared.limits.TheConstants.{MOST_BYTES};
 ghost use Rattle.certificates.specs.Canonical.{IsCanonical, canonical_text};
-ghost use Rattle.certificates.specs.Division.{IsDivisionOf};
-ghost use Rattle.verdicts.specs.declared.verdict.Verdict.TheVariants.{Yes};
+ghost use Rattle.divisions.specs.Division.{IsDivisionOf};
 
-use crate::division::Division;
 use crate::fares::push_fares;
 use crate::goods::push_goods;
 use crate::laws::certificate_law;
 use crate::rent::push_rent;
 use bid_rules::Case;
+use divisions::Division;
 use split_base::NoMemory;
 use std::alloc::Global;
 
@@ -42,7 +41,7 @@ pub fn write_certificate(
     requires case { IsValidCase case.now }
     requires division { IsDivisionOf case.now division.now }
     ensures canonical { IfOk result (λ text. IsCanonical case.now text.items) }
-    ensures certificate { IfOk result (λ text. IsJudged text.items Yes) }
+    ensures certificate { IfOk result (λ text. IsCertificate text.items) }
     ensures short { IfOk result (λ text. length text.items ≤ MOST_BYTES) }
 {
     certificate_law();

@@ -1,19 +1,11 @@
 //! The program: the commands over the standard streams.
 #![tactic(auto)]
 
-mod arguments;
-mod streams;
-#[cfg(test)]
-mod tests;
-mod words;
-
-use arguments::Started;
+use adapters::{Reading, Started, Writing, words_of};
 use split_base::{NoMemory, Quiet, write_all};
 use split_top::run;
 use std::io;
 use std::process::ExitCode;
-use streams::{Reading, Writing};
-use words::words_of;
 
 fn main(rt: HostRuntime) -> ExitCode {
     let mut output = Writing::new(io::writer(&rt));

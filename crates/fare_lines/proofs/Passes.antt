@@ -11,20 +11,21 @@ use Rattle.arrayvec.specs.declared.array_vec.ArrayVec.{ArrayVec}
 use Rattle.bid_rules.specs.declared.cases.FareCase.{FareCase}
 use Rattle.bid_rules.specs.declared.limits.TheConstants.{MOST_RIDERS, PLACE_ROOM}
 use Rattle.bid_rules.specs.Facts.{IsValidFareCase}
-use Rattle.bid_rules.specs.Fares.{IsLeastRoute, riders_of, sum_of_marginal_costs}
-use Rattle.bid_rules.specs.Fractions.{IsQuotient}
+use Rattle.bid_rules.specs.Fares.{FareBest, IsLeastRoute, riders_of, sum_of_marginal_costs}
+use Rattle.bid_rules.specs.Fractions.{Fraction, IsQuotient}
 use Rattle.bid_rules.specs.Orders.{factorial, orders}
 use Rattle.split_lemmas.proofs.SignedRows.{rows_again, rows_low, signed_again, signed_low}
 use Rattle.fare_laws.specs.Entries.{AreEntries, IsLowestRoute}
-use Rattle.fare_lines.specs.Lines.{canonical_fares, cost_lines, with_members}
+use Rattle.fare_lines.specs.Lines.{canonical_fares, cost_lines}
 use Rattle.fare_lines.proofs.Costs.{SetFacts, are_entries, has_lines}
-use Rattle.fare_lines.proofs.Members.{least_route_same, lines_same, means_same, still_valid}
+use Rattle.fare_lines.proofs.Members.{SameRoutes, lines_same, still_valid}
 use Rattle.fare_rules.specs.Entries.{HasLines, entry_of}
 use Rattle.fare_rules.specs.Rules.{fares_rule}
 use Rattle.cert_reader.specs.Views.{FaresView}
 use Rattle.fare_rules.specs.Printed.{printed_case, printed_route}
 use Rattle.shapley_core.specs.declared.division.FareDivision.{FareDivision}
 use Rattle.shapley_core.specs.Division.{IsFareDivision}
+use Rattle.shapley_core.specs.Members.{with_members}
 
 -- the printed case is the case, of the most members
 pub printed_is : (case : FareCase) (division : FareDivision) → printed_case (canonical_fares case division) ≡ with_members case MOST_RIDERS
@@ -53,10 +54,15 @@ pub record RouteFacts : Type 0 where
   pub only : (case : FareCase) (entry : ℕ → ℕ → ℕ) (route : List ℕ) → AreEntries case (length case.at.items) entry
       → IsLeastRoute case route → IsLowestRoute case entry 0 (2 ^ length case.at.items - 1) route
 
+-- what is known of the number of members
+pub record MembersFacts : Type 0 where
+  pub routes : SameRoutes
+  pub best : (case : FareCase) (members : ℕ) (fares : List Fraction) (route : List ℕ) → FareBest (with_members case members) fares route ↔ FareBest case fares route
+
 -- all rules hold
-pub fares_pass : SetFacts → RouteFacts → (case : FareCase) (division : FareDivision) → IsValidFareCase case → IsFareDivision case division
+pub fares_pass : SetFacts → RouteFacts → MembersFacts → (case : FareCase) (division : FareDivision) → IsValidFareCase case → IsFareDivision case division
     → (number : ℕ) → 1 ≤ number → number < 6 → fares_rule (canonical_fares case division) number
-fares_pass sets routes case division valid is = rule
+fares_pass sets routes apart case division valid is = rule
   where
     n : ℕ
     n = length case.at.items
@@ -71,7 +77,7 @@ fares_pass sets routes case division valid is = rule
     route = division.route.items
 
     lines : cost_lines most ≡ cost_lines case
-    lines = lines_same case MOST_RIDERS case.facts.members
+    lines = lines_same apart.routes case MOST_RIDERS
 
     printed : printed_case view ≡ most
     printed = printed_is case division
@@ -79,8 +85,11 @@ fares_pass sets routes case division valid is = rule
     count : length view.at ≡ n
     count = length-map case.at.items pos
 
+    best : FareBest most view.fares route
+    best = (apart.best case MOST_RIDERS view.fares route).1 is.best
+
     least : IsLeastRoute most route
-    least = least_route_same case case.facts.members MOST_RIDERS route is.best.least_route
+    least = best.least_route
 
     order : IsPermutation (range_with_len 1 n) route
     order = (routes.listed (range_with_len 1 n) route).0 least.order
@@ -108,4 +117,4 @@ fares_pass sets routes case division valid is = rule
     rule (suc (suc (suc (suc zero)))) low high = shown (λ c k xs rows. IsLowestRoute c (entry_of k rows) 0 (2 ^ k - 1) xs)
         (routes.only most (entry_of n (cost_lines most)) route (are_entries sets most) least)
     rule (suc (suc (suc (suc (suc number))))) low high = shown (λ c k xs rows. AllZip (λ rider fare. IsQuotient fare (sum_of_marginal_costs c rider) (factorial k)) (riders_of c) view.fares)
-        (means_same case case.facts.members MOST_RIDERS view.fares is.best.mean)
+        best.mean

@@ -27,11 +27,3 @@ canonical_fares case division = record {
   route = map pos division.route.items;
   fares = map fraction_of division.fares.items;
 }
-
--- the case, but of so many members: those who have not bid take no part in it
-abbrev pub with_members : FareCase → ℕ → FareCase
-with_members case members = record {
-  facts = record { members = members; places = case.facts.places; flag = case.facts.flag; legs = case.facts.legs };
-  who = case.who;
-  at = case.at;
-}

@@ -3,16 +3,18 @@ ghost use Rattle.std.specs.Prelude.{◌≡◌};
 ghost use Rattle.bid_rules.specs.declared.cases.FareCase.{FareCase};
 ghost use Rattle.bid_rules.specs.declared.limits.TheConstants.{MOST_RIDERS};
 ghost use Rattle.bid_rules.specs.Facts.{IsValidFareCase};
-ghost use Rattle.fare_lines.specs.Lines.{canonical_fares, with_members};
+ghost use Rattle.fare_lines.specs.Lines.{canonical_fares};
 ghost use Rattle.fare_rules.specs.Rules.{fares_rule};
 ghost use Rattle.fare_rules.specs.Printed.{printed_case};
 ghost use Rattle.shapley_core.specs.Division.{IsFareDivision};
+ghost use Rattle.shapley_core.specs.Members.{with_members};
 ghost use Rattle.shapley_core.specs.declared.division.FareDivision.{FareDivision};
 ghost use Rattle.verdicts.specs.declared.verdict.Verdict.TheVariants.{Yes};
 ghost use Rattle.verdicts.specs.Verdicts.{IsVerdict};
 
 use fare_laws::{coalition_law, lowest_route_law, orders_law, route_set_law, without_rider_law};
 use fare_rules::starts_law;
+use shapley_core::members_law;
 
 /// The lines for the solver's division print the case, of the most members that there may be, and keep all rules.
 pub fn fare_lines_law()
@@ -22,6 +24,7 @@ pub fn fare_lines_law()
 {
     coalition_law();
     lowest_route_law();
+    members_law();
     orders_law();
     route_set_law();
     starts_law();

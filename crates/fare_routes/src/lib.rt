@@ -4,8 +4,6 @@
 mod filling;
 mod riders;
 mod table;
-#[cfg(test)]
-mod tests;
 
 pub use filling::costs;
 pub use table::Costs;

@@ -9,8 +9,6 @@ mod laws;
 mod lines;
 mod route;
 mod state;
-#[cfg(test)]
-mod tests;
 
 pub use case::PrintedRow;
 pub use laws::{fares_certificate_law, starts_law};

@@ -4,3 +4,4 @@ mod Reading
 mod Unique
 mod Buffer
 mod Writes
+mod Total

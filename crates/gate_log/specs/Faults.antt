@@ -1,7 +1,7 @@
 -- Where a file is no journal: the place of its first fault.
-use Rattle.std.specs.Prelude.{◌≡◌, ◌≢◌, ◌⊎◌, ℕ, ◌+◌, ◌≤◌, ◌<◌, List, ◌∷◌, ◌++◌, length, take, slice_index}
+use Rattle.std.specs.Prelude.{◌≡◌, ◌≢◌, ◌⊎◌, ℕ, ◌+◌, ◌≤◌, ◌<◌, List, [], ◌∷◌, ◌++◌, length, take, slice_index, All, ◌^◌}
 use Rattle.std.specs.Int.{from_le_bytes, w32}
-use Rattle.gate_log.specs.Records.{start_line, header, IsVersion, IsLength, IsRun, place_after}
+use Rattle.gate_log.specs.Records.{start_line, header, IsVersion, IsLength, IsRun, Begins, Stands, place_after}
 use Rattle.gate_log.specs.declared.limits.TheConstants.{LINE_SIZE, SECRET_SIZE, EMPTY_SIZE}
 
 -- the first byte of the start line that differs or is missing
@@ -55,3 +55,12 @@ IsFaultBehind place file = (version : ℕ) × (secret : List ℕ) × (bodies : L
 -- the first fault of the file
 abbrev pub IsFault : ℕ → List ℕ → Type 0
 IsFault place file = IsHeaderFault place file ⊎ IsFaultBehind place file
+
+-- behind the records of these bodies: the file ends as a journal, it has a fault, or it goes on with the record of a body more
+abbrev pub GoesOn : ℕ → List ℕ → List (List ℕ) → List ℕ → Type 0
+GoesOn version secret bodies file =
+    Stands version secret bodies file ⊎ ((place : ℕ) × IsFaultAfter version secret bodies place file) ⊎ ((body : List ℕ) × All (λ b. b < 2 ^ 8) body × Begins version secret (bodies ++ body ∷ []) file)
+
+-- the file is a journal, or it has a first fault
+abbrev pub HasMeaning : List ℕ → Type 0
+HasMeaning file = ((version : ℕ) × (secret : List ℕ) × (bodies : List (List ℕ)) × Stands version secret bodies file) ⊎ ((place : ℕ) × IsFault place file)

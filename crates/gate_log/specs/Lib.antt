@@ -4,3 +4,4 @@ pub mod Gate
 pub mod Log
 pub mod Ahead
 pub mod Inside
+pub mod Calls

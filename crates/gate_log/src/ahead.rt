@@ -1,6 +1,6 @@
 // What was read ahead of a journal.
 ghost use Rattle.std.specs.Prelude.{◌≡◌, ◌≤◌, ◌↔◌, ◌+◌, ◌-◌, ◌^◌, ◌++◌, [], length, take, drop, OnOk, OnErr};
-ghost use Rattle.split_base.specs.Faults.{HasCause};
+ghost use Rattle.split_base.specs.Faults.{HasCause, IsCounted};
 ghost use Rattle.split_base.specs.Disk.{Rests};
 ghost use Rattle.gate_log.specs.declared.limits.TheConstants.{PIECE};
 
@@ -65,6 +65,8 @@ impl Ahead {
     pub(crate) fn read_on<D: Disk>(&mut self, disk: &mut D, place: u64) -> Result<(), Failed>
         requires { place + length (bytes_of self.old) ≤ 2 ^ 63 }
         ensures cause { HasCause (D.faults disk.old) (D.faults disk.new) result }
+        ensures counted { IsCounted (D.faults disk.old) (D.faults disk.new) result }
+        ensures tick { D.is_honest disk.old → D.moment disk.new ≡ D.moment disk.old }
         ensures honest { D.is_honest disk.old ↔ D.is_honest disk.new }
         ensures rests { D.is_honest disk.old → Rests D.seen D.images D.moment D.left_since disk.old disk.new }
         ensures refused { OnErr result (bytes_of self.new ≡ bytes_of self.old) }

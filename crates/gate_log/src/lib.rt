@@ -10,8 +10,6 @@ mod header;
 mod laws;
 mod limits;
 mod log;
-#[cfg(test)]
-mod tests;
 
 pub use create::create_log;
 pub use fault::LogFault;

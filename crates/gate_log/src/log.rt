@@ -1,9 +1,10 @@
 // The log of a journal: reading its records in turn, and appending behind the last one.
 ghost use Rattle.std.specs.Prelude.{◌≡◌, ◌≢◌, ◌⊎◌, ◌<◌, ◌≤◌, ◌↔◌, ◌+◌, ◌-◌, ◌^◌, ◌++◌, [], ◌∷◌, List, ℕ, true, false, length, take, drop, IfOk, IfErr, OnOk, OnErr, MatchResult, IsTrue, IsFalse, Ok, Err};
-ghost use Rattle.split_base.specs.Faults.{HasCause, HasRisen};
+ghost use Rattle.split_base.specs.Faults.{HasCause, HasRisen, IsCounted};
 ghost use Rattle.split_base.specs.Disk.{Each, Only, Rests, LeavesOnly, IsWritten, Tears};
 ghost use Rattle.gate_log.specs.Records.{Stands, HoldsRecords, IsBeforeOrAfter, IsBody, IsAppended, MayBeAppending, behind_gate};
 ghost use Rattle.gate_log.specs.Faults.{IsHeaderFault, IsFaultAfter};
+ghost use Rattle.gate_log.specs.Calls.{faults_after};
 ghost use Rattle.gate_log.specs.Log.{LogView, IsLogOf, IsReading, IsAhead, with_ahead, closed, past};
 ghost use Rattle.gate_log.specs.Gate.{Shows};
 ghost use Rattle.gate_log.specs.declared.limits.TheConstants.{RECORD_MOST, FIRST_GATE, VERSION_GATE};
@@ -49,12 +50,17 @@ impl Log {
     ///
     /// - `Disk` comes only where the disk's count of faults has risen.
     /// - `NotALog` comes exactly where the header has a fault, with the place of its first.
+    ///
+    /// No failed call of the disk is tried again: after `Disk` the count has risen by one, and else not
+    /// at all.
     pub fn start<D: Disk>(disk: &mut D) -> Result<(Self, [u8; SECRET_SIZE]), LogFault>
         ensures count { D.faults disk.old ≤ D.faults disk.new }
         ensures disk { result ≡ Err LogFault.Disk → HasRisen (D.faults disk.old) (D.faults disk.new) }
+        ensures faults { D.faults disk.new ≡ faults_after (D.faults disk.old) result }
         ensures no_memory { result ≢ Err LogFault.NoMemory }
         ensures honest { D.is_honest disk.old ↔ D.is_honest disk.new }
         ensures rests { D.is_honest disk.old → Rests D.seen D.images D.moment D.left_since disk.old disk.new }
+        ensures tick { D.is_honest disk.old → IfOk result (λ _. D.moment disk.new ≡ D.moment disk.old + 1) }
         ensures one { D.is_honest disk.old → IfOk result (λ _. Only (D.seen disk.new) (D.images disk.new)) }
         ensures reading { D.is_honest disk.old → IfOk result (λ begun. IsReading (D.seen disk.new) begun.0 begun.1 []) }
         ensures not_a_log { D.is_honest disk.old → (place : ℕ) → result ≡ Err (LogFault.NotALog place) → IsHeaderFault place (D.seen disk.new) }
@@ -103,11 +109,14 @@ impl Log {
     /// - `NotALog` comes exactly where the record there has a fault, with the place of the fault.
     /// - `NoMemory` comes for want of memory for the body. `body` may hold anything then.
     ///
-    /// A refusal leaves the log at its gate, so after `NoMemory` the call can be made again.
+    /// A refusal leaves the log at its gate, so after `NoMemory` the call can be made again. After
+    /// `Disk` the disk's count has risen by one, and else not at all.
     pub fn next<D: Disk>(&mut self, disk: &mut D, body: &mut Vec<u8>) -> Result<bool, LogFault>
         ensures count { D.faults disk.old ≤ D.faults disk.new }
         ensures disk { result ≡ Err LogFault.Disk → HasRisen (D.faults disk.old) (D.faults disk.new) }
+        ensures faults { D.faults disk.new ≡ faults_after (D.faults disk.old) result }
         ensures honest { D.is_honest disk.old ↔ D.is_honest disk.new }
+        ensures tick { D.is_honest disk.old → D.moment disk.new ≡ D.moment disk.old }
         ensures rests { D.is_honest disk.old → Rests D.seen D.images D.moment D.left_since disk.old disk.new }
         ensures version { self.new.version ≡ self.old.version }
         ensures refused { OnErr result (self.new ≡ with_ahead self.old self.new.ahead) }
@@ -151,12 +160,13 @@ impl Log {
     /// a closed gate behind the log's gate, sync, open the gate, and sync. At `Ok` it is acknowledged,
     /// and the log is at its end again. It takes no memory.
     ///
-    /// `Disk` comes only where the disk's count of faults has risen. The file holds the body or
-    /// doesn't then, and the log is not at its end: the file is opened anew.
+    /// `Disk` comes only where the disk's count of faults has risen, by one: a call that fails is not
+    /// tried again. The file holds the body or doesn't then, and the log is not at its end: the file is opened anew.
     pub fn append<D: Disk>(&mut self, disk: &mut D, body: &[u8]) -> Result<(), LogFault>
         requires at_end { IsTrue self.old.at_end }
         requires body { IsBody body.now }
         ensures cause { HasCause (D.faults disk.old) (D.faults disk.new) result }
+        ensures faults { D.faults disk.new ≡ faults_after (D.faults disk.old) result }
         ensures only_disk { IfErr result (λ e. e ≡ LogFault.Disk) }
         ensures at_end { MatchResult result (λ _. IsTrue self.new.at_end) (λ _. IsFalse self.new.at_end) }
         ensures version { self.new.version ≡ self.old.version }
@@ -164,8 +174,9 @@ impl Log {
         ensures acknowledged { D.is_honest disk.old → (secret : List ℕ) (bodies : List (List ℕ)) → IsLogOf (D.images disk.old) self.old secret bodies
             → OnOk result (IsLogOf (D.images disk.new) self.new secret (bodies ++ body.now ∷ [])) }
 
-        // It makes these two writes, the first stable before the second, and no other.
+        // It makes these two writes and a sync after each, and no other call that changes a byte.
         ensures written { D.is_honest disk.old → OnOk result (IsAppended self.old.place body.now (D.seen disk.old) (D.seen disk.new)) }
+        ensures tick { D.is_honest disk.old → OnOk result (D.moment disk.new ≡ D.moment disk.old + 4) }
         ensures one { D.is_honest disk.old → OnOk result (Only (D.seen disk.new) (D.images disk.new)) }
         ensures writes { D.is_honest disk.old → LeavesOnly D.moment D.left_since disk.old disk.new (MayBeAppending (D.images disk.old) self.old.place body.now (D.seen disk.old)) }
 
@@ -189,12 +200,13 @@ impl Log {
     /// Raises a journal of version 1 to version 2: two calls of the disk, which change byte 48 and
     /// nothing else. At `Ok` the log is of version 2, at its end as before. It takes no memory.
     ///
-    /// `Disk` comes only where the disk's count of faults has risen. The file has either version
+    /// `Disk` comes only where the disk's count of faults has risen, by one. The file has either version
     /// then, and the log is not at its end: the file is opened anew.
     pub fn raise<D: Disk>(&mut self, disk: &mut D) -> Result<(), LogFault>
         requires at_end { IsTrue self.old.at_end }
         requires version { self.old.version ≡ 1 }
         ensures cause { HasCause (D.faults disk.old) (D.faults disk.new) result }
+        ensures faults { D.faults disk.new ≡ faults_after (D.faults disk.old) result }
         ensures only_disk { IfErr result (λ e. e ≡ LogFault.Disk) }
         ensures at_end { MatchResult result (λ _. IsTrue self.new.at_end) (λ _. IsFalse self.new.at_end) }
         ensures version { MatchResult result (λ _. self.new.version ≡ 2) (λ _. self.new.version ≡ 1) }
@@ -202,9 +214,10 @@ impl Log {
         ensures honest { D.is_honest disk.old ↔ D.is_honest disk.new }
         ensures raised { D.is_honest disk.old → (secret : List ℕ) (bodies : List (List ℕ)) → IsLogOf (D.images disk.old) self.old secret bodies
             → OnOk result (IsLogOf (D.images disk.new) self.new secret bodies) }
+        ensures tick { D.is_honest disk.old → OnOk result (D.moment disk.new ≡ D.moment disk.old + 2) }
         ensures one { D.is_honest disk.old → OnOk result (Only (D.seen disk.new) (D.images disk.new)) }
 
-        // It writes this byte, and no other.
+        // It writes this byte and syncs, and makes no other call that changes a byte.
         ensures written { D.is_honest disk.old → OnOk result (IsWritten (D.seen disk.old) VERSION_GATE (1 ∷ []) (D.seen disk.new)) }
         ensures writes { D.is_honest disk.old → LeavesOnly D.moment D.left_since disk.old disk.new (Tears (D.images disk.old) VERSION_GATE 1) }
         ensures any_moment { D.is_honest disk.old → (secret : List ℕ) (bodies : List (List ℕ)) → IsLogOf (D.images disk.old) self.old secret bodies
@@ -222,6 +235,8 @@ impl Log {
     // Reads ahead, so that a whole record and the next gate are there, or all that is left.
     fn fill<D: Disk>(&mut self, disk: &mut D) -> Result<(), Failed>
         ensures cause { HasCause (D.faults disk.old) (D.faults disk.new) result }
+        ensures counted { IsCounted (D.faults disk.old) (D.faults disk.new) result }
+        ensures tick { D.is_honest disk.old → D.moment disk.new ≡ D.moment disk.old }
         ensures honest { D.is_honest disk.old ↔ D.is_honest disk.new }
         ensures rests { D.is_honest disk.old → Rests D.seen D.images D.moment D.left_since disk.old disk.new }
         ensures same { self.new ≡ with_ahead self.old self.new.ahead }

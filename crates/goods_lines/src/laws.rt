@@ -17,7 +17,8 @@ use goods_laws::players_law;
 use nash_bounds::{bound_law, open_prefixes_law, owners_by_good_law, whole_list_law};
 
 /// The lines for the solver's division print the case, of the most members that there may be, and keep all rules. Their tree is that of
-/// the best allocation. It has one mark, and at most one a player for each step and for each list of owners shorter than those of tasks.
+/// the best allocation. It has one mark, and at most as many more for each
+/// player as there are steps and `MOST_SHORTER`.
 pub fn goods_lines_law()
     ensures case { (case : GoodsCase) (division : GoodsDivision) → printed_case (canonical_goods case division) ≡ with_members case MOST_MEMBERS }
     ensures answer { (case : GoodsCase) (division : GoodsDivision) → IsGoodsDivision case division → GoodsBest case (answer_of case division) }

@@ -8,6 +8,3 @@ mod node;
 
 pub use laws::goods_lines_law;
 pub use marks::push_marks;
-
-#[cfg(test)]
-mod tests;

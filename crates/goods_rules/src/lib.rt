@@ -7,8 +7,6 @@ mod case;
 mod laws;
 mod path;
 mod state;
-#[cfg(test)]
-mod tests;
 mod walk;
 
 pub use answer::Answer;

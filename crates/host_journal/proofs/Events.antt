@@ -16,7 +16,7 @@ use Rattle.bid_rules.specs.declared.bids.Facts.{Facts}
 use Rattle.bid_rules.specs.declared.bids.Facts.TheVariants as facts
 use Rattle.bid_rules.specs.declared.limits.TheConstants.{ITEM_ROOM, LONGEST_NAME, MEMBER_ROOM, PLACE_ROOM}
 use Rattle.bid_rules.specs.Facts.{IsCheckedFacts, legs_in_order, member_count}
-use Rattle.sealed_core.specs.declared.limits.TheConstants.{LONGEST_TAG}
+use Rattle.case_fields.specs.declared.limits.TheConstants.{LONGEST_TAG}
 use Rattle.sealed_core.specs.declared.events.Event.{Event}
 use Rattle.sealed_core.specs.Host.{event_view, CreationView, EventView, Created, BidKept, Closed, Withdrawn, IsName, item_count}
 use Rattle.host_journal.specs.Spelling.{text_bytes, texts_bytes, numbers_bytes, facts_bytes, bid_bytes, creation_bytes, kind_of, spelling, FitsBid, HasRules, IsEvent, Spells}
@@ -435,7 +435,7 @@ pub never : (body : List ℕ) → None ≡ whole_at body → (e : EventView) →
 never body none e spells = none-some e (none ∙ ap whole_at spells.1 ∙ whole_again e spells.0)
 
 -- a body spells the event that is read
-same_event : (body : List ℕ) (f : EventView) → Some f ≡ whole_at body → (e : EventView) → Spells e body → f ≡ e
+pub same_event : (body : List ℕ) (f : EventView) → Some f ≡ whole_at body → (e : EventView) → Spells e body → f ≡ e
 same_event body f read e spells = some_is f e (read ∙ ap whole_at spells.1 ∙ whole_again e spells.0)
 
 -- an event that is kept is spelled by its body

@@ -6,8 +6,9 @@ use Rattle.std.specs.Prelude.{All, OnOk, flat_map}
 use Rattle.std.specs.Str.{IsUtf8}
 use Rattle.std.proofs.lemmas.List.Elements.{All-map}
 use Rattle.arrayvec.specs.ArrayString.{ArrayString}
-use Rattle.sealed_core.specs.declared.creations.Creation.{Creation}
+use Rattle.case_fields.specs.declared.creations.Creation.{Creation}
 use Rattle.sealed_core.specs.Host.{HostView, EventView, Created, BidKept, Closed, Withdrawn, CanApply, creation_view, text}
+use Rattle.host_journal.specs.Reading.{KeepsRules}
 use Rattle.host_journal.specs.Spelling.{FitsTypes, IsEvent, text_bytes}
 
 -- a creation of the code fits the types of its fields
@@ -15,6 +16,25 @@ pub creation_fits : {T E : Type 0} (r : Result T E) (moment : ℕ) (c : Creation
     → OnOk r (All (λ name. IsUtf8 (text name)) c.items.items) → OnOk r (FitsTypes (Created moment (creation_view c)))
 creation_fits (Ok x) moment c now dated title members items = (now, dated, title, All-map IsUtf8 text c.members.items members, All-map IsUtf8 text c.items.items items)
 creation_fits (Err e) moment c now dated title members items = tt
+
+-- what fits its types and keeps its rules has a spelling
+pub fits_rules : (e : EventView) → FitsTypes e → KeepsRules e → IsEvent e
+fits_rules (Created moment c) fits checked = (
+  fits.0,
+  record {
+    facts = checked.facts;
+    member_names = checked.member_names;
+    item_names = checked.item_names;
+    title = (checked.title, fits.2);
+    members = λ k d lt. (checked.members k d lt, fits.3 k d lt);
+    items = λ k d lt. (checked.items k d lt, fits.4 k d lt);
+    tag = checked.tag;
+    deadline = fits.1;
+  },
+)
+fits_rules (BidKept moment id member turn given) fits kept = fits
+fits_rules (Closed moment id) fits kept = fits
+fits_rules (Withdrawn moment id member turn) fits kept = fits
 
 -- what fits its types and may be applied has a spelling
 pub fits_event : (h : HostView) (e : EventView) → FitsTypes e → CanApply h e → IsEvent e

@@ -1,12 +1,12 @@
 -- Events with one more.
-use Rattle.std.proofs.Common.{◌≡◌, ℕ, List, [], ◌∷◌, ◌++◌, map, refl}
+use Rattle.std.proofs.Common.{◌≡◌, ℕ, List, [], ◌∷◌, ◌++◌, map, refl, sym, ap, ◌∙◌, subst}
 use Rattle.std.proofs.lemmas.List.{map-append}
 use Rattle.std.proofs.lemmas.List.Elements.{All-nil, All-cons, All-append}
 use Rattle.sealed_core.specs.Host.{HostView, EventView, CanApply, apply}
 use Rattle.sealed_core.specs.Runs.{CanApplyAll, apply_all, host_of}
 use Rattle.sealed_core.specs.Sealed.{empty}
 use Rattle.host_journal.specs.Spelling.{IsEvent, IsOfVersion, spelling}
-use Rattle.host_journal.specs.Journal.{AreKept}
+use Rattle.host_journal.specs.Journal.{AreKept, IsHostOf}
 
 -- events that may be applied in turn, and one that may be applied behind them
 may_push : (h : HostView) (events : List EventView) (e : EventView) → CanApplyAll h events → CanApply (apply_all h events) e → CanApplyAll h (events ++ e ∷ [])
@@ -34,3 +34,15 @@ kept_push version secret events e kept is of can = record {
 -- their bodies
 pub bodies_push : (events : List EventView) (e : EventView) → map spelling (events ++ e ∷ []) ≡ map spelling events ++ spelling e ∷ []
 bodies_push events e = map-append spelling events (e ∷ [])
+
+-- the host that is made of the events, after one more
+pub made_push : (host new : HostView) (secret : List ℕ) (events : List EventView) (e : EventView) → IsHostOf host secret events → CanApply host e → new ≡ apply host e
+    → IsHostOf new secret (events ++ e ∷ [])
+made_push host new secret events e made can is = record {
+  may_apply = may_push (empty secret) events e made.may_apply (subst (λ (h : HostView). CanApply h e) made.is_host can);
+  is_host = is ∙ ap (λ (h : HostView). apply h e) made.is_host ∙ sym (after_push secret events e);
+}
+
+-- the empty host is made of none
+pub made_of_none : (host : HostView) (secret : List ℕ) → host ≡ empty secret → IsHostOf host secret []
+made_of_none host secret is = record { may_apply = tt; is_host = is }

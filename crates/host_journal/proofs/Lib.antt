@@ -9,3 +9,6 @@ mod Meaning
 mod Names
 mod Replay
 mod Sizes
+mod Raised
+mod Decisions
+mod Total

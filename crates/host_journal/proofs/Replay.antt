@@ -7,7 +7,7 @@ use Rattle.gate_log.specs.Log.{LogView, IsLogOf, IsReading}
 use Rattle.sealed_core.specs.Host.{HostView, EventView, Created, BidKept, Closed, Withdrawn, CanApply, apply}
 use Rattle.sealed_core.specs.Sealed.{empty}
 use Rattle.host_journal.specs.Spelling.{IsEvent, IsOfVersion, Spells, spelling}
-use Rattle.host_journal.specs.Journal.{AreKept, HoldsFrom, HoldsOne, IsOpened, IsReplaying, IsReplayed}
+use Rattle.host_journal.specs.Journal.{AreKept, HasOpened, HoldsFrom, HoldsOne, IsOpened, IsReplaying, IsReplayed}
 use Rattle.host_journal.proofs.Appending.{bodies_are}
 use Rattle.host_journal.proofs.Kept.{kept_push, after_push}
 
@@ -94,6 +94,19 @@ opened_of old new images log raised h secret events r two now is_log =
     record {
       secret = secret;
       events = events;
+      before = (log.version, r.has);
+      after = record { stands = subst (λ (v : ℕ). Stands v secret (map spelling events) new) two (is_log.each new now); kept = subst (λ (v : ℕ). AreKept v secret events) two kept };
+      journal = record { is_log = is_log; kept = kept; is_host = r.is_host };
+    }
+
+-- the same, of these events
+pub has_opened : (old new : List ℕ) (images : List ℕ → Type 0) (log raised : LogView) (h : HostView) (secret : List ℕ) (events : List EventView) → IsReplayed old log h secret events → raised.version ≡ 2 → images new
+    → IsLogOf images raised secret (map spelling events) → HasOpened old new images raised h secret events
+has_opened old new images log raised h secret events r two now is_log =
+    let v = r.has.stands in
+    let most : log.version ≤ raised.version = omega (arith, version_most v.gate log.version v.is_version, two) in
+    let kept : AreKept raised.version secret events = kept_later log.version raised.version secret events most (omega (arith, two)) r.has.kept in
+    record {
       before = (log.version, r.has);
       after = record { stands = subst (λ (v : ℕ). Stands v secret (map spelling events) new) two (is_log.each new now); kept = subst (λ (v : ℕ). AreKept v secret events) two kept };
       journal = record { is_log = is_log; kept = kept; is_host = r.is_host };

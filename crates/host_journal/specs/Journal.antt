@@ -1,5 +1,7 @@
 -- What a journal stands for as events, or the place of its first fault.
-use Rattle.std.specs.Prelude.{◌≡◌, ◌⊎◌, ℕ, ◌≤◌, List, [], ◌∷◌, ◌++◌, map, All, Contains}
+use Rattle.std.specs.Prelude.{◌≡◌, ◌⊎◌, ℕ, ◌+◌, ◌≤◌, List, [], ◌∷◌, ◌++◌, map, All, Contains}
+use Rattle.split_base.specs.Disk.{IsWritten}
+use Rattle.gate_log.specs.declared.limits.TheConstants.{VERSION_GATE}
 use Rattle.gate_log.specs.Records.{Begins, Stands, place_after}
 use Rattle.gate_log.specs.Faults.{IsHeaderFault, IsFaultAfter}
 use Rattle.gate_log.specs.Log.{LogView, IsLogOf, IsReading}
@@ -23,9 +25,18 @@ pub record HasEvents (version : ℕ) (secret : List ℕ) (events : List EventVie
 abbrev pub HoldsEvents : List ℕ → List EventView → List ℕ → Type 0
 HoldsEvents secret events file = (version : ℕ) × HasEvents version secret events file
 
+-- the file stands for some events
+abbrev pub HoldsSome : List ℕ → Type 0
+HoldsSome file = (version : ℕ) × (secret : List ℕ) × (events : List EventView) × HasEvents version secret events file
+
 -- the file stands for the events, with one more or without it
 abbrev pub IsBeforeOrAfter : ℕ → List ℕ → List EventView → EventView → List ℕ → Type 0
 IsBeforeOrAfter version secret events e file = HasEvents version secret events file ⊎ HasEvents version secret (events ++ e ∷ []) file
+
+-- each of the events may be applied at its turn, and the host is the one that they make
+pub record IsHostOf (host : HostView) (secret : List ℕ) (events : List EventView) : Type 0 where
+  pub may_apply : CanApplyAll (empty secret) events
+  pub is_host : host ≡ host_of secret events
 
 -- each image stands for these events in the log's version, the log is at the closed gate behind them, and the host is
 -- the one that they make
@@ -79,6 +90,17 @@ HoldsFrom version secret bodies file = (later : ℕ) × (version ≤ later) × S
 abbrev pub HoldsOne : List ℕ → List (List EventView) → List ℕ → Type 0
 HoldsOne secret lists file = (events : List EventView) × Contains lists events × HoldsEvents secret events file
 
+-- the host is that of these events, on any disk; and this is told of the file of an honest one
+pub record IsHostOfFile (host : HostView) (secret : List ℕ) (events : List EventView) (told : Type 0) : Type 0 where
+  pub of_events : IsHostOf host secret events
+  pub of_file : told
+
+-- the file stood for these events and stands for them in version 2, and host and log are theirs
+pub record HasOpened (old new : List ℕ) (images : List ℕ → Type 0) (log : LogView) (host : HostView) (secret : List ℕ) (events : List EventView) : Type 0 where
+  pub before : HoldsEvents secret events old
+  pub after : HasEvents 2 secret events new
+  pub journal : IsJournalOf images log host secret events
+
 -- the file stood for some events and stands for them in version 2, and host and log are theirs
 pub record IsOpened (old new : List ℕ) (images : List ℕ → Type 0) (log : LogView) (host : HostView) : Type 0 where
   pub secret : List ℕ
@@ -86,3 +108,16 @@ pub record IsOpened (old new : List ℕ) (images : List ℕ → Type 0) (log : L
   pub before : HoldsEvents secret events old
   pub after : HasEvents 2 secret events new
   pub journal : IsJournalOf images log host secret events
+
+-- an opening that raised nothing: the file is as it was, after one sync
+pub record LeftAlone {D : Type 0} (seen : D → List ℕ) (moment : D → ℕ) (old new : D) : Type 0 where
+  pub same : seen new ≡ seen old
+  pub calls : moment new ≡ moment old + 1
+
+-- an opening of a file of version 1: after that sync its version gate was written, and synced
+pub record HasRaised {D : Type 0} (seen : D → List ℕ) (moment : D → ℕ) (old new : D) : Type 0 where
+  pub secret : List ℕ
+  pub events : List EventView
+  pub before : HasEvents 1 secret events (seen old)
+  pub written : IsWritten (seen old) VERSION_GATE (1 ∷ []) (seen new)
+  pub calls : moment new ≡ moment old + 3

@@ -8,7 +8,7 @@ use Rattle.bid_rules.specs.declared.bids.Bid.TheVariants as bid
 use Rattle.bid_rules.specs.declared.bids.Facts.{Facts}
 use Rattle.bid_rules.specs.declared.bids.Facts.TheVariants as facts
 use Rattle.bid_rules.specs.declared.limits.TheConstants.{ITEM_ROOM, LONGEST_NAME, MEMBER_ROOM, PLACE_ROOM}
-use Rattle.sealed_core.specs.declared.limits.TheConstants.{LONGEST_TAG}
+use Rattle.case_fields.specs.declared.limits.TheConstants.{LONGEST_TAG}
 use Rattle.sealed_core.specs.Host.{CreationView, EventView, Created, BidKept, Closed, Withdrawn, IsCheckedCreation}
 
 infixl 10 ◌>>=◌

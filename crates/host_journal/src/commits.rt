@@ -1,9 +1,10 @@
 // Keeping an event.
-ghost use Rattle.std.specs.Prelude.{◌≡◌, ◌⊎◌, ◌↔◌, ◌≤◌, ◌++◌, [], ◌∷◌, List, ℕ, IfErr, OnOk, OnErr, IsTrue, IsFalse};
+ghost use Rattle.std.specs.Prelude.{◌≡◌, ◌⊎◌, ◌↔◌, ◌≤◌, ◌+◌, ◌++◌, [], ◌∷◌, List, ℕ, IfErr, OnOk, OnErr, MatchResult, IsTrue, IsFalse};
 ghost use Rattle.split_base.specs.Faults.{HasRisen};
 ghost use Rattle.split_base.specs.Disk.{Each, LeavesOnly};
+ghost use Rattle.gate_log.specs.Calls.{counted_by};
 ghost use Rattle.sealed_core.specs.Host.{CanApply, EventView, apply, event_view};
-ghost use Rattle.host_journal.specs.Journal.{IsJournalOf, IsBeforeOrAfter};
+ghost use Rattle.host_journal.specs.Journal.{IsJournalOf, IsBeforeOrAfter, IsHostOf};
 
 use crate::write_event;
 use gate_log::{Log, LogFault};
@@ -22,7 +23,8 @@ pub struct CommitFault {
 /// body and in the host, then the record in the journal, and then the host's change. At `Ok` a crash
 /// leaves the event, and the log is at its end again.
 ///
-/// - `Disk` comes only where the disk's count of faults has risen. The host is as before; the file
+/// - `Disk` comes only where the disk's count of faults has risen, by one: a call that fails is not
+///   tried again, and the count stays with every other answer. The host is as before; the file
 ///   holds the event or doesn't. The log isn't at its end: the file is opened anew.
 /// - `NoMemory` comes for want of memory, before the first call of the disk, which is as before.
 ///
@@ -39,6 +41,7 @@ pub fn commit<D: Disk>(
     requires version { log.old.version ≡ 2 }
     ensures count { D.faults disk.old ≤ D.faults disk.new }
     ensures disk { IfErr result (λ e. e.fault ≡ LogFault.Disk → HasRisen (D.faults disk.old) (D.faults disk.new)) }
+    ensures faults { MatchResult result (λ _. D.faults disk.new ≡ D.faults disk.old) (λ e. D.faults disk.new ≡ counted_by (D.faults disk.old) e.fault) }
     ensures cause { IfErr result (λ e. (e.fault ≡ LogFault.Disk) ⊎ (e.fault ≡ LogFault.NoMemory)) }
     ensures given_back { IfErr result (λ e. event_view e.event ≡ event_view event) }
     ensures no_memory { IfErr result (λ e. e.fault ≡ LogFault.NoMemory → (disk.new ≡ disk.old) × (log.new ≡ log.old)) }
@@ -48,6 +51,11 @@ pub fn commit<D: Disk>(
     ensures used_up { IfErr result (λ e. e.fault ≡ LogFault.Disk → IsFalse log.new.at_end) }
     ensures log_version { log.new.version ≡ log.old.version }
     ensures honest { D.is_honest disk.old ↔ D.is_honest disk.new }
+    ensures tick { D.is_honest disk.old → OnOk result (D.moment disk.new ≡ D.moment disk.old + 4) }
+
+    // Whatever the disk, the host stays that of its events, with the new one.
+    ensures made { (secret : List ℕ) (events : List EventView) → IsHostOf host.old.content secret events
+        → OnOk result (IsHostOf host.new.content secret (events ++ event_view event ∷ [])) }
     ensures acknowledged { D.is_honest disk.old → (secret : List ℕ) (events : List EventView) → IsJournalOf (D.images disk.old) log.old host.old.content secret events
         → OnOk result (IsJournalOf (D.images disk.new) log.new host.new.content secret (events ++ event_view event ∷ [])) }
     ensures any_moment { D.is_honest disk.old → (secret : List ℕ) (events : List EventView) → IsJournalOf (D.images disk.old) log.old host.old.content secret events

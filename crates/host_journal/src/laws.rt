@@ -1,12 +1,12 @@
 // What holds of the spelling of every event.
-ghost use Rattle.std.specs.Prelude.{◌≡◌, ◌≤◌, ◌<◌, ◌+◌, ℕ, List, length, map};
+ghost use Rattle.std.specs.Prelude.{◌≡◌, ◌⊎◌, ◌≤◌, ◌<◌, ◌+◌, ◌^◌, ℕ, List, All, length, map};
 ghost use Rattle.gate_log.specs.Records.{IsBody, place_after};
 ghost use Rattle.bid_rules.specs.declared.bids.Facts.TheVariants as facts;
 ghost use Rattle.bid_rules.specs.declared.fares.Fares.{Fares};
 ghost use Rattle.bid_rules.specs.declared.bids.Bid.{Bid};
 ghost use Rattle.sealed_core.specs.Host.{BidKept, Closed, Created, CreationView, EventView, Withdrawn};
 ghost use Rattle.host_journal.specs.Spelling.{FitsBid, HasRules, IsEvent, spelling};
-ghost use Rattle.host_journal.specs.Journal.{HasEvents, IsFirstFault};
+ghost use Rattle.host_journal.specs.Journal.{HasEvents, HoldsSome, IsFirstFault};
 ghost use Rattle.host_journal.specs.declared.laws.TheConstants.{JOURNAL_MOST};
 
 use gate_log::{beginning_law, journal_law};
@@ -38,13 +38,14 @@ pub fn spelling_law()
     ensures { (e f : EventView) → IsEvent e → IsEvent f → spelling e ≡ spelling f → e ≡ f }
 {}
 
-/// A file has at most one meaning: it stands for the events of one list in one version and with one
-/// secret, or it has its first fault at one place.
+/// A file has one meaning: it stands for the events of one list in one version and with one secret,
+/// or it has its first fault at one place.
 pub fn events_law()
     ensures one_meaning { (v w : ℕ) (secret word : List ℕ) (events others : List EventView) (file : List ℕ)
         → HasEvents v secret events file → HasEvents w word others file → (v ≡ w) × (secret ≡ word) × (events ≡ others) }
     ensures no_fault { (v place : ℕ) (secret : List ℕ) (events : List EventView) (file : List ℕ) → HasEvents v secret events file → IsFirstFault place file → ⊥ }
     ensures one_fault { (p q : ℕ) (file : List ℕ) → IsFirstFault p file → IsFirstFault q file → p ≡ q }
+    ensures meaning { (file : List ℕ) → All (λ b. b < 2 ^ 8) file → HoldsSome file ⊎ ((place : ℕ) × IsFirstFault place file) }
 {
     journal_law();
     beginning_law();

@@ -2,13 +2,9 @@
 #![tactic(auto)]
 
 mod commits;
-#[cfg(test)]
-mod journal_tests;
 mod laws;
 mod opening;
 mod reading;
-#[cfg(test)]
-mod tests;
 mod writing;
 
 pub use commits::{CommitFault, commit};

@@ -1,12 +1,14 @@
 // Opening a journal as a host.
 ghost use Rattle.std.specs.Prelude.{◌≡◌, ◌≢◌, ◌⊎◌, ◌↔◌, ◌<◌, ◌≤◌, ◌+◌, ◌^◌, ◌++◌, [], ◌∷◌, List, ℕ, IfOk, IfErr, OnOk, OnErr, IsTrue, IsFalse, Ok, Err};
 ghost use Rattle.split_base.specs.Faults.{HasCause, HasRisen};
-ghost use Rattle.split_base.specs.Disk.{Each, Only, Rests, LeavesOnly};
+ghost use Rattle.split_base.specs.Disk.{Each, Only, Rests, LeavesOnly, IsWritten, Tears};
+ghost use Rattle.gate_log.specs.Calls.{faults_after};
 ghost use Rattle.gate_log.specs.Records.{place_after};
 ghost use Rattle.gate_log.specs.Log.{IsLogOf};
 ghost use Rattle.sealed_core.specs.Host.{CanApply, EventView, apply, event_view};
+ghost use Rattle.gate_log.specs.declared.limits.TheConstants.{VERSION_GATE};
 ghost use Rattle.host_journal.specs.Spelling.{IsOfVersion, Spells};
-ghost use Rattle.host_journal.specs.Journal.{HasEvents, HoldsFrom, HoldsOne, IsFaultBehindEvents, IsFirstFault, IsNoEvent, IsOpened, IsReplaying, IsReplayed};
+ghost use Rattle.host_journal.specs.Journal.{HasEvents, HasOpened, HasRaised, HoldsFrom, HoldsOne, IsFaultBehindEvents, IsFirstFault, IsHostOf, IsHostOfFile, IsNoEvent, IsOpened, LeftAlone, IsReplaying, IsReplayed};
 
 use crate::read_event;
 use gate_log::{Log, LogFault, journal_law};
@@ -25,18 +27,31 @@ use std::alloc::Global;
 ///   place.
 /// - `NoMemory` comes for want of memory.
 ///
-/// After `NotALog` and `NoMemory` the file is as it was: it is raised only after it was read whole.
+/// After `NotALog` and `NoMemory` the file is as it was: it is raised only after it was read whole. A
+/// call of the disk that fails is not tried again: the count has risen by one after `Disk`, and else
+/// not at all.
 pub fn open_host<D: Disk>(alloc: Global, disk: &mut D) -> Result<(Host, Log), LogFault>
     ensures count { D.faults disk.old ≤ D.faults disk.new }
     ensures disk { result ≡ Err LogFault.Disk → HasRisen (D.faults disk.old) (D.faults disk.new) }
+    ensures faults { D.faults disk.new ≡ faults_after (D.faults disk.old) result }
     ensures honest { D.is_honest disk.old ↔ D.is_honest disk.new }
     ensures version { IfOk result (λ opened. opened.1.version ≡ 2) }
     ensures at_end { IfOk result (λ opened. IsTrue opened.1.at_end) }
+
+    // Whatever the disk, the host is that of some events, each of which may be applied at its turn; and if it is honest they are the file's.
+    ensures made { IfOk result (λ opened. (secret : List ℕ) × (events : List EventView) × IsHostOfFile opened.0.content secret events
+        (D.is_honest disk.old → HasOpened (D.seen disk.old) (D.seen disk.new) (D.images disk.new) opened.1 opened.0.content secret events)) }
 
     // After Ok there is one image, and host and log are those of its events.
     ensures one { D.is_honest disk.old → IfOk result (λ _. Only (D.seen disk.new) (D.images disk.new)) }
     ensures opened { D.is_honest disk.old → IfOk result (λ opened. IsOpened (D.seen disk.old) (D.seen disk.new) (D.images disk.new) opened.1 opened.0.content) }
     ensures not_a_log { D.is_honest disk.old → (place : ℕ) → result ≡ Err (LogFault.NotALog place) → IsFirstFault place (D.seen disk.new) }
+
+    // After Ok the file is as it was, or it was of version 1 and only its version gate was written. At each moment a crash may
+    // have torn that byte, and no other.
+    ensures done { D.is_honest disk.old → OnOk result (LeftAlone D.seen D.moment disk.old disk.new ⊎ HasRaised D.seen D.moment disk.old disk.new) }
+    ensures writes { D.is_honest disk.old → LeavesOnly D.moment D.left_since disk.old disk.new (Tears (D.images disk.old) VERSION_GATE 1) }
+    ensures torn { D.is_honest disk.old → Each (D.images disk.new) (Tears (D.images disk.old) VERSION_GATE 1) }
 
     // A byte changes only where the whole file was read and stands for events of version 1.
     ensures kept { D.is_honest disk.old → IfErr result (λ e. e ≢ LogFault.Disk → Rests D.seen D.images D.moment D.left_since disk.old disk.new) }
@@ -59,9 +74,13 @@ pub fn open_host<D: Disk>(alloc: Global, disk: &mut D) -> Result<(Host, Log), Lo
 fn read_host<D: Disk>(alloc: Global, disk: &mut D) -> Result<(Host, Log), LogFault>
     ensures count { D.faults disk.old ≤ D.faults disk.new }
     ensures disk { result ≡ Err LogFault.Disk → HasRisen (D.faults disk.old) (D.faults disk.new) }
+    ensures faults { D.faults disk.new ≡ faults_after (D.faults disk.old) result }
     ensures honest { D.is_honest disk.old ↔ D.is_honest disk.new }
     ensures rests { D.is_honest disk.old → Rests D.seen D.images D.moment D.left_since disk.old disk.new }
+    ensures tick { D.is_honest disk.old → OnOk result (D.moment disk.new ≡ D.moment disk.old + 1) }
     ensures at_end { IfOk result (λ read. IsTrue read.1.at_end) }
+    ensures made { IfOk result (λ read. (secret : List ℕ) × (events : List EventView) × IsHostOfFile read.0.content secret events
+        (D.is_honest disk.old → IsReplayed (D.seen disk.new) read.1 read.0.content secret events)) }
     ensures one { D.is_honest disk.old → IfOk result (λ _. Only (D.seen disk.new) (D.images disk.new)) }
     ensures whole { D.is_honest disk.old → IfOk result (λ read. (secret : List ℕ) × (events : List EventView) × IsReplayed (D.seen disk.new) read.1 read.0.content secret events) }
     ensures not_a_log { D.is_honest disk.old → (place : ℕ) → result ≡ Err (LogFault.NotALog place) → IsFirstFault place (D.seen disk.new) }
@@ -81,9 +100,14 @@ fn replay<D: Disk>(
 ) -> Result<(), LogFault>
     ensures count { D.faults disk.old ≤ D.faults disk.new }
     ensures disk { result ≡ Err LogFault.Disk → HasRisen (D.faults disk.old) (D.faults disk.new) }
+    ensures faults { D.faults disk.new ≡ faults_after (D.faults disk.old) result }
     ensures honest { D.is_honest disk.old ↔ D.is_honest disk.new }
     ensures rests { D.is_honest disk.old → Rests D.seen D.images D.moment D.left_since disk.old disk.new }
+    ensures tick { D.is_honest disk.old → OnOk result (D.moment disk.new ≡ D.moment disk.old) }
     ensures at_end { OnOk result (IsTrue log.new.at_end) }
+    ensures made { (secret : List ℕ) (events : List EventView) → IsHostOf host.old.content secret events
+        → OnOk result ((all : List EventView) × IsHostOfFile host.new.content secret all
+        (D.is_honest disk.old → IsReplaying (D.seen disk.old) log.old host.old.content secret events → IsReplayed (D.seen disk.new) log.new host.new.content secret all)) }
     ensures whole { D.is_honest disk.old → (secret : List ℕ) (events : List EventView) → IsReplaying (D.seen disk.old) log.old host.old.content secret events
         → OnOk result ((all : List EventView) × IsReplayed (D.seen disk.new) log.new host.new.content secret all) }
     ensures not_a_log { D.is_honest disk.old → (secret : List ℕ) (events : List EventView) → IsReplaying (D.seen disk.old) log.old host.old.content secret events
@@ -103,10 +127,16 @@ fn replay_one<D: Disk>(
 ) -> Result<bool, LogFault>
     ensures count { D.faults disk.old ≤ D.faults disk.new }
     ensures disk { result ≡ Err LogFault.Disk → HasRisen (D.faults disk.old) (D.faults disk.new) }
+    ensures faults { D.faults disk.new ≡ faults_after (D.faults disk.old) result }
     ensures honest { D.is_honest disk.old ↔ D.is_honest disk.new }
     ensures rests { D.is_honest disk.old → Rests D.seen D.images D.moment D.left_since disk.old disk.new }
+    ensures tick { D.is_honest disk.old → D.moment disk.new ≡ D.moment disk.old }
     ensures moves { IfOk result (λ more. IsTrue more → (log.old.place < log.new.place) × (log.new.place < 2 ^ 63)) }
     ensures at_end { IfOk result (λ more. IsFalse more → IsTrue log.new.at_end) }
+    ensures made { (secret : List ℕ) (events : List EventView) → IsHostOf host.old.content secret events
+        → IfOk result (λ more. (all : List EventView) × IsHostOfFile host.new.content secret all
+        (D.is_honest disk.old → IsReplaying (D.seen disk.old) log.old host.old.content secret events
+        → (IsTrue more → IsReplaying (D.seen disk.new) log.new host.new.content secret all) × (IsFalse more → IsReplayed (D.seen disk.new) log.new host.new.content secret all))) }
     ensures goes_on { D.is_honest disk.old → (secret : List ℕ) (events : List EventView) → IsReplaying (D.seen disk.old) log.old host.old.content secret events
         → IfOk result (λ more. IsTrue more → (e : EventView) × IsReplaying (D.seen disk.new) log.new host.new.content secret (events ++ e ∷ [])) }
     ensures end { D.is_honest disk.old → (secret : List ℕ) (events : List EventView) → IsReplaying (D.seen disk.old) log.old host.old.content secret events
@@ -150,11 +180,16 @@ fn is_of_version(version: u8, event: &Event) -> bool
 fn to_version_two<D: Disk>(log: &mut Log, disk: &mut D) -> Result<(), LogFault>
     requires { IsTrue log.old.at_end }
     ensures cause { HasCause (D.faults disk.old) (D.faults disk.new) result }
+    ensures faults { D.faults disk.new ≡ faults_after (D.faults disk.old) result }
     ensures only_disk { IfErr result (λ e. e ≡ LogFault.Disk) }
     ensures honest { D.is_honest disk.old ↔ D.is_honest disk.new }
     ensures version { OnOk result (log.new.version ≡ 2) }
     ensures at_end { OnOk result (IsTrue log.new.at_end) }
     ensures changed { (log.old.version ≡ 1) ⊎ (disk.new ≡ disk.old) }
+    ensures done { D.is_honest disk.old → OnOk result ((disk.new ≡ disk.old)
+        ⊎ ((log.old.version ≡ 1) × IsWritten (D.seen disk.old) VERSION_GATE (1 ∷ []) (D.seen disk.new) × (D.moment disk.new ≡ D.moment disk.old + 2))) }
+    ensures writes { D.is_honest disk.old → LeavesOnly D.moment D.left_since disk.old disk.new (Tears (D.images disk.old) VERSION_GATE 1) }
+    ensures torn { D.is_honest disk.old → Each (D.images disk.new) (Tears (D.images disk.old) VERSION_GATE 1) }
     ensures one { D.is_honest disk.old → Only (D.seen disk.old) (D.images disk.old) → OnOk result (Only (D.seen disk.new) (D.images disk.new)) }
     ensures raised { D.is_honest disk.old → (secret : List ℕ) (bodies : List (List ℕ)) → IsLogOf (D.images disk.old) log.old secret bodies
         → OnOk result (IsLogOf (D.images disk.new) log.new secret bodies) }

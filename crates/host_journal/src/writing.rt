@@ -3,6 +3,8 @@ ghost use Rattle.std.specs.Prelude.{◌≡◌, ◌++◌, ◌∷◌, [], ◌<◌,
 ghost use Rattle.std.specs.Str.{IsUtf8};
 ghost use Rattle.std.specs.Int.{to_le_bytes, w32, w64};
 ghost use Rattle.sealed_core.specs.Host.{CanApply, Created, HostView, creation_view, event_view, text};
+ghost use Rattle.gate_log.specs.Records.{IsBody};
+ghost use Rattle.host_journal.specs.Reading.{KeepsRules};
 ghost use Rattle.host_journal.specs.Spelling.{FitsBid, FitsTypes, IsEvent, text_bytes, texts_bytes, numbers_bytes, kind_of, facts_bytes, bid_bytes, creation_bytes, spelling};
 
 use bid_rules::limits::LegRow;
@@ -174,12 +176,15 @@ fn put_event(body: &mut Vec<u8>, event: &Event) -> Result<(), NoMemory>
     }
 }
 
-/// The one spelling of an event, as the body of a record. What may be applied is an event with a
-/// spelling.
+/// The one spelling of an event, as the body of a record. An event fits its types, and so one that
+/// keeps its rules has a spelling, of a length that a body may have; what may be applied does.
 ///
 /// `NoMemory` comes for want of memory alone.
 pub fn write_event(alloc: Global, event: &Event) -> Result<Vec<u8>, NoMemory>
     ensures spelled { IfOk result (λ body. body.items ≡ spelling (event_view event.now)) }
+    ensures fits { OnOk result (FitsTypes (event_view event.now)) }
+    ensures rules { KeepsRules (event_view event.now) → OnOk result (IsEvent (event_view event.now)) }
+    ensures size { KeepsRules (event_view event.now) → IfOk result (λ body. IsBody body.items) }
     ensures event { (h : HostView) → CanApply h (event_view event.now) → OnOk result (IsEvent (event_view event.now)) }
 {
     let mut body = Vec::new(alloc);

@@ -2,7 +2,7 @@
 use Rattle.std.proofs.Common.{◌≡◌, ℕ, ◌+◌, ◌-◌, ◌<◌, ◌≤◌, List, [], ◌∷◌, ◌++◌, length, take, slice_index, arith, refl, sym, ap, ◌∙◌, subst, ◌⊎◌, inl, inr}
 use Rattle.std.proofs.lemmas.Bool.{cases_eq}
 use Rattle.bid_rules.specs.declared.goods.GoodsCase.{GoodsCase}
-use Rattle.bid_rules.specs.Goods.{player_count, points, utilities, utility, order_of}
+use Rattle.bid_rules.specs.Goods.{points, utilities, order_of}
 use Rattle.std.proofs.lemmas.List.{take-append-le, get_or_append_left}
 use Rattle.std.proofs.Math.Seq.{get_or-append_seam}
 use Rattle.nash_bounds.specs.Levels.{bound_of}

@@ -4,6 +4,7 @@ pub mod WalkMoves
 pub mod WalkPieces
 pub mod TaskPlaces
 pub mod FirstPlayers
+pub mod SomeStart
 pub mod BetterFound
 pub mod BlockEnds
 pub mod OneDivision

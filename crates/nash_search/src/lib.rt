@@ -18,17 +18,10 @@ mod walk;
 pub use blocks::{search_block, tasks_in_block};
 pub use division::{GoodsDivision, OverLimit, search_alone};
 pub use found::{Found, better, pair_found};
-pub use laws::{limit_law, step_count_law};
+pub use laws::{limit_law, some_steps_law, step_count_law};
 pub use pieces::{TaskWalk, start_walk, walk_by};
 pub use progress::Progress;
 pub use start::start_value;
 pub use tables::Tables;
 pub use tally::Tally;
 pub use task::{TaskEnd, search_by, search_task, tasks};
-
-#[cfg(test)]
-mod bound_tests;
-#[cfg(test)]
-mod plain;
-#[cfg(test)]
-mod tests;

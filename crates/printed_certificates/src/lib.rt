@@ -1,7 +1,5 @@
-//! Certificates of three worked cases, as the tests of several crates read, check and expect them. There is no code here but for those tests.
+//! Certificates of three worked cases, as the tests of several crates read, check and expect them. No crate names these texts but those of tests.
 #![tactic(auto)]
-
-use std::alloc::{AllocError, Global};
 
 /// The certificate of a flat for three.
 pub const FLAT: &str = "fairsplit 1
@@ -53,23 +51,3 @@ route 1 2
 fares 750 1250
 end
 ";
-
-/// The text with another line of this number, counted from 1; where there is no such line, the text as it is.
-pub fn with_line(
-    alloc: Global,
-    text: &str,
-    number: usize,
-    line: &str,
-) -> Result<Vec<u8>, AllocError> {
-    let mut changed = Vec::new(alloc);
-    for (index, old) in text.lines().enumerate() {
-        let new = if index.saturating_add(1) == number {
-            line
-        } else {
-            old
-        };
-        changed.extend_from_slice(new.as_bytes())?;
-        changed.push(b'\n')?;
-    }
-    Ok(changed)
-}

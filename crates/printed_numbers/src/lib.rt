@@ -5,8 +5,6 @@
 
 mod members;
 mod rows;
-#[cfg(test)]
-mod tests;
 
 pub use members::{has_each, members_between};
 pub use rows::{amounts, rows_of_amounts};

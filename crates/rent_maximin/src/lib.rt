@@ -7,6 +7,3 @@ mod prices;
 
 pub use division::{RentDivision, solve_rent};
 pub use laws::{division_range_law, one_rent_division_law};
-
-#[cfg(test)]
-mod tests;

@@ -3,8 +3,9 @@ pub mod Answered
 pub mod GoodsObjects
 pub mod KeyTexts
 pub mod Literals
-pub mod Payments
+pub mod OneText
 pub mod PlainTexts
 pub mod Ranges
 pub mod Routes
 pub mod Sealed
+pub mod TextsThere

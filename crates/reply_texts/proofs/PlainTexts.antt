@@ -1,5 +1,5 @@
 -- No reply has a float, so each has a text.
-use Rattle.std.proofs.Common.{◌≡◌, ℕ, ℤ, pos, negsuc, List, [], ◌∷◌, map, true, false, Option, None, Some, option_map, is_some, refl, ap, sym, ◌∙◌, true≢false}
+use Rattle.std.proofs.Common.{◌≡◌, ℕ, ℤ, pos, negsuc, List, [], ◌∷◌, map, false, Option, None, Some, option_map, is_some, refl, ap, sym, ◌∙◌, true≢false}
 use Rattle.serde_json.specs.Data.{Data}
 use Rattle.serde_json.specs.View.{items_of}
 use Rattle.serde_json.specs.Written.{has_float, items_have_float}
@@ -108,6 +108,8 @@ plain_service service.StoreFault = refl
 plain_service (service.StoreDamaged place) = refl
 plain_service (service.Void missing) = rw (plain_numbers missing.members.items) refl
 plain_service (service.StepLimit limit) = refl
+plain_service service.NoAudit = refl
+plain_service service.NotTwo = refl
 plain_service service.Memory = refl
 
 -- a value that was mapped

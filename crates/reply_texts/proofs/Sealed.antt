@@ -2,16 +2,16 @@
 use Rattle.std.proofs.Common.{◌≡◌, ℕ, max, Bool, true, false, not, ◌&&◌, ◌==◌, List, [], ◌∷◌, if◌then◌else◌, Option, None, Some, option_map, refl, ap, sym, subst, ◌∙◌, true≢false}
 use Rattle.std.proofs.lemmas.Bool.{cond_both, eqb-true, not-false}
 use Rattle.serde_json.specs.Written.{compact_text}
+use Rattle.bid_rules.specs.declared.bids.Bid.{Bid}
 use Rattle.sealed_core.specs.declared.commands.Ask.{Ask}
-use Rattle.sealed_core.specs.declared.commands.Ask.TheVariants as asks
 use Rattle.sealed_core.specs.declared.replies.Refusal.TheVariants as refusal
 use Rattle.sealed_core.specs.declared.replies.Reply.{Reply}
 use Rattle.sealed_core.specs.declared.replies.Reply.TheVariants as reply
 use Rattle.sealed_core.specs.Host.{EventView, HostView, InstanceView, Closed, instance_at, kept_bid, kept_turn}
-use Rattle.sealed_core.specs.Sealed.{Asked, Caller, PublicFacts, View, applied, caller_number, caller_with, heard, heard_of, host_after, is_closed, is_shut, next, own_bid, own_turn, public_of, same_caller, view, view_of, views}
+use Rattle.sealed_core.specs.Sealed.{Asked, Caller, View, applied, caller_number, caller_with, heard, heard_of, host_after, is_closed, is_shut, next, public_of, same_caller, view, view_of, views}
 use Rattle.sealed_core.specs.Step.{Answer, CommandView, Create, To, Standing, standing_of, refused, answer_ask, answer_caller, is_over, may_ask, answer_to, caller_by, caller_in, holder, step}
-use Rattle.reply_texts.specs.Replies.{of_own, of_reply, of_status, status_of}
-use Rattle.reply_texts.specs.Sealing.{ShowSame, Told, is_creation, told, told_all, told_in, told_of, value_in}
+use Rattle.reply_texts.specs.Replies.{of_created, of_own, of_reply, of_status, status_of, text_of}
+use Rattle.reply_texts.specs.Sealing.{IsSealedText, ShowSame, Told, own_of, sealed_told, told, told_all, told_in, told_of, value_in}
 use Rattle.reply_texts.proofs.After.{closed_at}
 use Rattle.reply_texts.proofs.Answered.{good_ask}
 
@@ -68,6 +68,14 @@ told_is h t id key ask open_ =
     let value = follows_instance h (max t h.moment) id key ask (instance_at h id) refl open_ in
     λ i. record { status = status_of (step h t (To id key ask)).reply; text = option_map compact_text (value i) }
 
+-- the text over the host after the event is that of the sealed reply, where what is told is
+pub sealed_text : (h : HostView)
+    → ((t id : ℕ) (key : Option (List ℕ)) (ask : Ask) → is_closed (host_after h t (To id key ask)) id ≡ false → told h t (To id key ask) ≡ sealed_told (view h id (caller_number h id key)) t id key ask)
+    → (a : Answer) (text : List ℕ) → text_of (applied h a.event) a.reply ≡ Some text → IsSealedText h a text
+sealed_text h law a text there t id key ask is =
+    subst (λ (b : Answer). text_of (applied h b.event) b.reply ≡ Some text → is_closed (applied h b.event) id ≡ false → sealed_told (view h id (caller_number h id key)) t id key ask ≡ record { status = status_of b.reply; text = Some text })
+    (sym is) (λ said open_. sym (law t id key ask open_) ∙ (λ i. record { status = status_of (step h t (To id key ask)).reply; text = said i })) there
+
 -- ---- runs
 
 -- what is told at a step, from the view and what is heard
@@ -118,27 +126,24 @@ told_run h id caller (a ∷ run) =
 
 -- ---- what texts show
 
--- an own bid, from turn and bid as they are seen
-own_shown : (h : HostView) (id m : ℕ) → of_reply h (reply.Own id m) ≡ option_map (λ (p : PublicFacts). of_own (own_turn (instance_at h id) (Some m)) (own_bid (instance_at h id) (Some m))) (option_map public_of (instance_at h id))
-own_shown h id m = by_found (instance_at h id)
-  where
-    by_found : (found : Option InstanceView) → option_map (λ (i : InstanceView). of_own (kept_turn i m) (kept_bid i m)) found ≡ option_map (λ (p : PublicFacts). of_own (own_turn found (Some m)) (own_bid found (Some m))) (option_map public_of found)
-    by_found None = refl
-    by_found (Some i) = refl
+-- an own bid, from turn and bid
+own_shown : (m : ℕ) (found : Option InstanceView) → option_map (λ (i : InstanceView). of_own (kept_turn i m) (kept_bid i m)) found ≡ option_map (λ (own : ℕ × Option Bid). of_own own.0 own.1) (option_map (own_of m) found)
+own_shown m None = refl
+own_shown m (Some i) = refl
 
--- hosts that show the same give one value of each reply but that to a creation
-value_shown : (g h : HostView) (r : Reply) → is_creation r ≡ false → ShowSame g h → of_reply g r ≡ of_reply h r
-value_shown g h (reply.Created id) none same = absurd (true≢false none)
-value_shown g h (reply.Status id you) none same = ap (option_map (of_status id you)) (same.public id)
-value_shown g h (reply.Kept turn) none same = refl
-value_shown g h (reply.Own id m) none same =
-    own_shown g id m
-    ∙ (λ i. option_map (λ (p : PublicFacts). of_own (same.turns id m i) (same.bids id m i)) (same.public id i))
-    ∙ sym (own_shown h id m)
-value_shown g h reply.Closed none same = refl
-value_shown g h (reply.Publish id what) none same = refl
-value_shown g h (reply.Refused r) none same = refl
+-- hosts that show the same in a reply give it one value
+value_shown : (g h : HostView) (r : Reply) → ShowSame g h r → of_reply g r ≡ of_reply h r
+value_shown g h (reply.Created id) same = λ i. option_map (of_created (same.0 i) id) (same.1 i)
+value_shown g h (reply.Status id you) same = ap (option_map (of_status id you)) same
+value_shown g h (reply.Kept turn) same = refl
+value_shown g h (reply.Own id m) same =
+    own_shown m (instance_at g id)
+    ∙ ap (option_map (λ (own : ℕ × Option Bid). of_own own.0 own.1)) same
+    ∙ sym (own_shown m (instance_at h id))
+value_shown g h reply.Closed same = refl
+value_shown g h (reply.Publish id what) same = refl
+value_shown g h (reply.Refused r) same = refl
 
 -- and one text
-pub text_shown : (g h : HostView) (r : Reply) → is_creation r ≡ false → ShowSame g h → option_map compact_text (of_reply g r) ≡ option_map compact_text (of_reply h r)
-text_shown g h r none same = ap (option_map compact_text) (value_shown g h r none same)
+pub text_shown : (g h : HostView) (r : Reply) → ShowSame g h r → option_map compact_text (of_reply g r) ≡ option_map compact_text (of_reply h r)
+text_shown g h r same = ap (option_map compact_text) (value_shown g h r same)

@@ -1,7 +1,9 @@
--- Refusals as replies: the HTTP status (RFC 9110, section 15) and the code of each, and the value that it names, if its row names one.
-use Rattle.std.specs.Prelude.{ℕ, List, codes}
+-- Refusals as replies: the HTTP status (RFC 9110, section 15) and the code of each, and the value that it names, if its row names one;
+-- of those that are not the host's, whether the connection closes, too.
+use Rattle.std.specs.Prelude.{ℕ, Bool, true, false, List, codes}
 use Rattle.serde_json.specs.Data.{Data, object, Members, member, no_members}
-use Rattle.sealed_core.specs.Fields.{field_text}
+use Rattle.serde_json.specs.Written.{compact_text}
+use Rattle.case_fields.specs.Fields.{field_text}
 use Rattle.sealed_core.specs.declared.replies.Refusal.{Refusal}
 use Rattle.sealed_core.specs.declared.replies.Refusal.TheVariants as refusal
 use Rattle.reply_texts.specs.Values.{list_by, of_number, of_text}
@@ -46,40 +48,44 @@ refusal_detail refusal.NoBid = no_members
 unfoldable pub of_refusal : Refusal → Data
 of_refusal r = object (member (codes "code") (of_text (refusal_row r).1) (refusal_detail r))
 
--- the status and the code of a refusal of the service
-abbrev pub service_row : ServiceRefusal → ℕ × List ℕ
-service_row service.BadHead = (400, codes "bad_head")
-service_row service.ClockFault = (503, codes "clock_fault")
-service_row service.BadHost = (400, codes "bad_host")
-service_row service.Framing = (501, codes "framing")
-service_row service.BadLength = (400, codes "bad_length")
-service_row service.LengthMissing = (411, codes "length_missing")
-service_row service.BodyTooLarge = (413, codes "body_too_large")
-service_row service.NoRoute = (404, codes "no_route")
-service_row service.Method = (405, codes "method")
-service_row service.StoreFault = (503, codes "store_fault")
-service_row (service.StoreDamaged place) = (503, codes "store_damaged")
-service_row (service.Void missing) = (409, codes "void")
-service_row (service.StepLimit limit) = (422, codes "step_limit")
-service_row service.Memory = (503, codes "memory")
+-- how a refusal of the service is told: its HTTP status, its code, what it names beside the code, and whether the connection closes after it
+pub record ServiceRow : Type 0 where
+  pub status : ℕ
+  pub code : List ℕ
+  pub detail : Members
+  pub closes : Bool
 
--- what it names beside its code: the limit, the members who lack a bid, or the place of the damage
-abbrev pub service_detail : ServiceRefusal → Members
-service_detail (service.StepLimit limit) = member (codes "limit") (of_number limit) no_members
-service_detail (service.Void missing) = member (codes "missing") (list_by of_number missing.members.items) no_members
-service_detail (service.StoreDamaged place) = member (codes "place") (of_number place) no_members
-service_detail service.BadHead = no_members
-service_detail service.ClockFault = no_members
-service_detail service.BadHost = no_members
-service_detail service.Framing = no_members
-service_detail service.BadLength = no_members
-service_detail service.LengthMissing = no_members
-service_detail service.BodyTooLarge = no_members
-service_detail service.NoRoute = no_members
-service_detail service.Method = no_members
-service_detail service.StoreFault = no_members
-service_detail service.Memory = no_members
+abbrev pub row : ℕ → List ℕ → Members → Bool → ServiceRow
+row status code detail closes = record { status = status; code = code; detail = detail; closes = closes }
+
+-- of each refusal of the service; the place of the damage, the members who lack a bid and the limit are named
+abbrev pub service_row : ServiceRefusal → ServiceRow
+service_row service.BadHead = row 400 (codes "bad_head") no_members true
+service_row service.ClockFault = row 503 (codes "clock_fault") no_members true
+service_row service.BadHost = row 400 (codes "bad_host") no_members true
+service_row service.Framing = row 501 (codes "framing") no_members true
+service_row service.BadLength = row 400 (codes "bad_length") no_members true
+service_row service.LengthMissing = row 411 (codes "length_missing") no_members true
+service_row service.BodyTooLarge = row 413 (codes "body_too_large") no_members true
+service_row service.NoRoute = row 404 (codes "no_route") no_members false
+service_row service.Method = row 405 (codes "method") no_members false
+service_row service.StoreFault = row 503 (codes "store_fault") no_members false
+service_row (service.StoreDamaged place) = row 503 (codes "store_damaged") (member (codes "place") (of_number place) no_members) false
+service_row service.NoAudit = row 409 (codes "no_audit") no_members false
+service_row (service.Void missing) = row 409 (codes "void") (member (codes "missing") (list_by of_number missing.members.items) no_members) false
+service_row (service.StepLimit limit) = row 422 (codes "step_limit") (member (codes "limit") (of_number limit) no_members) false
+service_row service.NotTwo = row 409 (codes "not_two") no_members false
+service_row service.Memory = row 503 (codes "memory") no_members true
 
 -- the value of the reply
 unfoldable pub of_service_refusal : ServiceRefusal → Data
-of_service_refusal r = object (member (codes "code") (of_text (service_row r).1) (service_detail r))
+of_service_refusal r = object (member (codes "code") (of_text (service_row r).code) (service_row r).detail)
+
+-- its text
+abbrev pub service_text : ServiceRefusal → List ℕ
+service_text r = compact_text (of_service_refusal r)
+
+-- nothing is named beside the code, so that the text is a constant
+abbrev pub is_code_alone : Members → Bool
+is_code_alone no_members = true
+is_code_alone (member key value rest) = false

@@ -1,12 +1,14 @@
 -- What a caller is told of an instance that isn't closed, written from what they may know of it; and what they are told in a run.
-use Rattle.std.specs.Prelude.{ℕ, Bool, true, false, ◌&&◌, ◌==◌, List, [], ◌∷◌, if◌then◌else◌, Option, None, Some, option_map, ◌≡◌}
+use Rattle.std.specs.Prelude.{ℕ, ◌&&◌, ◌==◌, false, List, [], ◌∷◌, length, if◌then◌else◌, Option, None, Some, option_map, ◌≡◌}
 use Rattle.serde_json.specs.Data.{Data}
 use Rattle.serde_json.specs.Written.{compact_text}
+use Rattle.bid_rules.specs.declared.bids.Bid.{Bid}
+use Rattle.sealed_core.specs.declared.commands.Ask.{Ask}
 use Rattle.sealed_core.specs.declared.replies.Reply.{Reply}
 use Rattle.sealed_core.specs.declared.replies.Reply.TheVariants as reply
-use Rattle.sealed_core.specs.Host.{HostView, instance_at}
-use Rattle.sealed_core.specs.Sealed.{Asked, Caller, View, caller_number, host_after, is_closed, next, own_bid, own_turn, public_of, same_caller}
-use Rattle.sealed_core.specs.Step.{CommandView, Create, To, step}
+use Rattle.sealed_core.specs.Host.{HostView, InstanceView, instance_at, kept_bid, kept_turn}
+use Rattle.sealed_core.specs.Sealed.{Asked, Caller, View, applied, caller_number, host_after, is_closed, next, public_of, same_caller, sealed_reply, view}
+use Rattle.sealed_core.specs.Step.{Answer, CommandView, Create, To, step}
 use Rattle.reply_texts.specs.Refusals.{of_refusal}
 use Rattle.reply_texts.specs.Replies.{of_closed, of_own, of_status, of_turn, status_of, text_of}
 
@@ -33,6 +35,16 @@ value_in v (reply.Refused r) = Some (of_refusal r)
 abbrev pub told_in : View → Reply → Told
 told_in v r = record { status = status_of r; text = option_map compact_text (value_in v r) }
 
+-- the status and the text of a sealed reply: what is told in reply to a command on an instance that isn't closed after it, from the view alone
+abbrev pub sealed_told : View → ℕ → ℕ → Option (List ℕ) → Ask → Told
+sealed_told v t id key ask = told_in v (sealed_reply v t id key ask)
+
+-- where this answers a command on an instance that isn't closed after it, its status and this text are those of the sealed reply
+abbrev pub IsSealedText : HostView → Answer → List ℕ → Type 0
+IsSealedText h a text =
+    (t id : ℕ) (key : Option (List ℕ)) (ask : Ask) → a ≡ step h t (To id key ask) → is_closed (applied h a.event) id ≡ false
+    → sealed_told (view h id (caller_number h id key)) t id key ask ≡ record { status = status_of a.reply; text = Some text }
+
 -- what a caller is told of an instance, step by step, up to and without the step at which it is closed: what is told in reply to their own
 -- command on it, else nothing
 abbrev pub told_of : HostView → ℕ → Caller → ℕ → CommandView → Option Told
@@ -43,19 +55,17 @@ abbrev pub told_all : HostView → ℕ → Caller → List Asked → List (Optio
 told_all h id caller [] = []
 told_all h id caller (a ∷ run) = if is_closed (next h a) id then [] else told_of h id caller a.moment a.command ∷ told_all (next h a) id caller run
 
--- a creation is answered
-abbrev pub is_creation : Reply → Bool
-is_creation (reply.Created id) = true
-is_creation (reply.Status id you) = false
-is_creation (reply.Kept turn) = false
-is_creation (reply.Own id m) = false
-is_creation reply.Closed = false
-is_creation (reply.Publish id what) = false
-is_creation (reply.Refused r) = false
+-- a member's own kept turn and bid
+abbrev pub own_of : ℕ → InstanceView → ℕ × Option Bid
+own_of m i = (kept_turn i m, kept_bid i m)
 
--- two hosts show the same: their instances have the same public facts, and each member the same kept turn and bid. Secrets and tags,
--- and so keys, take no part
-pub record ShowSame (g h : HostView) : Type 0 where
-  pub public : (id : ℕ) → option_map public_of (instance_at g id) ≡ option_map public_of (instance_at h id)
-  pub turns : (id m : ℕ) → own_turn (instance_at g id) (Some m) ≡ own_turn (instance_at h id) (Some m)
-  pub bids : (id m : ℕ) → own_bid (instance_at g id) (Some m) ≡ own_bid (instance_at h id) (Some m)
+-- Two hosts show the same in a reply: of a creation the secret and the number of members, of a status the public facts, of an own bid the
+-- member's own turn and bid, and of any other reply nothing. So keys show in a creation alone, and a tag in none.
+abbrev pub ShowSame : HostView → HostView → Reply → Type 0
+ShowSame g h (reply.Created id) = (g.secret ≡ h.secret) × (option_map (λ i. length i.creation.members) (instance_at g id) ≡ option_map (λ i. length i.creation.members) (instance_at h id))
+ShowSame g h (reply.Status id you) = option_map public_of (instance_at g id) ≡ option_map public_of (instance_at h id)
+ShowSame g h (reply.Kept turn) = Unit {0}
+ShowSame g h (reply.Own id m) = option_map (own_of m) (instance_at g id) ≡ option_map (own_of m) (instance_at h id)
+ShowSame g h reply.Closed = Unit {0}
+ShowSame g h (reply.Publish id what) = Unit {0}
+ShowSame g h (reply.Refused r) = Unit {0}

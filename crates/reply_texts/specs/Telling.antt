@@ -56,5 +56,5 @@ Tells h e (reply.Status id you) = IsSome (instance_at h id) × IsCloseOf e id
 Tells h e (reply.Kept turn) = Unit {0}
 Tells h e (reply.Own id m) = (1 ≤ m) × IsSomeAnd (instance_at h id) (λ i. m ≤ length i.creation.members) × IsCloseOf e id
 Tells h e reply.Closed = Unit {0}
-Tells h e (reply.Publish id what) = ⊥
+Tells h e (reply.Publish id what) = IsSome (instance_at h id) × IsCloseOf e id
 Tells h e (reply.Refused r) = Unit {0}

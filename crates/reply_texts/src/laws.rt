@@ -1,15 +1,21 @@
 // What holds of all replies: the contracts of functions that do nothing.
-ghost use Rattle.std.specs.Prelude.{◌≡◌, ℕ, List, Option, Some, false};
+ghost use Rattle.std.specs.Prelude.{◌≡◌, ℕ, List, Option, IsSome, false};
+ghost use Rattle.bid_rules.specs.Facts.{IsValidCase};
+ghost use Rattle.bid_rules.specs.declared.cases.Case.{Case};
+ghost use Rattle.divisions.specs.Division.{IsDivisionOf};
+ghost use Rattle.divisions.specs.declared.division.Division.{Division};
 ghost use Rattle.sealed_core.specs.declared.commands.Ask.{Ask};
 ghost use Rattle.sealed_core.specs.declared.replies.Reply.{Reply};
 ghost use Rattle.sealed_core.specs.Host.{HostView};
-ghost use Rattle.sealed_core.specs.Sealed.{Asked, Caller, RunAlike, applied, caller_number, empty, host_after, is_closed, sealed_reply, view};
+ghost use Rattle.sealed_core.specs.Sealed.{Asked, Caller, RunAlike, caller_number, empty, host_after, is_closed, view};
 ghost use Rattle.sealed_core.specs.Step.{CommandView, To, step};
+ghost use Rattle.reply_texts.specs.Divisions.{IsDivisionText};
 ghost use Rattle.reply_texts.specs.Replies.{text_of};
-ghost use Rattle.reply_texts.specs.Sealing.{ShowSame, is_creation, told, told_all, told_in};
+ghost use Rattle.reply_texts.specs.Sealing.{ShowSame, sealed_told, told, told_all};
 ghost use Rattle.reply_texts.specs.Telling.{Tells, is_publication};
 
-use sealed_core::sealing_law;
+use divisions::division_law;
+use sealed_core::{publication_law, sealing_law};
 
 /// Bids are sealed in what is sent, too: where an instance isn't closed after a command on it, the HTTP status and the text of the reply are
 /// written from what the caller may know of it, the command and the moment. So at two hosts one command from callers with equal views gets
@@ -17,7 +23,7 @@ use sealed_core::sealing_law;
 /// instance is closed.
 pub fn text_sealing_law()
     ensures from_view { (h : HostView) (t id : ℕ) (key : Option (List ℕ)) (ask : Ask) → is_closed (host_after h t (To id key ask)) id ≡ false
-        → told h t (To id key ask) ≡ told_in (view h id (caller_number h id key)) (sealed_reply (view h id (caller_number h id key)) t id key ask) }
+        → told h t (To id key ask) ≡ sealed_told (view h id (caller_number h id key)) t id key ask }
     ensures one_step { (g h : HostView) (t id : ℕ) (key : Option (List ℕ)) (ask : Ask) → view g id (caller_number g id key) ≡ view h id (caller_number h id key)
         → is_closed (host_after g t (To id key ask)) id ≡ false
         → told g t (To id key ask) ≡ told h t (To id key ask) }
@@ -27,13 +33,27 @@ pub fn text_sealing_law()
     sealing_law();
 }
 
-/// No text but that of a creation shows a key or a tag: it is the same over any two hosts with the same public facts, turns and bids,
-/// whatever their secrets and tags.
+/// The text of a reply is written from the reply and, of the host, from no more than it names. A status shows the public facts, so it is
+/// the same whatever turns and bids members have kept, where the same members have a bid; an own bid shows that member's turn and bid
+/// alone; a creation shows the keys that the secret gives. No other text shows anything of the host, so none but that of a creation
+/// shows a key, and none shows a tag.
 pub fn shown_law()
-    ensures { (g h : HostView) (r : Reply) → is_creation r ≡ false → ShowSame g h → text_of g r ≡ text_of h r }
+    ensures { (g h : HostView) (r : Reply) → ShowSame g h r → text_of g r ≡ text_of h r }
 {}
 
-/// What the reply of a step names is there, unless the reply is a publication: so it has a text over the host after the event.
+/// What the reply of a step names is there before the event, but for a new instance. So each reply has a text over the host after the
+/// event, but a publication, whose text is made of a division.
 pub fn telling_law()
-    ensures { (h : HostView) (t : ℕ) (command : CommandView) → is_publication (step h t command).reply ≡ false → Tells h (step h t command).event (step h t command).reply }
-{}
+    ensures tells { (h : HostView) (t : ℕ) (command : CommandView) → Tells h (step h t command).event (step h t command).reply }
+    ensures text { (h : HostView) (t : ℕ) (command : CommandView) → is_publication (step h t command).reply ≡ false → IsSome (text_of (host_after h t command) (step h t command).reply) }
+{
+    publication_law();
+}
+
+/// A case has one text of its division.
+pub fn division_text_law()
+    ensures { (case : Case) (division other : Division) (text others : List ℕ) → IsValidCase case → IsDivisionOf case division → IsDivisionOf case other
+        → IsDivisionText case division text → IsDivisionText case other others → text ≡ others }
+{
+    division_law();
+}

@@ -1,9 +1,8 @@
 // What refusals say: those of the host, and those of the service around it.
-ghost use Rattle.std.specs.Prelude.{◌≡◌, codes, IfOk, false};
+ghost use Rattle.std.specs.Prelude.{◌≡◌, ◌↔◌, codes, IfOk, IfSome, IsSome, true};
 ghost use Rattle.serde_json.specs.Data.{object, member, no_members};
 ghost use Rattle.serde_json.specs.View.{view};
-ghost use Rattle.serde_json.specs.Written.{compact_text};
-ghost use Rattle.reply_texts.specs.Refusals.{of_refusal, of_service_refusal, refusal_row, service_row};
+ghost use Rattle.reply_texts.specs.Refusals.{is_code_alone, of_refusal, of_service_refusal, refusal_row, service_row, service_text};
 ghost use Rattle.reply_texts.specs.Values.{list_by, of_number, of_text};
 
 use crate::values::{numbers, written};
@@ -13,8 +12,9 @@ use serde_json::{Value, json};
 use split_base::NoMemory;
 use std::alloc::{AllocError, Global};
 
-/// Why the service around a host refuses a request, where the host itself doesn't. Of several causes of the heads and routes the first is
-/// told, in the order `BadHead` to `Method`.
+/// Why the service around a host refuses a request, where the host itself doesn't. Of several causes the first is told, in this order; what
+/// the host refuses is tested between `StoreDamaged` and `NoAudit`. `StoreFault` comes where the store is opened, its place here, and last of
+/// all where an event is kept. `Memory` may come at any point.
 #[derive(Debug, Drop, PartialEq, Eq)]
 pub enum ServiceRefusal {
     /// The bytes are no head of a request.
@@ -39,10 +39,14 @@ pub enum ServiceRefusal {
     StoreFault,
     /// The file is no journal at this place, in bytes from 0.
     StoreDamaged { place: u64 },
+    /// The audit of an instance of a kind that has none.
+    NoAudit,
     /// Bids are missing: there is nothing to divide. With the members who lack one.
     Void { missing: Missing },
     /// The search would take more steps than the case allows. With its limit.
     StepLimit { limit: u32 },
+    /// The winner of an instance that isn't one of goods with two players.
+    NotTwo,
     /// Memory ran out.
     Memory,
 }
@@ -50,7 +54,7 @@ pub enum ServiceRefusal {
 impl ServiceRefusal {
     /// The HTTP status of the reply.
     pub fn status(&self) -> u16
-        ensures { result ≡ (service_row self.now).0 }
+        ensures { result ≡ (service_row self.now).status }
     {
         match self {
             ServiceRefusal::BadHead => 400,
@@ -64,15 +68,17 @@ impl ServiceRefusal {
             ServiceRefusal::Method => 405,
             ServiceRefusal::StoreFault => 503,
             ServiceRefusal::StoreDamaged { .. } => 503,
+            ServiceRefusal::NoAudit => 409,
             ServiceRefusal::Void { .. } => 409,
             ServiceRefusal::StepLimit { .. } => 422,
+            ServiceRefusal::NotTwo => 409,
             ServiceRefusal::Memory => 503,
         }
     }
 
     /// The code that the reply names.
     pub fn code(&self) -> &'static str
-        ensures { result.now ≡ (service_row self.now).1 }
+        ensures { result.now ≡ (service_row self.now).code }
     {
         match self {
             ServiceRefusal::BadHead => "bad_head",
@@ -86,9 +92,29 @@ impl ServiceRefusal {
             ServiceRefusal::Method => "method",
             ServiceRefusal::StoreFault => "store_fault",
             ServiceRefusal::StoreDamaged { .. } => "store_damaged",
+            ServiceRefusal::NoAudit => "no_audit",
             ServiceRefusal::Void { .. } => "void",
             ServiceRefusal::StepLimit { .. } => "step_limit",
+            ServiceRefusal::NotTwo => "not_two",
             ServiceRefusal::Memory => "memory",
+        }
+    }
+
+    /// Whether the connection closes after the reply, whatever the request says: after each refusal of a head, a clock fault and want of
+    /// memory.
+    pub fn closes(&self) -> bool
+        ensures { result ≡ (service_row self.now).closes }
+    {
+        match self {
+            ServiceRefusal::BadHead
+            | ServiceRefusal::ClockFault
+            | ServiceRefusal::BadHost
+            | ServiceRefusal::Framing
+            | ServiceRefusal::BadLength
+            | ServiceRefusal::LengthMissing
+            | ServiceRefusal::BodyTooLarge
+            | ServiceRefusal::Memory => true,
+            _ => false,
         }
     }
 }
@@ -199,8 +225,8 @@ fn service_refusal_value(alloc: Global, refusal: &ServiceRefusal) -> Result<Valu
     }
 }
 
-fn service_text(alloc: Global, refusal: &ServiceRefusal) -> Result<Vec<u8>, AllocError>
-    ensures { IfOk result (λ text. text.items ≡ compact_text (of_service_refusal refusal.now)) }
+fn written_refusal(alloc: Global, refusal: &ServiceRefusal) -> Result<Vec<u8>, AllocError>
+    ensures { IfOk result (λ text. text.items ≡ service_text refusal.now) }
 {
     let value = service_refusal_value(alloc, refusal)?;
     written(alloc, &value)
@@ -208,17 +234,44 @@ fn service_text(alloc: Global, refusal: &ServiceRefusal) -> Result<Vec<u8>, Allo
 
 /// The text of a refusal of the service. `NoMemory` where memory ran out.
 pub fn service_refusal_text(alloc: Global, refusal: &ServiceRefusal) -> Result<Vec<u8>, NoMemory>
-    ensures { IfOk result (λ text. text.items ≡ compact_text (of_service_refusal refusal.now)) }
+    ensures { IfOk result (λ text. text.items ≡ service_text refusal.now) }
 {
-    match service_text(alloc, refusal) {
+    match written_refusal(alloc, refusal) {
         Ok(text) => Ok(text),
         Err(_) => Err(NoMemory),
     }
 }
 
+/// The text of a refusal that names nothing beside its code, or `None` for one that does. It takes no memory, so that such a refusal can be
+/// told where there is none.
+pub fn constant_text(refusal: &ServiceRefusal) -> Option<&'static [u8]>
+    ensures there { IsSome result ↔ (is_code_alone (service_row refusal.now).detail ≡ true) }
+    ensures text { IfSome result (λ text. text.now ≡ service_text refusal.now) }
+{
+    let text: &'static [u8] = match refusal {
+        ServiceRefusal::BadHead => b"{\"code\":\"bad_head\"}",
+        ServiceRefusal::ClockFault => b"{\"code\":\"clock_fault\"}",
+        ServiceRefusal::BadHost => b"{\"code\":\"bad_host\"}",
+        ServiceRefusal::Framing => b"{\"code\":\"framing\"}",
+        ServiceRefusal::BadLength => b"{\"code\":\"bad_length\"}",
+        ServiceRefusal::LengthMissing => b"{\"code\":\"length_missing\"}",
+        ServiceRefusal::BodyTooLarge => b"{\"code\":\"body_too_large\"}",
+        ServiceRefusal::NoRoute => b"{\"code\":\"no_route\"}",
+        ServiceRefusal::Method => b"{\"code\":\"method\"}",
+        ServiceRefusal::StoreFault => b"{\"code\":\"store_fault\"}",
+        ServiceRefusal::NoAudit => b"{\"code\":\"no_audit\"}",
+        ServiceRefusal::NotTwo => b"{\"code\":\"not_two\"}",
+        ServiceRefusal::Memory => b"{\"code\":\"memory\"}",
+        ServiceRefusal::StoreDamaged { .. }
+        | ServiceRefusal::Void { .. }
+        | ServiceRefusal::StepLimit { .. } => return None,
+    };
+    Some(text)
+}
+
 /// The text of the reply where memory ran out. It takes no memory.
 pub fn memory_text() -> &'static [u8]
-    ensures { result.now ≡ compact_text (of_service_refusal ServiceRefusal.Memory) }
+    ensures { result.now ≡ service_text ServiceRefusal.Memory }
 {
     b"{\"code\":\"memory\"}"
 }

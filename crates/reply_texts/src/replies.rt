@@ -8,9 +8,11 @@ ghost use Rattle.sealed_core.specs.Keys.{key_text};
 ghost use Rattle.sealed_core.specs.Sealed.{applied};
 ghost use Rattle.sealed_core.specs.Step.{answer_view};
 ghost use Rattle.reply_texts.specs.Replies.{of_closed, of_created, of_own, of_place, of_reply, of_turn, of_values, status_of, text_of};
+ghost use Rattle.reply_texts.specs.Sealing.{IsSealedText};
 ghost use Rattle.reply_texts.specs.Telling.{IsAnswered, IsCloseOf, IsCreationOf, Tells, is_close, is_publication};
 ghost use Rattle.reply_texts.specs.Values.{list_by, of_text};
 
+use crate::laws::text_sealing_law;
 use crate::refusals::{refusal_status, refusal_value};
 use crate::statuses::status_value;
 use crate::values::{amounts, written};
@@ -207,7 +209,8 @@ fn value_after(
     event: &Option<Event>,
     reply: Reply,
 ) -> Result<Value, AllocError>
-    requires { Tells host.now.content (option_map event_view event.now) reply }
+    requires tells { Tells host.now.content (option_map event_view event.now) reply }
+    requires reply { is_publication reply ≡ false }
     ensures { IfOk result (λ v. of_reply (applied host.now.content (option_map event_view event.now)) reply ≡ Some (view v)) }
 {
     match reply {
@@ -222,7 +225,8 @@ fn value_after(
 }
 
 fn text_after(alloc: Global, host: &Host, answered: &Answered) -> Result<Vec<u8>, AllocError>
-    requires { Tells host.now.content (option_map event_view answered.now.event) answered.now.reply }
+    requires tells { Tells host.now.content (option_map event_view answered.now.event) answered.now.reply }
+    requires reply { is_publication answered.now.reply ≡ false }
     ensures { IfOk result (λ text. text_of (applied host.now.content (option_map event_view answered.now.event)) answered.now.reply ≡ Some text.items) }
 {
     let value = value_after(alloc, host, &answered.event, answered.reply)?;
@@ -231,12 +235,15 @@ fn text_after(alloc: Global, host: &Host, answered: &Answered) -> Result<Vec<u8>
 
 /// The text of what a host answered to a command, unless the answer is a publication: over the host after the event, which isn't applied.
 ///
-/// The host is the one before the event. `NoMemory` where memory ran out.
+/// The host is the one before the event. Where the instance that was asked isn't closed after the event, the status and the text are those
+/// of the sealed reply, written from what the caller may know of it. `NoMemory` where memory ran out.
 pub fn reply_text(alloc: Global, host: &Host, answered: &Answered) -> Result<Vec<u8>, NoMemory>
     requires answered { IsAnswered host.now.content (answer_view answered.now) }
     requires reply { is_publication answered.now.reply ≡ false }
-    ensures { IfOk result (λ text. text_of (applied host.now.content (answer_view answered.now).event) answered.now.reply ≡ Some text.items) }
+    ensures text { IfOk result (λ text. text_of (applied host.now.content (answer_view answered.now).event) answered.now.reply ≡ Some text.items) }
+    ensures sealed { IfOk result (λ text. IsSealedText host.now.content (answer_view answered.now) text.items) }
 {
+    text_sealing_law();
     match text_after(alloc, host, answered) {
         Ok(text) => Ok(text),
         Err(_) => Err(NoMemory),

@@ -10,6 +10,3 @@ mod walks;
 pub use keys::key_at;
 pub use rooms::{Rooms, best_rooms, value_walks};
 pub use walks::{Matrix, Walks, longest_walks};
-
-#[cfg(test)]
-mod tests;

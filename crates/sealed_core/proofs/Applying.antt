@@ -36,7 +36,7 @@ pub sound_found : (h : HostView) (id : ℕ) (i : InstanceView) → AreCheckedIns
 sound_found h id i sound is = found_if (id == 0) h.instances (id - 1) i is sound.each
 
 -- what holds of a value holds of the option that has it
-at_least : {A : Type 0} (o : Option A) (x : A) (P : A → Type 0) → o ≡ Some x → P x → IsSomeAnd o P
+pub at_least : {A : Type 0} (o : Option A) (x : A) (P : A → Type 0) → o ≡ Some x → P x → IsSomeAnd o P
 at_least o x P is p = subst (λ (q : Option _). IsSomeAnd q P) (sym is) p
 
 -- a kept turn is at most the greatest, past the list too

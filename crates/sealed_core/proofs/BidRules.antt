@@ -4,7 +4,7 @@ use Rattle.bid_rules.specs.declared.bids.Bid.{Bid}
 use Rattle.bid_rules.specs.declared.bids.Facts.{Facts}
 use Rattle.bid_rules.specs.Decisions.{Decision, holds, fails, is_checked_bid, where_holds}
 use Rattle.bid_rules.specs.Facts.{IsCheckedBid}
-use Rattle.sealed_core.specs.Rules.{allowed_bid}
+use Rattle.case_fields.specs.Rules.{allowed_bid}
 
 -- what holds of a bid that is checked, and of none where it isn't, holds of what is allowed
 pub by_rules : (facts : Facts) (bid : Bid) (G : Option Bid → Type 0) → (IsCheckedBid facts bid → G (Some bid)) → ((IsCheckedBid facts bid → ⊥) → G None) → G (allowed_bid facts bid)

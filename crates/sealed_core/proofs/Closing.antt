@@ -6,8 +6,8 @@ use Rattle.bid_rules.specs.declared.bids.Bid.{Bid}
 use Rattle.sealed_core.specs.declared.limits.TheConstants.{MOST_TURNS}
 use Rattle.sealed_core.specs.declared.commands.Ask.{Ask}
 use Rattle.sealed_core.specs.declared.commands.Ask.TheVariants as asks
-use Rattle.sealed_core.specs.declared.commands.BidBody.{BidBody}
-use Rattle.sealed_core.specs.declared.fields.BodyFault.TheVariants.{Json, Field}
+use Rattle.case_fields.specs.declared.bodies.BidBody.{BidBody}
+use Rattle.case_fields.specs.declared.fields.BodyFault.TheVariants.{Json, Field}
 use Rattle.sealed_core.specs.declared.replies.Refusal.TheVariants as refusal
 use Rattle.sealed_core.specs.declared.replies.Reply.TheVariants as reply
 use Rattle.sealed_core.specs.Host.{InstanceView, HostView, EventView, BidKept, Closed, Withdrawn, instance_at, changed, with_turn}

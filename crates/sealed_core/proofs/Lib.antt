@@ -1,3 +1,4 @@
+pub mod AnswerCases
 pub mod Applying
 pub mod BidRules
 pub mod Bidders
@@ -8,6 +9,8 @@ pub mod Holders
 pub mod KeyDigits
 pub mod Machine
 pub mod Mapped
+pub mod Origin
+pub mod Publishing
 pub mod Quiet
 pub mod Refusals
 pub mod Runs

@@ -8,7 +8,7 @@ use Rattle.sealed_core.specs.declared.commands.Ask.{Ask}
 use Rattle.sealed_core.specs.declared.replies.Refusal.TheVariants as refusal
 use Rattle.sealed_core.proofs.Sealing.{get_changed}
 use Rattle.sealed_core.specs.declared.commands.Ask.TheVariants as asks
-use Rattle.sealed_core.specs.declared.commands.BidBody.{BidBody}
+use Rattle.case_fields.specs.declared.bodies.BidBody.{BidBody}
 use Rattle.sealed_core.specs.declared.replies.Reply.TheVariants as reply
 use Rattle.sealed_core.specs.Sameness.{is_kept}
 use Rattle.std.proofs.lemmas.Bool.{and_left, and_right, eq-eqb, lt-leb, ne_eqb}
@@ -69,6 +69,11 @@ pub last_run : (h : HostView) (run : List Asked) → last h run ≡ apply_all h 
 last_run h [] = refl
 last_run h (a ∷ run) = last_run (next h a) run ∙ last_more h (step h a.moment a.command).event (kept (next h a) run)
 
+-- the host of events and one more
+pub one_more : (h : HostView) (events : List EventView) (e : EventView) → apply_all h (events ++ e ∷ []) ≡ apply (apply_all h events) e
+one_more h [] e = refl
+one_more h (first ∷ events) e = one_more (apply h first) events e
+
 -- the empty host is sound
 pub nobody : (secret : List ℕ) → AreCheckedInstances (empty secret).instances
 nobody secret = record { each = λ k d there. absurd (omega (arith, there)); few = omega arith }
@@ -113,6 +118,10 @@ closed_there : (none : Bool) (instances : List InstanceView) (p : ℕ) (i : Inst
     → (if none then None else slice_get (changed as_closed instances p) p) ≡ Some (as_closed i)
 closed_there true instances p i is = absurd (true≢false (sym (ap is_some is)))
 closed_there false instances p i is = get_changed as_closed instances p ∙ ap (option_map as_closed) is
+
+-- the instance after its Close is the same one, closed
+pub closing : (h : HostView) (now id : ℕ) (i : InstanceView) → instance_at h id ≡ Some i → instance_at (apply h (Closed now id)) id ≡ Some (as_closed i)
+closing h now id i there = closed_there (id == 0) h.instances (id - 1) i there
 
 -- who is answered where the instance and the key's holder are known
 found_caller : (h : HostView) (now id m : ℕ) (i : InstanceView) (key : List ℕ) (ask : Ask) → instance_at h id ≡ Some i → holder h.secret id i key ≡ Some m

@@ -1,24 +1,13 @@
 -- A host as contracts see it: texts are lists of bytes. What events may come, and what they do.
 use Rattle.std.specs.Prelude.{◌≡◌, ◌≢◌, ℕ, zero, suc, ◌+◌, ◌-◌, ◌<◌, ◌≤◌, ◌⊎◌, ◌==◌, Bool, true, false, List, [], ◌∷◌, ◌++◌, map, length, replicate, set, All, Option, Some, None, IfSome, IsSome, IsSomeAnd, slice_get, slice_index, slice_index_or, if◌then◌else◌}
-use Rattle.arrayvec.specs.ArrayString.{ArrayString}
 use Rattle.bid_rules.specs.declared.bids.Bid.{Bid}
-use Rattle.bid_rules.specs.declared.bids.Facts.{Facts}
-use Rattle.bid_rules.specs.declared.bids.Facts.TheVariants as facts
-use Rattle.bid_rules.specs.Facts.{IsCheckedBid, IsCheckedFacts, member_count}
-use Rattle.sealed_core.specs.declared.limits.TheConstants.{LAST_DEADLINE, MOST_INSTANCES, MOST_TURNS}
-pub use Rattle.sealed_core.specs.Rules.{IsName, IsTag}
-use Rattle.sealed_core.specs.declared.creations.Creation.{Creation}
+use Rattle.bid_rules.specs.Facts.{IsCheckedBid}
+use Rattle.sealed_core.specs.declared.limits.TheConstants.{MOST_INSTANCES, MOST_TURNS}
+pub use Rattle.case_fields.specs.Creations.{CreationView, IsCheckedCreation, creation_view, item_count, text}
+pub use Rattle.case_fields.specs.Rules.{IsName, IsTag}
 use Rattle.sealed_core.specs.declared.host.Instance.{Instance}
 use Rattle.sealed_core.specs.declared.events.Event.{Event}
 use Rattle.sealed_core.specs.declared.events.Event.TheVariants as event
-
-pub record CreationView : Type 0 where
-  pub title : List ℕ
-  pub members : List (List ℕ)
-  pub items : List (List ℕ)
-  pub facts : Facts
-  pub deadline : ℕ
-  pub tag : List ℕ
 
 -- an instance: by member the kept turn, 0 at first, and the kept bid or none
 pub record InstanceView : Type 0 where
@@ -44,12 +33,6 @@ pub data EventView : Type 0 where
   Closed : (moment id : ℕ) → EventView
   Withdrawn : (moment id member turn : ℕ) → EventView
 
-abbrev pub text : ArrayString → List ℕ
-text s = s.bytes
-
-abbrev pub creation_view : Creation → CreationView
-creation_view c = record { title = text c.title; members = map text c.members.items; items = map text c.items.items; facts = c.facts; deadline = c.deadline; tag = text c.tag }
-
 abbrev pub instance_view : Instance → InstanceView
 instance_view i = record { creation = creation_view i.creation; turns = i.turns.items; bids = i.bids.items; closed = i.closed }
 
@@ -58,23 +41,6 @@ event_view (event.Create moment creation) = Created moment (creation_view creati
 event_view (event.Bid moment id member turn bid) = BidKept moment id member turn bid
 event_view (event.Close moment id) = Closed moment id
 event_view (event.Withdraw moment id member turn) = Withdrawn moment id member turn
-
--- how many rooms, goods or places the facts name
-abbrev pub item_count : Facts → ℕ
-item_count (facts.Rent rent) = rent.members
-item_count (facts.Goods goods) = goods.goods
-item_count (facts.Fares fares) = fares.places
-
--- a creation whose facts are checked, with the counts of its lists, and whose fields keep their rules
-pub record IsCheckedCreation (c : CreationView) : Type 0 where
-  pub facts : IsCheckedFacts c.facts
-  pub member_names : length c.members ≡ member_count c.facts
-  pub item_names : length c.items ≡ item_count c.facts
-  pub title : IsName c.title
-  pub members : All IsName c.members
-  pub items : All IsName c.items
-  pub tag : IsTag c.tag
-  pub deadline : c.deadline ≤ LAST_DEADLINE
 
 -- what holds of each instance of a host
 pub record IsCheckedInstance (i : InstanceView) : Type 0 where

@@ -1,8 +1,7 @@
 pub mod Causes
-pub mod Fields
 pub mod Host
 pub mod Keys
-pub mod Rules
+pub mod Origins
 pub mod Runs
 pub mod Sameness
 pub mod Sealed

@@ -1,5 +1,5 @@
 -- What a caller may learn of an instance before it is closed, the reply that follows from that alone, and the law over runs.
-use Rattle.std.specs.Prelude.{◌≡◌, ◌≢◌, ℕ, max, Bool, true, false, not, List, [], ◌∷◌, map, if◌then◌else◌, is_some, Option, None, Some, ◌⊎◌, ◌&&◌, ◌==◌}
+use Rattle.std.specs.Prelude.{◌≡◌, ◌≢◌, ℕ, max, Bool, true, false, not, List, [], ◌∷◌, map, if◌then◌else◌, is_some, Option, None, Some, IsSomeAnd, ◌⊎◌, ◌&&◌, ◌==◌}
 use Rattle.std.specs.Option.{option_map}
 use Rattle.bid_rules.specs.declared.bids.Bid.{Bid}
 use Rattle.bid_rules.specs.declared.bids.Facts.{Facts}
@@ -7,8 +7,8 @@ use Rattle.sealed_core.specs.declared.commands.Ask.{Ask}
 use Rattle.sealed_core.specs.declared.replies.Refusal.TheVariants as refusal
 use Rattle.sealed_core.specs.declared.replies.Reply.{Reply}
 use Rattle.sealed_core.specs.declared.replies.Reply.TheVariants as reply
-use Rattle.sealed_core.specs.Host.{InstanceView, HostView, EventView, BidKept, instance_at, kept_turn, kept_bid, apply, Created, Closed, Withdrawn}
-use Rattle.sealed_core.specs.Step.{Answer, CommandView, Create, To, Standing, holder, may_ask, answer_ask, step}
+use Rattle.sealed_core.specs.Host.{InstanceView, HostView, EventView, BidKept, instance_at, kept_turn, kept_bid, apply, Closed}
+use Rattle.sealed_core.specs.Step.{Answer, CommandView, Create, To, Standing, holder, is_over, may_ask, answer_ask, step}
 
 -- what everyone may know of an instance: its creation without the tag, whether it is closed, and which members have a bid
 pub record PublicFacts : Type 0 where
@@ -127,17 +127,14 @@ is_refused reply.Closed = false
 is_refused (reply.Publish id what) = false
 is_refused (reply.Refused r) = true
 
--- the event is another than a close
-abbrev pub changes : Option EventView → Bool
-changes None = false
-changes (Some (Created now c)) = true
-changes (Some (BidKept now id m turn given)) = true
-changes (Some (Closed now id)) = false
-changes (Some (Withdrawn now id m turn)) = true
+-- the event is none, or the close, at the moment of the step, of the instance that is asked, which is open past its deadline
+abbrev pub IsLateClose : HostView → ℕ → CommandView → Option EventView → Type 0
+IsLateClose h t (Create body) e = e ≡ None
+IsLateClose h t (To id key ask) e = (e ≡ None) ⊎ ((e ≡ Some (Closed (max t h.moment) id)) × IsSomeAnd (instance_at h id) (λ i. is_over (max t h.moment) i ≡ true))
 
--- a refusal has no event but a close
-abbrev pub IsQuiet : Answer → Type 0
-IsQuiet a = (is_refused a.reply && changes a.event) ≡ false
+-- a refusal has no event but such a close
+abbrev pub IsQuiet : HostView → ℕ → CommandView → Answer → Type 0
+IsQuiet h t command a = is_refused a.reply ≡ true → IsLateClose h t command a.event
 
 -- a step of a run: a moment and a command
 pub record Asked : Type 0 where

@@ -10,22 +10,22 @@ use Rattle.sealed_core.specs.declared.limits.TheConstants.{MOST_INSTANCES, MOST_
 use Rattle.sealed_core.specs.declared.replies.Answered.{Answered}
 use Rattle.sealed_core.specs.declared.commands.Ask.{Ask}
 use Rattle.sealed_core.specs.declared.commands.Ask.TheVariants as asks
-use Rattle.sealed_core.specs.declared.commands.BidBody.{BidBody}
-use Rattle.sealed_core.specs.declared.fields.BodyFault.{BodyFault}
-use Rattle.sealed_core.specs.declared.fields.BodyFault.TheVariants.{Json, Field}
+use Rattle.case_fields.specs.declared.bodies.BidBody.{BidBody}
+use Rattle.case_fields.specs.declared.fields.BodyFault.{BodyFault}
+use Rattle.case_fields.specs.declared.fields.BodyFault.TheVariants.{Json, Field}
 use Rattle.sealed_core.specs.declared.commands.Command.{Command}
 use Rattle.sealed_core.specs.declared.commands.Command.TheVariants as command
-use Rattle.sealed_core.specs.declared.fields.FieldName.{FieldName}
-use Rattle.sealed_core.specs.declared.fields.FieldName.TheVariants as field
+use Rattle.case_fields.specs.declared.fields.FieldName.{FieldName}
+use Rattle.case_fields.specs.declared.fields.FieldName.TheVariants as field
 use Rattle.sealed_core.specs.declared.replies.Refusal.{Refusal}
 use Rattle.sealed_core.specs.declared.replies.Refusal.TheVariants as refusal
 use Rattle.sealed_core.specs.declared.replies.Reply.{Reply}
 use Rattle.sealed_core.specs.declared.replies.Reply.TheVariants as reply
-use Rattle.sealed_core.specs.declared.creations.Creation.{Creation}
+use Rattle.case_fields.specs.declared.creations.Creation.{Creation}
 use Rattle.sealed_core.specs.Host.{IsCheckedCreation, CreationView, InstanceView, HostView, EventView, Created, BidKept, Closed, Withdrawn, creation_view, event_view, instance_at, kept_turn, kept_bid}
 use Rattle.sealed_core.specs.Keys.{first_holder}
 use Rattle.sealed_core.specs.Sameness.{same_creation, same_text, is_kept}
-use Rattle.sealed_core.specs.Rules.{allowed_bid}
+use Rattle.case_fields.specs.Rules.{allowed_bid}
 
 -- a command creates an instance, or asks one with this id, under a key or none
 pub data CommandView : Type 0 where

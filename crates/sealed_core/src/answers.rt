@@ -10,12 +10,9 @@ use crate::commands::Ask;
 use crate::equals::{is_kept, same_creation};
 use crate::limits::{MOST_INSTANCES, MOST_TURNS};
 use crate::lookups::{all_bid, bid_of, caller, is_over, tagged, turn_of};
-use crate::rules::allowed_bid;
-use crate::{
-    Answered, BidBody, BodyFault, Command, Creation, Event, FieldName, Host, Instance, Key,
-    Refusal, Reply,
-};
+use crate::{Answered, Command, Event, Host, Instance, Key, Refusal, Reply};
 use bid_rules::{Bid, Facts};
+use case_fields::{BidBody, BodyFault, Creation, FieldName, allowed_bid};
 
 fn says(reply: Reply) -> Answered
     ensures { answer_view result ≡ says reply }
@@ -333,14 +330,15 @@ fn step(host: &Host, moment: u64, command: Command) -> Answered
 ///
 /// A creation in the command keeps the rules that `Creation::is_checked` tests; every other command may come as it stands.
 ///
-/// Each refusal comes exactly where it has its cause, and with no event but the close of an instance whose deadline has passed. Where
-/// the instance that is asked isn't closed after the step, the reply follows from what the caller may know of it.
+/// Each refusal comes exactly where it has its cause, and with no event but the close, at the moment, of the instance that is asked, which
+/// is open past its deadline. Where the instance that is asked isn't closed after the step, the reply follows from what the caller may
+/// know of it.
 pub fn answer(host: &Host, moment: u64, command: Command) -> Answered
     requires { IsCheckedCommand (command_view command) }
     ensures step { answer_view result ≡ step host.now.content moment (command_view command) }
     ensures applicable { IfSome result.event (λ e. CanApply host.now.content (event_view e)) }
     ensures refused { (r : Refusal) → (result.reply ≡ Reply.Refused r) ↔ Cause host.now.content moment (command_view command) r }
-    ensures quiet { IsQuiet (answer_view result) }
+    ensures quiet { IsQuiet host.now.content moment (command_view command) (answer_view result) }
     ensures sealed { IsSealed host.now.content moment (command_view command) (answer_view result) }
 {
     step(host, moment, command)

@@ -1,16 +1,5 @@
-use crate::{BodyFault, Creation, Key};
-use bid_rules::limits::Values;
-
-/// The body of a bid or of a withdrawal. A field is `None` where it is absent or of another form.
-#[derive(Debug, Drop, PartialEq, Eq)]
-pub struct BidBody {
-    /// Which turn of the member this is, from 1.
-    pub turn: Option<u32>,
-    /// By room in cents, or by good in points; a withdrawal doesn't look at it.
-    pub values: Option<Values>,
-    /// The place, from 1; a withdrawal doesn't look at it.
-    pub place: Option<u8>,
-}
+use crate::Key;
+use case_fields::{BidBody, BodyFault, Creation};
 
 /// What is published once an instance is closed.
 #[derive(Clone, Copy, Debug, PartialEq, Eq)]
@@ -21,6 +10,10 @@ pub enum What {
     Certificate,
     /// The text that explains the division.
     Report,
+    /// The text that audits the division: of goods, whom each envies, and that no other one betters it.
+    Audit,
+    /// The division of goods between two by adjusted winner (Brams and Taylor 1996), beside the one that is the best by its rule.
+    Winner,
 }
 
 /// What a caller asks of a host. The key is the one that they show, or `None` where they show none.

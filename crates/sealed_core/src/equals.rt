@@ -2,8 +2,8 @@ ghost use Rattle.std.specs.Prelude.{◌≡◌, map};
 ghost use Rattle.sealed_core.specs.Host.{creation_view, text};
 ghost use Rattle.sealed_core.specs.Sameness.{is_kept, same_bid, same_creation, same_facts, same_texts};
 
-use crate::{Creation, Name};
 use bid_rules::{Bid, Facts, Fares};
+use case_fields::{Creation, Name};
 
 fn same_fares(a: &Fares, b: &Fares) -> bool
     ensures { result ≡ same_facts (Facts.Fares a.now) (Facts.Fares b.now) }

@@ -5,8 +5,9 @@ ghost use Rattle.sealed_core.specs.Host.{CanApply, IsNextTurn, IsCheckedInstance
 
 use crate::limits::{MOST_INSTANCES, MOST_TURNS};
 use crate::lookups::{bid_of, instance_at, turn_of};
-use crate::{Creation, Host, Instance, Tag};
+use crate::{Host, Instance};
 use bid_rules::{Bid, check_bid};
+use case_fields::{Creation, Tag};
 
 /// What changes a host. Moments are seconds since 1970; members count from 1.
 #[derive(Debug, Drop, PartialEq, Eq)]

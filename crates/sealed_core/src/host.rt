@@ -5,10 +5,11 @@ ghost use Rattle.sealed_core.specs.declared.limits.TheConstants.{MOST_INSTANCES}
 ghost use Rattle.bid_rules.specs.declared.limits.TheConstants.{MEMBER_ROOM};
 ghost use Rattle.sealed_core.specs.Host.{CanApply, Created, IsCheckedCreation, IsNextTurn, IsCheckedInstance, apply, as_closed, change, creation_view, event_view, fresh, instance_at, instance_view, with_turn};
 
-use crate::{Creation, Event};
+use crate::Event;
 use arrayvec::ArrayVec;
 use bid_rules::Bid;
 use bid_rules::limits::MEMBER_ROOM;
+use case_fields::Creation;
 use split_base::NoMemory;
 use std::alloc::Global;
 use std::marker::Model;

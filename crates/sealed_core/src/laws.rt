@@ -1,19 +1,21 @@
 // What holds of all runs: the contracts of functions that do nothing.
-ghost use Rattle.std.specs.Prelude.{◌≡◌, ◌↔◌, ◌+◌, ℕ, List, Option, None, Some, Ok, true, max, All, length, replicate, false};
+ghost use Rattle.std.specs.Prelude.{◌≡◌, ◌↔◌, ◌+◌, ℕ, List, [], ◌∷◌, ◌++◌, Option, None, Some, IfSome, IsSome, Ok, true, max, All, length, replicate, false};
 ghost use Rattle.bid_rules.specs.Facts.{IsCheckedBid};
 ghost use Rattle.bid_rules.specs.declared.bids.Bid.{Bid};
 ghost use Rattle.bid_rules.specs.declared.bids.Facts.{Facts};
 ghost use Rattle.sealed_core.specs.Keys.{IsKeyDigit, first_holder, key_text};
-ghost use Rattle.sealed_core.specs.Step.{To, form_of, holder, is_over, may_ask, step};
+ghost use Rattle.sealed_core.specs.Step.{CommandView, To, form_of, holder, is_over, may_ask, step};
 ghost use Rattle.sealed_core.specs.declared.commands.Ask.{Ask};
 ghost use Rattle.sealed_core.specs.declared.commands.Ask.TheVariants as asks;
-ghost use Rattle.sealed_core.specs.declared.commands.BidBody.{BidBody};
+ghost use Rattle.case_fields.specs.declared.bodies.BidBody.{BidBody};
+ghost use Rattle.sealed_core.specs.declared.commands.What.{What};
 ghost use Rattle.sealed_core.specs.declared.replies.Reply.TheVariants as replies;
 ghost use Rattle.sealed_core.specs.Sameness.{same_bid, same_creation};
-ghost use Rattle.sealed_core.specs.Rules.{allowed_bid};
-ghost use Rattle.sealed_core.specs.Host.{BidKept, CanApply, CreationView, EventView, HostView, apply, Closed, InstanceView, instance_at};
+ghost use Rattle.case_fields.specs.Rules.{allowed_bid};
+ghost use Rattle.sealed_core.specs.Host.{BidKept, CanApply, CreationView, EventView, HostView, apply, as_closed, Closed, InstanceView, instance_at, moment_of};
+ghost use Rattle.sealed_core.specs.Origins.{ComesOf};
 ghost use Rattle.sealed_core.specs.Runs.{AreChecked, CanApplyAll, HoldsLeast, host_of, kept, last};
-ghost use Rattle.sealed_core.specs.Sealed.{Asked, Caller, RunAlike, caller_number, empty, heard, host_after, is_closed, sealed_reply, view, views};
+ghost use Rattle.sealed_core.specs.Sealed.{Asked, Caller, IsLateClose, RunAlike, caller_number, empty, heard, host_after, is_closed, sealed_reply, view, views};
 
 /// Bids are sealed until their instance is closed. Take two runs from one empty host whose steps are equal pair by pair, but that
 /// some of them may be two bids on the instance by the same member other than the caller, at the same moment, each of them kept.
@@ -35,19 +37,34 @@ pub fn sealing_law()
         → views (empty secret) id caller run ≡ views (empty secret) id caller others }
 {}
 
-/// A run from the empty host keeps events each of which may be applied at its turn, and its host is the one that they make. What a
-/// caller asks past the deadline has the Close as its event, and is answered as it would be on the host after that event. A bid
-/// that may be applied is kept. A closed instance stays closed.
+/// A run from the empty host keeps events each of which may be applied at its turn, and its host is the one that they make. The host of
+/// a list of events and one more is the host of the list after that event. The event of a step is at the step's moment and comes of its
+/// command: a creation is the one that was sent; a bid or a withdrawal is that of the member whose key was shown, with the turn and the
+/// bid that was sent; a close was asked for by the organiser, or a caller asked something past the deadline. What a caller asks past the
+/// deadline has the Close as its event, and is answered as it would be on the host after that event. A bid that may be applied is kept.
+/// The instance after its Close is the same one, closed; and a closed instance stays closed.
 pub fn machine_law()
     ensures accepted { (secret : List ℕ) (run : List Asked) → AreChecked run → CanApplyAll (empty secret) (kept (empty secret) run) }
     ensures host { (secret : List ℕ) (run : List Asked) → last (empty secret) run ≡ host_of secret (kept (empty secret) run) }
+    ensures one_more { (secret : List ℕ) (events : List EventView) (e : EventView) → host_of secret (events ++ e ∷ []) ≡ apply (host_of secret events) e }
+    ensures origin { (h : HostView) (t : ℕ) (command : CommandView) → IfSome (step h t command).event (λ e. (moment_of e ≡ max t h.moment) × ComesOf h command e) }
     ensures late { (h : HostView) (t id m : ℕ) (i : InstanceView) (key : List ℕ) (ask : Ask) → instance_at h id ≡ Some i → holder h.secret id i key ≡ Some m
         → may_ask m ask ≡ true → is_over (max t h.moment) i ≡ true
         → step h t (To id (Some key) ask) ≡ record { event = Some (Closed (max t h.moment) id); reply = (step (apply h (Closed (max t h.moment) id)) t (To id (Some key) ask)).reply } }
     ensures kept { (h : HostView) (t id m turn : ℕ) (i : InstanceView) (key : List ℕ) (body : BidBody) (given : Bid) → instance_at h id ≡ Some i → holder h.secret id i key ≡ Some m
         → body.turn ≡ Some turn → form_of i.creation.facts body ≡ Some given → CanApply h (BidKept (max t h.moment) id m turn given)
         → step h t (To id (Some key) (asks.Bid (Ok body))) ≡ record { event = Some (BidKept (max t h.moment) id m turn given); reply = replies.Kept turn } }
+    ensures closing { (h : HostView) (now id : ℕ) (i : InstanceView) → instance_at h id ≡ Some i → instance_at (apply h (Closed now id)) id ≡ Some (as_closed i) }
     ensures closed { (h : HostView) (id : ℕ) (e : EventView) → is_closed h id ≡ true → is_closed (apply h e) id ≡ true }
+{}
+
+/// What is published is what was asked for under a key, of an instance that stands. The event beside it is none or the Close, at the
+/// moment, of that instance, which is open past its deadline; so the instance is closed after the step.
+pub fn publication_law()
+    ensures asked { (h : HostView) (t id : ℕ) (command : CommandView) (what : What) → (step h t command).reply ≡ replies.Publish id what → (key : List ℕ) × (command ≡ To id (Some key) (asks.Publish what)) }
+    ensures stands { (h : HostView) (t id : ℕ) (command : CommandView) (what : What) → (step h t command).reply ≡ replies.Publish id what → IsSome (instance_at h id) }
+    ensures event { (h : HostView) (t id : ℕ) (command : CommandView) (what : What) → (step h t command).reply ≡ replies.Publish id what → IsLateClose h t command (step h t command).event }
+    ensures closed { (h : HostView) (t id : ℕ) (command : CommandView) (what : What) → (step h t command).reply ≡ replies.Publish id what → is_closed (host_after h t command) id ≡ true }
 {}
 
 /// A key has 64 lower-case hexadecimal digits. So 64 zero bytes are nobody's key, whatever the instance.

@@ -7,29 +7,23 @@
 
 mod answers;
 mod commands;
-mod creations;
 mod equals;
 mod events;
-mod fields;
 mod host;
 mod keys;
 mod laws;
 pub mod limits;
 mod lookups;
 mod replies;
-mod rules;
 
 pub use answers::answer;
-pub use commands::{Ask, BidBody, Command, What};
-pub use creations::{Creation, Name, Tag};
+pub use case_fields::{
+    BidBody, BodyFault, Creation, FieldName, Name, Tag, allowed_bid, is_name, is_tag, member_count,
+};
+pub use commands::{Ask, Command, What};
 pub use events::{Event, can_apply};
-pub use fields::{BodyFault, FieldName};
 pub use host::{Host, Instance, apply, reserve};
 pub use keys::{Key, key_of};
-pub use laws::{key_law, machine_law, sameness_law, sealing_law};
+pub use laws::{key_law, machine_law, publication_law, sameness_law, sealing_law};
 pub use lookups::{bid_of, instance_at, turn_of};
 pub use replies::{Answered, Refusal, Reply};
-pub use rules::{allowed_bid, is_name, is_tag, member_count};
-
-#[cfg(test)]
-mod tests;

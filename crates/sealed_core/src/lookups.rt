@@ -5,8 +5,9 @@ ghost use Rattle.sealed_core.specs.Host.{IsCheckedInstance, creation_view, insta
 ghost use Rattle.sealed_core.specs.Step.{caller_of, is_over, tagged_from};
 
 use crate::keys::holder_of;
-use crate::{Creation, Host, Instance, Key, Refusal, Tag};
+use crate::{Host, Instance, Key, Refusal};
 use bid_rules::Bid;
+use case_fields::{Creation, Tag};
 
 /// The instance with this id, from 1, in the order of creation.
 pub fn instance_at<'a>(host: &'a Host, id: u32) -> Option<&'a Instance>

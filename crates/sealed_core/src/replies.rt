@@ -1,4 +1,5 @@
-use crate::{Event, FieldName, What};
+use crate::{Event, What};
+use case_fields::FieldName;
 
 /// Why a command is refused. Of several causes the first is told, in the order `NoInstance` to `TurnsUsed`, `NoBid`, `NotAll`,
 /// `NotClosed`.
@@ -29,7 +30,7 @@ pub enum Refusal {
     TurnsUsed,
     /// A close before the deadline while a member has no bid.
     NotAll,
-    /// A division, certificate or report of an instance that isn't closed.
+    /// A publication of an instance that isn't closed: its division, certificate, report, audit or winner.
     NotClosed,
     /// The withdrawal, with the next turn, of a member without a bid.
     NoBid,

@@ -10,7 +10,7 @@ use native.Mathlib.Decide.{dec_le}
 use lib.ListN.{get_elem?}
 use Rattle.atomic_table.specs.Table.{step, keeps, Allows}
 use Rattle.atomic_table.proofs.Lists.{at_set, at_snoc}
-use Rattle.search_workers.specs.declared.limits.TheConstants.{LONGEST_PIECE, MOST_TICKETS}
+use Rattle.search_workers.specs.declared.limits.TheConstants.{LONGEST_PIECE, MOST_DRAWN, MOST_TICKETS}
 use Rattle.search_workers.specs.declared.view.DeskView.{DeskView}
 use Rattle.search_workers.specs.Desks.{DeskState, IsDesk, IsViewOf, all_allots, all_reported, all_stops, all_tickets, node_word, ticket_word}
 use Rattle.search_workers.specs.Steps.{after_draw, after_join, after_report, after_split}
@@ -19,8 +19,8 @@ use Rattle.search_workers.specs.Plays.{Draws, Reports, SeatState}
 use Rattle.search_workers.proofs.Sums.{below_count, below_more, below_not, entry_le, only, only_same, place_le, sum_last, sum_le, sum_length, sum_same, sum_set}
 
 -- the tickets are the numbers below the ticket word, so it counts them
-pub few_tickets : (left workers : ℕ) (s : DeskState) → IsDesk left workers s → ticket_word s ≤ 272
-few_tickets left workers s r =
+pub tickets_each : (left workers : ℕ) (s : DeskState) → IsDesk left workers s → ticket_word s ≤ MOST_TICKETS * workers
+tickets_each left workers s r =
     let a = r.tickets (λ _. 1) in
     let b = below_count (ticket_word s) in
     let c : all_tickets (λ _. 1) s.views ≡ sum_by (λ (v : DeskView). length v.tickets) s.views =
@@ -28,8 +28,11 @@ few_tickets left workers s r =
     let d : sum_by (λ (v : DeskView). length v.tickets) s.views ≤ MOST_TICKETS * all_allots s.views =
     sum_le (λ (v : DeskView). length v.tickets) (λ (v : DeskView). v.allot) MOST_TICKETS s.views (λ i v e. (r.views i v e).few_tickets) in
     let e = r.allots in
-    let few = r.few in
     omega arith
+
+-- so they are few
+pub few_tickets : (left workers : ℕ) (s : DeskState) → IsDesk left workers s → ticket_word s ≤ MOST_DRAWN
+few_tickets left workers s r = let most = tickets_each left workers s r in let few = r.few in omega (arith, most, few)
 
 -- each ticket of a view is below the ticket word
 pub tickets_below : (left workers : ℕ) (s : DeskState) (j : ℕ) (v : DeskView) → IsDesk left workers s → get_elem? s.views j ≡ some v → All (λ x. x < ticket_word s) v.tickets

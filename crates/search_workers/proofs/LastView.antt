@@ -1,5 +1,5 @@
 -- The view that stands for all workers has all that is drawn and reported.
-use Rattle.std.proofs.Common.{◌≡◌, ℕ, zero, suc, ◌+◌, ◌≤◌, List, [], ◌∷◌, set, sym, refl, ap, ◌∙◌, subst, ⊎_elim, arith}
+use Rattle.std.proofs.Common.{◌≡◌, ◌≢◌, ℕ, zero, suc, ◌+◌, ◌≤◌, List, [], ◌∷◌, set, sym, refl, ap, ◌∙◌, subst, ⊎_elim, arith}
 use Rattle.std.specs.List.{sum_by}
 use Rattle.std.proofs.lemmas.List.{set-get_or}
 use Rattle.std.proofs.lemmas.List.Sums.{sum_by-cons}
@@ -10,11 +10,11 @@ use lib.ListN.{get_elem?}
 use Rattle.atomic_table.specs.Table.{step, keeps, Allows}
 use Rattle.atomic_table.proofs.Lists.{set_again}
 use Rattle.search_workers.specs.declared.view.DeskView.{DeskView}
-use Rattle.search_workers.specs.Desks.{IsDesk, IsViewOf, all_allots, all_stops, node_word, ticket_word}
+use Rattle.search_workers.specs.Desks.{DeskState, IsDesk, IsViewOf, all_allots, all_stops, node_word, ticket_word}
 use Rattle.search_workers.specs.Views.{spent}
-use Rattle.search_workers.specs.Plays.{Learns, SeatState}
+use Rattle.search_workers.specs.Plays.{HasAll, Learns, SeatState}
 use Rattle.search_workers.proofs.DeskSteps.{not_spent}
-use Rattle.search_workers.proofs.Sums.{entry_le}
+use Rattle.search_workers.proofs.Sums.{entry_le, two_le}
 
 -- a view that stands for no worker is the spent one
 idle_spent : (left workers : ℕ) (v : DeskView) → IsViewOf left workers v → v.allot ≡ 0 → v ≡ spent
@@ -50,34 +50,39 @@ alone left workers g (x ∷ xs) (suc j) v nothing fits at all =
     let rest = alone left workers g xs j v nothing (λ i u e. fits (suc i) u e) at (omega (arith, b, all, mine)) in
     omega (arith, a, here, rest, nothing)
 
+-- the same by the rule of the desk
+pub sums_alone : (left workers : ℕ) (g : DeskView → ℕ) (s : DeskState) (j : ℕ) (v : DeskView) → g spent ≡ 0 → IsDesk left workers s → get_elem? s.views j ≡ some v → v.allot ≡ workers → sum_by g s.views ≡ g v
+sums_alone left workers g s j v nothing r at all = let allots = r.allots in alone left workers g s.views j v nothing r.views at (omega (arith, allots, all))
+
+-- all others are spent
+pub others_spent : (left workers : ℕ) (s : DeskState) (j i : ℕ) (v u : DeskView) → IsDesk left workers s → get_elem? s.views j ≡ some v → v.allot ≡ workers → i ≢ j → get_elem? s.views i ≡ some u → u ≡ spent
+others_spent left workers s j i v u r at all apart there =
+    let both : u.allot + v.allot ≤ all_allots s.views = two_le (λ (w : DeskView). w.allot) s.views i j u v apart there at in
+    let allots = r.allots in
+    idle_spent left workers u (r.views i u there) (omega (arith, both, allots, all))
+
+-- and it has all tickets and reports
+pub has_all : (left workers : ℕ) (s : DeskState) (j : ℕ) (v : DeskView) → IsDesk left workers s → get_elem? s.views j ≡ some v → v.allot ≡ workers → HasAll v (ticket_word s)
+has_all left workers s j v r at all =
+    let some_worker = r.one_worker in
+    let left_is = (not_spent left workers v (r.views j v at) (omega (arith, some_worker, all))).0 in
+    let node : node_word s ≡ v.reported = sym r.nodes ∙ sums_alone left workers (λ (u : DeskView). u.reported) s j v refl r at all in
+    let stops : all_stops s.views ≡ v.stops = sums_alone left workers (λ (u : DeskView). u.stops) s j v refl r at all in
+    let most = r.most in record {
+      all_tickets = λ weight. sym (sums_alone left workers (λ (u : DeskView). sum_by weight u.tickets) s j v refl r at all) ∙ r.tickets weight;
+      over = λ h. dite (dec_le v.reported left) (λ le. let none = r.under (omega (arith, le, node)) in absurd (omega (arith, none, stops, h))) (λ no. omega (arith, no, left_is));
+      under = λ h. dite (dec_le v.reported left) (λ le. omega (arith, le, left_is)) (λ no. let some = r.over (omega (arith, no, node)) in absurd (omega (arith, some, stops, h)));
+      most = omega (arith, most, node, stops, left_is);
+      few = (r.views j v at).few_stops;
+    }
+
 -- so the seat that stands for all workers may see the ticket word
 pub learns : (left workers slots id : ℕ) (me : SeatState) → 1 ≤ me.0.allot → me.0.allot ≡ me.0.workers
     → Allows (IsDesk left workers) slots id me 0 (λ n. n) (Learns (step slots 0 0 0 none) me)
 learns left workers slots id me some_worker all s r homes at small =
     let v = me.0 in
-    let numbers = not_spent left workers v (r.views id v at) some_worker in
-    let left_is : v.left ≡ left = numbers.0 in
-    let workers_is = numbers.1 in
-    let allots = r.allots in
-    let every : all_allots s.views ≡ v.allot = omega (arith, allots, all, workers_is) in
-    let node : node_word s ≡ v.reported = sym r.nodes ∙ alone left workers (λ (u : DeskView). u.reported) s.views id v refl r.views at every in
-    let stops : all_stops s.views ≡ v.stops = alone left workers (λ (u : DeskView). u.stops) s.views id v refl r.views at every in
-    let most = r.most in
+    let workers_is = (not_spent left workers v (r.views id v at) some_worker).1 in
     let kept : IsDesk left workers record { words = set s.words 0 (ticket_word s); homes = s.homes; views = set s.views id v } =
     subst (λ ws. IsDesk left workers record { words = ws; homes = s.homes; views = set s.views id v }) (sym (set-get_or s.words 0 0))
-    (subst (λ vs. IsDesk left workers record { words = s.words; homes = s.homes; views = vs }) (sym (set_again s.views id v at)) r) in (
-      v,
-      keeps,
-      tt,
-      kept,
-      (
-        refl,
-        record {
-          all_tickets = λ weight. sym (alone left workers (λ (u : DeskView). sum_by weight u.tickets) s.views id v refl r.views at every) ∙ r.tickets weight;
-          over = λ h. dite (dec_le v.reported left) (λ le. let none = r.under (omega (arith, le, node)) in absurd (omega (arith, none, stops, h))) (λ no. omega (arith, no, left_is));
-          under = λ h. dite (dec_le v.reported left) (λ le. omega (arith, le, left_is)) (λ no. let some = r.over (omega (arith, no, node)) in absurd (omega (arith, some, stops, h)));
-          most = omega (arith, most, node, stops, left_is);
-          few = (r.views id v at).few_stops;
-        },
-      ),
-    )
+    (subst (λ vs. IsDesk left workers record { words = s.words; homes = s.homes; views = vs }) (sym (set_again s.views id v at)) r) in
+    (v, keeps, tt, kept, (refl, has_all left workers s id v r at (omega (arith, all, workers_is))))

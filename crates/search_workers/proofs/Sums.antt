@@ -1,11 +1,13 @@
 -- Sums over lists that change at one place.
-use Rattle.std.proofs.Common.{◌≡◌, ℕ, zero, suc, ◌+◌, ◌*◌, ◌<◌, ◌≤◌, List, [], ◌∷◌, ◌++◌, Contains, length, get_or, set, sym, refl, ap, ◌∙◌, arith, cond, ◌==◌, ⊎_elim}
+use Rattle.std.proofs.Common.{◌≡◌, ◌≢◌, ℕ, zero, suc, ◌+◌, ◌*◌, ◌<◌, ◌≤◌, List, [], ◌∷◌, ◌++◌, AllPairs, Contains, length, get_or, set, sym, refl, ap, ◌∙◌, arith, cond, ◌==◌, ⊎_elim}
 use Rattle.std.specs.List.{range_with_len, sum_by}
 use Rattle.std.proofs.lemmas.Bool.{cases_eq}
 use Rattle.std.proofs.lemmas.Bool.Decides.{nat_tests}
 use Rattle.std.proofs.lemmas.List.Sums.{sum_by-append, sum_by-cons}
 use Rattle.split_lemmas.proofs.RangeSteps.{sum_more}
 use mathlib.Core.Option.{some, some-injective, some-ne-none}
+use mathlib.Core.Logic.{dite}
+use native.Mathlib.Decide.{dec_le}
 use lib.ListN.{get_elem?}
 
 module _ {A : Type 0} (g : A → ℕ) where
@@ -55,6 +57,32 @@ module _ {A : Type 0} (g : A → ℕ) where
       let b : sum_by g (x ∷ xs) ≡ g x + sum_by g xs = sum_by-cons g x xs in
       let rest = place_le xs k d (omega arith) in
       omega arith
+
+  -- two entries weigh no more than all
+  pub two_le : (xs : List A) (i j : ℕ) (v w : A) → i ≢ j → get_elem? xs i ≡ some v → get_elem? xs j ≡ some w → g v + g w ≤ sum_by g xs
+  two_le [] i j v w apart at there = absurd (some-ne-none v (sym at))
+  two_le (x ∷ xs) zero zero v w apart at there = absurd (apart refl)
+  two_le (x ∷ xs) zero (suc j) v w apart at there =
+      let b : sum_by g (x ∷ xs) ≡ g x + sum_by g xs = sum_by-cons g x xs in
+      let c : g x ≡ g v = ap g (some-injective x v at) in
+      let rest = entry_le xs j w there in
+      omega arith
+  two_le (x ∷ xs) (suc i) zero v w apart at there =
+      let b : sum_by g (x ∷ xs) ≡ g x + sum_by g xs = sum_by-cons g x xs in
+      let c : g x ≡ g w = ap g (some-injective x w there) in
+      let rest = entry_le xs i v at in
+      omega arith
+  two_le (x ∷ xs) (suc i) (suc j) v w apart at there =
+      let b : sum_by g (x ∷ xs) ≡ g x + sum_by g xs = sum_by-cons g x xs in
+      let rest = two_le xs i j v w (λ e. apart (ap suc e)) at there in
+      omega arith
+
+  -- where all weigh something, an entry does
+  pub some_entry : (xs : List A) → 1 ≤ sum_by g xs → (i : ℕ) × (v : A) × (get_elem? xs i ≡ some v) × (1 ≤ g v)
+  some_entry [] h = absurd (omega arith)
+  some_entry (x ∷ xs) h =
+      let b : sum_by g (x ∷ xs) ≡ g x + sum_by g xs = sum_by-cons g x xs in
+      dite (dec_le 1 (g x)) (λ yes. (zero, x, refl, yes)) (λ no. let rest = some_entry xs (omega (arith, b, no, h)) in (suc rest.0, rest.1, rest.2, rest.3))
 
 -- a bound on each term is one on the sum
 pub sum_le : {A : Type 0} (f g : A → ℕ) (k : ℕ) (xs : List A) → ((i : ℕ) (v : A) → get_elem? xs i ≡ some v → f v ≤ k * g v) → sum_by f xs ≤ k * sum_by g xs
@@ -125,6 +153,16 @@ below_yes k (suc n) h =
     (λ ne. let rest = below_yes k n (omega (arith, h, ne)) in omega (arith, more, rest))
     (cases_eq n k)
 
+-- a number is once among those below another, or not at all
+pub below_once : (k n : ℕ) → sum_by (only k) (range_with_len 0 n) ≤ 1
+below_once k zero = let none = below_not k zero (omega arith) in omega (arith, none)
+below_once k (suc n) =
+    let more = below_next (only k) n in
+    ⊎_elim
+    (λ same. let here : only k n ≡ 1 = ap (only k) same ∙ only_same k in let none = below_not k n (omega (arith, same)) in omega (arith, more, here, none))
+    (λ ne. let here = only_other k n ne in let rest = below_once k n in omega (arith, more, here, rest))
+    (cases_eq n k)
+
 -- what is counted stands in the list
 pub stands_in : (k : ℕ) (xs : List ℕ) → 1 ≤ sum_by (only k) xs → Contains xs k
 stands_in k [] h = absurd (omega arith)
@@ -143,3 +181,25 @@ counted_once k xs there =
     let le = place_le (only k) xs there.0 k there.1 in
     let one = ap (only k) there.2 ∙ only_same k in
     omega (arith, le, one)
+
+-- a number that stands at two places is counted twice
+twice : (k : ℕ) (xs : List ℕ) (i j d : ℕ) → i < j → j < length xs → get_or xs i d ≡ k → get_or xs j d ≡ k → 2 ≤ sum_by (only k) xs
+twice k [] i j d l m a b = absurd (omega arith)
+twice k (x ∷ xs) i zero d l m a b = absurd (omega (arith, l))
+twice k (x ∷ xs) zero (suc j) d l m a b =
+    let count : sum_by (only k) (x ∷ xs) ≡ only k x + sum_by (only k) xs = sum_by-cons (only k) x xs in
+    let first : only k x ≡ 1 = ap (only k) a ∙ only_same k in
+    let le = place_le (only k) xs j d (omega (arith, m)) in
+    let second : only k (get_or xs j d) ≡ 1 = ap (only k) b ∙ only_same k in
+    omega (arith, count, first, le, second)
+twice k (x ∷ xs) (suc i) (suc j) d l m a b =
+    let count : sum_by (only k) (x ∷ xs) ≡ only k x + sum_by (only k) xs = sum_by-cons (only k) x xs in
+    let rest = twice k xs i j d (omega (arith, l)) (omega (arith, m)) a b in
+    omega (arith, count, rest)
+
+-- so numbers that are counted once at most differ
+pub each_once : (xs : List ℕ) → ((k : ℕ) → sum_by (only k) xs ≤ 1) → AllPairs ◌≢◌ xs
+each_once xs once i j d l m same =
+    let both = twice (get_or xs j d) xs i j d l m same refl in
+    let most = once (get_or xs j d) in
+    omega (arith, both, most)

@@ -1,12 +1,17 @@
 -- How the search of a block ends.
-use Rattle.std.specs.Prelude.{◌≡◌, ℕ, ◌+◌, ◌*◌, ◌<◌, ◌≤◌, Option}
+use Rattle.std.specs.Prelude.{◌≡◌, ℕ, ◌+◌, ◌*◌, ◌<◌, ◌≤◌, List, Option}
+use mathlib.Core.Option.{some}
+use lib.ListN.{get_elem?}
 use Rattle.bid_rules.specs.declared.goods.GoodsCase.{GoodsCase}
 use Rattle.bid_rules.specs.declared.pair.Pair.{Pair}
 use Rattle.nash_bounds.specs.Blocks.{count_block, counted_of_block}
 use Rattle.nash_search.specs.Best.{IsFoundBest}
+use Rattle.nash_search.specs.declared.found.Found.{Found}
 use Rattle.search_workers.specs.declared.limits.TheConstants.{LONGEST_PIECE}
 use Rattle.search_workers.specs.declared.block.BlockEnd.{BlockEnd}
 use Rattle.search_workers.specs.declared.block.BlockEnd.TheVariants.{Done, Over}
+use Rattle.search_workers.specs.declared.view.DeskView.{DeskView}
+use Rattle.search_workers.specs.Works.{HasWhole}
 
 -- the counted prefixes of the block's tasks are no more than are left: all are counted, and the best of the counted allocations is found. Or
 -- they are more, and of them more than are left are counted, by at most a piece a worker
@@ -14,3 +19,8 @@ abbrev pub EndsBlock : GoodsCase → Pair → Option Pair → ℕ → ℕ → �
 EndsBlock case floor above block left workers (Done nodes best) =
     (nodes ≤ left) × (nodes ≡ count_block case floor above block) × IsFoundBest case (counted_of_block case floor above block) best
 EndsBlock case floor above block left workers (Over nodes) = (left < nodes) × (nodes ≤ left + LONGEST_PIECE * workers) × (nodes ≤ count_block case floor above block)
+
+-- the view of each worker has all tasks of its tickets whole, and a ticket past the last task
+abbrev pub AreWalkedWhole : GoodsCase → Pair → Option Pair → ℕ → List DeskView → Type 0
+AreWalkedWhole case floor above block views = (place : ℕ) (view : DeskView) → get_elem? views place ≡ some view → 0 < view.allot
+    → (best : Option Found) × HasWhole case floor above block view.tickets view.reported best

@@ -1,8 +1,12 @@
--- What the four kinds of step make of a desk.
+-- A desk as it begins, and what the four kinds of step make of it.
 use Rattle.std.specs.Prelude.{ℕ, ◌+◌, ◌++◌, [], ◌∷◌, slice_set}
 use Rattle.search_workers.specs.declared.view.DeskView.{DeskView}
 use Rattle.search_workers.specs.Desks.{DeskState, node_word, ticket_word}
-use Rattle.search_workers.specs.Views.{drawn, fewer, fresh, joined, spent, told}
+use Rattle.search_workers.specs.Views.{drawn, fewer, fresh, joined, spent, told, whole}
+
+-- both words are 0, and one view stands for all workers
+abbrev pub begun_desk : ℕ → ℕ → DeskState
+begun_desk left workers = record { words = 0 ∷ 0 ∷ []; homes = []; views = whole left workers ∷ [] }
 
 -- the view at a place draws the next ticket
 abbrev pub after_draw : DeskState → ℕ → DeskView → DeskState

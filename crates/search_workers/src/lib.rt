@@ -10,6 +10,7 @@ mod desk;
 mod desk_laws;
 pub mod limits;
 mod plays;
+mod rule_laws;
 mod view;
 mod worker;
 
@@ -18,8 +19,8 @@ pub use blocks::search;
 pub use desk::{Desk, DeskSeat, draw, join_desk, learn, open_desk, report, split_desk};
 pub use desk_laws::{draw_law, join_law, report_law, split_law};
 pub use plays::DeskRule;
+pub use rule_laws::{
+    begun_desk_law, drawn_tickets_law, walked_block_law, whole_view_law, word_limits_law,
+};
 pub use view::{DeskSize, DeskView};
 pub use worker::{Walked, work};
-
-#[cfg(test)]
-mod tests;

@@ -10,3 +10,5 @@ pub const MOST_TICKETS: u32 = BLOCK_TASKS + 1;
 pub const LONGEST_PIECE: u16 = 256;
 /// The most that a desk's node word shows: each worker may report once where it is above what is left.
 pub const MOST_REPORTED: u32 = MOST_STEPS + LONGEST_PIECE as u32 * MOST_WORKERS as u32;
+/// The most that a desk's ticket word shows: each worker may draw `MOST_TICKETS`.
+pub const MOST_DRAWN: u32 = MOST_TICKETS * MOST_WORKERS as u32;

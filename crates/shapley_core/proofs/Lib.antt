@@ -1,2 +1,3 @@
 pub mod FareRanges
 pub mod SameFares
+pub mod MembersApart

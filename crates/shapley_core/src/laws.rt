@@ -1,7 +1,9 @@
-// What holds of all best divisions.
-ghost use Rattle.std.specs.Prelude.{◌≡◌, ℕ, List, map};
+// What holds of all best divisions: each law is the contract of a function that does nothing.
+ghost use Rattle.std.specs.Prelude.{◌≡◌, ◌↔◌, ℕ, List, map};
 ghost use Rattle.bid_rules.specs.declared.cases.FareCase.{FareCase};
-ghost use Rattle.bid_rules.specs.Fares.{FareBest};
+ghost use Rattle.bid_rules.specs.Fares.{FareBest, IsLeastRoute, coalition_cost, route_cost, sum_of_marginal_costs};
+ghost use Rattle.bid_rules.specs.Fractions.{Fraction};
+ghost use Rattle.shapley_core.specs.Members.{with_members};
 ghost use Rattle.split_frac.specs.Frac.{fraction_of};
 ghost use Rattle.split_frac.specs.declared.frac.Frac.{Frac};
 
@@ -18,3 +20,13 @@ pub fn division_law()
     best_fares_law();
     value_law();
 }
+
+/// How many members there are takes no part in what routes and coalitions cost, in a rider's marginal costs, and so in the best fares and
+/// the route.
+pub fn members_law()
+    ensures routes { (case : FareCase) (members from : ℕ) (riders : List ℕ) → route_cost (with_members case members) from riders ≡ route_cost case from riders }
+    ensures costs { (case : FareCase) (members : ℕ) (riders : List ℕ) → coalition_cost (with_members case members) riders ≡ coalition_cost case riders }
+    ensures sums { (case : FareCase) (members rider : ℕ) → sum_of_marginal_costs (with_members case members) rider ≡ sum_of_marginal_costs case rider }
+    ensures least_route { (case : FareCase) (members : ℕ) (route : List ℕ) → IsLeastRoute (with_members case members) route ↔ IsLeastRoute case route }
+    ensures best { (case : FareCase) (members : ℕ) (fares : List Fraction) (route : List ℕ) → FareBest (with_members case members) fares route ↔ FareBest case fares route }
+{}

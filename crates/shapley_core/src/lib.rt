@@ -3,8 +3,6 @@
 
 mod division;
 mod laws;
-#[cfg(test)]
-mod tests;
 
 pub use division::{FareDivision, solve_fares};
-pub use laws::division_law;
+pub use laws::{division_law, members_law};

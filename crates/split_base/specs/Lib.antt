@@ -1,10 +1,15 @@
+pub mod Clocks
 pub mod Disk
 pub mod Faults
+pub mod Links
 pub mod Memory
+pub mod MemoryClock
 pub mod MemoryDisk
+pub mod MemoryPorts
 pub mod Moments
 pub mod Past
 pub mod PastLaws
+pub mod Ports
 pub mod Replay
 pub mod Streams
 pub mod Whole

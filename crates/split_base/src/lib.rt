@@ -1,25 +1,26 @@
-//! Where bytes come from and where they go: sources and sinks with a count of their faults,
-//! reading to the end and writing whole, links that are both, a disk with what a crash may leave of
-//! its file, and each of these in memory; and the gate that walks of tasks go through.
+//! The outside: sources and sinks of bytes, reading to the end and writing whole, links that are
+//! both, a port that hands links out, a dialer that opens them, a disk with what a crash may leave of
+//! its file, and a clock, each with a count of its faults, and each of these in memory; and the gate
+//! that walks of tasks go through.
 #![tactic(auto)]
 
+mod clock;
+mod dial;
 mod disk;
-#[cfg(test)]
-mod disk_tests;
 mod gate;
 pub mod limits;
 mod link;
-#[cfg(test)]
-mod link_tests;
 mod memory;
+mod port;
 mod streams;
-#[cfg(test)]
-mod tests;
 mod whole;
 
+pub use clock::{Clock, ask};
+pub use dial::Dial;
 pub use disk::{Disk, write_synced};
 pub use gate::{Gate, Quiet};
 pub use link::Link;
-pub use memory::{MemDisk, MemLink, MemSink, MemSource, NoMemory};
+pub use memory::{MemClock, MemDial, MemDisk, MemLink, MemPort, MemSink, MemSource, NoMemory};
+pub use port::Port;
 pub use streams::{Failed, Sink, Source};
 pub use whole::{ReadStop, read_all, write_all};

@@ -11,6 +11,3 @@ pub use arithmetic::{add, compare, floor, gcd, make, rem, sub};
 pub use frac::Frac;
 pub use laws::{floor_law, order_law, parts_law, sum_law, value_law};
 pub use printing::{NoMemory, text};
-
-#[cfg(test)]
-mod tests;

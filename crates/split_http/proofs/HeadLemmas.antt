@@ -1,5 +1,5 @@
 -- Heads are unique, whatever follows, and what is read so far against all the bytes of a link.
-use Rattle.std.proofs.Common.{◌≡◌, ℕ, ◌+◌, ◌-◌, ◌<◌, ◌≤◌, List, [], ◌++◌, length, take, map, Option, Some, None, refl, sym, ap, ◌∙◌, arith, length-append, append-nil}
+use Rattle.std.proofs.Common.{◌≡◌, ℕ, ◌+◌, ◌-◌, ◌<◌, ◌≤◌, List, [], ◌∷◌, ◌++◌, length, take, map, Option, Some, None, refl, sym, ap, ◌∙◌, arith, length-append, append-nil, append_assoc, subst}
 use Rattle.std.proofs.lemmas.Grind.{common_steps}
 use Rattle.std.proofs.lemmas.List.{take_at}
 use Rattle.std.proofs.Math.Seq.{take-append-add}
@@ -9,14 +9,15 @@ use Rattle.httparse.specs.Grammar.{RequestHead, print_request}
 use Rattle.httparse.specs.Spans.{IsRequestAt, IsRequestOf, header_bytes, name_and_value, span_bytes}
 use Rattle.httparse.specs.declared.spans.HeaderSpan.{HeaderSpan}
 use Rattle.httparse.specs.declared.spans.RequestSpans.{RequestSpans}
-use Rattle.httparse.proofs.GrammarLemmas.{request_prefix_free}
+use Rattle.httparse.proofs.GrammarLemmas.{request_prefix_free, print_request-append}
 use Rattle.split_http.specs.declared.limits.TheConstants.{MAX_HEAD, MAX_FIELDS}
 use Rattle.split_http.specs.Fields.{fields_at}
 use Rattle.split_http.specs.Heads.{HasNoHead, text_of}
 use Rattle.split_http.specs.Search.{HasNone, NeverHasOne}
+use Rattle.split_http.specs.declared.head.Verb.{Verb}
 use Rattle.split_http.specs.declared.heads.HeadTurn.{HeadTurn}
 use Rattle.split_http.specs.declared.heads.HeadTurn.TheVariants as turns
-use Rattle.split_http.specs.Turns.{Told, IsBad, HeadSays, IsTaken}
+use Rattle.split_http.specs.Turns.{Told, IsBad, IsOpen, HasHeadOf, HeadSays, CarrySays, IsTaken}
 
 -- as many fields as were written
 fields_count : (bytes : List ℕ) (headers : List HeaderSpan) (r : RequestSpans) (h : RequestHead)
@@ -69,6 +70,11 @@ pub bad_full : (bytes : List ℕ) (rest : Option (List ℕ)) → length bytes �
 bad_full bytes None size none = (bytes ++ [], tt, (longer bytes [] (omega arith), full bytes [] size none))
 bad_full bytes (Some more) size none = (bytes ++ more, refl, (longer bytes more (omega arith), full bytes more size none))
 
+-- no head stands in the bytes, of which there may be none
+pub none_open : (bytes : List ℕ) → length bytes < MAX_HEAD → (0 < length bytes → HasNone bytes) → IsOpen bytes
+none_open [] few none = ((λ h rest head is. omega (arith, ap length is, ap length (print_request-append h rest), head.valid.method.0, length-append {A = ℕ})), few)
+none_open (b ∷ bytes) few none = (shorter (b ∷ bytes) (none (omega arith)), few)
+
 -- the end of input, and no head before it
 pub bad_end : (bytes : List ℕ) (rest : Option (List ℕ)) → IsAtEnd rest → 0 < length bytes → HasNone bytes
     → (all : List ℕ) × Told (prepend_known bytes rest) all × IsBad all
@@ -80,6 +86,14 @@ pub at_end : (bytes : List ℕ) (rest : Option (List ℕ)) → IsAtEnd rest → 
 at_end bytes None end none = tt
 at_end bytes (Some more) end none = sym (ap (λ z. z ++ more) none ∙ end)
 
+-- the head at the front of the carry is at the front of the link's bytes
+head_ahead : (before left : Option (List ℕ)) (old : List ℕ) (verb : Verb) → Keeps before (prepend_known old left) → HasHeadOf verb old
+    → (all : List ℕ) × Told before all × HasHeadOf verb all
+head_ahead None left old verb same head = (old, tt, head)
+head_ahead (Some x) None old verb same head = absurd same
+head_ahead (Some x) (Some y) old verb same (h, rest, is_head, says, is) =
+    (old ++ y, same, (h, rest ++ y, is_head, says, ap (λ z. z ++ y) is ∙ append_assoc (print_request h) rest y))
+
 -- the head that was taken off the carry was taken off the link's bytes
 pub taken : (before left : Option (List ℕ)) (old new : List ℕ) (result : HeadTurn) → Keeps before (prepend_known old left) → IsTaken old new result
     → HeadSays before (prepend_known new left) result
@@ -88,4 +102,17 @@ taken before left old new (turns.Head head) same (h, is_head, says, is) =
 taken before left old new turns.BadHead same h = absurd h
 taken before left old new turns.End same h = absurd h
 taken before left old new turns.LinkFault same h = absurd h
-taken before left old new turns.NoMemory same h = tt
+taken before left old new (turns.NoMemory verb) same (stays, head) =
+    (subst (λ bytes. Keeps before (prepend_known bytes left)) (sym stays) same, head_ahead before left old verb same head)
+
+-- and from the carry's bytes and those that were read
+pub carried : (old bytes new : List ℕ) (result : HeadTurn) → ((read : List ℕ) × (bytes ≡ old ++ read)) → CarrySays bytes new result
+    → (read : List ℕ) × CarrySays (old ++ read) new result
+carried old bytes new result (read, is) says = (read, subst (λ z. CarrySays z new result) is says)
+
+pub taken_carry : (bytes new : List ℕ) (result : HeadTurn) → IsTaken bytes new result → CarrySays bytes new result
+taken_carry bytes new (turns.Head head) is = is
+taken_carry bytes new turns.BadHead is = absurd is
+taken_carry bytes new turns.End is = absurd is
+taken_carry bytes new turns.LinkFault is = absurd is
+taken_carry bytes new (turns.NoMemory verb) is = is

@@ -61,13 +61,13 @@ one_turn all rest other turns.End (turns.Head b) (kept, told) (k, y, said, was) 
 one_turn all rest other turns.End turns.BadHead (keeps, none) (kept, (bytes, told, bad)) d e = absurd (omega (arith, bad.0, ap length told, ap length none))
 one_turn all rest other turns.End turns.End (kept, x) (keeps, y) d e = (refl, kept ∙ sym keeps)
 one_turn all rest other (turns.Head a) turns.LinkFault x y d e = absurd e
-one_turn all rest other (turns.Head a) turns.NoMemory x y d e = absurd e
+one_turn all rest other (turns.Head a) (turns.NoMemory verb) x y d e = absurd e
 one_turn all rest other turns.BadHead turns.LinkFault x y d e = absurd e
-one_turn all rest other turns.BadHead turns.NoMemory x y d e = absurd e
+one_turn all rest other turns.BadHead (turns.NoMemory verb) x y d e = absurd e
 one_turn all rest other turns.End turns.LinkFault x y d e = absurd e
-one_turn all rest other turns.End turns.NoMemory x y d e = absurd e
+one_turn all rest other turns.End (turns.NoMemory verb) x y d e = absurd e
 one_turn all rest other turns.LinkFault u x y d e = absurd d
-one_turn all rest other turns.NoMemory u x y d e = absurd d
+one_turn all rest other (turns.NoMemory verb) u x y d e = absurd d
 
 -- equal first parts of one list
 same_front : (xs ys r q : List ℕ) → length xs ≡ length ys → xs ++ r ≡ ys ++ q → (xs ≡ ys) × (r ≡ q)

@@ -9,6 +9,7 @@ mod NumberLemmas
 mod OptionLemmas
 mod PathLemmas
 mod PieceLemmas
+mod RefusalLemmas
 mod ReplyLemmas
 mod Segments
 mod StatusLemmas

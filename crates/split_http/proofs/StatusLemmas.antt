@@ -1,7 +1,8 @@
--- A code with a phrase is a code.
-use Rattle.std.proofs.Common.{ℕ, List, Option, Some, None, IsSome, if◌then◌else◌, ◌==◌, lit≤, lit<, arith}
+-- A code with a phrase is a code, and the host's statuses have one.
+use Rattle.std.proofs.Common.{◌≡◌, ℕ, List, Option, Some, None, IsSome, IsTrue, Bool, true, false, refl, subst, ◌||◌, if◌then◌else◌, ◌==◌, lit≤, lit<, arith}
 use Rattle.std.proofs.lemmas.Bool.Decides.{nat_tests}
 use Rattle.http.specs.StatusCode.{IsStatusCode, reason_phrase}
+use Rattle.split_http.specs.Replies.{is_host_status}
 
 -- one test of the chain
 test : (n k : ℕ) (x : List ℕ) (rest : Option (List ℕ)) → IsStatusCode k → (IsSome rest → IsStatusCode n)
@@ -74,3 +75,30 @@ reason_phrase-code n =
     test n 510 _ _ (lit≤ tt, lit< tt) (
     test n 511 _ None (lit≤ tt, lit< tt) (
     λ h. cc))))))))))))))))))))))))))))))))))))))))))))))))))))))))))))))
+
+-- one of the host's statuses
+one : (n k : ℕ) (rest : Bool) → IsSome (reason_phrase k) → (IsTrue rest → IsSome (reason_phrase n)) → IsTrue ((k == n) || rest) → IsSome (reason_phrase n)
+one n k rest ok next = by (k == n) refl
+  where
+    by : (v : Bool) → (k == n) ≡ v → IsTrue (v || rest) → IsSome (reason_phrase n)
+    by true e h =
+        let is : k ≡ n = grind (arith, nat_tests) in
+        subst (λ m. IsSome (reason_phrase m)) is ok
+    by false e h = next h
+
+-- each of them has a phrase
+pub host_status-phrase : (n : ℕ) → IsTrue (is_host_status n) → IsSome (reason_phrase n)
+host_status-phrase n =
+    one n 200 _ refl (
+    one n 201 _ refl (
+    one n 400 _ refl (
+    one n 403 _ refl (
+    one n 404 _ refl (
+    one n 405 _ refl (
+    one n 409 _ refl (
+    one n 411 _ refl (
+    one n 413 _ refl (
+    one n 422 _ refl (
+    one n 501 _ refl (
+    one n 503 _ refl (
+    λ h. cc))))))))))))

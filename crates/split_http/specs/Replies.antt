@@ -1,5 +1,6 @@
 -- The bytes of a reply.
-use Rattle.std.specs.Prelude.{◌≡◌, ℕ, Bool, List, [], ◌++◌, length, codes, decimal, Option, Some, None, unwrap_or, cond}
+use Rattle.std.specs.Prelude.{◌≡◌, ℕ, ◌==◌, Bool, List, [], ◌∷◌, ◌++◌, length, codes, decimal, Option, Some, None, unwrap_or, cond}
+use Rattle.std.specs.List.{list_any}
 use Rattle.http.specs.StatusCode.{code_digits, reason_phrase}
 use Rattle.httpdate.specs.Date.{unix_secs, date_text}
 use Rattle.httpdate.specs.declared.date.HttpDate.{HttpDate}
@@ -52,3 +53,8 @@ reply_with date reply =
 -- the bytes are that reply
 abbrev pub IsReply : HttpReply → List ℕ → Type 0
 IsReply reply bytes = (date : List ℕ) × IsDateLine reply.moment date × (bytes ≡ reply_with date reply)
+
+-- the status is one with which a host replies (RFC 9110, section 15)
+abbrev pub is_host_status : ℕ → Bool
+is_host_status status =
+    list_any (λ s. s == status) (200 ∷ 201 ∷ 400 ∷ 403 ∷ 404 ∷ 405 ∷ 409 ∷ 411 ∷ 413 ∷ 422 ∷ 501 ∷ 503 ∷ [])

@@ -10,7 +10,7 @@ use Rattle.split_http.specs.declared.search.Look.{Look}
 use Rattle.split_http.specs.declared.search.Look.TheVariants as looks
 use Rattle.split_http.specs.declared.search.Ahead.{Ahead}
 use Rattle.split_http.specs.declared.search.Ahead.TheVariants as ahead
-use Rattle.split_http.specs.Turns.{Told, IsBad}
+use Rattle.split_http.specs.Turns.{Told, IsBad, IsOpen}
 
 -- the head stands at the front of the bytes, at these spans
 pub record IsFoundAt (bytes : List ℕ) (fields : List HeaderSpan) (spans : RequestSpans) : Type 0 where
@@ -34,9 +34,9 @@ LookSays bytes fields looks.NotYet = HasNone bytes
 -- what the carry holds then
 abbrev pub IsAhead : List ℕ → List HeaderSpan → Ahead → Type 0
 IsAhead bytes fields (ahead.Found spans) = IsFoundAt bytes fields spans
-IsAhead bytes fields ahead.Bad = ⊤
+IsAhead bytes fields ahead.Bad = IsBad bytes
 IsAhead bytes fields ahead.End = bytes ≡ []
-IsAhead bytes fields ahead.Fault = ⊤
+IsAhead bytes fields ahead.Fault = IsOpen bytes
 
 -- what all the bytes are that are left
 abbrev pub SearchSays : Option (List ℕ) → Ahead → Type 0

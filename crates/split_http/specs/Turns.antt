@@ -1,5 +1,5 @@
 -- The cut of a link's bytes into heads and bodies.
-use Rattle.std.specs.Prelude.{◌≡◌, ℕ, ◌<◌, ◌≤◌, Bool, List, [], ◌++◌, length, codes, Option, Some, None, ⊤, if◌then◌else◌}
+use Rattle.std.specs.Prelude.{◌≡◌, ℕ, ◌+◌, ◌<◌, ◌≤◌, ◌⊎◌, Bool, List, [], ◌++◌, length, codes, Option, Some, None, ⊤, if◌then◌else◌}
 use Rattle.std.specs.Io.KnownBytes.{Appends, Consumes, IsAtEnd, Keeps}
 use Rattle.httparse.specs.Grammar.{RequestHead, print_request}
 use Rattle.split_base.specs.Faults.{counted}
@@ -8,8 +8,10 @@ use Rattle.split_http.specs.declared.heads.HeadTurn.TheVariants as turns
 use Rattle.split_http.specs.declared.bodies.BodyTurn.{BodyTurn}
 use Rattle.split_http.specs.declared.bodies.BodyTurn.TheVariants as bodies
 use Rattle.split_http.specs.declared.head.Head.{Head}
+use Rattle.split_http.specs.declared.head.Verb.{Verb}
+use Rattle.split_http.specs.declared.limits.TheConstants.{MAX_HEAD}
 use Rattle.split_http.specs.Pieces.{AppendsPart}
-use Rattle.split_http.specs.Heads.{IsHead, HasNoHead, IsHeadOf, text_of}
+use Rattle.split_http.specs.Heads.{IsHead, HasNoHead, IsHeadOf, text_of, verb_of}
 
 -- these are the bytes, where they are told
 abbrev pub Told : Option (List ℕ) → List ℕ → Type 0
@@ -20,21 +22,37 @@ Told (Some known) bytes = bytes ≡ known
 abbrev pub IsBad : List ℕ → Type 0
 IsBad all = (0 < length all) × HasNoHead all
 
+-- the bytes begin with no head, and may yet: they are fewer than a head may have
+abbrev pub IsOpen : List ℕ → Type 0
+IsOpen bytes = HasNoHead bytes × (length bytes < MAX_HEAD)
+
+-- a head with this method stands at the front
+abbrev pub HasHeadOf : Verb → List ℕ → Type 0
+HasHeadOf verb bytes = (h : RequestHead) × (rest : List ℕ) × IsHead h × (verb ≡ verb_of h.method) × (bytes ≡ print_request h ++ rest)
+
 -- what comes next of the bytes that were left, and what is left then: a head goes, with what it says; nothing goes where no head stands or the link failed
 abbrev pub HeadSays : Option (List ℕ) → Option (List ℕ) → HeadTurn → Type 0
 HeadSays old new (turns.Head head) = (h : RequestHead) × IsHead h × IsHeadOf (text_of h) head × Consumes old new (print_request h)
 HeadSays old new turns.BadHead = Keeps old new × ((all : List ℕ) × Told old all × IsBad all)
 HeadSays old new turns.End = Keeps old new × Told old []
 HeadSays old new turns.LinkFault = Keeps old new
-HeadSays old new turns.NoMemory = ⊤
+HeadSays old new (turns.NoMemory verb) = Keeps old new × ((all : List ℕ) × Told old all × HasHeadOf verb all)
 
--- the head was taken off the bytes, or there was no memory
+-- the head was taken off the bytes, or it stands there and there was no memory
 abbrev pub IsTaken : List ℕ → List ℕ → HeadTurn → Type 0
 IsTaken old new (turns.Head head) = (h : RequestHead) × IsHead h × IsHeadOf (text_of h) head × (old ≡ print_request h ++ new)
 IsTaken old new turns.BadHead = ⊥
 IsTaken old new turns.End = ⊥
 IsTaken old new turns.LinkFault = ⊥
-IsTaken old new turns.NoMemory = ⊤
+IsTaken old new (turns.NoMemory verb) = (new ≡ old) × HasHeadOf verb old
+
+-- what the carry's bytes and those that were read behind them are, whatever the link tells, and what the carry holds then: the head at the front is taken off; else nothing is, and a read fails only where no head stands there and room for one is left
+abbrev pub CarrySays : List ℕ → List ℕ → HeadTurn → Type 0
+CarrySays bytes new (turns.Head head) = (h : RequestHead) × IsHead h × IsHeadOf (text_of h) head × (bytes ≡ print_request h ++ new)
+CarrySays bytes new turns.BadHead = (new ≡ bytes) × IsBad bytes
+CarrySays bytes new turns.End = (new ≡ bytes) × (bytes ≡ [])
+CarrySays bytes new turns.LinkFault = (new ≡ bytes) × IsOpen bytes
+CarrySays bytes new (turns.NoMemory verb) = (new ≡ bytes) × HasHeadOf verb bytes
 
 -- the count of faults afterwards: one more where a read failed
 abbrev pub faults_of : ℕ → HeadTurn → ℕ
@@ -42,7 +60,7 @@ faults_of before (turns.Head head) = before
 faults_of before turns.BadHead = before
 faults_of before turns.End = before
 faults_of before turns.LinkFault = counted before
-faults_of before turns.NoMemory = before
+faults_of before (turns.NoMemory verb) = before
 
 -- the interim line, where it is due
 abbrev pub interim_of : Bool → List ℕ
@@ -59,13 +77,32 @@ BodySays old new before now head bodies.LinkFault =
     (head.refused ≡ None) × ((part : List ℕ) × (length part ≤ head.length) × Consumes old new part) × AppendsPart before now (interim_of head.expects)
 BodySays old new before now head bodies.NoMemory = (head.refused ≡ None) × Keeps old new × (now ≡ before)
 
+-- a write of the interim line failed: a first part of the line was written, and no byte of the link was taken
+abbrev pub IsWriteFault : Option (List ℕ) → Option (List ℕ) → Option (List ℕ) → Option (List ℕ) → Head → Type 0
+IsWriteFault old new before now head = Keeps old new × AppendsPart before now (interim_of head.expects)
+
+-- a read within the body failed: the interim line was written where it is due, and what was taken and what the carry holds are less than the body
+abbrev pub IsReadFault : Option (List ℕ) → Option (List ℕ) → Option (List ℕ) → Option (List ℕ) → List ℕ → Head → Type 0
+IsReadFault old new before now held head =
+    ((part : List ℕ) × Consumes old new part × (length part + length held < head.length)) × Appends before now (interim_of head.expects)
+
+-- the link's counts of faults, of reads and of writes: a fault of the link is one failed call, which is counted, and any other answer leaves both counts
+abbrev pub BodyCounts : Option (List ℕ) → Option (List ℕ) → Option (List ℕ) → Option (List ℕ) → List ℕ → Head → ℕ → ℕ → ℕ → ℕ → BodyTurn → Type 0
+BodyCounts old new before now held head reads reads_now writes writes_now (bodies.Body body) = (reads_now ≡ reads) × (writes_now ≡ writes)
+BodyCounts old new before now held head reads reads_now writes writes_now (bodies.Refused row) = (reads_now ≡ reads) × (writes_now ≡ writes)
+BodyCounts old new before now held head reads reads_now writes writes_now bodies.Cut = (reads_now ≡ reads) × (writes_now ≡ writes)
+BodyCounts old new before now held head reads reads_now writes writes_now bodies.NoMemory = (reads_now ≡ reads) × (writes_now ≡ writes)
+BodyCounts old new before now held head reads reads_now writes writes_now bodies.LinkFault =
+    ((reads_now ≡ reads) × (writes_now ≡ counted writes) × IsWriteFault old new before now head)
+    ⊎ ((reads_now ≡ counted reads) × (writes_now ≡ writes) × IsReadFault old new before now held head)
+
 -- an answer that is no fault and no want of memory
 abbrev pub IsHeadDone : HeadTurn → Type 0
 IsHeadDone (turns.Head head) = ⊤
 IsHeadDone turns.BadHead = ⊤
 IsHeadDone turns.End = ⊤
 IsHeadDone turns.LinkFault = ⊥
-IsHeadDone turns.NoMemory = ⊥
+IsHeadDone (turns.NoMemory verb) = ⊥
 
 abbrev pub IsBodyDone : BodyTurn → Type 0
 IsBodyDone (bodies.Body body) = ⊤

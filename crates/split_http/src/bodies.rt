@@ -1,9 +1,9 @@
 // The body behind a head.
 ghost use Rattle.std.specs.Prelude.{◌≡◌, ◌≤◌, ◌+◌, ◌++◌, ◌⊎◌, take, drop, length, vec_len, vec_capacity, OnOk, OnErr};
 ghost use Rattle.std.specs.Io.KnownBytes.{Appends, prepend_known};
-ghost use Rattle.split_base.specs.Faults.{HasCause, HasRisen};
+ghost use Rattle.split_base.specs.Faults.{HasCause, HasRisen, IsCounted};
 ghost use Rattle.split_http.specs.Pieces.{AppendsPart};
-ghost use Rattle.split_http.specs.Turns.{BodySays, interim_of};
+ghost use Rattle.split_http.specs.Turns.{BodySays, BodyCounts, interim_of};
 
 use crate::carry::Carry;
 use crate::head::Head;
@@ -33,9 +33,13 @@ pub enum BodyTurn {
 ///
 /// - `Refused` comes exactly where the head is refused. Nothing is read or written then.
 /// - `Cut` comes exactly where the input ends within the body.
-/// - `LinkFault` comes only where one of the link's two counts of faults has risen.
+/// - `LinkFault` comes for one failed call, which one of the link's two counts of faults tells: a
+///   write of the interim line, of which a first part was written then, before anything was read; or
+///   a read behind the whole line, while less than the body was read. So nothing is read where no
+///   body is due, and a failed call is not tried again.
 /// - `NoMemory` comes for want of memory alone, and before anything is read or written.
 ///
+/// Each answer but `LinkFault` leaves both counts as they are.
 /// After anything but a body the connection takes no further request.
 pub fn next_body<L: Link>(alloc: Global, link: &mut L, carry: &mut Carry, head: &Head) -> BodyTurn
     ensures says { BodySays (prepend_known carry.old (L.Source.left link.old)) (prepend_known carry.new (L.Source.left link.new))
@@ -43,6 +47,8 @@ pub fn next_body<L: Link>(alloc: Global, link: &mut L, carry: &mut Carry, head: 
     ensures cause { result ≡ BodyTurn.LinkFault → HasRisen (L.Source.faults link.old) (L.Source.faults link.new) ⊎ HasRisen (L.Sink.faults link.old) (L.Sink.faults link.new) }
     ensures reads { L.Source.faults link.old ≤ L.Source.faults link.new }
     ensures writes { L.Sink.faults link.old ≤ L.Sink.faults link.new }
+    ensures counts { BodyCounts (prepend_known carry.old (L.Source.left link.old)) (prepend_known carry.new (L.Source.left link.new))
+        (L.Sink.written link.old) (L.Sink.written link.new) carry.new head.now (L.Source.faults link.old) (L.Source.faults link.new) (L.Sink.faults link.old) (L.Sink.faults link.new) result }
 {
     if let Some(row) = head.refused {
         return BodyTurn::Refused { row };
@@ -71,6 +77,7 @@ fn write_interim<S: Sink>(sink: &mut S, due: bool) -> Result<(), Failed>
     ensures whole { OnOk result (Appends (S.written sink.old) (S.written sink.new) (interim_of due)) }
     ensures part { OnErr result (AppendsPart (S.written sink.old) (S.written sink.new) (interim_of due)) }
     ensures cause { HasCause (S.faults sink.old) (S.faults sink.new) result }
+    ensures count { IsCounted (S.faults sink.old) (S.faults sink.new) result }
     ensures beside { S.beside sink.new ≡ S.beside sink.old }
 {
     write_all(sink, interim(due))

@@ -1,5 +1,5 @@
 // The bytes that were read past a message.
-ghost use Rattle.std.specs.Prelude.{◌≡◌, ◌<◌, ◌≤◌, ◌+◌, [], length, drop, IfOk};
+ghost use Rattle.std.specs.Prelude.{◌≡◌, ◌<◌, ◌≤◌, ◌+◌, ◌++◌, ℕ, List, [], length, drop, IfOk, OnErr};
 ghost use Rattle.std.specs.Io.KnownBytes.{Keeps, IsAtEnd, prepend_known};
 ghost use Rattle.split_base.specs.Faults.{HasCause, IsCounted};
 
@@ -60,12 +60,14 @@ impl Carry {
         self.len -= count;
     }
 
-    // Reads some more bytes, or none at the end of input.
+    // Reads some more bytes behind those that are there, or none at the end of input.
     pub(crate) fn fill<S: Source>(&mut self, source: &mut S) -> Result<usize, Failed>
         requires { length self.old < MAX_HEAD }
         ensures same { Keeps (prepend_known self.old (S.left source.old)) (prepend_known self.new (S.left source.new)) }
+        ensures front { (read : List ℕ) × (self.new ≡ self.old ++ read) }
         ensures more { IfOk result (λ n. length self.new ≡ length self.old + n) }
         ensures end { IfOk result (λ n. n ≡ 0 → IsAtEnd (S.left source.new) × (self.new ≡ self.old)) }
+        ensures failed { OnErr result (self.new ≡ self.old) }
         ensures cause { HasCause (S.faults source.old) (S.faults source.new) result }
         ensures count { IsCounted (S.faults source.old) (S.faults source.new) result }
         ensures beside { S.beside source.new ≡ S.beside source.old }
@@ -80,6 +82,7 @@ impl Carry {
         ensures same { Keeps (prepend_known self.old (S.left source.old)) (prepend_known self.new (S.left source.new)) }
         ensures more { IfOk result (λ n. length self.new ≡ n) }
         ensures end { IfOk result (λ n. n ≡ 0 → IsAtEnd (prepend_known self.new (S.left source.new))) }
+        ensures failed { OnErr result (self.new ≡ []) }
         ensures cause { HasCause (S.faults source.old) (S.faults source.new) result }
         ensures count { IsCounted (S.faults source.old) (S.faults source.new) result }
         ensures beside { S.beside source.new ≡ S.beside source.old }

@@ -47,7 +47,7 @@ pub struct Head {
     pub closes: bool,
 }
 
-fn read_verb(method: &[u8]) -> Verb
+pub(crate) fn read_verb(method: &[u8]) -> Verb
     ensures { result ≡ verb_of method.now }
 {
     if method == b"GET".as_slice() {

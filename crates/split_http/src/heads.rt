@@ -1,12 +1,12 @@
 // The next head of a link.
-ghost use Rattle.std.specs.Prelude.{◌≡◌, ◌≤◌, length};
+ghost use Rattle.std.specs.Prelude.{◌≡◌, ◌≤◌, ◌++◌, ℕ, List, length};
 ghost use Rattle.std.specs.Io.KnownBytes.{prepend_known};
 ghost use Rattle.split_base.specs.Faults.{HasRisen};
 ghost use Rattle.split_http.specs.Search.{IsFoundAt};
-ghost use Rattle.split_http.specs.Turns.{HeadSays, IsTaken, faults_of};
+ghost use Rattle.split_http.specs.Turns.{HeadSays, CarrySays, IsTaken, faults_of};
 
 use crate::carry::Carry;
-use crate::head::{Head, head_at};
+use crate::head::{Head, Verb, head_at, read_verb};
 use crate::search::{Ahead, ROOM, look_ahead};
 use httparse::spans::{EMPTY_HEADER_SPAN, HeaderSpan, RequestSpans};
 use split_base::{NoMemory, Source};
@@ -23,8 +23,11 @@ pub enum HeadTurn {
     End,
     /// A read failed.
     LinkFault,
-    /// There was no memory for the head's path.
-    NoMemory,
+    /// There was no memory for the path of the head at the front.
+    NoMemory {
+        /// The method of that head. A reply to HEAD has no body.
+        verb: Verb,
+    },
 }
 
 /// Reads the next head of a link, and takes it off its bytes. These are the carry's and then those
@@ -34,12 +37,19 @@ pub enum HeadTurn {
 /// - `BadHead` comes exactly where bytes are left, and no first part of them is the head of a
 ///   request as `httparse` reads it (RFC 9112), of at most 8,192 bytes and with at most 64 fields.
 /// - `End` comes exactly where nothing is left.
-/// - `LinkFault` comes only where the link's count of faults has risen.
-/// - `NoMemory` comes for want of memory alone.
+/// - `LinkFault` comes for one failed read, which the link's count of faults tells. Each other answer
+///   leaves that count as it is. A read fails only while no whole head stands at the front of what
+///   the carry holds, and room for one is left: nothing is read while a whole head waits there.
+/// - `NoMemory` comes for want of memory alone, and only where a head stands at the front. That head
+///   stays there. Its method is told, so that a reply to HEAD can leave its body out
+///   (`HttpReply::bodiless`).
 ///
-/// After anything but a head the connection takes no further request.
+/// But for a head that was taken off, the carry holds what it held and behind it what was read. After
+/// anything but a head the connection takes no further request.
 pub fn next_head<S: Source>(alloc: Global, link: &mut S, carry: &mut Carry) -> HeadTurn
     ensures says { HeadSays (prepend_known carry.old (S.left link.old)) (prepend_known carry.new (S.left link.new)) result }
+    ensures carry { (read : List ℕ) × CarrySays (carry.old ++ read) carry.new result }
+    ensures reads { S.faults link.old ≤ S.faults link.new }
     ensures cause { result ≡ HeadTurn.LinkFault → HasRisen (S.faults link.old) (S.faults link.new) }
     ensures count { S.faults link.new ≡ faults_of (S.faults link.old) result }
     ensures beside { S.beside link.new ≡ S.beside link.old }
@@ -69,6 +79,9 @@ fn take_head(
             carry.take_front(spans.len);
             HeadTurn::Head(head)
         }
-        Err(NoMemory) => HeadTurn::NoMemory,
+        Err(NoMemory) => {
+            let verb = read_verb(spans.method.of(carry.as_slice()));
+            HeadTurn::NoMemory { verb }
+        }
     }
 }

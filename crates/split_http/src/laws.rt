@@ -1,12 +1,14 @@
-// Laws of the cut of messages and of replies.
-ghost use Rattle.std.specs.Prelude.{◌≡◌, ◌++◌, ℕ, List, Some, Option};
+// Laws of the cut of messages, of heads and of replies.
+ghost use Rattle.std.specs.Prelude.{◌≡◌, ◌≤◌, ◌++◌, ℕ, List, Some, Option, IsSome, IsTrue};
+ghost use Rattle.http.specs.StatusCode.{reason_phrase};
 ghost use Rattle.httparse.specs.Grammar.{RequestHead, print_request};
 ghost use Rattle.split_http.specs.declared.bodies.BodyTurn.{BodyTurn};
 ghost use Rattle.split_http.specs.declared.head.Head.{Head};
 ghost use Rattle.split_http.specs.declared.heads.HeadTurn.{HeadTurn};
 ghost use Rattle.split_http.specs.declared.replies.HttpReply.{HttpReply};
-ghost use Rattle.split_http.specs.Heads.{IsHead};
-ghost use Rattle.split_http.specs.Replies.{IsReply};
+ghost use Rattle.split_http.specs.declared.limits.TheConstants.{BAD_HOST, BODY_TOO_LARGE};
+ghost use Rattle.split_http.specs.Heads.{IsHead, IsHeadOf, HeadText};
+ghost use Rattle.split_http.specs.Replies.{IsReply, is_host_status};
 ghost use Rattle.split_http.specs.Turns.{HeadSays, BodySays, IsHeadDone, IsBodyDone, IsSameBody};
 
 /// Heads are unique: of two heads with which the same bytes begin, each is the other, and the same
@@ -23,6 +25,16 @@ pub fn cut_law()
     ensures body { (all rest other : List ℕ) (before now then : Option (List ℕ)) (head : Head) (t u : BodyTurn)
         → BodySays (Some all) (Some rest) before now head t → BodySays (Some all) (Some other) before then head u
         → IsBodyDone t → IsBodyDone u → IsSameBody t u × (rest ≡ other) }
+{}
+
+/// The number of a head's refusal is one of the five, from `BAD_HOST` to `BODY_TOO_LARGE`.
+pub fn refusal_law()
+    ensures range { (text : HeadText) (head : Head) (row : ℕ) → IsHeadOf text head → head.refused ≡ Some row → (BAD_HOST ≤ row) × (row ≤ BODY_TOO_LARGE) }
+{}
+
+/// Each status with which a host replies has a phrase, as `write_reply` asks.
+pub fn phrase_law()
+    ensures some { (status : ℕ) → IsTrue (is_host_status status) → IsSome (reason_phrase status) }
 {}
 
 /// A reply has one text.

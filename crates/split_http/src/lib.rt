@@ -13,18 +13,14 @@ mod numbers;
 mod paths;
 mod pieces;
 mod replies;
-#[cfg(test)]
-mod reply_tests;
 mod routes;
 mod search;
-#[cfg(test)]
-mod tests;
 
 pub use bodies::{BodyTurn, next_body};
 pub use carry::Carry;
 pub use head::{Head, Verb};
 pub use heads::{HeadTurn, next_head};
-pub use laws::{cut_law, head_law, reply_law};
+pub use laws::{cut_law, head_law, phrase_law, refusal_law, reply_law};
 pub use limits::{
     BAD_HOST, BAD_LENGTH, BODY_TOO_LARGE, FRAMING, LENGTH_MISSING, MAX_BODY, MAX_FIELDS, MAX_HEAD,
 };

@@ -1,6 +1,6 @@
 // The routes of the host.
 ghost use Rattle.std.specs.Prelude.{◌≡◌, ◌↔◌, IfOk, IsTrue, option_map, slice_index_or};
-ghost use Rattle.split_http.specs.Places.{place_of, allow_of, has_verb, id_text, IsId, IsRouted};
+ghost use Rattle.split_http.specs.Places.{endpoint_of, has_verb, id_text, IsId, IsRouted};
 ghost use Rattle.split_http.specs.Rows.{route_rows};
 
 use crate::numbers::capped_number;
@@ -16,20 +16,24 @@ pub enum Place {
     Instances,
     /// `/instances/{id}`, by GET or HEAD: the status of an instance.
     Instance,
+    /// `/instances/{id}/audit`, by GET or HEAD: the audit of a division of goods.
+    Audit,
     /// `/instances/{id}/bids`, by POST: a bid.
     Bids,
     /// `/instances/{id}/bid`, by GET or HEAD: the own bid.
     Bid,
-    /// `/instances/{id}/withdraw`, by POST: a withdrawal.
-    Withdraw,
+    /// `/instances/{id}/certificate`, by GET or HEAD.
+    Certificate,
     /// `/instances/{id}/close`, by POST: a close.
     Close,
     /// `/instances/{id}/division`, by GET or HEAD.
     Division,
-    /// `/instances/{id}/certificate`, by GET or HEAD.
-    Certificate,
     /// `/instances/{id}/report`, by GET or HEAD.
     Report,
+    /// `/instances/{id}/winner`, by GET or HEAD: adjusted winner for two players.
+    Winner,
+    /// `/instances/{id}/withdraw`, by POST: a withdrawal.
+    Withdraw,
 }
 
 /// Where a request leads.
@@ -57,7 +61,7 @@ pub enum RouteFault {
 /// The routes of the host, as a router of `matchit`.
 #[derive(Drop)]
 pub struct Routes {
-    router: Router<Place>,
+    router: Router<(Place, Allow)>,
     ghost rows: { router ≡ route_rows },
 }
 
@@ -83,10 +87,9 @@ impl Routes {
         let Some(path) = path else {
             return Err(RouteFault::NoRoute);
         };
-        let Some(place) = find_place(&self.router, path.as_str()) else {
+        let Some((place, allow)) = find_endpoint(&self.router, path.as_str()) else {
             return Err(RouteFault::NoRoute);
         };
-        let allow = methods(place);
         if !admits(allow, verb) {
             return Err(RouteFault::Method { allow });
         }
@@ -95,39 +98,34 @@ impl Routes {
     }
 }
 
-fn make_router(alloc: Global) -> Result<Router<Place>, InsertError>
+// All routes, each with its place and methods.
+fn make_router(alloc: Global) -> Result<Router<(Place, Allow)>, InsertError>
     ensures { IfOk result (λ router. router ≡ route_rows) }
 {
+    let get = Allow::GetHead;
+    let post = Allow::Post;
     let mut router = Router::new(alloc);
-    router.insert("/instances", Place::Instances)?;
-    router.insert("/instances/{id}", Place::Instance)?;
-    router.insert("/instances/{id}/bids", Place::Bids)?;
-    router.insert("/instances/{id}/bid", Place::Bid)?;
-    router.insert("/instances/{id}/withdraw", Place::Withdraw)?;
-    router.insert("/instances/{id}/close", Place::Close)?;
-    router.insert("/instances/{id}/division", Place::Division)?;
-    router.insert("/instances/{id}/certificate", Place::Certificate)?;
-    router.insert("/instances/{id}/report", Place::Report)?;
+    router.insert("/instances", (Place::Instances, post))?;
+    router.insert("/instances/{id}", (Place::Instance, get))?;
+    router.insert("/instances/{id}/audit", (Place::Audit, get))?;
+    router.insert("/instances/{id}/bids", (Place::Bids, post))?;
+    router.insert("/instances/{id}/bid", (Place::Bid, get))?;
+    router.insert("/instances/{id}/certificate", (Place::Certificate, get))?;
+    router.insert("/instances/{id}/close", (Place::Close, post))?;
+    router.insert("/instances/{id}/division", (Place::Division, get))?;
+    router.insert("/instances/{id}/report", (Place::Report, get))?;
+    router.insert("/instances/{id}/winner", (Place::Winner, get))?;
+    router.insert("/instances/{id}/withdraw", (Place::Withdraw, post))?;
     Ok(router)
 }
 
-fn find_place(router: &Router<Place>, path: &str) -> Option<Place>
+fn find_endpoint(router: &Router<(Place, Allow)>, path: &str) -> Option<(Place, Allow)>
     requires { router.now ≡ route_rows }
-    ensures { result ≡ place_of path.now }
+    ensures { result ≡ endpoint_of path.now }
 {
     match router.at(path) {
         Ok(found) => Some(*found.value),
         Err(_) => None,
-    }
-}
-
-fn methods(place: Place) -> Allow
-    ensures { result ≡ allow_of place }
-{
-    match place {
-        Place::Instances | Place::Bids | Place::Withdraw | Place::Close => Allow::Post,
-        Place::Instance | Place::Bid | Place::Division | Place::Certificate | Place::Report =>
-            Allow::GetHead,
     }
 }
 

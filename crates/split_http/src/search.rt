@@ -1,5 +1,5 @@
 // The search for the head of the next request.
-ghost use Rattle.std.specs.Prelude.{◌≡◌, length, IfSome};
+ghost use Rattle.std.specs.Prelude.{◌≡◌, ◌≤◌, ◌++◌, ℕ, List, length, IfSome};
 ghost use Rattle.std.specs.Io.KnownBytes.{Keeps, prepend_known};
 ghost use Rattle.split_base.specs.Faults.{HasRisen};
 ghost use Rattle.split_http.specs.Search.{LookSays, IsAhead, SearchSays, faults_by};
@@ -58,6 +58,8 @@ pub(crate) fn look_ahead<S: Source>(
     ensures same { Keeps (prepend_known carry.old (S.left source.old)) (prepend_known carry.new (S.left source.new)) }
     ensures ahead { IsAhead carry.new fields.new result }
     ensures says { SearchSays (prepend_known carry.new (S.left source.new)) result }
+    ensures more { (read : List ℕ) × (carry.new ≡ carry.old ++ read) }
+    ensures reads { S.faults source.old ≤ S.faults source.new }
     ensures cause { result ≡ Ahead.Fault → HasRisen (S.faults source.old) (S.faults source.new) }
     ensures count { S.faults source.new ≡ faults_by (S.faults source.old) result }
     ensures beside { S.beside source.new ≡ S.beside source.old }

@@ -13,14 +13,14 @@ use Rattle.bid_rules.specs.declared.bids.Facts.{Facts}
 use Rattle.bid_rules.specs.declared.limits.TheConstants.{ITEM_ROOM, MEMBER_ROOM, MOST_GOODS, MOST_PLACES, MOST_RENT, PLACE_ROOM, USUAL_STEPS}
 use Rattle.bid_rules.specs.Decisions.{Decision, holds, fails, is_checked_bid, is_checked_facts, where_holds}
 use Rattle.bid_rules.specs.Facts.{IsCheckedBid, IsCheckedFacts, member_count}
-use Rattle.sealed_core.specs.Rules.{allowed_bid}
+use Rattle.case_fields.specs.Rules.{allowed_bid}
 use Rattle.split_json.specs.Rules.{bid_in, bids_in, each, elements, entry_in, is_within, json_of, kind_in, legs_in, list_in, listed, name_in, names_in, number_in, passing, written_bid}
 use Rattle.split_json.specs.Reading.{CaseData, HeadData, IsReady, IsReadyHead, allowed, answer_of, case_in, case_of_object, fares_head, field_text, free_fares, goods_head, head_of_object, held, held_or, item_count, rent_head, rest_of_head, goods_facts, rent_facts, fares_facts, ◌>>=◌}
-use Rattle.sealed_core.specs.declared.fields.FieldName.{FieldName}
-use Rattle.sealed_core.specs.declared.fields.FieldName.TheVariants as field
+use Rattle.case_fields.specs.declared.fields.FieldName.{FieldName}
+use Rattle.case_fields.specs.declared.fields.FieldName.TheVariants as field
 use Rattle.split_json.specs.declared.rules.Kind.{Kind}
 use Rattle.split_json.specs.declared.rules.Kind.TheVariants as kind
-use Rattle.sealed_core.specs.declared.fields.BodyFault.TheVariants.{Field}
+use Rattle.case_fields.specs.declared.fields.BodyFault.TheVariants.{Field}
 
 -- where a decision lets x pass, the fact holds
 pub passed : {A : Type 0} (P : Type 0) (decision : Decision P) (x y : A) → where_holds P decision x ≡ Some y → P × (x ≡ y)

@@ -4,12 +4,12 @@ use Rattle.std.proofs.lemmas.Option.{option_and_then_some}
 use Rattle.serde_json.specs.Data.{Data}
 use Rattle.serde_json.specs.Find.{as_str}
 use Rattle.bid_rules.specs.declared.limits.TheConstants.{ITEM_ROOM, MEMBER_ROOM, MOST_GOODS, MOST_PLACES, MOST_RENT, PLACE_ROOM, USUAL_STEPS}
-use Rattle.sealed_core.specs.declared.limits.TheConstants.{LAST_DEADLINE}
-use Rattle.sealed_core.specs.declared.fields.FieldName.{FieldName}
-use Rattle.sealed_core.specs.declared.fields.FieldName.TheVariants as field
-use Rattle.sealed_core.specs.declared.creations.Creation.{Creation}
-use Rattle.sealed_core.specs.Host.{CreationView, IsCheckedCreation, IsName, creation_view}
-use Rattle.sealed_core.specs.Rules.{is_name, is_tag}
+use Rattle.case_fields.specs.declared.limits.TheConstants.{LAST_DEADLINE}
+use Rattle.case_fields.specs.declared.fields.FieldName.{FieldName}
+use Rattle.case_fields.specs.declared.fields.FieldName.TheVariants as field
+use Rattle.case_fields.specs.declared.creations.Creation.{Creation}
+use Rattle.case_fields.specs.Creations.{CreationView, IsCheckedCreation, creation_view}
+use Rattle.case_fields.specs.Rules.{IsName, is_name, is_tag}
 use Rattle.split_json.specs.declared.rules.Kind.{Kind}
 use Rattle.split_json.specs.declared.rules.Kind.TheVariants as kind
 use Rattle.split_json.specs.Bodies.{creation_of_object, deadline_in, tag_in}

@@ -11,7 +11,7 @@ use Rattle.bid_rules.specs.declared.bids.Facts.TheVariants as facts
 use Rattle.bid_rules.specs.declared.limits.TheConstants.{ITEM_ROOM}
 use Rattle.bid_rules.specs.Decisions.{Decision, holds, fails, is_checked_bid, where_holds}
 use Rattle.bid_rules.specs.Facts.{IsCheckedBid, IsCheckedFacts}
-use Rattle.sealed_core.specs.Rules.{allowed_bid}
+use Rattle.case_fields.specs.Rules.{allowed_bid}
 use Rattle.split_json.specs.Rules.{bid_in, each, is_within, listed, number_in, values_in, whole_number}
 use Rattle.split_json.proofs.ReadyCases.{bid_in-some, each-some}
 

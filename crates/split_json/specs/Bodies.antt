@@ -4,13 +4,13 @@ use Rattle.std.specs.Result.{result_map_both}
 use Rattle.serde_json.specs.Data.{Data}
 use Rattle.serde_json.specs.Find.{as_str, get}
 use Rattle.bid_rules.specs.declared.limits.TheConstants.{ITEM_ROOM}
-use Rattle.sealed_core.specs.declared.commands.BidBody.{BidBody}
-use Rattle.sealed_core.specs.declared.fields.BodyFault.{BodyFault}
-use Rattle.sealed_core.specs.declared.fields.BodyFault.TheVariants.{Json, Field}
-use Rattle.sealed_core.specs.declared.fields.FieldName.{FieldName}
-use Rattle.sealed_core.specs.declared.fields.FieldName.TheVariants as field
-use Rattle.sealed_core.specs.Host.{CreationView}
-use Rattle.sealed_core.specs.Rules.{is_tag}
+use Rattle.case_fields.specs.declared.bodies.BidBody.{BidBody}
+use Rattle.case_fields.specs.declared.fields.BodyFault.{BodyFault}
+use Rattle.case_fields.specs.declared.fields.BodyFault.TheVariants.{Json, Field}
+use Rattle.case_fields.specs.declared.fields.FieldName.{FieldName}
+use Rattle.case_fields.specs.declared.fields.FieldName.TheVariants as field
+use Rattle.case_fields.specs.Creations.{CreationView}
+use Rattle.case_fields.specs.Rules.{is_tag}
 use Rattle.split_json.specs.Deadlines.{deadline_of}
 use Rattle.split_json.specs.Reading.{field_text, head_of_object, held, ◌>>=◌}
 use Rattle.split_json.specs.Rules.{json_of, number_in, numbers_in, passing, place_in}

@@ -12,16 +12,16 @@ use Rattle.bid_rules.specs.declared.limits.TheConstants.{ITEM_ROOM, MEMBER_ROOM,
 use Rattle.bid_rules.specs.Decisions.{is_checked_facts, where_holds}
 use Rattle.bid_rules.specs.Facts.{IsCheckedBid, IsCheckedFacts, member_count}
 use Rattle.split_json.specs.Rules.{bids_in, json_of, kind_in, legs_in, name_in, names_in, number_in}
-use Rattle.sealed_core.specs.declared.fields.FieldName.{FieldName}
-use Rattle.sealed_core.specs.declared.fields.FieldName.TheVariants as field
+use Rattle.case_fields.specs.declared.fields.FieldName.{FieldName}
+use Rattle.case_fields.specs.declared.fields.FieldName.TheVariants as field
 use Rattle.split_json.specs.declared.rules.Kind.{Kind}
 use Rattle.split_json.specs.declared.rules.Kind.TheVariants as kind
-use Rattle.sealed_core.specs.declared.fields.BodyFault.{BodyFault}
-use Rattle.sealed_core.specs.declared.fields.BodyFault.TheVariants.{Json, Field}
+use Rattle.case_fields.specs.declared.fields.BodyFault.{BodyFault}
+use Rattle.case_fields.specs.declared.fields.BodyFault.TheVariants.{Json, Field}
 use Rattle.split_json.specs.declared.input.CaseInput.{CaseInput}
 use Rattle.split_json.specs.declared.input.Head.{Head}
-pub use Rattle.sealed_core.specs.Fields.{field_text}
-pub use Rattle.sealed_core.specs.Host.{item_count}
+pub use Rattle.case_fields.specs.Fields.{field_text}
+pub use Rattle.case_fields.specs.Creations.{item_count}
 
 -- what a case is of, with its texts as plain lists of bytes
 pub record HeadData : Type 0 where

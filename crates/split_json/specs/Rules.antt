@@ -1,4 +1,4 @@
--- What the fields of a body hold, by form: texts, whole numbers and lists. Which texts are names is said by `sealed_core`, and which of
+-- What the fields of a body hold, by form: texts, whole numbers and lists. Which texts are names is said by `case_fields`, and which of
 -- these make checked facts and bids by `bid_rules`.
 use Rattle.std.specs.Prelude.{ℕ, ◌&&◌, nat_le, Bool, if◌then◌else◌, List, [], ◌∷◌, length, codes, bytes_eq, Option, Some, None, is_some, option_map, option_and_then}
 use Rattle.std.specs.Str.{is_utf8}
@@ -12,7 +12,7 @@ use Rattle.bid_rules.specs.declared.bids.Facts.{Facts}
 use Rattle.bid_rules.specs.declared.bids.Facts.TheVariants as facts
 use Rattle.bid_rules.specs.declared.limits.TheConstants.{ITEM_ROOM, LEG_ROW_ROOM, PLACE_ROOM}
 use Rattle.bid_rules.specs.Facts.{member_count}
-use Rattle.sealed_core.specs.Rules.{allowed_bid, is_name}
+use Rattle.case_fields.specs.Rules.{allowed_bid, is_name}
 use Rattle.split_json.specs.declared.rules.Kind.{Kind}
 use Rattle.split_json.specs.declared.rules.Kind.TheVariants as kind
 

@@ -7,7 +7,7 @@ ghost use Rattle.split_json.specs.Rules.{json_of};
 use crate::bodies::parsed;
 use crate::held::value_of;
 use crate::rules::{number_in, numbers_in, place_in};
-use sealed_core::{BidBody, BodyFault, FieldName};
+use case_fields::{BidBody, BodyFault, FieldName};
 use serde_json::Value;
 use split_base::NoMemory;
 use std::alloc::Global;

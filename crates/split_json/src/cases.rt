@@ -9,7 +9,7 @@ use crate::bodies::parsed;
 use crate::heads::head_of_object;
 use crate::held::bids_of;
 use crate::input::CaseInput;
-use sealed_core::{BodyFault, FieldName};
+use case_fields::{BodyFault, FieldName};
 use serde_json::Value;
 use split_base::NoMemory;
 use std::alloc::Global;

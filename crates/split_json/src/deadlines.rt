@@ -1,6 +1,6 @@
 // Deadlines, as `jiff` reads timestamps.
 ghost use Rattle.std.specs.Prelude.{◌≡◌, ◌≤◌, IfSome};
-ghost use Rattle.sealed_core.specs.declared.limits.TheConstants.{LAST_DEADLINE};
+ghost use Rattle.case_fields.specs.declared.limits.TheConstants.{LAST_DEADLINE};
 ghost use Rattle.split_json.specs.Deadlines.{deadline_of};
 
 use jiff::Timestamp;

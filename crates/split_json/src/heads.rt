@@ -15,7 +15,7 @@ use bid_rules::limits::{
     USUAL_STEPS,
 };
 use bid_rules::{Facts, Fares, Goods, Rent};
-use sealed_core::{FieldName, Name};
+use case_fields::{FieldName, Name};
 use serde_json::Value;
 
 /// The head that the body gives, or the first field of it whose rule is broken.

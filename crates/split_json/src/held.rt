@@ -4,7 +4,7 @@ ghost use Rattle.std.specs.Result.{result_map_both};
 ghost use Rattle.serde_json.specs.Find.{get};
 ghost use Rattle.serde_json.specs.View.{view};
 ghost use Rattle.bid_rules.specs.Facts.{IsCheckedFacts};
-ghost use Rattle.sealed_core.specs.Fields.{field_text};
+ghost use Rattle.case_fields.specs.Fields.{field_text};
 ghost use Rattle.split_json.specs.Rules.{bids_in, kind_in, legs_in, name_in, names_in, number_in};
 ghost use Rattle.split_json.specs.Reading.{allowed, held, held_or};
 
@@ -12,7 +12,7 @@ use crate::rules::{Kind, bids_in, kind_in, legs_in, name_in, names_in, number_in
 use arrayvec::ArrayVec;
 use bid_rules::limits::{Legs, MEMBER_ROOM, USUAL_STEPS};
 use bid_rules::{Bid, Facts, check_facts};
-use sealed_core::{FieldName, Name};
+use case_fields::{FieldName, Name};
 use serde_json::Value;
 
 // What the body holds in the field.

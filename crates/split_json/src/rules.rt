@@ -7,7 +7,7 @@ ghost use Rattle.split_json.specs.Rules.{bid_in, bids_in, each, elements, entry_
 use arrayvec::ArrayVec;
 use bid_rules::limits::{LEG_ROW_ROOM, LegRow, Legs, MEMBER_ROOM};
 use bid_rules::{Bid, Facts};
-use sealed_core::{Name, allowed_bid, is_name, member_count};
+use case_fields::{Name, allowed_bid, is_name, member_count};
 use serde_json::Value;
 
 /// The kinds of case.

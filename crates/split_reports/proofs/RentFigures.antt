@@ -13,7 +13,7 @@ use Rattle.split_lemmas.proofs.RoomPlaces.{room_range, rooms_length}
 use Rattle.envy_check.specs.Envy.{ArePrices}
 use Rattle.rent_maximin.specs.Division.{IsRentDivision}
 use Rattle.rent_maximin.specs.declared.division.RentDivision.{RentDivision}
-use Rattle.split_json.specs.Reading.{CaseData}
+use Rattle.split_reports.specs.Names.{NamesData}
 use Rattle.split_reports.specs.Rent.{AreFigures, AreFiguresOf, RentTold}
 
 -- a number of a room
@@ -40,7 +40,7 @@ best_prices case division valid is within = record {
 }
 
 -- there is a figure of each kind for each member
-pub figures_each : (given : CaseData) (case : RentCase) (division : RentDivision) (told : RentTold) → length given.members ≡ room_count case → length given.items ≡ room_count case
+pub figures_each : (given : NamesData) (case : RentCase) (division : RentDivision) (told : RentTold) → length given.members ≡ room_count case → length given.items ≡ room_count case
     → IsRentDivision case division → AreFiguresOf case division told → AreFigures given told
 figures_each given case division told members items is are =
     let n = room_count case in

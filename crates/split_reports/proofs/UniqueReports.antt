@@ -19,9 +19,9 @@ use Rattle.bid_rules.specs.Goods.{player_count}
 use Rattle.bid_rules.specs.Rent.{IsValidRentCase, room_count, utility}
 use Rattle.bid_rules.specs.Facts.{IsValidCase}
 use Rattle.split_lemmas.proofs.FractionLaws.{same_value}
-use Rattle.certificates.specs.Division.{IsDivisionOf}
-use Rattle.certificates.specs.declared.division.Division.{Division}
-use Rattle.certificates.specs.declared.division.Division.TheVariants.{Rent, Goods, Fares}
+use Rattle.divisions.specs.Division.{IsDivisionOf}
+use Rattle.divisions.specs.declared.division.Division.{Division}
+use Rattle.divisions.specs.declared.division.Division.TheVariants.{Rent, Goods, Fares}
 use Rattle.envy_check.specs.Envy.{IsEnvyTable, entry_at, envy}
 use Rattle.envy_check.specs.Goods.{IsPointsTable}
 use Rattle.nash_search.specs.Division.{IsGoodsDivision}
@@ -30,11 +30,11 @@ use Rattle.rent_maximin.specs.Division.{IsRentDivision}
 use Rattle.rent_maximin.specs.declared.division.RentDivision.{RentDivision}
 use Rattle.shapley_core.specs.Division.{IsFareDivision}
 use Rattle.shapley_core.specs.declared.division.FareDivision.{FareDivision}
-use Rattle.split_json.specs.Reading.{CaseData}
+use Rattle.split_reports.specs.Names.{NamesData}
 use Rattle.split_reports.specs.Fares.{IsFaresReport, fares_report}
 use Rattle.split_reports.specs.Goods.{IsGoodsReport, goods_report}
 use Rattle.split_reports.specs.Rent.{AreUtilities, IsRentReport, RentTold, rent_report}
-use Rattle.split_reports.specs.Reports.{IsReport}
+use Rattle.split_reports.specs.Reports.{IsNamedReport}
 
 -- each value has one fraction
 abbrev pub OneFrac : Type 0
@@ -80,7 +80,7 @@ module _
     (one_goods : (case : GoodsCase) (division other : GoodsDivision) → IsGoodsDivision case division → IsGoodsDivision case other → division ≡ other)
   where
     -- a case of fares has one report
-    same_fares : (given : CaseData) (case : FareCase) (d e : FareDivision) (text other : List ℕ) → IsFareDivision case d → IsFareDivision case e → IsFaresReport given case d text → IsFaresReport given case e other → text ≡ other
+    same_fares : (given : NamesData) (case : FareCase) (d e : FareDivision) (text other : List ℕ) → IsFareDivision case d → IsFareDivision case e → IsFaresReport given case d text → IsFaresReport given case e other → text ≡ other
     same_fares given case d e text other a b ta tb =
         let total : d.total ≡ e.total = a.total ∙ sym b.total in
         let route = one_route case (map fraction_of d.fares.items) (map fraction_of e.fares.items) d.route.items e.route.items a.best b.best in
@@ -110,14 +110,14 @@ module _
         ∙ (ap (λ p. get_or (get_or ys p none).items (j + 1 - 1) (pos 0)) place ∙ ap (λ q. get_or (get_or ys i none).items q (pos 0)) back)) ∙ sym (get_or-map items ys i none [] there))
 
     -- a case of goods has one report
-    same_goods : (given : CaseData) (case : GoodsCase) (d e : GoodsDivision) (text other : List ℕ) → IsGoodsDivision case d → IsGoodsDivision case e → IsGoodsReport given case d text → IsGoodsReport given case e other → text ≡ other
+    same_goods : (given : NamesData) (case : GoodsCase) (d e : GoodsDivision) (text other : List ℕ) → IsGoodsDivision case d → IsGoodsDivision case e → IsGoodsReport given case d text → IsGoodsReport given case e other → text ≡ other
     same_goods given case d e text other a b ta tb =
         let same = one_goods case d e a b in
         let moved = subst (λ (x : GoodsDivision). IsGoodsReport given case x text) same ta in
         moved.2 ∙ ap (goods_report given case e.owners.items e.pair e.steps) (same_points case e.owners.items moved.0 tb.0 moved.1 tb.1) ∙ sym tb.2
 
     -- a case of rent has one report
-    same_rent : (given : CaseData) (case : RentCase) (d e : RentDivision) (text other : List ℕ) → IsValidRentCase case → IsRentDivision case d → IsRentDivision case e → IsRentReport given case d text → IsRentReport given case e other → text ≡ other
+    same_rent : (given : NamesData) (case : RentCase) (d e : RentDivision) (text other : List ℕ) → IsValidRentCase case → IsRentDivision case d → IsRentDivision case e → IsRentReport given case d text → IsRentReport given case e other → text ≡ other
     same_rent given case d e text other valid a b ta tb =
         let n = room_count case in
         let same = one_rent case d e valid a b in
@@ -149,20 +149,20 @@ module _
         ∙ ap (λ x. rent_report given rent (told_of t.rooms t.prices t.pays t.utilities x s.envy)) least ∙ ap (λ x. rent_report given rent (told_of t.rooms t.prices t.pays t.utilities t.least x)) table ∙ sym tb.2
 
     -- a case of any kind has one report
-    pub same_report : (given : CaseData) (made : Case) (division others : Division) (text other : List ℕ) → IsValidCase made → IsDivisionOf made division → IsDivisionOf made others
-        → IsReport given made division text → IsReport given made others other → text ≡ other
-    same_report given (case.Rent rent) (Rent d) (Rent e) text other valid a b ta tb = same_rent given rent d e text other valid a b ta tb
-    same_report given (case.Rent rent) (Rent d) (Goods e) text other valid a b ta tb = absurd b
-    same_report given (case.Rent rent) (Rent d) (Fares e) text other valid a b ta tb = absurd b
-    same_report given (case.Rent rent) (Goods d) e text other valid a b ta tb = absurd a
-    same_report given (case.Rent rent) (Fares d) e text other valid a b ta tb = absurd a
-    same_report given (case.Goods goods) (Goods d) (Goods e) text other valid a b ta tb = same_goods given goods d e text other a b ta tb
-    same_report given (case.Goods goods) (Goods d) (Rent e) text other valid a b ta tb = absurd b
-    same_report given (case.Goods goods) (Goods d) (Fares e) text other valid a b ta tb = absurd b
-    same_report given (case.Goods goods) (Rent d) e text other valid a b ta tb = absurd a
-    same_report given (case.Goods goods) (Fares d) e text other valid a b ta tb = absurd a
-    same_report given (case.Fares fares) (Fares d) (Fares e) text other valid a b ta tb = same_fares given fares d e text other a b ta tb
-    same_report given (case.Fares fares) (Fares d) (Rent e) text other valid a b ta tb = absurd b
-    same_report given (case.Fares fares) (Fares d) (Goods e) text other valid a b ta tb = absurd b
-    same_report given (case.Fares fares) (Rent d) e text other valid a b ta tb = absurd a
-    same_report given (case.Fares fares) (Goods d) e text other valid a b ta tb = absurd a
+    pub same_report : (names : NamesData) (made : Case) (division others : Division) (text other : List ℕ) → IsValidCase made → IsDivisionOf made division → IsDivisionOf made others
+        → IsNamedReport names made division text → IsNamedReport names made others other → text ≡ other
+    same_report names (case.Rent rent) (Rent d) (Rent e) text other valid a b ta tb = same_rent names rent d e text other valid a b ta tb
+    same_report names (case.Rent rent) (Rent d) (Goods e) text other valid a b ta tb = absurd b
+    same_report names (case.Rent rent) (Rent d) (Fares e) text other valid a b ta tb = absurd b
+    same_report names (case.Rent rent) (Goods d) e text other valid a b ta tb = absurd a
+    same_report names (case.Rent rent) (Fares d) e text other valid a b ta tb = absurd a
+    same_report names (case.Goods goods) (Goods d) (Goods e) text other valid a b ta tb = same_goods names goods d e text other a b ta tb
+    same_report names (case.Goods goods) (Goods d) (Rent e) text other valid a b ta tb = absurd b
+    same_report names (case.Goods goods) (Goods d) (Fares e) text other valid a b ta tb = absurd b
+    same_report names (case.Goods goods) (Rent d) e text other valid a b ta tb = absurd a
+    same_report names (case.Goods goods) (Fares d) e text other valid a b ta tb = absurd a
+    same_report names (case.Fares fares) (Fares d) (Fares e) text other valid a b ta tb = same_fares names fares d e text other a b ta tb
+    same_report names (case.Fares fares) (Fares d) (Rent e) text other valid a b ta tb = absurd b
+    same_report names (case.Fares fares) (Fares d) (Goods e) text other valid a b ta tb = absurd b
+    same_report names (case.Fares fares) (Rent d) e text other valid a b ta tb = absurd a
+    same_report names (case.Fares fares) (Goods d) e text other valid a b ta tb = absurd a

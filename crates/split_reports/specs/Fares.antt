@@ -7,7 +7,7 @@ use Rattle.bid_rules.specs.Fares.{coalition_cost, place_of}
 use Rattle.shapley_core.specs.declared.division.FareDivision.{FareDivision}
 use Rattle.split_frac.specs.declared.frac.Frac.{Frac}
 use Rattle.split_frac.specs.Frac.{frac_text, fraction_of}
-use Rattle.split_json.specs.Reading.{CaseData}
+use Rattle.split_reports.specs.Names.{NamesData}
 use Rattle.split_reports.specs.Lines.{count_line, lines_to, named_at, number_at, text_at}
 use Rattle.split_text.specs.Texts.{line_of, spaced}
 
@@ -16,7 +16,7 @@ abbrev pub member_of : FareCase → ℕ → ℕ
 member_of case rider = number_at case.who.items rider
 
 -- the title, and how many of the members are riders
-abbrev pub fares_head : CaseData → FareCase → List ℕ
+abbrev pub fares_head : NamesData → FareCase → List ℕ
 fares_head given case = line_of (codes "fares " ∷ given.title ∷ []) ++ count_line (codes "riders ") (length case.who.items) (length given.members)
 
 -- the line of the cost of all, and of the route in the numbers of members
@@ -24,23 +24,23 @@ abbrev pub total_line : FareCase → ℕ → List ℕ → List ℕ
 total_line case total route = line_of (codes "total " ∷ decimal total ∷ codes ", route" ∷ spaced (map decimal (map (member_of case) route)) ∷ [])
 
 -- the line of a rider: the member, the place, the exact fare, what the rider pays, and what the rider would cost alone
-abbrev pub rider_line : CaseData → FareCase → List Frac → List ℤ → ℕ → List ℕ
+abbrev pub rider_line : NamesData → FareCase → List Frac → List ℤ → ℕ → List ℕ
 rider_line given case fares pays rider =
     line_of (named_at given.members (member_of case rider) ∷ codes ": place " ∷ named_at given.items (place_of case rider)
     ∷ codes ", fare " ∷ text_at (map frac_text fares) rider ∷ codes ", pays " ∷ text_at (map signed_decimal pays) rider
     ∷ codes ", alone " ∷ decimal (coalition_cost case (rider ∷ [])) ∷ [])
 
 -- the report
-abbrev pub fares_report : CaseData → FareCase → ℕ → List ℕ → List Frac → List ℤ → List ℕ
+abbrev pub fares_report : NamesData → FareCase → ℕ → List ℕ → List Frac → List ℤ → List ℕ
 fares_report given case total route fares pays = fares_head given case ++ total_line case total route ++ lines_to (length case.who.items) (rider_line given case fares pays)
 
 -- the riders are members, each with a place, which have names
-pub record AreRiders (given : CaseData) (case : FareCase) : Type 0 where
+pub record AreRiders (given : NamesData) (case : FareCase) : Type 0 where
   pub members : All (λ member. (1 ≤ member) × (member ≤ length given.members)) case.who.items
   pub each : length case.at.items ≡ length case.who.items
   pub places : All (λ place. (1 ≤ place) × (place ≤ length given.items)) case.at.items
 
 -- the text is the report of the division of shared fares, in which each rider pays the cent plan of the fares
-abbrev pub IsFaresReport : CaseData → FareCase → FareDivision → List ℕ → Type 0
+abbrev pub IsFaresReport : NamesData → FareCase → FareDivision → List ℕ → Type 0
 IsFaresReport given case division text =
     text ≡ fares_report given case division.total division.route.items division.fares.items (cent_plan (map fraction_of division.fares.items) (pos division.total))

@@ -9,7 +9,7 @@ use Rattle.bid_rules.specs.Fractions.{Fraction, IsQuotient}
 use Rattle.bid_rules.specs.Rent.{HasParts, room_count, utility}
 use Rattle.envy_check.specs.Envy.{IsEnvyTable}
 use Rattle.rent_maximin.specs.declared.division.RentDivision.{RentDivision}
-use Rattle.split_json.specs.Reading.{CaseData}
+use Rattle.split_reports.specs.Names.{NamesData}
 use Rattle.split_reports.specs.Lines.{envy_line, lines_to, named_at, number_at, text_at}
 use Rattle.split_reports.specs.declared.rent.RentFigures.{RentFigures}
 use Rattle.split_text.specs.Texts.{line_of}
@@ -35,7 +35,7 @@ figures_shown figures = record {
 }
 
 -- there is a room, a name, a price, a payment, a utility and a row of the envy table for each member
-pub record AreFigures (given : CaseData) (told : RentTold) : Type 0 where
+pub record AreFigures (given : NamesData) (told : RentTold) : Type 0 where
   pub rooms : length told.rooms ≡ length given.members
   pub each : All (λ room. (1 ≤ room) × (room ≤ length given.members)) told.rooms
   pub prices : length told.prices ≡ length given.members
@@ -49,7 +49,7 @@ abbrev pub rent_head : List ℕ → ℕ → ℕ → List ℕ
 rent_head title members rent = line_of (codes "rent " ∷ title ∷ []) ++ line_of (codes "members " ∷ decimal members ∷ []) ++ line_of (codes "total " ∷ decimal rent ∷ [])
 
 -- the line of a member: the room, the exact price, what the member pays, and the exact utility
-abbrev pub member_line : CaseData → RentTold → ℕ → List ℕ
+abbrev pub member_line : NamesData → RentTold → ℕ → List ℕ
 member_line given told member =
     let room = number_at told.rooms member in
     line_of (named_at given.members member ∷ codes ": room " ∷ named_at given.items room ∷ codes ", price " ∷ text_at (map frac_text told.prices) room
@@ -64,7 +64,7 @@ abbrev pub member_envy : RentTold → ℕ → List ℕ
 member_envy told member = envy_line member (map frac_text (slice_index_or told.envy (member - 1) []))
 
 -- the report
-abbrev pub rent_report : CaseData → ℕ → RentTold → List ℕ
+abbrev pub rent_report : NamesData → ℕ → RentTold → List ℕ
 rent_report given rent told =
     let members = length given.members in
     rent_head given.title members rent ++ lines_to members (member_line given told) ++ least_line told.least ++ lines_to members (member_envy told)
@@ -85,5 +85,5 @@ pub record AreFiguresOf (case : RentCase) (division : RentDivision) (told : Rent
   pub envy : IsEnvyTable case told.rooms (map fraction_of told.prices) (map (map fraction_of) told.envy)
 
 -- the text is the report of the division of a rent
-abbrev pub IsRentReport : CaseData → RentCase → RentDivision → List ℕ → Type 0
+abbrev pub IsRentReport : NamesData → RentCase → RentDivision → List ℕ → Type 0
 IsRentReport given case division text = (told : RentTold) × AreFiguresOf case division told × (text ≡ rent_report given case.facts.rent told)

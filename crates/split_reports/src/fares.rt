@@ -5,10 +5,11 @@ ghost use Rattle.bid_rules.specs.Facts.{IsValidFareCase};
 ghost use Rattle.bid_rules.specs.Fares.{coalition_cost};
 ghost use Rattle.bid_rules.specs.declared.limits.TheConstants.{MOST_RIDERS, RIDER_ROOM};
 ghost use Rattle.shapley_core.specs.Division.{IsFareDivision};
-ghost use Rattle.split_json.specs.Reading.{shown};
+ghost use Rattle.split_reports.specs.Names.{shown_names};
 ghost use Rattle.split_reports.specs.Lines.{lines_to};
 ghost use Rattle.split_reports.specs.Fares.{AreRiders, IsFaresReport, fares_head, fares_report, member_of, rider_line, total_line};
 
+use crate::names::Names;
 use crate::text::{amount_at, fraction_at, named};
 use arrayvec::ArrayVec;
 use bid_rules::FareCase;
@@ -19,16 +20,15 @@ use fare_routes::Costs;
 use shapley_core::FareDivision;
 use split_base::NoMemory;
 use split_frac::Frac;
-use split_json::CaseInput;
 use split_text::{Numbers, push_line};
 use std::alloc::Global;
 
 /// Appends the title and the numbers of riders and members.
-fn push_head(lines: &mut String, input: &CaseInput, case: &FareCase) -> Result<(), NoMemory>
-    ensures { OnOk result (string_bytes lines.new ≡ string_bytes lines.old ++ fares_head (shown input.now) case.now) }
+fn push_head(lines: &mut String, names: &Names<'_>, case: &FareCase) -> Result<(), NoMemory>
+    ensures { OnOk result (string_bytes lines.new ≡ string_bytes lines.old ++ fares_head (shown_names names.now) case.now) }
 {
-    let title = input.title.as_str();
-    let (riders, members) = (case.who.len(), input.members.len());
+    let title = names.title.as_str();
+    let (riders, members) = (case.who.len(), names.members.len());
     push_line(lines, format_args!("fares {title}"))?;
     push_line(lines, format_args!("riders {riders} of {members}"))?;
     Ok(())
@@ -61,13 +61,13 @@ fn push_total(lines: &mut String, case: &FareCase, total: u32, route: &[u8]) -> 
 /// What the lines of riders tell. Each rider is a member who has a name, has a place that has one, and has a fare and cents to pay.
 #[derive(Drop)]
 pub(crate) struct RiderLines<'a> {
-    pub(crate) input: &'a CaseInput,
+    pub(crate) names: &'a Names<'a>,
     pub(crate) case: &'a FareCase,
     /// The exact fares.
     pub(crate) fares: &'a [Frac],
     /// Whole cents.
     pub(crate) pays: &'a [i64],
-    ghost riders: { AreRiders (shown input.now) case.now } by { Prim.hlevel props },
+    ghost riders: { AreRiders (shown_names names.now) case.now } by { Prim.hlevel props },
     ghost each_fare: { length fares.now ≡ length case.now.who.items },
     ghost each_pays: { length pays.now ≡ length case.now.who.items },
 }
@@ -78,14 +78,14 @@ impl RiderLines<'_> {
         requires low { 1 ≤ rider }
         requires high { rider ≤ length self.now.case.now.who.items }
         requires alone { alone ≡ coalition_cost self.now.case.now (rider ∷ []) }
-        ensures { OnOk result (string_bytes lines.new ≡ string_bytes lines.old ++ rider_line (shown self.now.input.now) self.now.case.now self.now.fares.now self.now.pays.now rider) }
+        ensures { OnOk result (string_bytes lines.new ≡ string_bytes lines.old ++ rider_line (shown_names self.now.names.now) self.now.case.now self.now.fares.now self.now.pays.now rider) }
     {
         let person = named(
-            self.input.members.as_slice(),
+            self.names.members.as_slice(),
             self.case.who[rider as usize - 1],
         );
         let place = named(
-            self.input.items.as_slice(),
+            self.names.items.as_slice(),
             self.case.at[rider as usize - 1],
         );
         let fare = fraction_at(self.fares, rider);
@@ -99,7 +99,7 @@ impl RiderLines<'_> {
     /// Appends the lines of the riders.
     fn push_riders(&self, lines: &mut String, costs: &Costs) -> Result<(), NoMemory>
         requires costs { costs.now ≡ self.now.case.now }
-        ensures { OnOk result (string_bytes lines.new ≡ string_bytes lines.old ++ lines_to (length self.now.case.now.who.items) (rider_line (shown self.now.input.now) self.now.case.now self.now.fares.now self.now.pays.now)) }
+        ensures { OnOk result (string_bytes lines.new ≡ string_bytes lines.old ++ lines_to (length self.now.case.now.who.items) (rider_line (shown_names self.now.names.now) self.now.case.now self.now.fares.now self.now.pays.now)) }
     {
         for k in 0..self.case.who.len() as u8 {
             let rider = k + 1;
@@ -128,10 +128,10 @@ fn fares_text(
 ) -> Result<Vec<u8>, NoMemory>
     requires route { All (λ rider. (1 ≤ rider) × (rider ≤ length riders.now.case.now.who.items)) division.now.route.items }
     requires costs { division.now.costs ≡ riders.now.case.now }
-    ensures { IfOk result (λ text. text.items ≡ fares_report (shown riders.now.input.now) riders.now.case.now division.now.total division.now.route.items riders.now.fares.now riders.now.pays.now) }
+    ensures { IfOk result (λ text. text.items ≡ fares_report (shown_names riders.now.names.now) riders.now.case.now division.now.total division.now.route.items riders.now.fares.now riders.now.pays.now) }
 {
     let mut lines = String::new(alloc);
-    push_head(&mut lines, riders.input, riders.case)?;
+    push_head(&mut lines, riders.names, riders.case)?;
     push_total(
         &mut lines,
         riders.case,
@@ -145,20 +145,20 @@ fn fares_text(
 /// The report of shared fares, from the division that the solver gives for the case.
 pub(crate) fn fares_report(
     alloc: Global,
-    input: &CaseInput,
+    names: &Names<'_>,
     case: &FareCase,
     division: &FareDivision,
 ) -> Result<Vec<u8>, NoMemory>
     requires case { IsValidFareCase case.now }
-    requires members { length input.now.members.items ≡ case.now.facts.members }
-    requires places { length input.now.items.items ≡ case.now.facts.places }
+    requires members { length names.now.members.now.items ≡ case.now.facts.members }
+    requires places { length names.now.items.now.items ≡ case.now.facts.places }
     requires division { IsFareDivision case.now division.now }
-    ensures { IfOk result (λ text. IsFaresReport (shown input.now) case.now division.now text.items) }
+    ensures { IfOk result (λ text. IsFaresReport (shown_names names.now) case.now division.now text.items) }
 {
     orders_law();
     let pays = cent_plan(division.fares.as_slice(), i64::from(division.total));
     let riders = RiderLines {
-        input,
+        names,
         case,
         fares: division.fares.as_slice(),
         pays: pays.as_slice(),

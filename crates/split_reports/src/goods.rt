@@ -5,10 +5,11 @@ ghost use Rattle.bid_rules.specs.Goods.{IsValidGoodsCase, player_count};
 ghost use Rattle.bid_rules.specs.declared.limits.TheConstants.{ITEM_ROOM};
 ghost use Rattle.envy_check.specs.Goods.{goods_of};
 ghost use Rattle.nash_search.specs.Division.{IsGoodsDivision};
-ghost use Rattle.split_json.specs.Reading.{shown};
+ghost use Rattle.split_reports.specs.Names.{shown_names};
 ghost use Rattle.split_reports.specs.Lines.{lines_to};
 ghost use Rattle.split_reports.specs.Goods.{IsGoodsReport, goods_head, goods_list, goods_report, pair_line, player_envy, player_line};
 
+use crate::names::Names;
 use crate::text::named;
 use arrayvec::ArrayVec;
 use bid_rules::limits::{ITEM_ROOM, MEMBER_ROOM};
@@ -16,7 +17,6 @@ use bid_rules::{GoodsCase, Pair};
 use envy_check::{points_of, points_table};
 use nash_search::GoodsDivision;
 use split_base::NoMemory;
-use split_json::CaseInput;
 use split_text::{Numbers, push_line};
 use std::alloc::Global;
 use std::fmt;
@@ -39,11 +39,11 @@ impl fmt::Display for GoodsList<'_> {
 }
 
 /// Appends the title and the numbers of players and members.
-fn push_head(lines: &mut String, input: &CaseInput, case: &GoodsCase) -> Result<(), NoMemory>
-    ensures { OnOk result (string_bytes lines.new ≡ string_bytes lines.old ++ goods_head (shown input.now) case.now) }
+fn push_head(lines: &mut String, names: &Names<'_>, case: &GoodsCase) -> Result<(), NoMemory>
+    ensures { OnOk result (string_bytes lines.new ≡ string_bytes lines.old ++ goods_head (shown_names names.now) case.now) }
 {
-    let title = input.title.as_str();
-    let (players, members) = (case.who.len(), input.members.len());
+    let title = names.title.as_str();
+    let (players, members) = (case.who.len(), names.members.len());
     push_line(lines, format_args!("goods {title}"))?;
     push_line(lines, format_args!("players {players} of {members}"))?;
     Ok(())
@@ -77,11 +77,11 @@ fn goods_of(owners: &[u8], player: u8) -> ArrayVec<u8, ITEM_ROOM>
 /// What the lines of players tell: names, the case, and the owner of each good.
 #[derive(Drop)]
 pub(crate) struct PlayerLines<'a> {
-    pub(crate) input: &'a CaseInput,
+    pub(crate) names: &'a Names<'a>,
     pub(crate) case: &'a GoodsCase,
     pub(crate) owners: &'a [u8],
     ghost valid: { IsValidGoodsCase case.now } by { Prim.hlevel props },
-    ghost names: { length input.now.members.items ≡ case.now.facts.members },
+    ghost each_member: { length names.now.members.now.items ≡ case.now.facts.members },
     ghost each: { length owners.now ≡ case.now.facts.goods },
 }
 
@@ -90,10 +90,10 @@ impl PlayerLines<'_> {
     fn push_player(&self, lines: &mut String, player: u8) -> Result<(), NoMemory>
         requires low { 1 ≤ player }
         requires high { player ≤ player_count self.now.case.now }
-        ensures { OnOk result (string_bytes lines.new ≡ string_bytes lines.old ++ player_line (shown self.now.input.now) self.now.case.now self.now.owners.now player) }
+        ensures { OnOk result (string_bytes lines.new ≡ string_bytes lines.old ++ player_line (shown_names self.now.names.now) self.now.case.now self.now.owners.now player) }
     {
         let person = named(
-            self.input.members.as_slice(),
+            self.names.members.as_slice(),
             self.case.who[player as usize - 1],
         );
         let held = goods_of(self.owners, player);
@@ -107,7 +107,7 @@ impl PlayerLines<'_> {
 
     /// Appends the lines of the players.
     fn push_players(&self, lines: &mut String) -> Result<(), NoMemory>
-        ensures { OnOk result (string_bytes lines.new ≡ string_bytes lines.old ++ lines_to (player_count self.now.case.now) (player_line (shown self.now.input.now) self.now.case.now self.now.owners.now)) }
+        ensures { OnOk result (string_bytes lines.new ≡ string_bytes lines.old ++ lines_to (player_count self.now.case.now) (player_line (shown_names self.now.names.now) self.now.case.now self.now.owners.now)) }
     {
         for k in 0..self.case.values.len() as u8 {
             self.push_player(lines, k + 1)?;
@@ -157,10 +157,10 @@ fn goods_text(
     table: &[ArrayVec<i32, MEMBER_ROOM>],
 ) -> Result<Vec<u8>, NoMemory>
     requires rows { length table.now ≡ player_count players.now.case.now }
-    ensures { IfOk result (λ text. text.items ≡ goods_report (shown players.now.input.now) players.now.case.now players.now.owners.now division.now.pair division.now.steps (map (λ row. row.items) table.now)) }
+    ensures { IfOk result (λ text. text.items ≡ goods_report (shown_names players.now.names.now) players.now.case.now players.now.owners.now division.now.pair division.now.steps (map (λ row. row.items) table.now)) }
 {
     let mut lines = String::new(alloc);
-    push_head(&mut lines, players.input, players.case)?;
+    push_head(&mut lines, players.names, players.case)?;
     players.push_players(&mut lines)?;
     push_pair(&mut lines, &division.pair, division.steps)?;
     push_table(&mut lines, players.case, table)?;
@@ -170,17 +170,17 @@ fn goods_text(
 /// The report of goods, from the division that the solver gives for the case.
 pub(crate) fn goods_report(
     alloc: Global,
-    input: &CaseInput,
+    names: &Names<'_>,
     case: &GoodsCase,
     division: &GoodsDivision,
 ) -> Result<Vec<u8>, NoMemory>
     requires case { IsValidGoodsCase case.now }
-    requires members { length input.now.members.items ≡ case.now.facts.members }
+    requires members { length names.now.members.now.items ≡ case.now.facts.members }
     requires division { IsGoodsDivision case.now division.now }
-    ensures { IfOk result (λ text. IsGoodsReport (shown input.now) case.now division.now text.items) }
+    ensures { IfOk result (λ text. IsGoodsReport (shown_names names.now) case.now division.now text.items) }
 {
     let players = PlayerLines {
-        input,
+        names,
         case,
         owners: division.owners.as_slice(),
     };

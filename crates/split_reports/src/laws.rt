@@ -2,8 +2,8 @@
 ghost use Rattle.std.specs.Prelude.{◌≡◌, ℕ, List, Ok};
 ghost use Rattle.bid_rules.specs.declared.cases.Case.{Case};
 ghost use Rattle.bid_rules.specs.Facts.{case_of};
-ghost use Rattle.certificates.specs.declared.division.Division.{Division};
-ghost use Rattle.certificates.specs.Division.{IsDivisionOf};
+ghost use Rattle.divisions.specs.declared.division.Division.{Division};
+ghost use Rattle.divisions.specs.Division.{IsDivisionOf};
 ghost use Rattle.split_json.specs.Reading.{CaseData, IsReady};
 ghost use Rattle.split_reports.specs.Reports.{IsReport};
 

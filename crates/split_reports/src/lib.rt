@@ -4,12 +4,11 @@
 mod fares;
 mod goods;
 mod laws;
+mod names;
 mod rent;
 mod reports;
 mod text;
 
 pub use laws::report_law;
-pub use reports::report;
-
-#[cfg(test)]
-mod tests;
+pub use names::Names;
+pub use reports::{named_report, report};

@@ -5,20 +5,20 @@ ghost use Rattle.bid_rules.specs.declared.limits.TheConstants.{MEMBER_ROOM};
 ghost use Rattle.envy_check.specs.Envy.{ArePrices};
 ghost use Rattle.rent_maximin.specs.Division.{IsRentDivision};
 ghost use Rattle.split_frac.specs.Frac.{fraction_of};
-ghost use Rattle.split_json.specs.Reading.{shown};
+ghost use Rattle.split_reports.specs.Names.{shown_names};
 ghost use Rattle.split_reports.specs.Lines.{lines_to};
 ghost use Rattle.split_reports.specs.Rent.{AreFigures, AreFiguresOf, AreUtilities, IsRentReport, figures_shown, least_line, member_envy, member_line, rent_head, rent_report};
 
+use crate::names::Names;
 use crate::text::{amount_at, fraction_at, named};
 use arrayvec::ArrayVec;
 use bid_rules::RentCase;
 use bid_rules::limits::MEMBER_ROOM;
+use divisions::rent_pays;
 use envy_check::{envy_table, utility_at};
 use rent_maximin::{RentDivision, division_range_law};
-use reply_texts::rent_pays;
 use split_base::NoMemory;
 use split_frac::Frac;
-use split_json::CaseInput;
 use split_text::{Numbers, push_line};
 use std::alloc::Global;
 
@@ -48,19 +48,19 @@ fn push_head(lines: &mut String, title: &str, members: u8, rent: u32) -> Result<
 /// Appends the line of a member.
 fn push_member(
     lines: &mut String,
-    input: &CaseInput,
+    names: &Names<'_>,
     figures: &RentFigures<'_>,
     member: u8,
 ) -> Result<(), NoMemory>
     requires low { 1 ≤ member }
-    requires high { member ≤ length input.now.members.items }
-    requires figures { AreFigures (shown input.now) (figures_shown figures.now) }
-    ensures { OnOk result (string_bytes lines.new ≡ string_bytes lines.old ++ member_line (shown input.now) (figures_shown figures.now) member) }
+    requires high { member ≤ length names.now.members.now.items }
+    requires figures { AreFigures (shown_names names.now) (figures_shown figures.now) }
+    ensures { OnOk result (string_bytes lines.new ≡ string_bytes lines.old ++ member_line (shown_names names.now) (figures_shown figures.now) member) }
 {
     let division = figures.division;
     let number = division.best.rooms[member as usize - 1];
-    let person = named(input.members.as_slice(), member);
-    let room = named(input.items.as_slice(), number);
+    let person = named(names.members.as_slice(), member);
+    let room = named(names.items.as_slice(), number);
     let price = fraction_at(division.prices.as_slice(), number);
     let pays = amount_at(figures.pays.as_slice(), member);
     let utility = fraction_at(figures.utilities.as_slice(), member);
@@ -73,14 +73,14 @@ fn push_member(
 /// Appends the lines of the members.
 fn push_members(
     lines: &mut String,
-    input: &CaseInput,
+    names: &Names<'_>,
     figures: &RentFigures<'_>,
 ) -> Result<(), NoMemory>
-    requires figures { AreFigures (shown input.now) (figures_shown figures.now) }
-    ensures { OnOk result (string_bytes lines.new ≡ string_bytes lines.old ++ lines_to (length input.now.members.items) (member_line (shown input.now) (figures_shown figures.now))) }
+    requires figures { AreFigures (shown_names names.now) (figures_shown figures.now) }
+    ensures { OnOk result (string_bytes lines.new ≡ string_bytes lines.old ++ lines_to (length names.now.members.now.items) (member_line (shown_names names.now) (figures_shown figures.now))) }
 {
-    for k in 0..input.members.len() as u8 {
-        push_member(lines, input, figures, k + 1)?;
+    for k in 0..names.members.len() as u8 {
+        push_member(lines, names, figures, k + 1)?;
     }
     Ok(())
 }
@@ -115,21 +115,21 @@ fn push_table(lines: &mut String, figures: &RentFigures<'_>) -> Result<(), NoMem
 /// The report of a rent, from the figures that it tells.
 fn rent_text(
     alloc: Global,
-    input: &CaseInput,
+    names: &Names<'_>,
     rent: u32,
     figures: &RentFigures<'_>,
 ) -> Result<Vec<u8>, NoMemory>
-    requires { AreFigures (shown input.now) (figures_shown figures.now) }
-    ensures { IfOk result (λ text. text.items ≡ rent_report (shown input.now) rent (figures_shown figures.now)) }
+    requires { AreFigures (shown_names names.now) (figures_shown figures.now) }
+    ensures { IfOk result (λ text. text.items ≡ rent_report (shown_names names.now) rent (figures_shown figures.now)) }
 {
     let mut lines = String::new(alloc);
     push_head(
         &mut lines,
-        input.title.as_str(),
-        input.members.len() as u8,
+        names.title.as_str(),
+        names.members.len() as u8,
         rent,
     )?;
-    push_members(&mut lines, input, figures)?;
+    push_members(&mut lines, names, figures)?;
     push_least(&mut lines, &figures.division.least)?;
     push_table(&mut lines, figures)?;
     Ok(lines.into_bytes())
@@ -170,16 +170,16 @@ fn figures_of<'a>(case: &RentCase, division: &'a RentDivision) -> RentFigures<'a
 /// The report of a rent, from the division that the solver gives for the case.
 pub(crate) fn rent_report(
     alloc: Global,
-    input: &CaseInput,
+    names: &Names<'_>,
     case: &RentCase,
     division: &RentDivision,
 ) -> Result<Vec<u8>, NoMemory>
     requires case { IsValidRentCase case.now }
-    requires members { length input.now.members.items ≡ room_count case.now }
-    requires rooms { length input.now.items.items ≡ room_count case.now }
+    requires members { length names.now.members.now.items ≡ room_count case.now }
+    requires rooms { length names.now.items.now.items ≡ room_count case.now }
     requires division { IsRentDivision case.now division.now }
-    ensures { IfOk result (λ text. IsRentReport (shown input.now) case.now division.now text.items) }
+    ensures { IfOk result (λ text. IsRentReport (shown_names names.now) case.now division.now text.items) }
 {
     let figures = figures_of(case, division);
-    rent_text(alloc, input, case.facts.rent, &figures)
+    rent_text(alloc, names, case.facts.rent, &figures)
 }

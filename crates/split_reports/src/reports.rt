@@ -1,15 +1,18 @@
 // The report of a case of any kind.
-ghost use Rattle.std.specs.Prelude.{◌≡◌, Ok, IfOk};
-ghost use Rattle.bid_rules.specs.Facts.{case_of};
-ghost use Rattle.certificates.specs.Division.{IsDivisionOf};
+ghost use Rattle.std.specs.Prelude.{◌≡◌, Ok, IfOk, length};
+ghost use Rattle.bid_rules.specs.Facts.{IsValidCase, case_of, facts_of, member_count};
+ghost use Rattle.case_fields.specs.Creations.{item_count};
+ghost use Rattle.divisions.specs.Division.{IsDivisionOf};
 ghost use Rattle.split_json.specs.Reading.{IsReady, shown};
-ghost use Rattle.split_reports.specs.Reports.{IsReport};
+ghost use Rattle.split_reports.specs.Names.{shown_names};
+ghost use Rattle.split_reports.specs.Reports.{IsNamedReport, IsReport};
 
 use crate::fares::fares_report;
 use crate::goods::goods_report;
+use crate::names::Names;
 use crate::rent::rent_report;
 use bid_rules::{Case, case_law};
-use certificates::Division;
+use divisions::Division;
 use split_base::NoMemory;
 use split_json::CaseInput;
 use std::alloc::Global;
@@ -31,13 +34,37 @@ pub fn report(
     ensures { IfOk result (λ text. IsReport (shown input.now) case.now division.now text.items) }
 {
     case_law();
+    let names = Names {
+        title: &input.title,
+        members: &input.members,
+        items: &input.items,
+    };
+    named_report(alloc, &names, case, division)
+}
+
+/// The report that people read, of a case whose names stand apart from its facts and bids.
+///
+/// There is a name for each member and each item of the case, and the division is the solver's for it. `NoMemory` comes for want of
+/// memory alone.
+pub fn named_report(
+    alloc: Global,
+    names: &Names<'_>,
+    case: &Case,
+    division: &Division,
+) -> Result<Vec<u8>, NoMemory>
+    requires case { IsValidCase case.now }
+    requires members { length names.now.members.now.items ≡ member_count (facts_of case.now) }
+    requires items { length names.now.items.now.items ≡ item_count (facts_of case.now) }
+    requires division { IsDivisionOf case.now division.now }
+    ensures { IfOk result (λ text. IsNamedReport (shown_names names.now) case.now division.now text.items) }
+{
     match (case, division) {
-        (Case::Rent(case), Division::Rent(division)) => rent_report(alloc, input, case, division),
+        (Case::Rent(case), Division::Rent(division)) => rent_report(alloc, names, case, division),
         (Case::Goods(case), Division::Goods(division)) => goods_report(
-            alloc, input, case, division,
+            alloc, names, case, division,
         ),
         (Case::Fares(case), Division::Fares(division)) => fares_report(
-            alloc, input, case, division,
+            alloc, names, case, division,
         ),
         _ => unreachable!(),
     }

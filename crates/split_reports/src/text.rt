@@ -4,7 +4,7 @@ ghost use Rattle.std.specs.Fmt.{signed_decimal};
 ghost use Rattle.split_frac.specs.Frac.{frac_text};
 ghost use Rattle.split_reports.specs.Lines.{text_at};
 
-use sealed_core::Name;
+use case_fields::Name;
 use split_frac::Frac;
 use split_text::Named;
 

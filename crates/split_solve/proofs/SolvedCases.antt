@@ -6,10 +6,10 @@ use Rattle.bid_rules.specs.declared.cases.Case.{Case}
 use Rattle.bid_rules.specs.declared.cases.Case.TheVariants as case
 use Rattle.bid_rules.specs.declared.cases.Missing.{Missing}
 use Rattle.bid_rules.specs.declared.goods.GoodsCase.{GoodsCase}
-use Rattle.bid_rules.specs.Facts.{case_of, facts_of}
-use Rattle.certificates.specs.declared.division.Division.{Division}
-use Rattle.certificates.specs.declared.division.Division.TheVariants as division
-use Rattle.certificates.specs.Division.{IsDivisionOf}
+use Rattle.bid_rules.specs.Facts.{IsValidCase, case_of, facts_of}
+use Rattle.divisions.specs.declared.division.Division.{Division}
+use Rattle.divisions.specs.declared.division.Division.TheVariants as division
+use Rattle.divisions.specs.Division.{IsDivisionOf}
 use Rattle.nash_search.specs.declared.division.GoodsDivision.{GoodsDivision}
 use Rattle.nash_search.specs.declared.division.OverLimit.{OverLimit}
 use Rattle.nash_search.specs.Division.{HasSteps, IsGoodsDivision, IsOverLimit}
@@ -106,3 +106,18 @@ one_kind within above given bids answer (fault.OverLimit limit) is h =
     let one = one_case given bids h.0 answer.0 h.1 is.0 in
     absurd (above_not within above answer.0 answer.1 limit is.1 (subst (λ (c : Case). IsAboveLimit c limit) one h.2))
 one_kind within above given bids answer fault.NoMemory is h = refl
+
+-- a division of a case is the one division of it, a law of divisions
+abbrev pub OneDivision : Type 0
+OneDivision = (case : Case) (division other : Division) → IsValidCase case → IsDivisionOf case division → IsDivisionOf case other → division ≡ other
+
+-- two ends of facts and bids that make only valid cases are the same, but for want of memory
+pub one_end : Within → Above → OneDivision → (given : Facts) (bids : List (Option Bid)) → ((one : Case) → case_of given bids ≡ Ok one → IsValidCase one)
+    → (a b : Result (Case × Division) SolveFault) → IsSolved given bids a → IsSolved given bids b → a ≢ Err fault.NoMemory → b ≢ Err fault.NoMemory → a ≡ b
+one_end within above division given bids valid (Ok a) (Ok b) h k some more =
+    let one = one_case given bids a.0 b.0 h.0 k.0 in
+    let same = division b.0 a.1 b.1 (valid b.0 k.0) (subst (λ (c : Case). IsDivisionOf c a.1) one h.1) k.1 in
+    (λ i. Ok (one i, same i))
+one_end within above division given bids valid (Ok a) (Err g) h k some more = absurd (more (ap Err (one_kind within above given bids a g h k)))
+one_end within above division given bids valid (Err f) (Ok b) h k some more = absurd (some (ap Err (one_kind within above given bids b f k h)))
+one_end within above division given bids valid (Err f) (Err g) h k some more = ap Err (one_fault given bids f g h k (λ e. some (ap Err e)) (λ e. more (ap Err e)))

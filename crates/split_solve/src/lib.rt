@@ -6,6 +6,3 @@ mod solving;
 
 pub use laws::solve_law;
 pub use solving::{SolveFault, solve};
-
-#[cfg(test)]
-mod tests;

@@ -7,7 +7,7 @@ ghost use Rattle.nash_search.specs.Division.{HasSteps};
 ghost use Rattle.split_solve.specs.Solving.{IsDivided, IsOver, IsSolved, IsVoid};
 
 use bid_rules::{Bid, Case, Facts, Missing, case_law, make_case};
-use certificates::Division;
+use divisions::Division;
 use nash_search::limit_law;
 use rent_maximin::solve_rent;
 use search_workers::limits::MOST_WORKERS;

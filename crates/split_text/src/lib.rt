@@ -10,6 +10,3 @@ pub use laws::number_law;
 pub use line::{push_line, push_numbers};
 pub use named::Named;
 pub use numbers::{Number, Numbers};
-
-#[cfg(test)]
-mod tests;

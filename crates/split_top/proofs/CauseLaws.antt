@@ -10,16 +10,16 @@ use Rattle.bid_rules.specs.Facts.{case_of}
 use Rattle.cert_checker.specs.Judged.{IsJudged}
 use Rattle.cert_reader.specs.Text.{IsBrokenText}
 use Rattle.nash_search.specs.Division.{HasSteps}
-use Rattle.certificates.specs.Division.{IsDivisionOf}
-use Rattle.certificates.specs.declared.division.Division.{Division}
-use Rattle.certificates.specs.declared.division.Division.TheVariants as division
-use Rattle.sealed_core.specs.declared.fields.BodyFault.{BodyFault}
+use Rattle.divisions.specs.Division.{IsDivisionOf}
+use Rattle.divisions.specs.declared.division.Division.{Division}
+use Rattle.divisions.specs.declared.division.Division.TheVariants as division
+use Rattle.case_fields.specs.declared.fields.BodyFault.{BodyFault}
 use Rattle.split_json.specs.Reading.{CaseData, case_in}
 use Rattle.split_top.specs.declared.command.Command.{Command}
 use Rattle.split_top.specs.declared.command.Command.TheVariants.{Solve, Report, Check}
 use Rattle.split_top.specs.declared.stop.Stop.{Stop}
 use Rattle.split_top.specs.declared.stop.Stop.TheVariants.{Void, OverLimit, BrokenRule, BadWords, TooLong, BadCase, BrokenLine, ReadFault, NoMemory}
-use Rattle.split_top.specs.Told.{Ends, HasWritten, IsSound, IsTooLong, IsWhole, Told}
+use Rattle.split_top.specs.Told.{Ends, HasNoFault, HasWritten, IsSound, IsTooLong, IsWhole, Told}
 use Rattle.split_solve.specs.Solving.{IsAboveLimit}
 use Rattle.split_top.specs.Commands.{AreNoRow, Names, ReadsCase, ReadsCertificate, longest}
 use Rattle.split_top.specs.Texts.{Holds, IsBestText, IsOutput, IsVoid, MakesCase}
@@ -29,24 +29,24 @@ use Rattle.verdicts.specs.declared.verdict.Verdict.{Verdict}
 use Rattle.verdicts.specs.declared.verdict.Verdict.TheVariants.{No, Yes}
 
 -- an ending that came licenses its status
-came : (words : List (List ℕ)) (input output : Told) (ending : Result (List ℕ) Stop) → (owed ending).cause words input → HasWritten output (owed ending).text
+came : (words : List (List ℕ)) (input output : Told) (ending : Result (List ℕ) Stop) → (owed ending).cause words input → HasWritten output (owed ending).text → HasNoFault output
     → HasCauses words input output (owed ending).status
-came words input output (Ok text) cause wrote = (text, (cause, wrote))
-came words input output (Err (Void missing)) cause wrote = inl (missing, (cause, wrote))
-came words input output (Err (OverLimit limit)) cause wrote = inr (inl (limit, (cause, wrote)))
-came words input output (Err (BrokenRule rule)) cause wrote = inr (inr (rule, (cause, wrote)))
-came words input output (Err BadWords) cause wrote = (cause, wrote)
-came words input output (Err TooLong) cause wrote = inl (cause, wrote)
-came words input output (Err (BadCase fault)) cause wrote = inr (inl (fault, (cause, wrote)))
-came words input output (Err (BrokenLine number)) cause wrote = inr (inr (number, (cause, wrote)))
-came words input output (Err ReadFault) cause wrote = (cause, wrote)
-came words input output (Err NoMemory) cause wrote = (cause, wrote)
+came words input output (Ok text) cause wrote sound = (text, (cause, wrote, sound))
+came words input output (Err (Void missing)) cause wrote sound = inl (missing, (cause, wrote, sound))
+came words input output (Err (OverLimit limit)) cause wrote sound = inr (inl (limit, (cause, wrote, sound)))
+came words input output (Err (BrokenRule rule)) cause wrote sound = inr (inr (rule, (cause, wrote, sound)))
+came words input output (Err BadWords) cause wrote sound = (cause, wrote, sound)
+came words input output (Err TooLong) cause wrote sound = inl (cause, wrote, sound)
+came words input output (Err (BadCase fault)) cause wrote sound = inr (inl (fault, (cause, wrote, sound)))
+came words input output (Err (BrokenLine number)) cause wrote sound = inr (inr (number, (cause, wrote, sound)))
+came words input output (Err ReadFault) cause wrote sound = (cause, wrote, sound)
+came words input output (Err NoMemory) cause wrote sound = (cause, wrote, sound)
 
 -- each status comes only by its cause
 pub has_causes : (words : List (List ℕ)) (input output : Told) (ending : Result (List ℕ) Stop) (status : ℕ)
     → (owed ending).cause words input → Ends output (owed ending).text (owed ending).status status → HasCauses words input output status
 has_causes words input output ending status cause ends = ⊎_elim
-    (λ w. subst (HasCauses words input output) (sym w.0) (came words input output ending cause w.1))
+    (λ w. subst (HasCauses words input output) (sym w.0) (came words input output ending cause w.1 w.2))
     (λ w. subst (HasCauses words input output) (sym w.0) w.1)
     ends
 
@@ -86,7 +86,7 @@ row_due words input (Err BadWords) command sound row h = absurd (h.0 command row
 row_due words input (Err TooLong) command sound row h = inl (2, omega arith, refl)
 row_due words input (Err (BadCase fault)) command sound row h = inl (2, omega arith, refl)
 row_due words input (Err (BrokenLine number)) command sound row h = inl (2, omega arith, refl)
-row_due words input (Err ReadFault) command sound row h = absurd (sound h.2.0)
+row_due words input (Err ReadFault) command sound row h = absurd (sound h.2.0.0)
 row_due words input (Err NoMemory) command sound row h = inr (one_kind words h.0 command h.1 row h.2.0, refl)
 
 -- and `check` without want of memory
@@ -215,7 +215,7 @@ whole_is (Some x) None bytes p q = absurd p
 whole_is (Some x) (Some y) bytes p q = p ∙ ap (λ l. bytes ++ l) q ∙ append-nil bytes
 
 -- what was given is not longer than what was known
-given_is : (before after : Option (List ℕ)) (bytes : List ℕ) → Consumes before after bytes → IfSome before (λ known. length bytes ≤ length known)
+pub given_is : (before after : Option (List ℕ)) (bytes : List ℕ) → Consumes before after bytes → IfSome before (λ known. length bytes ≤ length known)
 given_is None after bytes p = tt
 given_is (Some x) None bytes p = absurd p
 given_is (Some x) (Some y) bytes p = let e = ap length p in omega (arith, e, length-append bytes y)
@@ -277,7 +277,7 @@ module _
     one_status command bytes status other (inr a) (inr b) = one_short command bytes status other a.1 b.1
 
     -- a case above its limit has no division
-    allowed : (case : Case) (division : Division) → IsDivisionOf case division → (limit : ℕ) → IsAboveLimit case limit → ⊥
+    pub allowed : (case : Case) (division : Division) → IsDivisionOf case division → (limit : ℕ) → IsAboveLimit case limit → ⊥
     allowed (case.Goods goods) (division.Goods found) is limit above =
         let same = one_count goods found.steps above.above.0 is.steps above.above.1 in
         let low = is.allowed in
@@ -315,12 +315,12 @@ module _
         known_too words h.0 command input 3 h.1 row (of_whole h.0 input h.2.0 3 h.2.1 (on_case h.0 h.2.0 3 h.2.2.0 (refused h.2.0 fault h.2.2.1)))
     cause_settled words input (Err (BrokenLine number)) command sound row h =
         known_too words h.0 command input 3 h.1 row (of_whole h.0 input h.2.0 3 h.2.1 (on_certificate h.0 h.2.0 3 h.2.2.0 (inr (inr (number, h.2.2.1, refl)))))
-    cause_settled words input (Err ReadFault) command sound row h = absurd (sound h.2.0)
+    cause_settled words input (Err ReadFault) command sound row h = absurd (sound h.2.0.0)
     cause_settled words input (Err NoMemory) command sound row h = known_all input.bytes_before (λ known. inr (one_kind words h.0 command h.1 row h.2.0, refl))
 
     -- where no write failed, the status is the one that goes with the ending
     no_failure : (output : Told) (text : List ℕ) (due status : ℕ) → IsSound output → Ends output text due status → status ≡ due
-    no_failure output text due status sound ends = ⊎_elim (λ w. w.0) (λ w. absurd (sound w.1)) ends
+    no_failure output text due status sound ends = ⊎_elim (λ w. w.0) (λ w. absurd (sound w.1.0)) ends
 
     -- each ending comes wherever it is called for
     pub is_complete : (words : List (List ℕ)) (input output : Told) (ending : Result (List ℕ) Stop) (status : ℕ)

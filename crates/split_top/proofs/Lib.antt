@@ -1,4 +1,5 @@
 mod CaseOutputs
 mod CauseLaws
+mod OneEnding
 mod OneOutput
 mod Solved

@@ -6,8 +6,8 @@ use Rattle.bid_rules.specs.declared.bids.Facts.{Facts}
 use Rattle.bid_rules.specs.declared.cases.Case.{Case}
 use Rattle.bid_rules.specs.Facts.{IsCheckedBid, IsCheckedFacts, IsValidCase, case_of, member_count}
 use Rattle.certificates.specs.Canonical.{IsCanonical}
-use Rattle.certificates.specs.Division.{IsDivisionOf}
-use Rattle.certificates.specs.declared.division.Division.{Division}
+use Rattle.divisions.specs.Division.{IsDivisionOf}
+use Rattle.divisions.specs.declared.division.Division.{Division}
 use Rattle.split_json.specs.Reading.{CaseData, IsReady, case_in}
 use Rattle.split_reports.specs.Reports.{IsReport}
 use Rattle.split_top.specs.declared.command.Command.{Command}

@@ -3,15 +3,15 @@ use Rattle.std.specs.Prelude.{◌≡◌, ℕ, List, [], ◌∷◌, ◌++◌, Res
 use Rattle.std.specs.Fmt.{decimal}
 use Rattle.cert_checker.specs.Judged.{IsJudged}
 use Rattle.cert_reader.specs.Text.{IsBrokenText}
-use Rattle.sealed_core.specs.declared.fields.BodyFault.{BodyFault}
-use Rattle.sealed_core.specs.declared.fields.BodyFault.TheVariants.{Json, Field}
+use Rattle.case_fields.specs.declared.fields.BodyFault.{BodyFault}
+use Rattle.case_fields.specs.declared.fields.BodyFault.TheVariants.{Json, Field}
 use Rattle.split_json.specs.Reading.{case_in, field_text}
 use Rattle.split_top.specs.declared.command.Command.{Command}
 use Rattle.split_top.specs.declared.stop.Stop.{Stop}
 use Rattle.split_top.specs.declared.stop.Stop.TheVariants.{Void, OverLimit, BrokenRule, BadWords, TooLong, BadCase, BrokenLine, ReadFault, NoMemory}
 use Rattle.split_text.specs.Texts.{line, word_line}
 use Rattle.split_top.specs.Commands.{AreNoRow, Names, ReadsCase, ReadsCertificate, longest}
-use Rattle.split_top.specs.Told.{HasFault, IsPartRead, IsTooLong, IsUntouched, IsWhole, Told}
+use Rattle.split_top.specs.Told.{HasNoFault, HasOneFault, IsPartRead, IsTooLong, IsUntouched, IsWhole, Told}
 use Rattle.split_top.specs.Texts.{Holds, IsOutput, IsVoid, MakesCase}
 use Rattle.split_solve.specs.Solving.{IsAboveLimit}
 use Rattle.verdicts.specs.declared.verdict.Verdict.TheVariants.{No}
@@ -88,10 +88,10 @@ owed (Err (BrokenLine number)) = record {
 owed (Err ReadFault) = record {
   status = 5;
   text = codes "read fault\n";
-  cause = λ words input. HasRow words (λ command. HasFault input × IsPartRead (longest command) input);
+  cause = λ words input. HasRow words (λ command. HasOneFault input × IsPartRead (longest command) input);
 }
 owed (Err NoMemory) = record {
   status = 9;
   text = codes "no memory\n";
-  cause = λ words input. HasRow words (λ command. ReadsCase command × IsPartRead (longest command) input);
+  cause = λ words input. HasRow words (λ command. ReadsCase command × IsPartRead (longest command) input × HasNoFault input);
 }

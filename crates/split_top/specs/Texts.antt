@@ -3,15 +3,14 @@ use Rattle.std.specs.Prelude.{◌≡◌, ℕ, List, Ok, Err, codes}
 use Rattle.bid_rules.specs.declared.cases.Case.{Case}
 use Rattle.bid_rules.specs.declared.cases.Missing.{Missing}
 use Rattle.bid_rules.specs.Facts.{case_of}
-use Rattle.cert_checker.specs.Judged.{IsJudged}
+use Rattle.cert_checker.specs.Judged.{IsCertificate}
 use Rattle.certificates.specs.Canonical.{IsCanonical}
-use Rattle.certificates.specs.Division.{IsDivisionOf}
-use Rattle.certificates.specs.declared.division.Division.{Division}
+use Rattle.divisions.specs.Division.{IsDivisionOf}
+use Rattle.divisions.specs.declared.division.Division.{Division}
 use Rattle.split_json.specs.Reading.{CaseData, case_in}
 use Rattle.split_reports.specs.Reports.{IsReport}
 use Rattle.split_top.specs.declared.command.Command.{Command}
 use Rattle.split_top.specs.declared.command.Command.TheVariants.{Solve, Report, Check}
-use Rattle.verdicts.specs.declared.verdict.Verdict.TheVariants.{Yes}
 
 -- what a command that reads a case writes of it and its division, whatever the number of workers: `solve` the canonical certificate, `report` the report
 abbrev pub IsTextOf : Command → CaseData → Case → Division → List ℕ → Type 0
@@ -43,4 +42,4 @@ yes_line = codes "yes\n"
 abbrev pub IsOutput : Command → List ℕ → List ℕ → Type 0
 IsOutput (Solve workers) bytes text = Holds bytes (IsBestText (Solve workers) text)
 IsOutput (Report workers) bytes text = Holds bytes (IsBestText (Report workers) text)
-IsOutput Check bytes text = IsJudged bytes Yes × (text ≡ yes_line)
+IsOutput Check bytes text = IsCertificate bytes × (text ≡ yes_line)

@@ -1,7 +1,7 @@
 -- What a source and a sink tell before and after a command.
 use Rattle.std.specs.Prelude.{◌≡◌, ◌⊎◌, ℕ, ◌+◌, ◌≤◌, List, Option, length, take}
 use Rattle.std.specs.Io.KnownBytes.{Appends, Consumes, IsAtEnd}
-use Rattle.split_base.specs.Faults.{HasRisen}
+use Rattle.split_base.specs.Faults.{HasRisen, counted}
 
 -- the bytes that an object has left or holds, where it knows them, and its count of faults
 pub record Told : Type 0 where
@@ -22,28 +22,36 @@ HasFault object = HasRisen object.faults_before object.faults_after
 abbrev pub IsSound : Told → Type 0
 IsSound object = HasFault object → ⊥
 
--- the input gave these bytes, at most so many, and then no more were left
+-- no call of the object failed: its count of faults stays
+abbrev pub HasNoFault : Told → Type 0
+HasNoFault object = object.faults_after ≡ object.faults_before
+
+-- one call of the object failed, and no other: its count of faults goes up by one, or stands at its greatest value
+abbrev pub HasOneFault : Told → Type 0
+HasOneFault object = HasFault object × (object.faults_after ≡ counted object.faults_before)
+
+-- the input gave these bytes, at most so many, and then no more were left; no read failed
 abbrev pub IsWhole : ℕ → Told → List ℕ → Type 0
-IsWhole most input bytes = (length bytes ≤ most) × Consumes input.bytes_before input.bytes_after bytes × IsAtEnd input.bytes_after
+IsWhole most input bytes = (length bytes ≤ most) × Consumes input.bytes_before input.bytes_after bytes × IsAtEnd input.bytes_after × HasNoFault input
 
 -- nothing was read, and no read failed
 abbrev pub IsUntouched : Told → Type 0
-IsUntouched input = (input.bytes_after ≡ input.bytes_before) × (input.faults_after ≡ input.faults_before)
+IsUntouched input = (input.bytes_after ≡ input.bytes_before) × HasNoFault input
 
 -- the input gave some bytes, at most one more than so many
 abbrev pub IsPartRead : ℕ → Told → Type 0
 IsPartRead most input = (bytes : List ℕ) × (length bytes ≤ most + 1) × Consumes input.bytes_before input.bytes_after bytes
 
--- the input gave one byte more than so many, and no more of it was read
+-- the input gave one byte more than so many, and no more of it was read; no read failed
 abbrev pub IsTooLong : ℕ → Told → Type 0
-IsTooLong most input = (bytes : List ℕ) × (length bytes ≡ most + 1) × Consumes input.bytes_before input.bytes_after bytes
+IsTooLong most input = (bytes : List ℕ) × (length bytes ≡ most + 1) × Consumes input.bytes_before input.bytes_after bytes × HasNoFault input
 
 -- the text was written
 abbrev pub HasWritten : Told → List ℕ → Type 0
 HasWritten output text = Appends output.bytes_before output.bytes_after text
 
--- the text was written and the status is the one that goes with it; or a write failed after a prefix of the text, which shows in the output's count, and the status is 6
+-- the text was written, no write failed, and the status is the one that goes with it; or one write failed after a prefix of the text, which shows in the output's count, and the status is 6
 abbrev pub Ends : Told → List ℕ → ℕ → ℕ → Type 0
 Ends output text due status =
-    ((status ≡ due) × HasWritten output text)
-    ⊎ ((status ≡ 6) × HasFault output × ((n : ℕ) × (n ≤ length text) × HasWritten output (take n text)))
+    ((status ≡ due) × HasWritten output text × HasNoFault output)
+    ⊎ ((status ≡ 6) × HasOneFault output × ((n : ℕ) × (n ≤ length text) × HasWritten output (take n text)))

@@ -2,7 +2,7 @@
 ghost use Rattle.std.specs.Prelude.{◌≡◌, ◌≤◌, ℕ, List, Ok, IfOk};
 ghost use Rattle.std.specs.Result.{result_map_both};
 ghost use Rattle.bid_rules.specs.Facts.{case_of};
-ghost use Rattle.certificates.specs.Division.{IsDivisionOf};
+ghost use Rattle.divisions.specs.Division.{IsDivisionOf};
 ghost use Rattle.search_workers.specs.declared.limits.TheConstants.{MOST_WORKERS};
 ghost use Rattle.split_json.specs.Reading.{IsReady, shown};
 ghost use Rattle.split_top.specs.Commands.{Names, ReadsCase};
@@ -16,7 +16,8 @@ use crate::limits::LONGEST_INPUT;
 use crate::stop::Stop;
 use crate::text::Text;
 use bid_rules::{Case, case_law};
-use certificates::{Division, write_certificate};
+use certificates::write_certificate;
+use divisions::Division;
 use split_base::{Gate, NoMemory, ReadStop, Source, read_all};
 use split_json::{CaseInput, read_case};
 use split_reports::report;

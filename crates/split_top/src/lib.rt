@@ -8,8 +8,6 @@ mod laws;
 mod limits;
 mod program;
 mod stop;
-#[cfg(test)]
-mod tests;
 mod text;
 
 pub use command::Command;

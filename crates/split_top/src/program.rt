@@ -39,8 +39,8 @@ pub struct Status {
 /// | 1 | exactly where bids are missing, on a rent any, on goods and fares all; where the step count of goods is above the limit; where a rule of the certificate does not hold | `void:` and the members who lack a bid; `step limit` and the limit; `no` and the first such rule |
 /// | 2 | exactly where the words are no row of the command table | `refused: words` |
 /// | 3 | exactly where the input is too long, no JSON, breaks a field's rule, or is no certificate text | `refused: too long`, `refused: json`, `refused: field NAME`, `refused: line K` with the first broken line |
-/// | 5 | only where the input's count of faults rose in this call | `read fault` |
-/// | 6 | only where the output's count rose in this call | a prefix of the text due |
+/// | 5 | only where the input's count of faults rose in this call, by one | `read fault` |
+/// | 6 | only where the output's count rose in this call, by one | a prefix of the text due |
 /// | 9 | want of memory, which `check` has not | `no memory` |
 ///
 /// The tests come in the order of the work: words, reading, solving or judging, writing. 6 stands in place of the status whose text could

@@ -9,8 +9,8 @@ use crate::limits::LINE_ROOM;
 use arrayvec::ArrayVec;
 use bid_rules::Missing;
 use bid_rules::limits::MemberList;
+use case_fields::BodyFault;
 use itoa::Buffer;
-use sealed_core::BodyFault;
 
 /// Why a command ends without its text, but for a failure to write.
 #[derive(Debug, Drop, PartialEq, Eq)]

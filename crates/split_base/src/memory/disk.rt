@@ -1,6 +1,6 @@
 // A disk in memory.
 ghost use Rattle.std.specs.Prelude.{◌≡◌, ◌≤◌, ◌<◌, ◌↔◌, ◌⊎◌, ◌+◌, ◌-◌, ◌^◌, ◌++◌, [], min, ℕ, List, length, take, drop, replicate, vec_len, vec_capacity, IfOk, OnOk, OnErr, IsErr, IsTrue, MatchResult};
-ghost use Rattle.split_base.specs.Faults.{HasCause, HasRisen};
+ghost use Rattle.split_base.specs.Faults.{HasCause, HasRisen, IsCounted};
 ghost use Rattle.split_base.specs.Disk.{IsWritten, IsSameOutside, IsStableTo, Only, Rests, MayTear};
 ghost use Rattle.split_base.specs.Past.{DiskState, Wrote, Synced, written, seen_of, images_at, moment_of, left_of, crashed, new_disk, IsDown, IsFull, after_call, after_fault, after_act};
 ghost use Rattle.split_base.specs.Replay.{played, acts_of, bytes_of};
@@ -295,9 +295,11 @@ impl Disk for MemDisk {
 
     fn size(&mut self) -> Result<u64, Failed>
         ensures cause { HasCause self.old.faults self.new.faults result }
+        ensures counted { IsCounted self.old.faults self.new.faults result }
         ensures least { IfOk result (λ n. n ≤ 2 ^ 63) }
         ensures honest { Unit {0} }
         ensures told { IfOk result (λ n. n ≡ length (seen_of self.old)) }
+        ensures tick { moment_of self.new ≡ moment_of self.old }
         ensures rests { Rests seen_of images_at moment_of left_of self.old self.new }
 
         // It fails exactly where its number is listed or the disk has stopped.
@@ -312,11 +314,13 @@ impl Disk for MemDisk {
 
     fn read_at(&mut self, place: u64, into: &mut [u8]) -> Result<usize, Failed>
         ensures cause { HasCause self.old.faults self.new.faults result }
+        ensures counted { IsCounted self.old.faults self.new.faults result }
         ensures count { IfOk result (λ n. n ≤ length into.old) }
         ensures least { IfOk result (λ n. n ≤ 2 ^ 63 - place) }
         ensures honest { Unit {0} }
         ensures told { IfOk result (λ n. n ≡ min (length into.old) (length (seen_of self.old) - place)) }
         ensures bytes { IfOk result (λ n. take n into.new ≡ take n (drop place (seen_of self.old))) }
+        ensures tick { moment_of self.new ≡ moment_of self.old }
         ensures rests { Rests seen_of images_at moment_of left_of self.old self.new }
 
         // It fails exactly where its number is listed or the disk has stopped.
@@ -331,10 +335,12 @@ impl Disk for MemDisk {
 
     fn write_at(&mut self, place: u64, bytes: &[u8]) -> Result<(), Failed>
         ensures cause { HasCause self.old.faults self.new.faults result }
+        ensures counted { IsCounted self.old.faults self.new.faults result }
         ensures least { OnOk result (place + length bytes.now ≤ 2 ^ 63) }
         ensures honest { Unit {0} }
         ensures written { OnOk result (IsWritten (seen_of self.old) place bytes.now (seen_of self.new)) }
         ensures stays { (end : ℕ) → IsStableTo (images_at self.old) end → IsSameOutside place (length bytes.now) end (seen_of self.old) (seen_of self.new) }
+        ensures tick { OnOk result (moment_of self.new ≡ moment_of self.old + 1) }
         ensures tears { MayTear images_at moment_of left_of place (length bytes.now) self.old self.new }
 
         // It fails exactly where its number is listed, the disk has stopped, or it lacks room in the file or the list.
@@ -352,8 +358,10 @@ impl Disk for MemDisk {
 
     fn sync(&mut self) -> Result<(), Failed>
         ensures cause { HasCause self.old.faults self.new.faults result }
+        ensures counted { IsCounted self.old.faults self.new.faults result }
         ensures honest { Unit {0} }
         ensures durable { OnOk result (Only (seen_of self.old) (images_at self.new)) }
+        ensures tick { OnOk result (moment_of self.new ≡ moment_of self.old + 1) }
         ensures rests { Rests seen_of images_at moment_of left_of self.old self.new }
 
         // It fails exactly where its number is listed, the disk has stopped, or it lacks room in the list.

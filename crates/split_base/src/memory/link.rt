@@ -1,9 +1,10 @@
 // A link in memory.
-ghost use Rattle.std.specs.Prelude.{◌≡◌, ◌<◌, ◌↔◌, ◌⊎◌, Contains, length, min, IfOk, MatchResult, IsErr, Some};
+ghost use Rattle.std.specs.Prelude.{◌≡◌, ◌<◌, ◌↔◌, ◌⊎◌, Contains, length, min, IfOk, MatchResult, IsErr, IsTrue, Some};
 ghost use Rattle.std.proofs.Common.{refl};
 ghost use Rattle.split_base.specs.Faults.{HasCause, IsCounted};
 ghost use Rattle.split_base.specs.Streams.{Reads, Writes};
 ghost use Rattle.split_base.specs.Memory.{counted, next_piece, source_side, sink_side, after_read, after_failed_read, after_write, after_failed_write};
+ghost use Rattle.split_base.specs.MemoryPorts.{faults_of_link};
 
 use super::{MemSink, MemSource};
 use crate::{Failed, Link, Sink, Source};
@@ -34,6 +35,13 @@ impl MemLink {
         ensures { result ≡ record { input = input; output = output } }
     {
         MemLink { input, output }
+    }
+
+    /// One of its calls has failed, on either side.
+    pub fn has_fault(&self) -> bool
+        ensures { IsTrue result ↔ (0 < faults_of_link self.now) }
+    {
+        self.input.has_fault() || self.output.has_fault()
     }
 
     /// The sink, with what was written.

@@ -1,5 +1,5 @@
 // A sink in memory.
-ghost use Rattle.std.specs.Prelude.{◌≡◌, ◌<◌, ◌↔◌, ◌⊎◌, ℕ, [], Contains, length, IfOk, MatchResult, IsErr, Some};
+ghost use Rattle.std.specs.Prelude.{◌≡◌, ◌<◌, ◌↔◌, ◌⊎◌, ℕ, [], Contains, length, IfOk, MatchResult, IsErr, IsTrue, Some};
 ghost use Rattle.split_base.specs.Faults.{HasCause, IsCounted};
 ghost use Rattle.split_base.specs.Streams.{Writes};
 ghost use Rattle.split_base.specs.Memory.{counted, after_write, after_failed_write};
@@ -62,6 +62,12 @@ impl MemSink {
         ensures { result.now ≡ self.now.written }
     {
         &self.bytes
+    }
+
+    pub(crate) fn has_fault(&self) -> bool
+        ensures { IsTrue result ↔ (0 < self.now.faults) }
+    {
+        self.calls.faults > 0
     }
 }
 

@@ -1,5 +1,5 @@
 // A source in memory.
-ghost use Rattle.std.specs.Prelude.{◌≡◌, ◌<◌, ◌≤◌, ◌↔◌, ℕ, All, Contains, length, min, take, drop, IfOk, MatchResult, IsErr, Some};
+ghost use Rattle.std.specs.Prelude.{◌≡◌, ◌<◌, ◌≤◌, ◌↔◌, ℕ, All, Contains, length, min, take, drop, IfOk, MatchResult, IsErr, IsTrue, Some};
 ghost use Rattle.split_base.specs.Faults.{HasCause, IsCounted};
 ghost use Rattle.split_base.specs.Streams.{Reads};
 ghost use Rattle.split_base.specs.Memory.{counted, next_piece, after_read, after_failed_read};
@@ -52,6 +52,12 @@ impl MemSource {
             pieces: Pieces::new(pieces),
             calls: Calls::new(fails),
         }
+    }
+
+    pub(crate) fn has_fault(&self) -> bool
+        ensures { IsTrue result ↔ (0 < self.now.faults) }
+    {
+        self.calls.faults > 0
     }
 }
 

@@ -4,7 +4,9 @@ use Rattle.fare_rules.specs.Rules.{fares_rule}
 use Rattle.goods_rules.specs.Rules.{goods_rule}
 use Rattle.rent_rules.specs.Rules.{rent_rule}
 use Rattle.verdicts.specs.Verdicts.{IsVerdict}
+use Rattle.cert_reader.specs.declared.certificate.Certificate.TheVariants.{Fares, Goods, Rent}
 use Rattle.cert_checker.specs.Judged.{IsBest}
+use Rattle.cert_checker.proofs.Judgements.{read_judged}
 use Rattle.cert_checker.proofs.checking.check.Goals as goal
 
 pub returns-in-Rent-clause-best : goal.returns-in-Rent-clause-best
@@ -27,3 +29,12 @@ returns-in-Goods-clause-best c agreed =
     let view = goods_view c.in-Goods.text in
     let kept = subst (IsVerdict (goods_rule view) 6) agreed c.check_goods.ensures in
     subst (λ certificate. IsBest (view_of certificate)) (sym c.in-Goods.is) (law.valid view kept, law.best view kept, law.owners view kept)
+
+pub returns-in-Rent-clause-judged : goal.returns-in-Rent-clause-judged
+returns-in-Rent-clause-judged c bytes text = read_judged bytes c.args.certificate.now (Rent c.in-Rent.text) c.check_rent.result c.in-Rent.is c.check_rent.ensures text
+
+pub returns-in-Goods-clause-judged : goal.returns-in-Goods-clause-judged
+returns-in-Goods-clause-judged c bytes text = read_judged bytes c.args.certificate.now (Goods c.in-Goods.text) c.check_goods.result c.in-Goods.is c.check_goods.ensures text
+
+pub returns-in-Fares-clause-judged : goal.returns-in-Fares-clause-judged
+returns-in-Fares-clause-judged c bytes text = read_judged bytes c.args.certificate.now (Fares c.in-Fares.text) c.check_fares.result c.in-Fares.is c.check_fares.ensures text

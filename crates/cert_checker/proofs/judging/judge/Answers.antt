@@ -5,7 +5,7 @@ use Rattle.cert_reader.specs.Reading.{with_mark}
 use Rattle.cert_reader.specs.Text.{Numbers}
 use Rattle.cert_reader.specs.Views.{says}
 use Rattle.verdicts.specs.declared.verdict.Verdict.TheVariants.{Yes}
-use Rattle.cert_checker.specs.Judged.{IsJudged}
+use Rattle.cert_checker.specs.Judged.{IsCertificate, IsJudged}
 use Rattle.cert_checker.proofs.LineSteps.{end_goes, judged_so, kind_stays, kinds, line_goes, some_lines}
 use Rattle.cert_checker.proofs.MarkSteps.{next_mark_goes, up_to_mark}
 use Rattle.cert_checker.proofs.judging.judge.Goals as goal
@@ -140,11 +140,13 @@ returns-in-Ok-Done-next-clause-best g c agreed =
     let told = p.2 inv.taken inv.up_to.said inv.up_to.read in
     let counts = c.next-in-lines.new.self.counts in
     let goes = end_goes c.lines.lines c.lines.pieces c.next-in-lines.new.self inv.up_to.said (inv.taken ++ p.0) inv.up_to.knows inv.up_to.kind inv.up_to.some told.1 told.2 in
-    let same : c.verdict.result ≡ Yes = cc in (
+    let same : c.verdict.result ≡ Yes = cc in
+    let certificate : IsCertificate (inv.taken ++ p.0) =
+    subst (IsJudged (inv.taken ++ p.0)) same (judged_so (inv.taken ++ p.0) counts (inv.up_to.said ++ says [] ∷ []) c.verdict.result told.2 (c.verdict.ensures inv.up_to.said goes)) in (
       inv.taken ++ p.0,
       Consumes-trans _ _ _ inv.taken p.0 inv.took p.1,
-      c.certificate_verdict_law.ensures.best (inv.taken ++ p.0)
-          (subst (IsJudged (inv.taken ++ p.0)) same (judged_so (inv.taken ++ p.0) counts (inv.up_to.said ++ says [] ∷ []) c.verdict.result told.2 (c.verdict.ensures inv.up_to.said goes))),
+      certificate,
+      c.certificate_verdict_law.ensures.best (inv.taken ++ p.0) certificate,
     )
 
 pub returns-in-Err-clause-judged : goal.returns-in-Err-clause-judged

@@ -11,11 +11,11 @@ use Rattle.bid_rules.specs.declared.rents.RentCase.{RentCase}
 use Rattle.bid_rules.specs.Facts.{IsValidCase, IsValidFareCase}
 use Rattle.bid_rules.specs.Goods.{IsValidGoodsCase}
 use Rattle.bid_rules.specs.Rent.{IsValidRentCase}
-use Rattle.cert_checker.specs.Judged.{IsJudged}
+use Rattle.cert_checker.specs.Judged.{IsCertificate}
 use Rattle.cert_reader.specs.Numbers.{AreShort, IsSmall}
 use Rattle.cert_reader.specs.Views.{OfFares, OfGoods, OfRent}
 use Rattle.certificates.specs.Canonical.{IsCanonical, text_saying}
-use Rattle.certificates.specs.declared.division.Division.TheVariants.{Rent, Goods, Fares}
+use Rattle.divisions.specs.declared.division.Division.TheVariants.{Rent, Goods, Fares}
 use Rattle.certificates.proofs.FareTexts.{CostFacts, fares_is_text, fares_text_short}
 use Rattle.certificates.proofs.GoodsTexts.{TreeFacts, goods_is_text, goods_text_short}
 use Rattle.certificates.proofs.RentTexts.{rent_is_text, rent_text_short}
@@ -29,7 +29,6 @@ use Rattle.rent_maximin.specs.declared.division.RentDivision.{RentDivision}
 use Rattle.shapley_core.specs.Division.{IsFareDivision}
 use Rattle.shapley_core.specs.declared.division.FareDivision.{FareDivision}
 use Rattle.split_frac.specs.Frac.{IsWithinLimits}
-use Rattle.verdicts.specs.declared.verdict.Verdict.TheVariants.{Yes}
 use Rattle.certificates.proofs.laws.certificate_law.Goals as goal
 
 -- prices are fractions that a text can hold
@@ -53,23 +52,23 @@ tree_facts c goods division valid is = record {
   few = c.goods_lines_law.ensures.short goods division valid is;
 }
 
-is_certificate : (c : goal.After-step_count_law) (given : Case) (text : List ℕ) → IsValidCase given → IsCanonical given text → IsJudged text Yes
+is_certificate : (c : goal.After-step_count_law) (given : Case) (text : List ℕ) → IsValidCase given → IsCanonical given text → IsCertificate text
 is_certificate c (case.Rent rent) text valid (Rent division, is, e) =
     let view = OfRent (canonical_rent rent division) in
     let is_text = rent_is_text rent division valid is (prices_short c rent division valid is) in
-    subst (λ t. IsJudged t Yes) (sym e) (c.certificate_verdict_law.ensures.kept (text_saying view) view is_text (c.rent_lines_law.ensures.passes rent division valid is))
+    subst IsCertificate (sym e) (c.certificate_verdict_law.ensures.kept (text_saying view) view is_text (c.rent_lines_law.ensures.passes rent division valid is))
 is_certificate c (case.Rent rent) text valid (Goods division, is, e) = absurd is
 is_certificate c (case.Rent rent) text valid (Fares division, is, e) = absurd is
 is_certificate c (case.Goods goods) text valid (Goods division, is, e) =
     let view = OfGoods (canonical_goods goods division) in
     let is_text = goods_is_text goods division (tree_facts c goods division valid is) valid is in
-    subst (λ t. IsJudged t Yes) (sym e) (c.certificate_verdict_law.ensures.kept (text_saying view) view is_text (c.goods_lines_law.ensures.passes goods division valid is))
+    subst IsCertificate (sym e) (c.certificate_verdict_law.ensures.kept (text_saying view) view is_text (c.goods_lines_law.ensures.passes goods division valid is))
 is_certificate c (case.Goods goods) text valid (Rent division, is, e) = absurd is
 is_certificate c (case.Goods goods) text valid (Fares division, is, e) = absurd is
 is_certificate c (case.Fares fares) text valid (Fares division, is, e) =
     let view = OfFares (canonical_fares fares division) in
     let is_text = fares_is_text fares division (cost_facts c fares valid) valid is (order c fares division is) in
-    subst (λ t. IsJudged t Yes) (sym e) (c.certificate_verdict_law.ensures.kept (text_saying view) view is_text (c.fare_lines_law.ensures.passes fares division valid is))
+    subst IsCertificate (sym e) (c.certificate_verdict_law.ensures.kept (text_saying view) view is_text (c.fare_lines_law.ensures.passes fares division valid is))
 is_certificate c (case.Fares fares) text valid (Rent division, is, e) = absurd is
 is_certificate c (case.Fares fares) text valid (Goods division, is, e) = absurd is
 

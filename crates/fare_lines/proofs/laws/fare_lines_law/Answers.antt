@@ -1,5 +1,5 @@
 use Rattle.fare_lines.proofs.Costs.{SetFacts}
-use Rattle.fare_lines.proofs.Passes.{RouteFacts, fares_pass, printed_is}
+use Rattle.fare_lines.proofs.Passes.{MembersFacts, RouteFacts, fares_pass, printed_is}
 use Rattle.fare_lines.proofs.laws.fare_lines_law.Goals as goal
 
 pub returns-clause-case : goal.returns-clause-case
@@ -16,4 +16,5 @@ returns-clause-passes c case division valid is =
       recurrence = c.route_set_law.ensures.recurrence;
     } in
     let routes : RouteFacts = record { listed = c.orders_law.ensures.listed; only = c.lowest_route_law.ensures.only } in
-    fares_pass sets routes case division valid is
+    let apart : MembersFacts = record { routes = c.members_law.ensures.routes; best = c.members_law.ensures.best } in
+    fares_pass sets routes apart case division valid is

@@ -1,3 +1,4 @@
+use Rattle.gate_log.proofs.Total.{goes_on, header_or_fault, place_within}
 use Rattle.gate_log.proofs.Unique.{begins_stands, begins_fault, one_begin, stands_begin, fault_begin, no_header}
 use Rattle.gate_log.proofs.laws.beginning_law.Goals as goal
 
@@ -18,3 +19,12 @@ returns-clause-fault_last c = fault_begin
 
 pub returns-clause-header : goal.returns-clause-header
 returns-clause-header c = no_header
+
+pub returns-clause-header_or_fault : goal.returns-clause-header_or_fault
+returns-clause-header_or_fault c = header_or_fault
+
+pub returns-clause-goes_on : goal.returns-clause-goes_on
+returns-clause-goes_on c = goes_on
+
+pub returns-clause-within : goal.returns-clause-within
+returns-clause-within c = place_within

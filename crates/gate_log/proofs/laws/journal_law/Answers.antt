@@ -1,3 +1,4 @@
+use Rattle.gate_log.proofs.Total.{has_meaning}
 use Rattle.gate_log.proofs.Unique.{one_meaning, no_fault, one_fault}
 use Rattle.gate_log.proofs.laws.journal_law.Goals as goal
 
@@ -9,3 +10,6 @@ returns-clause-no_fault c = no_fault
 
 pub returns-clause-one_fault : goal.returns-clause-one_fault
 returns-clause-one_fault c = one_fault
+
+pub returns-clause-meaning : goal.returns-clause-meaning
+returns-clause-meaning c = has_meaning

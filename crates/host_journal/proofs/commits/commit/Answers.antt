@@ -4,6 +4,7 @@ use Rattle.gate_log.specs.Records.{IsBody}
 use Rattle.sealed_core.specs.Host.{HostView, apply, event_view}
 use Rattle.host_journal.specs.Spelling.{spelling}
 use Rattle.host_journal.proofs.Appending.{either_events, next_journal}
+use Rattle.host_journal.proofs.Kept.{made_push}
 use Rattle.host_journal.proofs.Sizes.{event_body}
 use Rattle.host_journal.proofs.commits.commit.Goals as goal
 
@@ -41,3 +42,8 @@ returns-clause-after g c = λ honest secret events j d now.
     either_events (g.D.Disk.images c.args.disk.now) c.args.log.now c.args.host.now.content secret events (event_view c.args.event) c.deref.result.now j c.requires.version
     (c.in-Ok.ensures.event c.args.host.now.content c.requires.can) c.requires.can (c.deref.ensures.value ∙ c.in-Ok.ensures.spelled) d
     (c.append.ensures.after honest secret (map spelling events) j.is_log d now)
+
+pub returns-clause-made : goal.returns-clause-made
+returns-clause-made g c = λ secret events made.
+    made_push c.args.host.now.content c.apply.new.host.content secret events (event_view c.args.event) made c.requires.can
+    (c.apply.ensures.content ∙ ap (λ (h : HostView). apply h (event_view c.args.event)) c.reserve.ensures.content)

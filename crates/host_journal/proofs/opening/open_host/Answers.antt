@@ -1,8 +1,9 @@
 use Rattle.std.proofs.Common.{List, ℕ, map, sym, subst}
 use Rattle.split_base.specs.Moments.{joined, rests_leave}
 use Rattle.host_journal.specs.Spelling.{spelling}
-use Rattle.host_journal.specs.Journal.{HoldsFrom, HoldsOne, IsOpened}
-use Rattle.host_journal.proofs.Replay.{log_of_read, still_one, opened_of}
+use Rattle.host_journal.specs.Journal.{HasOpened, HoldsFrom, HoldsOne, IsOpened, IsReplayed}
+use Rattle.host_journal.proofs.Raised.{opened_done, rests_torn, rests_writes, then_torn, then_writes}
+use Rattle.host_journal.proofs.Replay.{has_opened, log_of_read, still_one, opened_of}
 use Rattle.host_journal.proofs.opening.open_host.Goals as goal
 
 pub returns-in_err-to_version_two-clause-any_moment : goal.returns-in_err-to_version_two-clause-any_moment
@@ -83,3 +84,62 @@ returns-clause-opened g c honest =
     let now = g.met.D.Disk.seen_is_image new (c.to_version_two.ensures.honest.0 still) in
     let opened = opened_of file (g.D.Disk.seen new) (g.D.Disk.images new) log raised h sec events r c.in_ok-to_version_two.ensures.version now (c.in_ok-to_version_two.ensures.raised still sec (map spelling events) is_log) in
     subst (λ (f : List ℕ). IsOpened f (g.D.Disk.seen new) (g.D.Disk.images new) raised h) (c.read_host.ensures.rests honest).same opened
+
+pub returns-clause-made : goal.returns-clause-made
+returns-clause-made g c =
+    let (sec, events, with) = c.in_ok-host.ensures.made in (
+      sec,
+      events,
+      record {
+        of_events = with.of_events;
+        of_file = λ honest.
+            let mid = c.read_host.new.disk in
+            let new = c.to_version_two.new.disk in
+            let file = g.D.Disk.seen mid in
+            let log = c.in_ok-host.log in
+            let h = c.in_ok-host.host.content in
+            let raised = c.to_version_two.new.log in
+            let still = c.read_host.ensures.honest.0 honest in
+            let r : IsReplayed file log h sec events = with.of_file honest in
+            let is_log = log_of_read file (g.D.Disk.images mid) log h sec events (c.in_ok-host.ensures.one honest) r in
+            let now = g.met.D.Disk.seen_is_image new (c.to_version_two.ensures.honest.0 still) in
+            let opened = has_opened file (g.D.Disk.seen new) (g.D.Disk.images new) log raised h sec events r c.in_ok-to_version_two.ensures.version now (c.in_ok-to_version_two.ensures.raised still sec (map spelling events) is_log) in
+            subst (λ (f : List ℕ). HasOpened f (g.D.Disk.seen new) (g.D.Disk.images new) raised h sec events) (c.read_host.ensures.rests honest).same opened;
+      },
+    )
+
+pub returns-in_err-host-clause-writes : goal.returns-in_err-host-clause-writes
+returns-in_err-host-clause-writes g c honest =
+    let old = c.args.disk.now in
+    rests_writes g.D.Disk.seen g.D.Disk.images g.D.Disk.moment g.D.Disk.left_since old c.read_host.new.disk (c.read_host.ensures.rests honest) (λ f left. g.met.D.Disk.only_now old f honest left)
+
+pub returns-in_err-host-clause-torn : goal.returns-in_err-host-clause-torn
+returns-in_err-host-clause-torn g c honest = rests_torn (g.D.Disk.images c.args.disk.now) (g.D.Disk.images c.read_host.new.disk) (c.read_host.ensures.rests honest).adds_none
+
+pub returns-in_err-to_version_two-clause-writes : goal.returns-in_err-to_version_two-clause-writes
+returns-in_err-to_version_two-clause-writes g c honest =
+    let old = c.args.disk.now in
+    then_writes g.D.Disk.seen g.D.Disk.images g.D.Disk.moment g.D.Disk.left_since old c.read_host.new.disk c.to_version_two.new.disk (c.read_host.ensures.rests honest) (λ f left. g.met.D.Disk.only_now old f honest left)
+    (c.to_version_two.ensures.writes (c.read_host.ensures.honest.0 honest))
+
+pub returns-in_err-to_version_two-clause-torn : goal.returns-in_err-to_version_two-clause-torn
+returns-in_err-to_version_two-clause-torn g c honest =
+    then_torn (g.D.Disk.images c.args.disk.now) (g.D.Disk.images c.read_host.new.disk) (g.D.Disk.images c.to_version_two.new.disk) (c.read_host.ensures.rests honest).adds_none
+    (c.to_version_two.ensures.torn (c.read_host.ensures.honest.0 honest))
+
+pub returns-clause-writes : goal.returns-clause-writes
+returns-clause-writes g c honest =
+    let old = c.args.disk.now in
+    then_writes g.D.Disk.seen g.D.Disk.images g.D.Disk.moment g.D.Disk.left_since old c.read_host.new.disk c.to_version_two.new.disk (c.read_host.ensures.rests honest) (λ f left. g.met.D.Disk.only_now old f honest left)
+    (c.to_version_two.ensures.writes (c.read_host.ensures.honest.0 honest))
+
+pub returns-clause-torn : goal.returns-clause-torn
+returns-clause-torn g c honest =
+    then_torn (g.D.Disk.images c.args.disk.now) (g.D.Disk.images c.read_host.new.disk) (g.D.Disk.images c.to_version_two.new.disk) (c.read_host.ensures.rests honest).adds_none
+    (c.to_version_two.ensures.torn (c.read_host.ensures.honest.0 honest))
+
+pub returns-clause-done : goal.returns-clause-done
+returns-clause-done g c honest =
+    let (sec, events, r) = c.in_ok-host.ensures.whole honest in
+    opened_done g.D.Disk.seen g.D.Disk.moment c.args.disk.now c.read_host.new.disk c.to_version_two.new.disk c.in_ok-host.log c.in_ok-host.host.content sec events (c.read_host.ensures.rests honest).same (c.in_ok-host.ensures.tick honest) r
+    (c.in_ok-to_version_two.ensures.done (c.read_host.ensures.honest.0 honest))

@@ -1,5 +1,6 @@
 use Rattle.std.proofs.Common.{inr, [], rules}
 use Rattle.host_journal.specs.Journal.{IsReplaying}
+use Rattle.host_journal.proofs.Kept.{made_of_none}
 use Rattle.host_journal.proofs.Replay.{starts_empty}
 use Rattle.host_journal.proofs.opening.read_host.Goals as goal
 
@@ -15,3 +16,17 @@ returns-clause-whole g c honest =
     let r : IsReplaying file c.in_ok-log.log c.new-host.result.content c.in_ok-log.secret [] = starts_empty file c.in_ok-log.log c.new-host.result.content c.in_ok-log.secret (c.in_ok-log.ensures.reading honest) c.new-host.ensures in
     let (all, read) = c.in_ok-replay.ensures.whole (c.in_ok-log.ensures.honest.0 honest) c.in_ok-log.secret [] r in
     (c.in_ok-log.secret, all, read)
+
+pub returns-clause-made : goal.returns-clause-made
+returns-clause-made g c =
+    let file = g.D.Disk.seen c.start.new.disk in
+    let (all, made) = c.in_ok-replay.ensures.made c.in_ok-log.secret [] (made_of_none c.new-host.result.content c.in_ok-log.secret c.new-host.ensures) in (
+      c.in_ok-log.secret,
+      all,
+      record {
+        of_events = made.of_events;
+        of_file = λ honest.
+            let r : IsReplaying file c.in_ok-log.log c.new-host.result.content c.in_ok-log.secret [] = starts_empty file c.in_ok-log.log c.new-host.result.content c.in_ok-log.secret (c.in_ok-log.ensures.reading honest) c.new-host.ensures in
+            made.of_file (c.in_ok-log.ensures.honest.0 honest) r;
+      },
+    )

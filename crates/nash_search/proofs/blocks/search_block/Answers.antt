@@ -1,4 +1,4 @@
-use Rattle.std.proofs.Common.{◌≡◌, ◌≤◌, ◌+◌, ◌-◌, ◌*◌, true, false, arith, subst}
+use Rattle.std.proofs.Common.{◌≡◌, ◌≤◌, ◌+◌, ◌-◌, ◌*◌, arith, subst}
 use Rattle.nash_bounds.specs.Blocks.{tasks_in}
 use Rattle.nash_bounds.specs.Counted.{count_task, count_tasks, counted_leaves}
 use Rattle.nash_bounds.specs.declared.limits.TheConstants.{BLOCK_TASKS}

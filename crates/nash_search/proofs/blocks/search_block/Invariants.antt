@@ -1,4 +1,4 @@
-use Rattle.std.proofs.Common.{◌≡◌, ◌*◌, ◌≤◌}
+use Rattle.std.proofs.Common.{◌*◌, ◌≤◌}
 use Rattle.nash_bounds.specs.declared.limits.TheConstants.{BLOCK_TASKS}
 use Rattle.nash_search.specs.Progress.{IsTallied}
 use Rattle.nash_search.proofs.blocks.search_block.Given as goal

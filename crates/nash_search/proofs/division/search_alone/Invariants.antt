@@ -2,7 +2,6 @@ use Rattle.std.proofs.Common.{◌-◌, ◌*◌}
 use Rattle.nash_bounds.specs.Tasks.{tasks_of}
 use Rattle.nash_bounds.specs.declared.limits.TheConstants.{BLOCK_TASKS}
 use Rattle.nash_search.specs.Progress.{IsProgress}
-use Rattle.nash_search.specs.Tables.{AreTables}
 use Rattle.nash_search.proofs.division.search_alone.Given as goal
 
 abbrev pub invariant-search : goal.invariant-search

@@ -1,5 +1,5 @@
 use Rattle.std.proofs.Common.{sym, ap, ◌∙◌}
-use Rattle.sealed_core.specs.Sealed.{caller_number, empty, heard, view, views}
+use Rattle.sealed_core.specs.Sealed.{caller_number, empty, view}
 use Rattle.reply_texts.specs.Sealing.{told_in}
 use Rattle.reply_texts.proofs.Sealed.{tells, told_is, told_run}
 use Rattle.reply_texts.proofs.laws.text_sealing_law.Goals as goal

@@ -10,5 +10,5 @@ pieces-preserved g c = record {
   within = omega (arith, c.move_front.ensures.size, c.min-count.ensures, c.len-in-pieces-2.ensures, c.pieces.invariant.within);
   room = omega (arith, c.move_front.ensures.capacity, c.pieces.invariant.room);
   beside = search rules;
-  reads = omega (arith, c.in-Ok-ready.ensures.cause.never_falls, c.pieces.invariant.reads);
+  reads = search rules;
 }

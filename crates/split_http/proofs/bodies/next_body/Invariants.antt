@@ -9,7 +9,7 @@ invariant-pieces g l = record {
   within : vec_len l.body ≤ l.«length»;
   room : l.«length» ≤ vec_capacity l.body;
   beside : g.L.Source.beside l.link ≡ g.L.Source.beside l.initial.link;
-  reads : g.L.Source.faults l.initial.link ≤ g.L.Source.faults l.link;
+  reads : g.L.Source.faults l.link ≡ g.L.Source.faults l.initial.link;
 }
 
 abbrev pub decreases-pieces : goal.decreases-pieces

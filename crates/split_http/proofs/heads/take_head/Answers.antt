@@ -1,8 +1,18 @@
-use Rattle.std.proofs.Common.{◌≤◌, ◌++◌, length, sym, ap, ◌∙◌, arith}
+use Rattle.std.proofs.Common.{◌≤◌, ◌++◌, length, sym, ap, ◌∙◌, arith, refl}
 use Rattle.httparse.specs.Grammar.{print_request}
 use Rattle.split_http.specs.declared.limits.TheConstants.{MAX_HEAD}
 use Rattle.split_http.proofs.HeadLemmas.{same_text}
 use Rattle.split_http.proofs.heads.take_head.Goals as goal
+
+-- the head that was found stands there still, with this method
+pub returns-in-Err : goal.returns-in-Err
+returns-in-Err c =
+    let found = c.requires.head in
+    let h = found.0 in
+    let at = found.1 in
+    let short : length (print_request h) ≤ MAX_HEAD = omega (arith, at.len, c.requires.within.section.len_fits, c.as_slice.ensures.most) in
+    let verb = rw (c.of.ensures, c.as_slice-in-Err.ensures.bytes, at.method) at c.read_verb-verb.ensures in
+    (refl, (h, _, record { valid = at.reads.0; few = found.2; short = short }, verb, at.reads.1))
 
 -- the head that was found, what it says, and what stands behind it
 pub returns-in-Ok : goal.returns-in-Ok

@@ -1,7 +1,8 @@
-use Rattle.std.proofs.Common.{◌≡◌, ◌+◌, ◌<◌, length, arith, subst}
+use Rattle.std.proofs.Common.{◌≡◌, ◌+◌, ◌<◌, length, arith, subst, sym}
 use Rattle.split_http.specs.declared.limits.TheConstants.{MAX_HEAD}
 use Rattle.split_http.specs.Search.{NeverHasOne}
-use Rattle.split_http.proofs.HeadLemmas.{bad_never, bad_full}
+use Rattle.split_http.proofs.HeadLemmas.{bad_never, bad_full, none_open}
+use Rattle.split_http.specs.Turns.{IsOpen}
 use Rattle.split_http.proofs.search.look_ahead.Goals as goal
 
 pub returns-in-Never-clause-says : goal.returns-in-Never-clause-says
@@ -20,3 +21,8 @@ pub returns-clause-says : goal.returns-clause-says
 returns-clause-says g c =
     let size : length c.loop-room.carry ≡ MAX_HEAD = omega (arith, c.loop-room.invariant.room, c.loop-room-test.false) in
     bad_full _ _ size (c.loop-room.invariant.none (omega arith))
+
+pub returns-in-Err-clause-ahead : goal.returns-in-Err-clause-ahead
+returns-in-Err-clause-ahead g c =
+    let few : length c.loop-room.carry < MAX_HEAD = omega (arith, c.loop-room.invariant.room, c.loop-room-test.true) in
+    subst IsOpen (sym c.in-Err.ensures.failed) (none_open _ few c.loop-room.invariant.none)

@@ -1,5 +1,5 @@
 -- The carry and the link hold what they held, and no head stands in the carry.
-use Rattle.std.proofs.Common.{◌≡◌, ◌+◌, ◌<◌, length}
+use Rattle.std.proofs.Common.{◌≡◌, ◌+◌, ◌++◌, ◌<◌, ℕ, List, length}
 use Rattle.std.specs.Io.KnownBytes.{Keeps, prepend_known}
 use Rattle.split_http.specs.declared.limits.TheConstants.{MAX_HEAD}
 use Rattle.split_http.specs.Search.{HasNone}
@@ -8,6 +8,7 @@ use Rattle.split_http.proofs.search.look_ahead.Given as goal
 abbrev pub invariant-loop-room : goal.invariant-loop-room
 invariant-loop-room g l = record {
   room : l.room + length l.carry ≡ MAX_HEAD;
+  more : (read : List ℕ) × (l.carry ≡ l.initial.carry ++ read);
   none : 0 < length l.carry → HasNone l.carry;
   same : Keeps (prepend_known l.initial.carry (g.S.Source.left l.initial.source)) (prepend_known l.carry (g.S.Source.left l.source));
   count : g.S.Source.faults l.source ≡ g.S.Source.faults l.initial.source;

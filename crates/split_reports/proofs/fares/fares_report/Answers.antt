@@ -5,7 +5,7 @@ use Rattle.std.proofs.lemmas.List.{length-map}
 use Rattle.std.proofs.lemmas.List.FromFn.{length-map-range_with_len}
 use Rattle.bid_rules.specs.Cents.{cent_plan}
 use Rattle.split_frac.specs.Frac.{fraction_of}
-use Rattle.split_json.specs.Reading.{shown}
+use Rattle.split_reports.specs.Names.{shown_names}
 use Rattle.split_reports.specs.Fares.{fares_report}
 use Rattle.split_reports.proofs.FareReports.{fare_count, route_riders}
 use Rattle.split_reports.proofs.fares.fares_report.Goals as goal
@@ -25,7 +25,7 @@ pub returns : goal.returns
 returns c =
     let division = c.args.division.now in
     let case = c.args.case.now in
-    let given = shown c.args.input.now in
+    let given = shown_names c.args.names.now in
     let amounts : c.as_slice.result.now ≡ division.fares.items = c.as_slice.ensures.value in
     let fares : c.as_slice-2.result.now ≡ division.fares.items = c.as_slice-2.ensures.value in
     let whole : to_z w64 (of_z w64 c.from.result) ≡ pos division.total = omega (arith, ints) in

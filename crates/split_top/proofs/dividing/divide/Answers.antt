@@ -11,7 +11,7 @@ returns-in-Ok-body_output-clause-ending g c words row =
       row,
       (
         body,
-        (case_short c.args.command body c.requires.command c.in-Ok.ensures.short, c.in-Ok.ensures.bytes, c.in-Ok.ensures.end),
+        (case_short c.args.command body c.requires.command c.in-Ok.ensures.short, c.in-Ok.ensures.bytes, c.in-Ok.ensures.end, c.in-Ok.ensures.faults),
         case_output c.args.command body text c.requires.command (subst (λ b. Holds b (IsBestText c.args.command text)) c.deref.ensures.value c.in-Ok-body_output.ensures),
       ),
     )

@@ -1,0 +1,138 @@
+ghost use Rattle.std.specs.Prelude.{IfOk, IsTrue};
+
+use crate::objects::{crashed, disk_of};
+use gate_log::{Log, LogFault, create_log};
+use split_base::MemDisk;
+use std::alloc::Global;
+use std::process::Abort;
+
+const SECRET: [u8; 32] = [7; 32];
+
+// A journal with this version gate, and these bytes behind its header.
+fn journal(rt: &impl Abort, alloc: Global, version_gate: u8, rest: &[u8]) -> Vec<u8> {
+    let mut bytes = b"FAIRSPLIT LOG 1\n".to_vec(alloc).expect(rt, "no memory");
+    bytes.extend_from_slice(&SECRET).expect(rt, "no memory");
+    bytes.push(version_gate).expect(rt, "no memory");
+    bytes.extend_from_slice(rest).expect(rt, "no memory");
+    bytes
+}
+
+// A log at the end of a journal of at most twenty records, and their bodies with a `|` behind each.
+fn read(rt: &impl Abort, alloc: Global, disk: &mut MemDisk) -> Result<(Log, Vec<u8>), LogFault>
+    ensures { IfOk result (λ end. IsTrue end.0.at_end) }
+{
+    let (mut log, _) = Log::start(disk)?;
+    let mut all = Vec::new(alloc);
+    let mut body = Vec::new(alloc);
+    for _ in 0..20 {
+        if !log.next(disk, &mut body)? {
+            return Ok((log, all));
+        }
+        all.extend_from_slice(&body).expect(rt, "no memory");
+        all.push(b'|').expect(rt, "no memory");
+    }
+    Err(LogFault::NoMemory)
+}
+
+// The file has this version and these bodies, or its first fault at this place.
+fn assert_read(rt: &impl Abort, alloc: Global, bytes: &[u8], due: Result<(u8, &[u8]), u64>) {
+    let mut disk = disk_of(rt, alloc, bytes, &[], None);
+    match read(rt, alloc, &mut disk) {
+        Ok((log, all)) => assert!(rt; due == Ok((log.version(), all.as_slice()))),
+        Err(LogFault::NotALog { place }) => assert!(rt; due == Err(place)),
+        Err(_) => panic!(rt; "not read"),
+    }
+}
+
+#[test]
+fn files_are_read_or_have_a_first_fault(rt: HostRuntime) {
+    let alloc = rt.alloc();
+    // The version gate, the bytes behind the header, and what they are read as.
+    let cases: [(u8, &[u8], Result<(u8, &[u8]), u64>); 6] = [
+        (0, b"\0\xff\xff", Ok((1, b""))),
+        (0, b"\x01\x03\0\0\0one\0\x01\0\0\0x\0", Ok((1, b"one|"))),
+        (1, b"\x01\x03\0\0\0one\0", Ok((2, b"one|"))),
+        (9, b"\x02\x03\0\0\0one\xff\x01\0\0\0x\0", Ok((2, b"one|x|"))),
+        (0, b"\x01\0\0\0\0\0", Err(50)),
+        (1, b"\x01\x01\x10\0\0\0", Err(50)),
+    ];
+    for (gate, rest, due) in cases {
+        assert_read(&rt, alloc, &journal(&rt, alloc, gate, rest), due);
+    }
+    let mut whole = journal(&rt, alloc, 1, b"\x01\x03\0\0\0one\0");
+    assert_eq!(rt; whole.len(), 58);
+    for cut in 0..58 {
+        assert_read(&rt, alloc, &whole[..cut], Err(cut as u64));
+    }
+    whole[3] = b'X';
+    assert_read(&rt, alloc, &whole, Err(3));
+}
+
+fn append(rt: &impl Abort, alloc: Global, disk: &mut MemDisk) -> Result<(), LogFault> {
+    let (mut log, _) = read(rt, alloc, disk)?;
+    log.append(disk, b"one")
+}
+
+#[test]
+fn a_record_is_kept_or_left_out(rt: HostRuntime) {
+    let alloc = rt.alloc();
+    // Making the journal takes three calls, reading it three more, and appending four. A stop at the
+    // last leaves the record or doesn't.
+    for stop in 1..=11 {
+        for keep in [0, usize::MAX] {
+            let mut disk = disk_of(&rt, alloc, b"", &[], Some(stop));
+            let made = create_log(&mut disk, &SECRET);
+            assert!(rt;
+                made == if stop > 3 {
+                    Ok(())
+                } else {
+                    Err(LogFault::Disk)
+                }
+            );
+            if made.is_ok() {
+                assert_eq!(rt; append(&rt, alloc, &mut disk).is_ok(), stop == 11);
+                let left = crashed(&rt, alloc, disk, keep);
+                let one = stop == 11 || (stop == 10 && keep > 0);
+                assert_read(
+                    &rt,
+                    alloc,
+                    left.bytes(),
+                    Ok((2, if one { b"one|" } else { b"" })),
+                );
+            }
+        }
+    }
+    let mut disk = disk_of(&rt, alloc, b"", &[], None);
+    assert_eq!(rt; create_log(&mut disk, &SECRET), Ok(()));
+    assert_eq!(rt; disk.bytes(), journal(&rt, alloc, 1, b"\0").as_slice());
+    assert_eq!(rt; append(&rt, alloc, &mut disk), Ok(()));
+    assert_eq!(rt; append(&rt, alloc, &mut disk), Ok(()));
+    let after = journal(&rt, alloc, 1, b"\x01\x03\0\0\0one\x01\x03\0\0\0one\0");
+    assert_eq!(rt; disk.bytes(), after.as_slice());
+    assert_eq!(rt;
+        create_log(&mut disk, &SECRET),
+        Err(LogFault::NotALog { place: 0 })
+    );
+}
+
+#[test]
+fn version_one_is_raised(rt: HostRuntime) {
+    let alloc = rt.alloc();
+    let old = journal(&rt, alloc, 0, b"\x01\x03\0\0\0one\0");
+    let new = journal(&rt, alloc, 1, b"\x01\x03\0\0\0one\0");
+
+    // Reading makes three calls; the fourth and the fifth are those of raising.
+    for stop in 4..=6 {
+        let mut disk = disk_of(&rt, alloc, &old, &[], Some(stop));
+        let Ok((mut log, _all)) = read(&rt, alloc, &mut disk) else {
+            panic!(rt; "not read");
+        };
+        assert_eq!(rt; log.version(), 1);
+        assert_eq!(rt; log.raise(&mut disk).is_ok(), stop == 6);
+        let written = if stop == 4 { &old } else { &new };
+        assert_eq!(rt; disk.bytes(), written.as_slice(), "stopped at {stop}");
+        let left = crashed(&rt, alloc, disk, 0);
+        let stable = if stop < 6 { &old } else { &new };
+        assert_eq!(rt; left.bytes(), stable.as_slice(), "stopped at {stop}");
+    }
+}

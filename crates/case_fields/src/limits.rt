@@ -1,0 +1,9 @@
+// The limits of a tag and of a deadline. Those of facts, bids and names stand in `bid_rules`.
+use split_base::limits::LAST_MOMENT;
+
+/// The length of the shortest tag, in bytes.
+pub const SHORTEST_TAG: usize = 16;
+/// The length of the longest tag, in bytes.
+pub const LONGEST_TAG: usize = 64;
+/// The last second, since 1970, that a deadline may name: 9999-12-31T23:59:59Z.
+pub const LAST_DEADLINE: u64 = LAST_MOMENT;

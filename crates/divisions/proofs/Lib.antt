@@ -1,0 +1,2 @@
+pub mod MemberPrices
+mod OneDivision

@@ -1,0 +1,42 @@
+// Limits of the adapters over the real outside.
+use std::time::Duration;
+
+/// The most bytes of a file, and the greatest place behind its last byte.
+pub const MOST_FILE_BYTES: u64 = 1 << 63;
+
+/// The most bytes of one piece that is kept until the next good sync. No write of a journal is longer.
+pub const LONGEST_PIECE: usize = 4_101;
+
+/// The most pieces that are kept until the next good sync. A journal writes one or two between two syncs.
+pub const MOST_PIECES: usize = 2;
+
+/// How long one read or write of a link may wait, in seconds.
+pub const CALL_SECONDS: u64 = 60;
+
+/// How long a link may last in all, in seconds.
+pub const LINK_SECONDS: u64 = 600;
+
+/// How long a link that is given back waits for its client to close, in seconds.
+pub const CLOSING_SECONDS: u64 = 1;
+
+/// The limits of time of a link.
+#[derive(Clone, Copy, Debug)]
+pub struct LinkLimits {
+    /// How long one read or write may wait.
+    pub call: Duration,
+    /// How long the link may last in all.
+    pub link: Duration,
+    /// How long a link that is given back waits for its client to close.
+    pub closing: Duration,
+}
+
+impl LinkLimits {
+    /// The limits of the program's links.
+    pub fn usual() -> LinkLimits {
+        LinkLimits {
+            call: Duration::from_secs(CALL_SECONDS),
+            link: Duration::from_secs(LINK_SECONDS),
+            closing: Duration::from_secs(CLOSING_SECONDS),
+        }
+    }
+}

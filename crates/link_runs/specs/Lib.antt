@@ -1,0 +1,9 @@
+pub mod Dues
+pub mod Ends
+pub mod Runs
+pub mod Served
+pub mod Ports
+pub mod Hearing
+pub mod Finishing
+pub mod Going
+pub mod Porting

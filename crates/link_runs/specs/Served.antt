@@ -1,0 +1,134 @@
+-- What the calls over a link say, where its bytes are told.
+use Rattle.std.specs.Prelude.{◌≡◌, ◌⊎◌, ℕ, Bool, true, false, List, [], ◌∷◌, ◌++◌, Option, Some, None}
+use Rattle.std.specs.Io.KnownBytes.{Appends, prepend_known}
+use Rattle.split_http.specs.declared.head.Head.{Head}
+use Rattle.split_http.specs.Turns.{Told}
+use Rattle.link_runs.specs.declared.ends.LinkEnd.{LinkEnd}
+use Rattle.link_runs.specs.declared.ends.LinkEnd.TheVariants as ends
+use Rattle.link_runs.specs.Dues.{AreBytes, DueView, IsPartOf, closes}
+use Rattle.link_runs.specs.Ends.{Ending, end_as, reads_after, writes_after}
+use Rattle.link_runs.specs.Runs.{BodyStops, LastHead, LinkRun, Replies, RepliesTo, Run, Service, end_of}
+
+-- how a type of links tells the bytes that are left and those that were written, and how many reads and how many writes have failed
+pub record LinkTells (L : Type 0) : Type 0 where
+  pub left : L → Option (List ℕ)
+  pub written : L → Option (List ℕ)
+  pub reads : L → ℕ
+  pub writes : L → ℕ
+
+-- a link at a moment: the bytes to come, those that were written, and its counts of failed reads and writes
+pub record LinkView : Type 0 where
+  pub ahead : Option (List ℕ)
+  pub written : Option (List ℕ)
+  pub reads : ℕ
+  pub writes : ℕ
+
+abbrev pub link_view : {L : Type 0} → LinkTells L → L → LinkView
+link_view tells link = record { ahead = tells.left link; written = tells.written link; reads = tells.reads link; writes = tells.writes link }
+
+-- with bytes that were read past the last message
+abbrev pub carried : List ℕ → LinkView → LinkView
+carried carry link = record { ahead = prepend_known carry link.ahead; written = link.written; reads = link.reads; writes = link.writes }
+
+-- no call failed
+abbrev pub NoneFailed : LinkView → LinkView → Type 0
+NoneFailed link now = (now.reads ≡ link.reads) × (now.writes ≡ link.writes)
+
+-- the one call that the ending tells failed, or none
+abbrev pub CountsEnd : LinkView → LinkView → Ending → Type 0
+CountsEnd link now end = (now.reads ≡ reads_after link.reads end) × (now.writes ≡ writes_after link.writes end)
+
+-- A run over the bytes of a link; asked: the answers that the clock gave; stands: the worlds for which what serves may stand.
+pub record RanTo {W : Type 0} (run : Run W) (link now : LinkView) (asked : List (Option ℕ) → Type 0) (stands : W → Type 0) (w : W) (end : LinkEnd) : Type 0 where
+  pub all : List ℕ
+  pub answers : List (Option ℕ)
+  pub out : List ℕ
+  pub new : W
+  pub ending : Ending
+  pub is_end : end ≡ end_as ending
+  pub told : Told link.ahead all
+  pub clock : asked answers
+  pub wrote : Appends link.written now.written out
+  pub counts : CountsEnd link now ending
+  pub serving : stands new
+  pub run_is : run all answers w out new ending
+
+-- a reply is due
+pub record Replied {W : Type 0} (service : Service W) (link now : LinkView) (asked : List (Option ℕ) → Type 0) (stands : W → Type 0) (last : Bool) (w : W) (due : DueView) : Type 0 where
+  pub answer : Option ℕ
+  pub interim : List ℕ
+  pub mid : W
+  pub clock : asked (answer ∷ [])
+  pub wrote : Appends link.written now.written interim
+  pub counts : NoneFailed link now
+  pub serving : stands mid
+  pub replies : (rest : List ℕ) → Told now.ahead rest → (all : List ℕ) × Told link.ahead all × Replies service last all rest answer w interim mid due
+
+-- the body of a head that stands in front of it: its end with no reply, or the reply to it
+pub record BodyQuiet {W : Type 0} (link now : LinkView) (stands : W → Type 0) (head : Head) (w : W) (end : LinkEnd) : Type 0 where
+  pub all : List ℕ
+  pub out : List ℕ
+  pub ending : Ending
+  pub is_end : end ≡ end_as ending
+  pub told : Told link.ahead all
+  pub wrote : Appends link.written now.written out
+  pub counts : CountsEnd link now ending
+  pub serving : stands w
+  pub accepted : head.refused ≡ None
+  pub stops : BodyStops head all out ending
+
+pub record BodyReplied {W : Type 0} (service : Service W) (link now : LinkView) (stands : W → Type 0) (last : Bool) (moment : ℕ) (head : Head) (w : W) (due : DueView) : Type 0 where
+  pub interim : List ℕ
+  pub mid : W
+  pub wrote : Appends link.written now.written interim
+  pub counts : NoneFailed link now
+  pub serving : stands mid
+  pub replies : (rest : List ℕ) → Told now.ahead rest → (all : List ℕ) × Told link.ahead all × RepliesTo service last all rest moment head w interim mid due
+
+-- all bytes of a reply that was due were written, and no call failed
+abbrev pub HasWritten : LinkView → LinkView → DueView → Type 0
+HasWritten link now due = ((bytes : List ℕ) × AreBytes due bytes × Appends link.written now.written bytes) × NoneFailed link now
+
+-- a first part of them was written, and then a write failed
+abbrev pub HasTorn : LinkView → LinkView → DueView → Type 0
+HasTorn link now due = ((bytes part : List ℕ) × AreBytes due bytes × IsPartOf bytes part × Appends link.written now.written part) × CountsEnd link now Ending.write_fault
+
+-- the end of a link behind a reply, or none where the link goes on
+abbrev pub EndsBehind : DueView → Option LinkEnd → Type 0
+EndsBehind due None = closes due ≡ false
+EndsBehind due (Some end) = (closes due ≡ true) × (end ≡ end_as (end_of due))
+
+-- after a reply that was due: the end, or nothing where the link goes on
+abbrev pub FinishSays : LinkView → LinkView → DueView → Option LinkEnd → Type 0
+FinishSays link now due None = EndsBehind due None × HasWritten link now due
+FinishSays link now due (Some end) = (EndsBehind due (Some end) × HasWritten link now due) ⊎ (HasTorn link now due × (end ≡ ends.LinkFault))
+
+pub record WentOn {W : Type 0} (service : Service W) (link now : LinkView) (asked : List (Option ℕ) → Type 0) (stands : W → Type 0) (last : Bool) (w : W) : Type 0 where
+  pub answer : Option ℕ
+  pub interim : List ℕ
+  pub bytes : List ℕ
+  pub mid : W
+  pub due : DueView
+  pub open_still : closes due ≡ false
+  pub are_bytes : AreBytes due bytes
+  pub clock : asked (answer ∷ [])
+  pub wrote : Appends link.written now.written (interim ++ bytes)
+  pub counts : NoneFailed link now
+  pub serving : stands mid
+  pub replies : (rest : List ℕ) → Told now.ahead rest → (all : List ℕ) × Told link.ahead all × Replies service last all rest answer w interim mid due
+
+abbrev pub HeadServed : {W : Type 0} → Service W → (link now : LinkView) (asked : List (Option ℕ) → Type 0) (stands : W → Type 0) (last : Bool) (w : W) → Option LinkEnd → Type 0
+HeadServed service link now asked stands last w None = WentOn service link now asked stands last w
+HeadServed service link now asked stands last w (Some end) = RanTo (LastHead service last) link now asked stands w end
+
+-- Some heads of at most so many went through, and n more may come: whatever run the rest has completes the run of the link.
+pub record Going {W : Type 0} (service : Service W) (most : ℕ) (link now : LinkView) (asked : List (Option ℕ) → Type 0) (stands : W → Type 0) (n : ℕ) (w : W) : Type 0 where
+  pub answers : List (Option ℕ)
+  pub out : List ℕ
+  pub mid : W
+  pub clock : asked answers
+  pub wrote : Appends link.written now.written out
+  pub counts : NoneFailed link now
+  pub serving : stands mid
+  pub goes : (rest : List ℕ) → Told now.ahead rest → (later : List (Option ℕ)) (tail : List ℕ) (new : W) (end : Ending) → LinkRun service n rest later mid tail new end
+      → (all : List ℕ) × Told link.ahead all × LinkRun service most all (answers ++ later) w (out ++ tail) new end

@@ -1,7 +1,0 @@
-use Rattle.std.proofs.Common.{ap, ◌∙◌}
-use Rattle.serde_json.specs.Written.{has_float}
-use Rattle.reply_texts.proofs.PlainTexts.{plain_fares}
-use Rattle.reply_texts.proofs.divisions.fares_text.Goals as goal
-
-pub written-requires : goal.written-requires
-written-requires c = ap has_float c.in_ok-value.ensures ∙ plain_fares c.args.case.now c.args.division.now

@@ -1,0 +1,14 @@
+//! Tests of `bid_rules`, `split_frac`, `split_text`, `envy_check` and `printed_numbers`, over their
+//! public names alone.
+#![tactic(auto)]
+
+#[cfg(test)]
+mod bids;
+#[cfg(test)]
+mod envies;
+#[cfg(test)]
+mod facts;
+#[cfg(test)]
+mod fractions;
+#[cfg(test)]
+mod texts;

@@ -1,0 +1,49 @@
+-- What hands out links in memory, a port or a dialer.
+use Rattle.std.specs.Prelude.{ℕ, zero, suc, List, [], ◌∷◌, ◌++◌, drop}
+use Rattle.split_base.specs.Links.{link_faults}
+use Rattle.split_base.specs.Memory.{LinkState, counted}
+
+-- the links to come, those that were given back, how many more there is a place for, the numbers of the calls that fail, and how many calls were made and have failed
+pub record PortState : Type 0 where
+  pub to_come : List LinkState
+  pub given_back : List LinkState
+  pub places : ℕ
+  pub fails : List ℕ
+  pub calls : ℕ
+  pub faults : ℕ
+
+-- a port that nobody has called, with places for as many links as are to come
+abbrev pub new_port : List LinkState → ℕ → List ℕ → PortState
+new_port links places fails = record { to_come = links; given_back = []; places = places; fails = fails; calls = 0; faults = 0 }
+
+-- after a call that listened
+abbrev pub after_listen : PortState → PortState
+after_listen p = record { to_come = p.to_come; given_back = p.given_back; places = p.places; fails = p.fails; calls = counted p.calls; faults = p.faults }
+
+-- the first link to come is gone, where there is one
+abbrev pub with_one_less : PortState → PortState
+with_one_less p = record { to_come = drop 1 p.to_come; given_back = p.given_back; places = p.places; fails = p.fails; calls = p.calls; faults = p.faults }
+
+-- after a call that handed out the first link to come, where there is one
+abbrev pub after_link : PortState → PortState
+after_link p = with_one_less (after_listen p)
+
+-- one fault more
+abbrev pub with_fault : PortState → PortState
+with_fault p = record { to_come = p.to_come; given_back = p.given_back; places = p.places; fails = p.fails; calls = p.calls; faults = counted p.faults }
+
+-- after a call that failed: only the counts differ
+abbrev pub after_no_link : PortState → PortState
+after_no_link p = with_fault (after_listen p)
+
+-- after a link was given back, with so many places: where there is none the link is dropped
+abbrev pub taken_back : PortState → LinkState → ℕ → PortState
+taken_back p link zero = p
+taken_back p link (suc places) = record { to_come = p.to_come; given_back = p.given_back ++ link ∷ []; places = places; fails = p.fails; calls = p.calls; faults = p.faults }
+
+abbrev pub after_done : PortState → LinkState → PortState
+after_done p link = taken_back p link p.places
+
+-- the count of faults of a link in memory
+abbrev pub faults_of_link : LinkState → ℕ
+faults_of_link link = link_faults link.input.faults link.output.faults

@@ -1,0 +1,20 @@
+-- The calls of what hands out links and takes them back, where the object tells them.
+use Rattle.std.specs.Prelude.{◌≡◌, ⊤, List, [], ◌∷◌, ◌++◌, MatchOption, MatchResult, Option, None, Some, Result}
+
+-- the first link that is to come was handed out, none where no link is, and a failed call hands out none
+abbrev pub Accepts : {L E : Type 0} → Option (List L) → Option (List L) → Result (Option L) E → Type 0
+Accepts None new result = ⊤
+Accepts (Some links) new result =
+    MatchResult result
+    (λ next. MatchOption next ((links ≡ []) × (new ≡ Some [])) (λ link. (rest : List _) × (links ≡ link ∷ rest) × (new ≡ Some rest)))
+    (λ _. new ≡ Some links)
+
+-- the first link that is to come was given, and a failed call gives none
+abbrev pub Dials : {L E : Type 0} → Option (List L) → Option (List L) → Result L E → Type 0
+Dials None new result = ⊤
+Dials (Some links) new result = MatchResult result (λ link. (rest : List _) × (links ≡ link ∷ rest) × (new ≡ Some rest)) (λ _. new ≡ Some links)
+
+-- the link was given back
+abbrev pub TakesBack : {L : Type 0} → Option (List L) → Option (List L) → L → Type 0
+TakesBack None new link = ⊤
+TakesBack (Some links) new link = new ≡ Some (links ++ link ∷ [])

@@ -1,0 +1,38 @@
+// What tells the time.
+ghost use Rattle.std.specs.Prelude.{◌≡◌, ◌≤◌, ◌∷◌, [], ℕ, Option, IfOk, IfSome};
+ghost use Rattle.split_base.specs.Faults.{HasCause, IsCounted};
+ghost use Rattle.split_base.specs.Clocks.{ClockRun, answer_of};
+ghost use Rattle.split_base.specs.declared.limits.TheConstants.{LAST_MOMENT};
+
+use crate::Failed;
+
+/// Tells the time.
+pub trait Clock {
+    /// What a call may answer, and the clock after it: a moment, or none where the call fails.
+    /// A clock that can't tell this allows every answer.
+    ghost gives: { Self → Option ℕ → Self → Type 0 };
+
+    /// How many of its calls have failed, up to 2^64 - 1.
+    ghost faults: { Self → ℕ };
+
+    /// The moment, in seconds since 1970, at most `LAST_MOMENT`.
+    ///
+    /// `Failed` comes only where the count of faults has risen, by one. A call that answers a moment
+    /// leaves the count as it is.
+    fn now(&mut self) -> Result<u64, Failed>
+        ensures range { IfOk result (λ moment. moment ≤ LAST_MOMENT) }
+        ensures gives { gives self.old (answer_of result) self.new }
+        ensures cause { HasCause (faults self.old) (faults self.new) result }
+        ensures count { IsCounted (faults self.old) (faults self.new) result };
+}
+
+/// Asks the clock once: the moment, or none where the call failed.
+pub fn ask<C: Clock>(clock: &mut C) -> Option<u64>
+    ensures asked { ClockRun C.gives C.faults clock.old clock.new (result ∷ []) }
+    ensures range { IfSome result (λ moment. moment ≤ LAST_MOMENT) }
+{
+    match clock.now() {
+        Ok(moment) => Some(moment),
+        Err(Failed) => None,
+    }
+}

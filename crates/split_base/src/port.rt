@@ -1,0 +1,62 @@
+// What hands out links.
+ghost use Rattle.std.specs.Prelude.{◌≡◌, ◌↔◌, ◌<◌, ◌-◌, ℕ, List, Option, IfOk, IsNone};
+ghost use Rattle.split_base.specs.Faults.{HasCause, IsCounted};
+ghost use Rattle.split_base.specs.Ports.{Accepts, TakesBack};
+
+use crate::{Failed, Link};
+
+/// Hands out links until it has ended, and takes them back.
+pub trait Port {
+    /// A connection.
+    type Link: Link + Drop;
+
+    /// The links still to come; `None` where the object doesn't tell them.
+    ghost to_come: { Self → Option (List Self.Link) };
+
+    /// The links that were given back, each with what it had got by then; `None` where the object
+    /// doesn't tell them.
+    ghost given_back: { Self → Option (List Self.Link) };
+
+    /// For how many more links that are given back there is a place.
+    ghost places: { Self → ℕ };
+
+    /// No link comes any more.
+    ghost has_ended: { Self → Type 0 };
+
+    /// How many of its calls have failed, up to 2^64 - 1.
+    ghost faults: { Self → ℕ };
+
+    /// Begins to take connections at the port of this number.
+    ///
+    /// `Failed` comes only where the count of faults has risen, by one. `Ok` leaves the count as it
+    /// is.
+    fn listen(&mut self, port: u16) -> Result<(), Failed>
+        ensures cause { HasCause (faults self.old) (faults self.new) result }
+        ensures count { IsCounted (faults self.old) (faults self.new) result }
+        ensures stays { has_ended self.old ↔ has_ended self.new }
+        ensures places { places self.new ≡ places self.old }
+        ensures come { to_come self.new ≡ to_come self.old }
+        ensures back { given_back self.new ≡ given_back self.old };
+
+    /// The next link, or `None` exactly where the port has ended. A port that has ended stays so.
+    ///
+    /// `Failed` comes only where the count of faults has risen, by one. No link is handed out then.
+    /// `Ok` leaves the count as it is.
+    fn accept(&mut self) -> Result<Option<Self::Link>, Failed>
+        ensures cause { HasCause (faults self.old) (faults self.new) result }
+        ensures count { IsCounted (faults self.old) (faults self.new) result }
+        ensures next { Accepts (to_come self.old) (to_come self.new) result }
+        ensures ended { IfOk result (λ next. IsNone next ↔ has_ended self.old) }
+        ensures stays { has_ended self.old → has_ended self.new }
+        ensures places { places self.new ≡ places self.old }
+        ensures back { given_back self.new ≡ given_back self.old };
+
+    /// Takes a link back. Where there is no place for it, it is dropped.
+    fn done(&mut self, link: Self::Link)
+        ensures count { faults self.new ≡ faults self.old }
+        ensures stays { has_ended self.old ↔ has_ended self.new }
+        ensures come { to_come self.new ≡ to_come self.old }
+        ensures places { places self.new ≡ places self.old - 1 }
+        ensures back { 0 < places self.old → TakesBack (given_back self.old) (given_back self.new) link }
+        ensures dropped { places self.old ≡ 0 → given_back self.new ≡ given_back self.old };
+}
