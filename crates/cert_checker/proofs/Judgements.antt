@@ -9,7 +9,7 @@ use Rattle.cert_reader.specs.Views.{View, counts_of, said_of, view_of}
 use Rattle.verdicts.specs.declared.verdict.Verdict.{Verdict}
 use Rattle.verdicts.specs.declared.verdict.Verdict.TheVariants.{Yes, No}
 use Rattle.verdicts.specs.Verdicts.{AreKept, IsVerdict}
-use Rattle.verdict_lemmas.proofs.Order.{none_asked, one_asked}
+use Rattle.verdicts.proofs.Order.{none_asked, one_asked}
 use Rattle.cert_checker.specs.Judged.{GivesVerdict, IsJudged, SaysView}
 
 -- the rules give what the bytes say this verdict

@@ -17,7 +17,7 @@ use Rattle.rent_rules.specs.Rules.{rent_rule}
 use Rattle.verdicts.specs.declared.verdict.Verdict.{Verdict}
 use Rattle.verdicts.specs.declared.verdict.Verdict.TheVariants.{Yes}
 use Rattle.verdicts.specs.Verdicts.{IsVerdict}
-use Rattle.verdict_lemmas.proofs.Order.{one_verdict}
+use Rattle.verdicts.proofs.Order.{one_verdict}
 use Rattle.cert_checker.specs.Judged.{GivesVerdict, IsBest, rule_count, rule_of}
 
 -- a view has one verdict

@@ -46,6 +46,7 @@ pub record IsRent (counts : Counts) (lines behind : ℕ) : Type 0 where
 pub rent_is : (counts : Counts) (said rest : List Said) (lines : List Gathered) → AreCounts counts → kind_of counts ≡ 1 → CanSayAll (forms_of counts) (said ++ rest) → said ≡ front_said (map line_said lines) → IsRent counts (length lines) (length rest)
 rent_is (count.Goods n goods) said rest lines are kind fits is = absurd (omega arith)
 rent_is (count.Fares n places) said rest lines are kind fits is = absurd (omega arith)
+rent_is (count.Pair goods) said rest lines are kind fits is = absurd are
 rent_is (count.Rent n) said rest lines are kind fits is =
     let many = can_many (rent_forms n) (said ++ rest) fits in
     let both = length-append said rest in
@@ -65,6 +66,7 @@ pub record IsFares (counts : Counts) (said : List Said) : Type 0 where
 pub fares_is : (counts : Counts) (said : List Said) → AreCounts counts → kind_of counts ≡ 3 → CanSayAll (forms_of counts) said → IsFares counts said
 fares_is (count.Rent n) said are kind fits = absurd (omega arith)
 fares_is (count.Goods n goods) said are kind fits = absurd (omega arith)
+fares_is (count.Pair goods) said are kind fits = absurd are
 fares_is (count.Fares n places) said are kind fits =
     let v = fares_view_of n places said are fits in
     record { view = v.view; is = v.is; counted = ap (λ k. count.Fares k v.view.places) v.riders ∙ ap (λ p. count.Fares n p) v.places_are; whole = v.whole }
@@ -84,6 +86,7 @@ pub record IsGoods (counts : Counts) (said : List Said) : Type 0 where
 pub goods_is : (counts : Counts) (said : List Said) → AreCounts counts → kind_of counts ≡ 2 → CanSayAll (forms_of counts) said → IsGoods counts said
 goods_is (count.Rent n) said are kind fits = absurd (omega arith)
 goods_is (count.Fares n places) said are kind fits = absurd (omega arith)
+goods_is (count.Pair goods) said are kind fits = absurd are
 goods_is (count.Goods n goods) said are kind fits =
     let v = goods_view_of n goods said are.1 are.3 fits in
     record { view = v.view; is = v.is; counted = ap (λ k. count.Goods k v.view.goods) v.players ∙ ap (λ g. count.Goods n g) v.goods_are; whole = v.whole }
@@ -97,15 +100,24 @@ pub no_rent_mark : (counts : Counts) (said : List Said) (mark : ℕ) (rest : Lis
 no_rent_mark (count.Rent n) said mark rest kind fits = no_mark_said (rent_forms n) said mark rest (no_tree_rent n) fits
 no_rent_mark (count.Goods n goods) said mark rest kind fits = omega arith
 no_rent_mark (count.Fares n places) said mark rest kind fits = omega arith
+no_rent_mark (count.Pair goods) said mark rest kind fits = omega arith
 
 -- no text of fares says a mark
 pub no_fares_mark : (counts : Counts) (said : List Said) (mark : ℕ) (rest : List Said) → kind_of counts ≡ 3 → CanSayAll (forms_of counts) (with_mark said mark ++ rest) → ⊥
 no_fares_mark (count.Fares n places) said mark rest kind fits = no_mark_said (fares_forms n places) said mark rest (no_tree_fares n places) fits
 no_fares_mark (count.Goods n goods) said mark rest kind fits = omega arith
 no_fares_mark (count.Rent n) said mark rest kind fits = omega arith
+no_fares_mark (count.Pair goods) said mark rest kind fits = omega arith
 
 -- the kind stays from the second line on
 pub kind_stays : (k : ℕ) (known counts : Counts) → 2 ≤ k → AgreeUpTo k known counts → kind_of counts ≡ kind_of known
+kind_stays k (count.Pair n) (count.Pair m) some agree = refl
+kind_stays k (count.Pair n) (count.Rent m) some agree = absurd agree
+kind_stays k (count.Pair n) (count.Goods m others) some agree = absurd agree
+kind_stays k (count.Pair n) (count.Fares m others) some agree = absurd agree
+kind_stays k (count.Rent n) (count.Pair m) some agree = absurd agree
+kind_stays k (count.Goods n goods) (count.Pair m) some agree = absurd agree
+kind_stays k (count.Fares n places) (count.Pair m) some agree = absurd agree
 kind_stays k (count.Rent n) (count.Rent m) some agree = refl
 kind_stays k (count.Fares n places) (count.Fares m others) some agree = refl
 kind_stays k (count.Goods n goods) (count.Goods m others) some agree = refl
@@ -133,12 +145,14 @@ unfolding fares_forms goods_forms
 some_lines (count.Rent n) = (let long = rent_long n in omega arith)
 some_lines (count.Goods n goods) = omega arith
 some_lines (count.Fares n places) = omega arith
+some_lines (count.Pair goods) = omega arith
 
 -- kinds are rents, goods and fares
-pub kinds : (counts : Counts) → (kind_of counts ≡ 1) ⊎ (kind_of counts ≡ 2) ⊎ (kind_of counts ≡ 3)
-kinds (count.Rent n) = inl refl
-kinds (count.Goods n goods) = inr (inl refl)
-kinds (count.Fares n places) = inr (inr refl)
+pub kinds : (counts : Counts) → AreCounts counts → (kind_of counts ≡ 1) ⊎ (kind_of counts ≡ 2) ⊎ (kind_of counts ≡ 3)
+kinds (count.Rent n) are = inl refl
+kinds (count.Goods n goods) are = inr (inl refl)
+kinds (count.Fares n places) are = inr (inr refl)
+kinds (count.Pair goods) are = absurd are
 
 -- a line was read: the text goes on behind it
 pub line_goes : (lines : Lines) (a b : Reading) (said rest : List Said) (last : Said) (taken : List ℕ) → KnowsLines said lines → kind_of a.counts ≡ kind_of_lines lines → 2 ≤ a.lines → length said ≡ a.lines

@@ -23,3 +23,4 @@ view_said bytes (count.Goods n goods) said text =
 view_said bytes (count.Fares n places) said text =
     let v = fares_is (count.Fares n places) said text.are_counts refl text.fits in
     (OfFares v.view, record { is_text = text_so bytes (count.Fares n places) _ said _ (sym v.counted) (sym v.is) text; rows = v.whole.rows })
+view_said bytes (count.Pair goods) said text = absurd text.are_counts

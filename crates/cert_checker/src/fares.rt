@@ -10,7 +10,7 @@ ghost use Rattle.cert_checker.specs.FaresLines.{HasNoTable, IsAt, IsBehindHead, 
 
 use arrayvec::ArrayVec;
 use bid_rules::limits::{LEG_ROW_ROOM, RIDER_ROOM};
-use cert_reader::limits::LINE_ROOM;
+use cert_reader::limits::MOST_NUMBERS;
 use cert_reader::{LineNumbers, number_at, row_at, rows_of, set_count, whole_row};
 use fare_rules::{FaresState, PrintedRow, end_fares, start_fares, take_set};
 use verdicts::Verdict;
@@ -154,7 +154,7 @@ impl TableLines {
         if self.left == 0 {
             self.last.push(numbers);
         } else {
-            let row: ArrayVec<i128, LINE_ROOM> = whole_row(&numbers.as_slice()[1..]);
+            let row: ArrayVec<i128, MOST_NUMBERS> = whole_row(&numbers.as_slice()[1..]);
             take_set(&mut self.state, row.as_slice());
             self.left -= 1;
         }

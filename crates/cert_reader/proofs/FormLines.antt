@@ -82,6 +82,7 @@ avoids_misses c (x ∷ xs) e = record { none = λ k h f. misses_at c x xs k e (�
 word_misses : (w : Word) → misses 10 (word_text w) ≡ true
 unfolding misses
 word_misses word.Fairsplit = refl
+word_misses word.FairsplitPair = refl
 word_misses word.KindRent = refl
 word_misses word.KindGoods = refl
 word_misses word.KindFares = refl
@@ -109,6 +110,9 @@ word_misses word.Steps = refl
 word_misses word.Tree = refl
 word_misses word.Route = refl
 word_misses word.Fares = refl
+word_misses word.Shares = refl
+word_misses word.Weights = refl
+word_misses word.Total = refl
 word_misses word.End = refl
 
 -- the word for a tree and its space have no LF
@@ -116,9 +120,9 @@ tree_misses : misses 10 (codes "tree ") ≡ true
 unfolding misses
 tree_misses = refl
 
--- no word is longer than ten bytes
-word_short : (w : Word) → length (word_text w) ≤ 10
-word_short w = elim w as (λ v. length (word_text v) ≤ 10) [ word.Fairsplit ↦ omega arith | word.KindRent ↦ omega arith | word.KindGoods ↦ omega arith | word.KindFares ↦ omega arith | word.Members ↦ omega arith | word.Players ↦ omega arith | word.Riders ↦ omega arith | word.Goods ↦ omega arith | word.Places ↦ omega arith | word.Rent ↦ omega arith | word.Limit ↦ omega arith | word.Flag ↦ omega arith | word.Values ↦ omega arith | word.Legs ↦ omega arith | word.Who ↦ omega arith | word.At ↦ omega arith | word.Set ↦ omega arith | word.Rooms ↦ omega arith | word.Left ↦ omega arith | word.Right ↦ omega arith | word.Walks ↦ omega arith | word.Ranks ↦ omega arith | word.Prices ↦ omega arith | word.Owners ↦ omega arith | word.Steps ↦ omega arith | word.Tree ↦ omega arith | word.Route ↦ omega arith | word.Fares ↦ omega arith | word.End ↦ omega arith ]
+-- no word is longer than fourteen bytes
+word_short : (w : Word) → length (word_text w) ≤ 14
+word_short w = elim w as (λ v. length (word_text v) ≤ 14) [ word.Fairsplit ↦ omega arith | word.FairsplitPair ↦ omega arith | word.KindRent ↦ omega arith | word.KindGoods ↦ omega arith | word.KindFares ↦ omega arith | word.Members ↦ omega arith | word.Players ↦ omega arith | word.Riders ↦ omega arith | word.Goods ↦ omega arith | word.Places ↦ omega arith | word.Rent ↦ omega arith | word.Limit ↦ omega arith | word.Flag ↦ omega arith | word.Values ↦ omega arith | word.Legs ↦ omega arith | word.Who ↦ omega arith | word.At ↦ omega arith | word.Set ↦ omega arith | word.Rooms ↦ omega arith | word.Left ↦ omega arith | word.Right ↦ omega arith | word.Walks ↦ omega arith | word.Ranks ↦ omega arith | word.Prices ↦ omega arith | word.Owners ↦ omega arith | word.Steps ↦ omega arith | word.Tree ↦ omega arith | word.Route ↦ omega arith | word.Fares ↦ omega arith | word.Shares ↦ omega arith | word.Weights ↦ omega arith | word.Total ↦ omega arith | word.End ↦ omega arith ]
 
 -- the text of a line's numbers has no LF
 numbers_plain : (whole : Bool) (ns : List Fraction) → All (IsNumber whole) ns → Avoids 10 (numbers_text ns)

@@ -7,7 +7,7 @@ use Rattle.std.proofs.Math.ListN.{get_or-append}
 use Rattle.cert_reader.specs.declared.forms.Counts.{Counts}
 use Rattle.cert_reader.specs.declared.forms.Counts.TheVariants as count
 use Rattle.cert_reader.specs.declared.forms.Word.TheVariants as word
-use Rattle.cert_reader.specs.Forms.{AreCounts, Form, fares_forms, fares_head, fares_tail, forms_of, goods_forms, goods_head, goods_tail, numbers_of, rent_forms, rent_head, rent_tail, rider_forms, set_form}
+use Rattle.cert_reader.specs.Forms.{AreCountsOf, AreInRange, Form, Pairs, fares_forms, fares_head, fares_tail, forms_of, goods_forms, goods_head, goods_tail, numbers_of, pair_forms, rent_forms, rent_head, rent_tail, rider_forms, set_form}
 use Rattle.cert_reader.specs.Sets.{sets_of}
 
 -- each place of a repeated form has it
@@ -154,14 +154,27 @@ fares_in_tail n places i j d e = in_behind_who n places i (2 ^ n - 1 + j) d (ome
 pub sets_few : (n : ℕ) → n ≤ 10 → 2 ^ n ≤ 1024
 sets_few n h = pow-le-pow_right {n = 2} (omega arith) {i = n} {j = 10} h
 
+-- the text of a pair has nine lines
+pub length_pair : (goods : ℕ) → length (pair_forms goods) ≡ 9
+length_pair goods = refl
+
+-- so has each text of pairs
+pub pairs_nine : (counts : Counts) → AreCountsOf Pairs counts → length (forms_of counts) ≡ 9
+pairs_nine (count.Pair goods) are = refl
+pairs_nine (count.Rent n) are = absurd are
+pairs_nine (count.Goods n goods) are = absurd are
+pairs_nine (count.Fares n places) are = absurd are
+
 -- a text has more than four lines
 pub lines_some : (counts : Counts) → 4 < length (forms_of counts)
 lines_some (count.Rent n) = let long = length_rent n in omega arith
 lines_some (count.Goods n goods) = let long = length_goods n goods in omega arith
 lines_some (count.Fares n places) = let long = length_fares n places in omega arith
+lines_some (count.Pair goods) = let long = length_pair goods in omega arith
 
 -- and at most 1046
-pub lines_few : (counts : Counts) → AreCounts counts → length (forms_of counts) ≤ 1046
+pub lines_few : (counts : Counts) → AreInRange counts → length (forms_of counts) ≤ 1046
 lines_few (count.Rent n) are = let long = length_rent n in let few = are.1 in omega arith
 lines_few (count.Goods n goods) are = let long = length_goods n goods in let few = are.1 in omega arith
 lines_few (count.Fares n places) are = let long = length_fares n places in let few = sets_few n are.1 in let near = are.3 in omega arith
+lines_few (count.Pair goods) are = let long = length_pair goods in omega arith

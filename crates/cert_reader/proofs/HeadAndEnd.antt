@@ -7,11 +7,11 @@ use Rattle.split_frac.specs.declared.frac.Frac.{Frac}
 use Rattle.split_frac.specs.Frac.{fraction_of}
 use Rattle.cert_reader.specs.declared.ends.ReadEnd.{ReadEnd}
 use Rattle.cert_reader.specs.declared.forms.Counts.{Counts}
-use Rattle.cert_reader.specs.declared.forms.Counts.TheVariants.{Fares, Goods, Rent}
+use Rattle.cert_reader.specs.declared.forms.Counts.TheVariants.{Fares, Goods, Pair, Rent}
 use Rattle.cert_reader.specs.declared.forms.Word.{Word}
 use Rattle.cert_reader.specs.declared.forms.Word.TheVariants as word
 use Rattle.cert_reader.specs.declared.pieces.Piece.TheVariants.{Done, Kind}
-use Rattle.cert_reader.specs.Forms.{Tree, fares_forms, forms_of, goods_forms, led_by, numbers_of, rent_forms}
+use Rattle.cert_reader.specs.Forms.{AreCounts, Certificates, Tree, fares_forms, forms_of, goods_forms, led_by, numbers_of, rent_forms}
 use Rattle.cert_reader.specs.Kinds.{kind_of}
 use Rattle.cert_reader.specs.Order.{AgreeUpTo, form_in}
 use Rattle.cert_reader.specs.Reading.{Goes, IsAnswer, IsEnd, IsFinished, IsLineRead, IsRead, Reading}
@@ -41,21 +41,23 @@ two_said w (x ∷ []) h = absurd h.1
 two_said w (x ∷ y ∷ []) h = ap (λ a. a ∷ y ∷ []) (one_said word.Fairsplit 1 x h.0) ∙ ap (λ b. says (pos 1 ∷ []) ∷ b ∷ []) (empty_said w y h.1.0)
 two_said w (x ∷ y ∷ z ∷ said) h = absurd h.1.1
 
--- the first two lines of every text say 1, and nothing
-head_said : (counts : Counts) (said : List Said) → CanSayAll (take 2 (forms_of counts)) said → said ≡ says (pos 1 ∷ []) ∷ says [] ∷ []
+-- the first two lines of every certificate say 1, and nothing
+head_said : (counts : Counts) (said : List Said) → AreCounts counts → CanSayAll (take 2 (forms_of counts)) said → said ≡ says (pos 1 ∷ []) ∷ says [] ∷ []
 unfolding rent_forms goods_forms fares_forms
-head_said (Rent n) said h = two_said word.KindRent said h
-head_said (Goods n goods) said h = two_said word.KindGoods said h
-head_said (Fares n places) said h = two_said word.KindFares said h
+head_said (Rent n) said are h = two_said word.KindRent said h
+head_said (Goods n goods) said are h = two_said word.KindGoods said h
+head_said (Fares n places) said are h = two_said word.KindFares said h
+head_said (Pair goods) said are h = absurd are
 
 -- the last form of every text is that of `end`
 end_form : (counts : Counts) → form_in counts (length (forms_of counts) - 1) ≡ numbers_of word.End 0
 end_form (Rent n) = let long = length_rent n in rent_in_tail n (length (rent_forms n) - 1) 6 Tree (omega arith)
 end_form (Goods n goods) = let long = length_goods n goods in goods_in_tail n goods (length (goods_forms n goods) - 1) 3 Tree (omega arith)
 end_form (Fares n places) = let long = length_fares n places in fares_in_tail n places (length (fares_forms n places) - 1) 2 Tree (omega arith)
+end_form (Pair goods) = refl
 
 -- the last line of every text says nothing
-end_said : (counts : Counts) (said : List Said) (last : Said) → CanSayAll (forms_of counts) (said ++ last ∷ []) → last ≡ says []
+pub end_said : (counts : Counts) (said : List Said) (last : Said) → CanSayAll (forms_of counts) (said ++ last ∷ []) → last ≡ says []
 end_said counts said last h =
     let some = lines_some counts in
     let long = can_many (forms_of counts) (said ++ last ∷ []) h in
@@ -67,37 +69,37 @@ end_said counts said last h =
 
 -- two lines were read
 pub kind_read : (a b c : Reading) (x y z : Option (List ℕ)) (first second : ArrayVec Frac 24 (Unit {0})) (kind : ℕ) → a.lines ≡ 0 → c.lines ≡ 2 → kind ≡ kind_of c.counts
-    → Goes a x y (λ taken said. IsLineRead a b y taken said (Ok first)) → Goes b y z (λ taken said. IsLineRead b c z taken said (Ok second))
+    → Goes a x y (λ taken said. IsLineRead Certificates a b y taken said (Ok first)) → Goes b y z (λ taken said. IsLineRead Certificates b c z taken said (Ok second))
     → Goes a x z (λ taken said. IsAnswer a c z taken said (Ok (Kind kind)))
 kind_read a b c x y z first second kind none two is p q =
-    goes_so a x z (λ taken said. IsLineRead b c z taken (said ++ Numbers (map fraction_of first.items) ∷ []) (Ok second)) (λ taken said. IsAnswer a c z taken said (Ok (Kind kind)))
+    goes_so a x z (λ taken said. IsLineRead Certificates b c z taken (said ++ Numbers (map fraction_of first.items) ∷ []) (Ok second)) (λ taken said. IsAnswer a c z taken said (Ok (Kind kind)))
     (λ taken said h. (
       none,
       two,
       is,
       subst (IsRead c taken)
-          (head_said c.counts (both said) (subst (λ k. CanSayAll (take k (forms_of c.counts)) (both said)) two h.2.begins.fits)) h.2,
+          (head_said c.counts (both said) h.2.begins.are_counts (subst (λ k. CanSayAll (take k (forms_of c.counts)) (both said)) two h.2.begins.fits)) h.2,
     ))
-    (goes_after a b x y z (λ said. said ++ Numbers (map fraction_of first.items) ∷ []) (λ taken said. IsLineRead b c z taken said (Ok second))
-    (goes_so a x y (λ taken said. IsLineRead a b y taken said (Ok first)) (λ taken said. IsRead b taken (said ++ Numbers (map fraction_of first.items) ∷ [])) (λ taken said h. h.2) p) q)
+    (goes_after a b x y z (λ said. said ++ Numbers (map fraction_of first.items) ∷ []) (λ taken said. IsLineRead Certificates b c z taken said (Ok second))
+    (goes_so a x y (λ taken said. IsLineRead Certificates a b y taken said (Ok first)) (λ taken said. IsRead b taken (said ++ Numbers (map fraction_of first.items) ∷ [])) (λ taken said h. h.2) p) q)
   where
     both : List Said → List Said
     both said = (said ++ Numbers (map fraction_of first.items) ∷ []) ++ Numbers (map fraction_of second.items) ∷ []
 
 -- the second wasn't
 pub kind_unread : (a b c : Reading) (x y z : Option (List ℕ)) (first : ArrayVec Frac 24 (Unit {0})) (end : ReadEnd)
-    → Goes a x y (λ taken said. IsLineRead a b y taken said (Ok first)) → Goes b y z (λ taken said. IsLineRead b c z taken said (Err end)) → Goes a x z (λ taken said. IsEnd end z taken)
+    → Goes a x y (λ taken said. IsLineRead Certificates a b y taken said (Ok first)) → Goes b y z (λ taken said. IsLineRead Certificates b c z taken said (Err end)) → Goes a x z (λ taken said. IsEnd end z taken)
 kind_unread a b c x y z first end p q =
     goes_after a b x y z (λ said. said ++ Numbers (map fraction_of first.items) ∷ []) (λ taken said. IsEnd end z taken)
-    (goes_so a x y (λ taken said. IsLineRead a b y taken said (Ok first)) (λ taken said. IsRead b taken (said ++ Numbers (map fraction_of first.items) ∷ [])) (λ taken said h. h.2) p) q
+    (goes_so a x y (λ taken said. IsLineRead Certificates a b y taken said (Ok first)) (λ taken said. IsRead b taken (said ++ Numbers (map fraction_of first.items) ∷ [])) (λ taken said h. h.2) p) q
 
 -- the last line was read, and nothing follows
 pub done_read : (a b c : Reading) (x y z : Option (List ℕ)) (last : ArrayVec Frac 24 (Unit {0})) → a.lines + 1 ≡ length (forms_of c.counts) → c.counts ≡ b.counts
-    → Goes a x y (λ taken said. IsLineRead a b y taken said (Ok last)) → Goes b y z (λ taken said. IsFinished c z taken said (Ok tt))
+    → Goes a x y (λ taken said. IsLineRead Certificates a b y taken said (Ok last)) → Goes b y z (λ taken said. IsFinished Certificates c z taken said (Ok tt))
     → Goes a x z (λ taken said. IsAnswer a c z taken said (Ok Done))
 done_read a b c x y z last all same p q =
-    let told = goes_after a b x y z (λ said. said ++ Numbers (map fraction_of last.items) ∷ []) (λ taken said. IsFinished c z taken said (Ok tt))
-    (goes_so a x y (λ taken said. IsLineRead a b y taken said (Ok last)) (λ taken said. IsRead b taken (said ++ Numbers (map fraction_of last.items) ∷ [])) (λ taken said h. h.2) p) q in (
+    let told = goes_after a b x y z (λ said. said ++ Numbers (map fraction_of last.items) ∷ []) (λ taken said. IsFinished Certificates c z taken said (Ok tt))
+    (goes_so a x y (λ taken said. IsLineRead Certificates a b y taken said (Ok last)) (λ taken said. IsRead b taken (said ++ Numbers (map fraction_of last.items) ∷ [])) (λ taken said h. h.2) p) q in (
       told.0,
       told.1,
       λ taken said h. (
@@ -108,7 +110,7 @@ done_read a b c x y z last all same p q =
 
 -- or something does
 pub done_unread : (a b : Reading) (x y z : Option (List ℕ)) (last : ArrayVec Frac 24 (Unit {0})) (end : ReadEnd)
-    → Goes a x y (λ taken said. IsLineRead a b y taken said (Ok last)) → Goes b y z (λ taken said. IsEnd end z taken) → Goes a x z (λ taken said. IsEnd end z taken)
+    → Goes a x y (λ taken said. IsLineRead Certificates a b y taken said (Ok last)) → Goes b y z (λ taken said. IsEnd end z taken) → Goes a x z (λ taken said. IsEnd end z taken)
 done_unread a b x y z last end p q =
     goes_after a b x y z (λ said. said ++ Numbers (map fraction_of last.items) ∷ []) (λ taken said. IsEnd end z taken)
-    (goes_so a x y (λ taken said. IsLineRead a b y taken said (Ok last)) (λ taken said. IsRead b taken (said ++ Numbers (map fraction_of last.items) ∷ [])) (λ taken said h. h.2) p) q
+    (goes_so a x y (λ taken said. IsLineRead Certificates a b y taken said (Ok last)) (λ taken said. IsRead b taken (said ++ Numbers (map fraction_of last.items) ∷ [])) (λ taken said h. h.2) p) q

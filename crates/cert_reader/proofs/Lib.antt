@@ -25,3 +25,5 @@ pub mod SetRows
 pub mod FaresParts
 pub mod GatheredMarks
 pub mod Gathering
+pub mod PairParts
+pub mod PairSteps

@@ -6,48 +6,55 @@ use Rattle.std.proofs.lemmas.List.{length-map}
 use Rattle.std.proofs.lemmas.List.FromFn.{length-enumerate_from}
 use Rattle.bid_rules.specs.Fractions.{Fraction}
 use Rattle.cert_reader.specs.declared.forms.Counts.{Counts}
-use Rattle.cert_reader.specs.declared.forms.Counts.TheVariants.{Fares, Goods, Rent}
-use Rattle.cert_reader.specs.Forms.{forms_of}
-use Rattle.cert_reader.specs.Reading.{IsRead, Reading}
+use Rattle.cert_reader.specs.declared.forms.Counts.TheVariants.{Fares, Goods, Pair, Rent}
+use Rattle.cert_reader.specs.Forms.{AreCounts, Series, fares_forms, forms_of, goods_forms, led_by, rent_forms}
+use Rattle.cert_reader.specs.Reading.{IsReadOf, Reading}
 use Rattle.cert_reader.specs.GoodsViews.{GoodsView}
+use Rattle.cert_reader.specs.Pairs.{IsPairText, PairView, pair_said}
 use Rattle.cert_reader.specs.Shapes.{HasRows}
-use Rattle.cert_reader.specs.Text.{CanSayAll, IsBrokenText, IsText, Marks, Numbers, Said, wholes}
+use Rattle.cert_reader.specs.Text.{CanSay, CanSayAll, IsBrokenTextOf, IsText, IsTextOf, Marks, Numbers, Said, said_text, text_of, wholes}
 use Rattle.cert_reader.specs.Views.{FaresView, OfFares, OfGoods, OfRent, RentView, View, counts_of, said_of, says}
-use Rattle.cert_reader.proofs.Agreeing.{agree_whole, begins_once}
+use Rattle.cert_reader.proofs.Agreeing.{agree_whole, begins_once, in_range}
 use Rattle.cert_reader.proofs.Beginnings.{begins_less, text_begins}
 use Rattle.cert_reader.proofs.FormPlaces.{lines_some}
 use Rattle.cert_reader.proofs.Fronts.{can-append}
+use Rattle.split_frac.specs.Frac.{pair_text}
+use Rattle.split_text.specs.Texts.{line}
+use Rattle.std.proofs.lemmas.Fmt.{decimal_digit}
+use Rattle.cert_reader.proofs.Cuts.{text_whole}
+use Rattle.cert_reader.specs.declared.forms.Word.TheVariants as word
+use Rattle.cert_reader.proofs.HeadAndEnd.{one_said}
 use Rattle.cert_reader.proofs.UsualForms.{some_said, usual_drop, usual_forms}
 
 -- the longer of two readings of a text has the counts of the shorter
-longer : (bytes : List ℕ) (c d : Counts) (xs ys : List Said) → IsText bytes c xs → IsText bytes d ys → length (forms_of c) ≤ length (forms_of d) → (d ≡ c) × (ys ≡ xs)
-longer bytes c d xs ys a b low =
+longer : {series : Series} → (bytes : List ℕ) (c d : Counts) (xs ys : List Said) → IsTextOf series bytes c xs → IsTextOf series bytes d ys → length (forms_of c) ≤ length (forms_of d) → (d ≡ c) × (ys ≡ xs)
+longer {series} bytes c d xs ys a b low =
     let many = lines_some c in
     let less = begins_less bytes [] (length (forms_of d)) (length (forms_of c)) d ys (text_begins bytes d ys b) low in
     let same = begins_once bytes (length (forms_of c)) c d xs _ [] _ (text_begins bytes c xs a) less in
     let is : c ≡ d = agree_whole (length (forms_of c)) c d (omega arith) same.agree in
-    let whole = begins_once bytes (length (forms_of c)) c c xs ys [] [] (text_begins bytes c xs a) (text_begins bytes c ys (subst (λ e. IsText bytes e ys) (sym is) b)) in
+    let whole = begins_once bytes (length (forms_of c)) c c xs ys [] [] (text_begins bytes c xs a) (text_begins bytes c ys (subst (λ e. IsTextOf series bytes e ys) (sym is) b)) in
     (sym is, sym whole.said)
 
 -- two readings of a text are one
-pub text_once : (bytes : List ℕ) (c d : Counts) (xs ys : List Said) → IsText bytes c xs → IsText bytes d ys → (d ≡ c) × (ys ≡ xs)
-text_once bytes c d xs ys a b = ⊎_elim
+pub text_once : {series : Series} → (bytes : List ℕ) (c d : Counts) (xs ys : List Said) → IsTextOf series bytes c xs → IsTextOf series bytes d ys → (d ≡ c) × (ys ≡ xs)
+text_once {series} bytes c d xs ys a b = ⊎_elim
     (λ (l : length (forms_of c) < length (forms_of d)). longer bytes c d xs ys a b (omega arith))
     (λ (g : length (forms_of d) ≤ length (forms_of c)). let back = longer bytes d c ys xs b a g in (sym back.0, sym back.1))
     (cases_lt (length (forms_of c)) (length (forms_of d)))
 
 -- bytes have one first broken line
-pub broken_once : (bytes : List ℕ) (j k : ℕ) → IsBrokenText bytes j → IsBrokenText bytes k → k ≡ j
-broken_once bytes j k a b = ⊎_elim
+pub broken_once : {series : Series} → (bytes : List ℕ) (j k : ℕ) → IsBrokenTextOf series bytes j → IsBrokenTextOf series bytes k → k ≡ j
+broken_once {series} bytes j k a b = ⊎_elim
     (λ (l : j < k). absurd (a.broken (b.least j l)))
     (λ (g : k ≤ j). ⊎_elim (λ (l : k < j). absurd (b.broken (a.least k l))) (λ (h : j ≤ k). omega arith) (cases_lt k j))
     (cases_lt j k)
 
 -- what was read has lines that would complete it
-pub read_completed : (reading : Reading) (taken : List ℕ) (said : List Said) → IsRead reading taken said → (rest : List Said) × CanSayAll (forms_of reading.counts) (said ++ rest)
-read_completed reading taken said h =
+pub read_completed : {series : Series} → (reading : Reading) (taken : List ℕ) (said : List Said) → IsReadOf series reading taken said → (rest : List Said) × CanSayAll (forms_of reading.counts) (said ++ rest)
+read_completed {series} reading taken said h =
     let forms = forms_of reading.counts in
-    let others = some_said (drop reading.lines forms) (usual_drop reading.lines forms (usual_forms reading.counts h.begins.are_counts)) in
+    let others = some_said (drop reading.lines forms) (usual_drop reading.lines forms (usual_forms reading.counts (in_range series reading.counts h.begins.are_counts))) in
     (others.0, subst (λ fs. CanSayAll fs (said ++ others.0)) (take-append-drop reading.lines forms) (can-append (take reading.lines forms) (drop reading.lines forms) said others.0 h.begins.fits others.1))
 
 -- a line of whole numbers says one list of them
@@ -190,12 +197,14 @@ first_count : Counts → ℕ
 first_count (Rent n) = n
 first_count (Goods n goods) = n
 first_count (Fares n places) = n
+first_count (Pair goods) = 2
 
 -- how many goods or places counts have, and 0 for a rent
 second_count : Counts → ℕ
 second_count (Rent n) = 0
 second_count (Goods n goods) = goods
 second_count (Fares n places) = places
+second_count (Pair goods) = goods
 
 -- a text has one view
 pub view_once : (bytes : List ℕ) (a b : View) → HasRows a → HasRows b → IsText bytes (counts_of a) (said_of a) → IsText bytes (counts_of b) (said_of b) → b ≡ a
@@ -215,3 +224,78 @@ view_once bytes (OfGoods a) (OfRent b) p q h g = absurd (let same = text_once by
 view_once bytes (OfGoods a) (OfFares b) p q h g = absurd (let same = text_once bytes (counts_of (OfGoods a)) (counts_of (OfFares b)) (said_of (OfGoods a)) (said_of (OfFares b)) h g in cc (same.0))
 view_once bytes (OfFares a) (OfRent b) p q h g = absurd (let same = text_once bytes (counts_of (OfFares a)) (counts_of (OfRent b)) (said_of (OfFares a)) (said_of (OfRent b)) h g in cc (same.0))
 view_once bytes (OfFares a) (OfGoods b) p q h g = absurd (let same = text_once bytes (counts_of (OfFares a)) (counts_of (OfGoods b)) (said_of (OfFares a)) (said_of (OfGoods b)) h g in cc (same.0))
+
+-- a view of a pair from its parts
+make_pair : ℕ → List ℤ → List (List ℤ) → List Fraction → List ℤ → Fraction → PairView
+make_pair goods who values shares weights total = record { goods = goods; who = who; values = values; shares = shares; weights = weights; total = total }
+
+-- pairs with the same parts are made the same
+made_pair : (a b : PairView) → a.goods ≡ b.goods → a.who ≡ b.who → a.values ≡ b.values → a.shares ≡ b.shares → a.weights ≡ b.weights → a.total ≡ b.total
+    → make_pair a.goods a.who a.values a.shares a.weights a.total ≡ make_pair b.goods b.who b.values b.shares b.weights b.total
+made_pair a b e f g h i j = cc
+
+-- the fraction of a line of one
+one_of : List Fraction → Fraction
+one_of xs = get_or xs 0 (pos 0, 1)
+
+-- pairs that say the same are the same
+pair_said_once : (a b : PairView) → a.goods ≡ b.goods → pair_said a ≡ pair_said b → a ≡ b
+unfolding make_pair line_at numbers_of_said one_of
+pair_said_once a b goods e =
+    let behind = rows_once a.values b.values _ _ (lengths (ap length e)) (ap (drop 3) e) in
+    let line = λ (k : ℕ). ap (λ l. line_at l k) behind.1 in
+    made_pair a b goods (wholes_once a.who b.who (ap (λ l. line_at l 2) e)) behind.0 (line 0) (wholes_once a.weights b.weights (line 1)) (ap one_of (line 2))
+  where
+    tail : PairView → List Said
+    tail view = Numbers view.shares ∷ says view.weights ∷ Numbers (view.total ∷ []) ∷ says [] ∷ []
+
+    many : (view : PairView) → length (map says view.values ++ tail view) ≡ length view.values + 4
+    many view = length-append (map says view.values) (tail view) ∙ ap (λ n. n + 4) (length-map view.values says)
+
+    lengths : length (pair_said a) ≡ length (pair_said b) → length a.values ≡ length b.values
+    lengths long = omega (arith, long, many a, many b)
+
+-- the text of a pair has one view
+pub pair_once : (bytes : List ℕ) (a b : PairView) → IsPairText bytes a → IsPairText bytes b → b ≡ a
+unfolding second_count
+pair_once bytes a b h g =
+    let same = text_once bytes (Pair a.goods) (Pair b.goods) (pair_said a) (pair_said b) h g in
+    sym (pair_said_once a b (sym (ap second_count same.0)) (sym same.1))
+
+-- the first line of a pair is not that of a certificate: their eleventh bytes differ
+first_apart : (x y : Said) (r s : List ℕ) → CanSay (led_by word.FairsplitPair 1 1) x → CanSay (led_by word.Fairsplit 1 1) y
+    → (said_text (led_by word.FairsplitPair 1 1) x ++ []) ++ r ≡ (said_text (led_by word.Fairsplit 1 1) y ++ []) ++ s → ⊥
+unfolding line
+first_apart x y r s a b e =
+    let front = one_said word.FairsplitPair 1 x a in
+    let back = one_said word.Fairsplit 1 y b in
+    let same = ap (λ l. (said_text (led_by word.FairsplitPair 1 1) l ++ []) ++ r) (sym front) ∙ e ∙ ap (λ l. (said_text (led_by word.Fairsplit 1 1) l ++ []) ++ s) back in
+    let one : pair_text (pos 1, 1) ≡ 49 ∷ [] = text_whole (pos 1, 1) refl ∙ decimal_digit 1 (omega arith) in
+    apart_at (ap (λ bytes. get_or bytes 10 0) same ∙ ap (λ digits. get_or ((((digits ++ []) ++ 10 ∷ []) ++ []) ++ s) 0 0) one)
+  where
+    apart_at : ◌≡◌ {A = ℕ} 112 49 → ⊥
+    apart_at e = omega arith
+
+-- nor are the first lines of texts
+heads_apart : (goods : ℕ) (counts : Counts) (x y : List Said) (r s : List ℕ) → AreCounts counts → CanSayAll (take 1 (forms_of (Pair goods))) x → CanSayAll (take 1 (forms_of counts)) y
+    → text_of (take 1 (forms_of (Pair goods))) x ++ r ≡ text_of (take 1 (forms_of counts)) y ++ s → ⊥
+unfolding rent_forms goods_forms fares_forms
+heads_apart goods counts [] y r s are a b e = absurd a
+heads_apart goods (Rent n) (x ∷ []) [] r s are a b e = absurd b
+heads_apart goods (Goods n g) (x ∷ []) [] r s are a b e = absurd b
+heads_apart goods (Fares n p) (x ∷ []) [] r s are a b e = absurd b
+heads_apart goods (Rent n) (x ∷ []) (y ∷ []) r s are a b e = first_apart x y r s a.0 b.0 e
+heads_apart goods (Goods n g) (x ∷ []) (y ∷ []) r s are a b e = first_apart x y r s a.0 b.0 e
+heads_apart goods (Fares n p) (x ∷ []) (y ∷ []) r s are a b e = first_apart x y r s a.0 b.0 e
+heads_apart goods (Rent n) (x ∷ []) (y ∷ z ∷ ys) r s are a b e = absurd b.1
+heads_apart goods (Goods n g) (x ∷ []) (y ∷ z ∷ ys) r s are a b e = absurd b.1
+heads_apart goods (Fares n p) (x ∷ []) (y ∷ z ∷ ys) r s are a b e = absurd b.1
+heads_apart goods (Pair other) (x ∷ []) y r s are a b e = absurd are
+heads_apart goods counts (x ∷ z ∷ xs) y r s are a b e = absurd a.1
+
+-- bytes that begin as a certificate does are no text of a pair
+pub pair_apart : (bytes : List ℕ) (view : PairView) (counts : Counts) (said : List Said) → IsPairText bytes view → IsText bytes counts said → ⊥
+pair_apart bytes view counts said h g =
+    let a = begins_less bytes [] (length (forms_of (Pair view.goods))) 1 (Pair view.goods) (pair_said view) (text_begins bytes (Pair view.goods) (pair_said view) h) (omega arith) in
+    let b = begins_less bytes [] (length (forms_of counts)) 1 counts said (text_begins bytes counts said g) (let some = lines_some counts in omega arith) in
+    heads_apart view.goods counts (take 1 (pair_said view)) (take 1 said) _ _ g.are_counts a.fits b.fits (sym a.text ∙ b.text)

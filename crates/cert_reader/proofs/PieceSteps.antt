@@ -8,12 +8,13 @@ use Rattle.split_frac.specs.Frac.{fraction_of}
 use Rattle.cert_reader.specs.declared.ends.ReadEnd.{ReadEnd}
 use Rattle.cert_reader.specs.declared.ends.ReadEnd.TheVariants.{NoMemory, NotText, ReadFault, TooLong}
 use Rattle.cert_reader.specs.declared.forms.Counts.{Counts}
-use Rattle.cert_reader.specs.Forms.{AreCounts, forms_of}
+use Rattle.cert_reader.specs.Forms.{AreInRange, Series, forms_of}
 use Rattle.cert_reader.specs.Order.{AgreeUpTo, HasNoLine, form_in}
-use Rattle.cert_reader.specs.Reading.{Begins, Goes, IsEnd, IsLineRead, IsRead, Reading}
+use Rattle.cert_reader.specs.Reading.{Begins, GoesOf, IsEndOf, IsLineRead, IsReadOf, Reading}
 use Rattle.cert_reader.specs.Steps.{IsRefused, IsSettled}
 use Rattle.cert_reader.specs.Stream.{Hands, Held, IsStopped, taken_count}
-use Rattle.cert_reader.specs.Text.{CanSay, IsBrokenText, Numbers, Said, said_text, text_of}
+use Rattle.cert_reader.specs.Text.{CanSay, IsBrokenTextOf, Numbers, Said, said_text, text_of}
+use Rattle.cert_reader.proofs.Agreeing.{agree_series}
 use Rattle.cert_reader.proofs.Beginnings.{begins_grown, begins_more, begins_others, broken_behind, none_behind}
 use Rattle.cert_reader.proofs.FormLines.{said_line}
 use Rattle.cert_reader.proofs.Handed.{hands_trans, stops_after}
@@ -31,16 +32,16 @@ pub reading_is : (r : Reading) (held : Held) (lines : ℕ) (counts : Counts) (in
 reading_is r held lines counts in_tree is e at = subst (λ b. reading_at held lines counts b ≡ r) (ap (λ s. s.in_tree) e ∙ at) e
 
 -- whole lines that were read are the first of the bytes taken
-pub whole_begins : (held : Held) (lines : ℕ) (counts : Counts) (taken : List ℕ) (said : List Said) → IsRead (reading_of held lines counts) taken said → Begins taken lines counts said held.ahead
-whole_begins held lines counts taken said h = subst (λ bytes. Begins bytes lines counts said held.ahead) (sym h.is_taken) h.begins
+pub whole_begins : {series : Series} → (held : Held) (lines : ℕ) (counts : Counts) (taken : List ℕ) (said : List Said) → IsReadOf series (reading_of held lines counts) taken said → Begins series taken lines counts said held.ahead
+whole_begins {series} held lines counts taken said h = subst (λ bytes. Begins series bytes lines counts said held.ahead) (sym h.is_taken) h.begins
 
 -- and bytes that begin with whole lines are what a reading of those lines has read, where all that was taken is counted
-pub begins_whole : (held : Held) (lines : ℕ) (counts : Counts) (taken : List ℕ) (said : List Said) → Begins taken lines counts said held.ahead → length taken ≡ held.given + length held.ahead
-    → IsRead (reading_of held lines counts) taken said
-begins_whole held lines counts taken said h total = record {
+pub begins_whole : {series : Series} → (held : Held) (lines : ℕ) (counts : Counts) (taken : List ℕ) (said : List Said) → Begins series taken lines counts said held.ahead → length taken ≡ held.given + length held.ahead
+    → IsReadOf series (reading_of held lines counts) taken said
+begins_whole {series} held lines counts taken said h total = record {
   front = text_of (take lines (forms_of counts)) said;
   is_taken = h.text;
-  begins = subst (λ bytes. Begins bytes lines counts said held.ahead) h.text h;
+  begins = subst (λ bytes. Begins series bytes lines counts said held.ahead) h.text h;
   total = total;
 }
 
@@ -53,59 +54,59 @@ total_of a b x y handed taken p e =
     omega (arith, given, both, all, e)
 
 -- a line was handed out
-line_read : (a b : Held) (x y : Option (List ℕ)) (lines : ℕ) (known counts : Counts) (last : Said) (taken : List ℕ) (said : List Said) → AreCounts counts → AgreeUpTo lines known counts → lines < length (forms_of counts)
-    → CanSay (form_in counts lines) last → (p : Hands a b x y (said_text (form_in counts lines) last)) → IsRead (reading_of a lines known) taken said → IsRead (reading_of b (lines + 1) counts) (taken ++ p.more) (said ++ last ∷ [])
-line_read a b x y lines known counts last taken said are agree within can p h = begins_whole b (lines + 1) counts (taken ++ p.more) (said ++ last ∷ [])
+line_read : {series : Series} → (a b : Held) (x y : Option (List ℕ)) (lines : ℕ) (known counts : Counts) (last : Said) (taken : List ℕ) (said : List Said) → AreInRange counts → AgreeUpTo lines known counts → lines < length (forms_of counts)
+    → CanSay (form_in counts lines) last → (p : Hands a b x y (said_text (form_in counts lines) last)) → IsReadOf series (reading_of a lines known) taken said → IsReadOf series (reading_of b (lines + 1) counts) (taken ++ p.more) (said ++ last ∷ [])
+line_read {series} a b x y lines known counts last taken said are agree within can p h = begins_whole b (lines + 1) counts (taken ++ p.more) (said ++ last ∷ [])
     (begins_more (taken ++ p.more) (a.ahead ++ p.more) b.ahead lines counts said last
-    (begins_others (taken ++ p.more) (a.ahead ++ p.more) lines known counts said (begins_grown taken p.more a.ahead lines known said (whole_begins a lines known taken said h)) are agree (omega arith)) within can p.seam)
+    (begins_others (taken ++ p.more) (a.ahead ++ p.more) lines known counts said (begins_grown taken p.more a.ahead lines known said (whole_begins a lines known taken said h)) (agree_series series lines known counts h.begins.are_counts are agree) agree (omega arith)) within can p.seam)
     (total_of a b x y (said_text (form_in counts lines) last) taken p h.total)
 
 -- the reading stopped
-pub stop_end : (a : Held) (x y : Option (List ℕ)) (lines : ℕ) (known : Counts) (in_tree : Bool) (end : ReadEnd) → IsStopped a x y end → Goes (reading_at a lines known in_tree) x y (λ taken said. IsEnd end y taken)
-stop_end a x y lines known in_tree (NotText line) (more, took, at) = absurd at
-stop_end a x y lines known in_tree NoMemory (more, took, at) = absurd at
-stop_end a x y lines known in_tree TooLong (more, took, at) = (more, took, λ taken said h. (let total = h.total in let all : length (taken ++ more) ≡ length taken + length more = length-append taken more in omega (arith, total, all, at)))
-stop_end a x y lines known in_tree ReadFault (more, took, at) = (more, took, λ taken said h. (let total = h.total in let all : length (taken ++ more) ≡ length taken + length more = length-append taken more in omega (arith, total, all, at)))
+pub stop_end : {series : Series} → (a : Held) (x y : Option (List ℕ)) (lines : ℕ) (known : Counts) (in_tree : Bool) (end : ReadEnd) → IsStopped a x y end → GoesOf series (reading_at a lines known in_tree) x y (λ taken said. IsEndOf series end y taken)
+stop_end {series} a x y lines known in_tree (NotText line) (more, took, at) = absurd at
+stop_end {series} a x y lines known in_tree NoMemory (more, took, at) = absurd at
+stop_end {series} a x y lines known in_tree TooLong (more, took, at) = (more, took, λ taken said h. (let total = h.total in let all : length (taken ++ more) ≡ length taken + length more = length-append taken more in omega (arith, total, all, at)))
+stop_end {series} a x y lines known in_tree ReadFault (more, took, at) = (more, took, λ taken said h. (let total = h.total in let all : length (taken ++ more) ≡ length taken + length more = length-append taken more in omega (arith, total, all, at)))
 
 -- a line is broken
-pub refused_end : (a b : Held) (x y : Option (List ℕ)) (lines : ℕ) (known : Counts) (none : List ℕ → Type 0) (end : ReadEnd) → taken_count b ≤ 4000000
+pub refused_end : {series : Series} → (a b : Held) (x y : Option (List ℕ)) (lines : ℕ) (known : Counts) (none : List ℕ → Type 0) (end : ReadEnd) → taken_count b ≤ 4000000
     → ((text : List ℕ) → none text → HasNoLine lines known text × (lines ≡ length (forms_of known) → text ≡ [] → ⊥))
-    → IsRefused a b x y (lines + 1) none end → Goes (reading_of a lines known) x y (λ taken said. IsEnd end y taken)
-refused_end a b x y lines known none (NotText line) few never (is, (text, p, ahead, at, no_line)) = (
+    → IsRefused a b x y (lines + 1) none end → GoesOf series (reading_of a lines known) x y (λ taken said. IsEndOf series end y taken)
+refused_end {series} a b x y lines known none (NotText line) few never (is, (text, p, ahead, at, no_line)) = (
   p.more,
   p.took,
   λ taken said h. (
-    subst (IsBrokenText (taken ++ p.more)) (sym is)
+    subst (IsBrokenTextOf series (taken ++ p.more)) (sym is)
         (broken_behind (taken ++ p.more) text lines known said
-        (subst (Begins (taken ++ p.more) lines known said) (p.seam ∙ ap (λ xs. text ++ xs) ahead ∙ append-nil text) (begins_grown taken p.more a.ahead lines known said (whole_begins a lines known taken said h)))
+        (subst (Begins series (taken ++ p.more) lines known said) (p.seam ∙ ap (λ xs. text ++ xs) ahead ∙ append-nil text) (begins_grown taken p.more a.ahead lines known said (whole_begins a lines known taken said h)))
         (never text no_line).1 (never text no_line).0),
     (let total = total_of a b x y text taken p h.total in omega arith),
     at,
   ),
 )
-refused_end a b x y lines known none TooLong few never stop = stop_end a x y lines known false TooLong stop
-refused_end a b x y lines known none ReadFault few never stop = stop_end a x y lines known false ReadFault stop
-refused_end a b x y lines known none NoMemory few never stop = stop_end a x y lines known false NoMemory stop
+refused_end {series} a b x y lines known none TooLong few never stop = stop_end a x y lines known false TooLong stop
+refused_end {series} a b x y lines known none ReadFault few never stop = stop_end a x y lines known false ReadFault stop
+refused_end {series} a b x y lines known none NoMemory few never stop = stop_end a x y lines known false NoMemory stop
 
 -- one line more, or a broken one
-pub settled_line : (a b : Held) (x y : Option (List ℕ)) (lines : ℕ) (known counts : Counts) (numbers : ArrayVec Frac 24 (Unit {0})) → IsSettled a b x y lines known (Ok (counts, numbers))
-    → Goes (reading_of a lines known) x y (λ taken said. IsLineRead (reading_of a lines known) (reading_of b (lines + 1) counts) y taken said (Ok numbers))
-settled_line a b x y lines known counts numbers (are, agree, within, can, p) =
+pub settled_line : {series : Series} → (a b : Held) (x y : Option (List ℕ)) (lines : ℕ) (known counts : Counts) (numbers : ArrayVec Frac 24 (Unit {0})) → IsSettled a b x y lines known (Ok (counts, numbers))
+    → GoesOf series (reading_of a lines known) x y (λ taken said. IsLineRead series (reading_of a lines known) (reading_of b (lines + 1) counts) y taken said (Ok numbers))
+settled_line {series} a b x y lines known counts numbers (are, agree, within, can, p) =
     (p.more, p.took, λ taken said h. (refl, agree, line_read a b x y lines known counts (Numbers (map fraction_of numbers.items)) taken said are agree within can p h))
 
 -- where no line that may follow was settled, the answer is the end that was met
-pub settled_end : (a b : Held) (x y : Option (List ℕ)) (lines : ℕ) (known : Counts) (end : ReadEnd) → taken_count b ≤ 4000000 → lines < length (forms_of known) → IsSettled a b x y lines known (Err end)
-    → Goes (reading_of a lines known) x y (λ taken said. IsEnd end y taken)
-settled_end a b x y lines known end few within stop = refused_end a b x y lines known (HasNoLine lines known) end few (λ text no_line. (no_line, λ all none. omega arith)) stop
+pub settled_end : {series : Series} → (a b : Held) (x y : Option (List ℕ)) (lines : ℕ) (known : Counts) (end : ReadEnd) → taken_count b ≤ 4000000 → lines < length (forms_of known) → IsSettled a b x y lines known (Err end)
+    → GoesOf series (reading_of a lines known) x y (λ taken said. IsEndOf series end y taken)
+settled_end {series} a b x y lines known end few within stop = refused_end a b x y lines known (HasNoLine lines known) end few (λ text no_line. (no_line, λ all none. omega arith)) stop
 
 -- what goes on behind what was read
-pub goes_after : (a b : Reading) (x y z : Option (List ℕ)) (next : List Said → List Said) (P : List ℕ → List Said → Type 0) → Goes a x y (λ taken said. IsRead b taken (next said)) → Goes b y z P → Goes a x z (λ taken said. P taken (next said))
-goes_after a b x y z next P (more, took, read) (others, took_others, then) =
+pub goes_after : {series : Series} → (a b : Reading) (x y z : Option (List ℕ)) (next : List Said → List Said) (P : List ℕ → List Said → Type 0) → GoesOf series a x y (λ taken said. IsReadOf series b taken (next said)) → GoesOf series b y z P → GoesOf series a x z (λ taken said. P taken (next said))
+goes_after {series} a b x y z next P (more, took, read) (others, took_others, then) =
     (more ++ others, Consumes-trans x y z more others took took_others, λ taken said h. subst (λ bytes. P bytes (next said)) (append_assoc taken more others) (then (taken ++ more) (next said) (read taken said h)))
 
 -- and what holds of it
-pub goes_so : (a : Reading) (x y : Option (List ℕ)) (P Q : List ℕ → List Said → Type 0) → ((taken : List ℕ) (said : List Said) → P taken said → Q taken said) → Goes a x y P → Goes a x y Q
-goes_so a x y P Q so (more, took, then) = (more, took, λ taken said h. so (taken ++ more) said (then taken said h))
+pub goes_so : {series : Series} → (a : Reading) (x y : Option (List ℕ)) (P Q : List ℕ → List Said → Type 0) → ((taken : List ℕ) (said : List Said) → P taken said → Q taken said) → GoesOf series a x y P → GoesOf series a x y Q
+goes_so {series} a x y P Q so (more, took, then) = (more, took, λ taken said h. so (taken ++ more) said (then taken said h))
 
 -- a line that was read took bytes
 pub line_given : (a b : Held) (x y : Option (List ℕ)) (lines : ℕ) (known counts : Counts) (numbers : ArrayVec Frac 24 (Unit {0})) → IsSettled a b x y lines known (Ok (counts, numbers)) → a.given < b.given
@@ -116,30 +117,30 @@ line_given a b x y lines known counts numbers (are, agree, within, can, p) =
     omega (arith, given, long, length-append line.front (10 ∷ []))
 
 -- a byte behind the last line breaks the text
-pub refused_behind_all : (a b c : Held) (x y z : Option (List ℕ)) (lines : ℕ) (known : Counts) (byte : ℕ) (end : ReadEnd) → taken_count c ≤ 4000000 → lines ≡ length (forms_of known) → Hands a b x y (byte ∷ [])
-    → IsRefused b c y z (lines + 1) (λ _. Unit {0}) end → Goes (reading_of a lines known) x z (λ taken said. IsEnd end z taken)
-refused_behind_all a b c x y z lines known byte (NotText line) few all p (is, (text, q, ahead, at, _)) =
+pub refused_behind_all : {series : Series} → (a b c : Held) (x y z : Option (List ℕ)) (lines : ℕ) (known : Counts) (byte : ℕ) (end : ReadEnd) → taken_count c ≤ 4000000 → lines ≡ length (forms_of known) → Hands a b x y (byte ∷ [])
+    → IsRefused b c y z (lines + 1) (λ _. Unit {0}) end → GoesOf series (reading_of a lines known) x z (λ taken said. IsEndOf series end z taken)
+refused_behind_all {series} a b c x y z lines known byte (NotText line) few all p (is, (text, q, ahead, at, _)) =
     refused_end a c x z lines known (λ bytes. bytes ≡ byte ∷ text) (NotText line) few (λ bytes e. (none_behind lines known bytes all, λ _ none. cc (e, none)))
     (is, (byte ∷ text, hands_trans a b c x y z (byte ∷ []) text p q, ahead, at, refl))
-refused_behind_all a b c x y z lines known byte TooLong few all p stop = stop_end a x z lines known false TooLong (stops_after a b x y z (byte ∷ []) TooLong p stop)
-refused_behind_all a b c x y z lines known byte ReadFault few all p stop = stop_end a x z lines known false ReadFault (stops_after a b x y z (byte ∷ []) ReadFault p stop)
-refused_behind_all a b c x y z lines known byte NoMemory few all p stop = stop_end a x z lines known false NoMemory (stops_after a b x y z (byte ∷ []) NoMemory p stop)
+refused_behind_all {series} a b c x y z lines known byte TooLong few all p stop = stop_end a x z lines known false TooLong (stops_after a b x y z (byte ∷ []) TooLong p stop)
+refused_behind_all {series} a b c x y z lines known byte ReadFault few all p stop = stop_end a x z lines known false ReadFault (stops_after a b x y z (byte ∷ []) ReadFault p stop)
+refused_behind_all {series} a b c x y z lines known byte NoMemory few all p stop = stop_end a x z lines known false NoMemory (stops_after a b x y z (byte ∷ []) NoMemory p stop)
 
 -- a line was settled: a reading that is given by its fields has read it
-pub settled_line_at : (r : Reading) (a b : Held) (x y : Option (List ℕ)) (lines : ℕ) (known counts : Counts) (in_tree : Bool) (numbers : ArrayVec Frac 24 (Unit {0})) → reading_at a lines known in_tree ≡ r → r.in_tree ≡ false
-    → IsSettled a b x y lines known (Ok (counts, numbers)) → Goes r x y (λ taken said. IsLineRead r (reading_at b (lines + 1) counts in_tree) y taken said (Ok numbers))
-settled_line_at r a b x y lines known counts in_tree numbers e whole settled =
-    subst (λ t. Goes r x y (λ taken said. IsLineRead r (reading_at b (lines + 1) counts t) y taken said (Ok numbers))) (sym (ap (λ s. s.in_tree) e ∙ whole))
-    (subst (λ s. Goes s x y (λ taken said. IsLineRead s (reading_of b (lines + 1) counts) y taken said (Ok numbers))) (reading_is r a lines known in_tree false e whole) (settled_line a b x y lines known counts numbers settled))
+pub settled_line_at : {series : Series} → (r : Reading) (a b : Held) (x y : Option (List ℕ)) (lines : ℕ) (known counts : Counts) (in_tree : Bool) (numbers : ArrayVec Frac 24 (Unit {0})) → reading_at a lines known in_tree ≡ r → r.in_tree ≡ false
+    → IsSettled a b x y lines known (Ok (counts, numbers)) → GoesOf series r x y (λ taken said. IsLineRead series r (reading_at b (lines + 1) counts in_tree) y taken said (Ok numbers))
+settled_line_at {series} r a b x y lines known counts in_tree numbers e whole settled =
+    subst (λ t. GoesOf series r x y (λ taken said. IsLineRead series r (reading_at b (lines + 1) counts t) y taken said (Ok numbers))) (sym (ap (λ s. s.in_tree) e ∙ whole))
+    (subst (λ s. GoesOf series s x y (λ taken said. IsLineRead series s (reading_of b (lines + 1) counts) y taken said (Ok numbers))) (reading_is r a lines known in_tree false e whole) (settled_line a b x y lines known counts numbers settled))
 
 -- where no line was settled, a reading that is given by its fields ends so
-pub settled_end_at : (r : Reading) (a b : Held) (x y : Option (List ℕ)) (lines : ℕ) (known : Counts) (in_tree : Bool) (end : ReadEnd) → reading_at a lines known in_tree ≡ r → r.in_tree ≡ false → taken_count b ≤ 4000000
-    → lines < length (forms_of known) → IsSettled a b x y lines known (Err end) → Goes r x y (λ taken said. IsEnd end y taken)
-settled_end_at r a b x y lines known in_tree end e whole few within stop =
-    subst (λ s. Goes s x y (λ taken said. IsEnd end y taken)) (reading_is r a lines known in_tree false e whole) (settled_end a b x y lines known end few within stop)
+pub settled_end_at : {series : Series} → (r : Reading) (a b : Held) (x y : Option (List ℕ)) (lines : ℕ) (known : Counts) (in_tree : Bool) (end : ReadEnd) → reading_at a lines known in_tree ≡ r → r.in_tree ≡ false → taken_count b ≤ 4000000
+    → lines < length (forms_of known) → IsSettled a b x y lines known (Err end) → GoesOf series r x y (λ taken said. IsEndOf series end y taken)
+settled_end_at {series} r a b x y lines known in_tree end e whole few within stop =
+    subst (λ s. GoesOf series s x y (λ taken said. IsEndOf series end y taken)) (reading_is r a lines known in_tree false e whole) (settled_end a b x y lines known end few within stop)
 
 -- a byte behind the last line ends a reading that is given by its fields
-pub refused_behind_all_at : (r : Reading) (a b c : Held) (x y z : Option (List ℕ)) (lines : ℕ) (known : Counts) (in_tree : Bool) (byte : ℕ) (end : ReadEnd) → reading_at a lines known in_tree ≡ r → r.in_tree ≡ false
-    → taken_count c ≤ 4000000 → lines ≡ length (forms_of known) → Hands a b x y (byte ∷ []) → IsRefused b c y z (lines + 1) (λ _. Unit {0}) end → Goes r x z (λ taken said. IsEnd end z taken)
-refused_behind_all_at r a b c x y z lines known in_tree byte end e whole few all p stop =
-    subst (λ s. Goes s x z (λ taken said. IsEnd end z taken)) (reading_is r a lines known in_tree false e whole) (refused_behind_all a b c x y z lines known byte end few all p stop)
+pub refused_behind_all_at : {series : Series} → (r : Reading) (a b c : Held) (x y z : Option (List ℕ)) (lines : ℕ) (known : Counts) (in_tree : Bool) (byte : ℕ) (end : ReadEnd) → reading_at a lines known in_tree ≡ r → r.in_tree ≡ false
+    → taken_count c ≤ 4000000 → lines ≡ length (forms_of known) → Hands a b x y (byte ∷ []) → IsRefused b c y z (lines + 1) (λ _. Unit {0}) end → GoesOf series r x z (λ taken said. IsEndOf series end z taken)
+refused_behind_all_at {series} r a b c x y z lines known in_tree byte end e whole few all p stop =
+    subst (λ s. GoesOf series s x z (λ taken said. IsEndOf series end z taken)) (reading_is r a lines known in_tree false e whole) (refused_behind_all a b c x y z lines known byte end few all p stop)

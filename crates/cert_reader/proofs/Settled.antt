@@ -4,7 +4,7 @@ use Rattle.std.specs.Prelude.{Option}
 use Rattle.cert_reader.specs.declared.ends.ReadEnd.{ReadEnd}
 use Rattle.cert_reader.specs.declared.ends.ReadEnd.TheVariants.{NoMemory, NotText, ReadFault, TooLong}
 use Rattle.cert_reader.specs.declared.forms.Counts.{Counts}
-use Rattle.cert_reader.specs.Forms.{AreCounts, Tree, forms_of}
+use Rattle.cert_reader.specs.Forms.{AreInRange, Tree, forms_of}
 use Rattle.cert_reader.specs.Order.{AgreeUpTo, HasNoLine, IsLineOf, form_in}
 use Rattle.cert_reader.specs.Steps.{IsRefused}
 use Rattle.cert_reader.specs.Stream.{Hands, Held, IsPlain}
@@ -22,7 +22,7 @@ plain_avoids text h = record { none = h.none }
 
 -- the first line of the bytes is none that may follow
 pub no_line_behind : (index : ℕ) (known : Counts) (text rest : List ℕ) → IsPlain text
-    → ((counts : Counts) (said : Said) → AreCounts counts → AgreeUpTo index known counts → index < length (forms_of counts) → IsLineOf (form_in counts index) said text → ⊥)
+    → ((counts : Counts) (said : Said) → AreInRange counts → AgreeUpTo index known counts → index < length (forms_of counts) → IsLineOf (form_in counts index) said text → ⊥)
     → HasNoLine index known (text ++ 10 ∷ rest)
 no_line_behind index known text rest plain none counts said more are agree within can e =
     let form = form_in counts index in

@@ -6,7 +6,7 @@ use Rattle.std.proofs.Math.ListN.{get_or-append}
 use Rattle.std.proofs.Math.Seq.{get_or-append_seam}
 use Rattle.split_text.specs.Texts.{line}
 use Rattle.cert_reader.specs.declared.forms.Counts.{Counts}
-use Rattle.cert_reader.specs.declared.forms.Counts.TheVariants.{Fares, Goods, Rent}
+use Rattle.cert_reader.specs.declared.forms.Counts.TheVariants.{Fares, Goods, Pair, Rent}
 use Rattle.cert_reader.specs.declared.forms.Word.TheVariants as word
 use Rattle.cert_reader.specs.Forms.{Form, Line, Tree, forms_of, goods_forms, goods_head, numbers_of}
 use Rattle.std.specs.Prelude.{replicate}
@@ -15,7 +15,7 @@ use Rattle.cert_reader.specs.Reading.{with_mark}
 use Rattle.cert_reader.specs.Text.{CanSay, CanSayAll, IsMark, Marks, Numbers, Said, said_text}
 use Rattle.cert_reader.specs.TreeLines.{GoesNotOn, HasNoTree, tree_front}
 use Rattle.cert_reader.proofs.FormLines.{mark_plain}
-use Rattle.cert_reader.proofs.TreePlaces.{AreLines, agree_tree, fares_lines_only, goods_place, lines-append, lines-replicate, rent_lines_only}
+use Rattle.cert_reader.proofs.TreePlaces.{AreLines, agree_tree, fares_lines_only, goods_place, lines-append, lines-replicate, pair_lines_only, rent_lines_only}
 
 -- where no line of a tree stands, no line of any text does that may stand there
 pub no_tree : (index : ℕ) (known : Counts) (text : List ℕ) → form_in known index ≡ Tree → HasNoTree text → HasNoLine index known text
@@ -74,6 +74,7 @@ pub lines_before : (counts : Counts) (k : ℕ) → k < length (forms_of counts) 
 unfolding goods_forms AreLines
 lines_before (Rent n) k low tree = absurd (rent_lines_only n k low tree)
 lines_before (Fares n places) k low tree = absurd (fares_lines_only n places k low tree)
+lines_before (Pair goods) k low tree = absurd (pair_lines_only goods k low tree)
 lines_before (Goods n goods) k low tree =
     subst AreLines (sym (ap (take k) split ∙ take_at before (Tree ∷ numbers_of word.End 0 ∷ []) k long))
     (lines-append (replicate n (numbers_of word.Values goods)) (numbers_of word.Owners goods ∷ numbers_of word.Steps 1 ∷ []) (lines-replicate n _) tt)

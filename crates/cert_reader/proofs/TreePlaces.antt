@@ -2,14 +2,14 @@
 use Rattle.std.proofs.Common.{◌≡◌, ℕ, zero, suc, ◌+◌, ◌-◌, ◌<◌, ◌≤◌, List, [], ◌∷◌, ◌++◌, length, map, get_or, replicate, arith, refl, sym, ap, ◌∙◌, ⊎_elim}
 use Rattle.std.proofs.lemmas.Bool.{cases_lt}
 use Rattle.cert_reader.specs.declared.forms.Counts.{Counts}
-use Rattle.cert_reader.specs.declared.forms.Counts.TheVariants.{Fares, Goods, Rent}
+use Rattle.cert_reader.specs.declared.forms.Counts.TheVariants.{Fares, Goods, Pair, Rent}
 use Rattle.cert_reader.specs.declared.forms.LineForm.{LineForm}
 use Rattle.cert_reader.specs.declared.forms.Word.TheVariants as word
-use Rattle.cert_reader.specs.Forms.{Form, Line, Tree, fares_forms, fares_tail, forms_of, goods_forms, goods_head, goods_tail, numbers_of, rent_forms, rent_tail, rider_forms, set_form}
+use Rattle.cert_reader.specs.Forms.{AreCountsOf, Form, Line, Pairs, Tree, fares_forms, fares_tail, forms_of, goods_forms, goods_head, goods_tail, numbers_of, pair_forms, rent_forms, rent_tail, rider_forms, set_form}
 use Rattle.cert_reader.specs.Order.{AgreeUpTo, form_in}
 use Rattle.cert_reader.specs.Sets.{sets_of}
 use Rattle.cert_reader.proofs.Agreeing.{agree_whole}
-use Rattle.cert_reader.proofs.FormPlaces.{goods_in_head, goods_in_tail, goods_in_values, length_goods}
+use Rattle.cert_reader.proofs.FormPlaces.{goods_in_head, goods_in_tail, goods_in_values, length_goods, length_pair}
 
 -- only lines of numbers
 unfoldable pub AreLines : List Form → Type 0
@@ -57,6 +57,18 @@ fares_lines_only n places i low e =
     (lines-append (replicate (places + 1) (numbers_of word.Legs places)) (rider_forms n ++ (map (set_form n) (sets_of n) ++ fares_tail n)) (lines-replicate (places + 1) _)
     (lines-append (map (set_form n) (sets_of n)) (fares_tail n) (lines_of_sets n (sets_of n)) tt)) low e
 
+-- no line of a pair is a tree
+pub pair_lines_only : (goods i : ℕ) → i < length (pair_forms goods) → form_in (Pair goods) i ≡ Tree → ⊥
+unfolding AreLines
+pair_lines_only goods i low e = line_at (pair_forms goods) i tt low e
+
+-- so none is in a text of pairs
+pub pairs_lines_only : (counts : Counts) (i : ℕ) → AreCountsOf Pairs counts → i < length (forms_of counts) → form_in counts i ≡ Tree → ⊥
+pairs_lines_only (Pair goods) i are low e = pair_lines_only goods i low e
+pairs_lines_only (Rent n) i are low e = absurd are
+pairs_lines_only (Goods n goods) i are low e = absurd are
+pairs_lines_only (Fares n places) i are low e = absurd are
+
 -- goods have a tree behind eight lines and one a player
 pub goods_tree : (n goods i : ℕ) → i ≡ 8 + n → form_in (Goods n goods) i ≡ Tree
 goods_tree n goods i e = goods_in_tail n goods i 2 Tree (omega arith)
@@ -94,10 +106,12 @@ pub behind_tree : (counts : Counts) (i : ℕ) → i < length (forms_of counts) �
 behind_tree (Rent n) i low tree = absurd (rent_lines_only n i low tree)
 behind_tree (Goods n goods) i low tree = (let at = goods_place n goods i low tree in let long = length_goods n goods in omega arith)
 behind_tree (Fares n places) i low tree = absurd (fares_lines_only n places i low tree)
+behind_tree (Pair goods) i low tree = absurd (pair_lines_only goods i low tree)
 
 -- each text begins with lines of numbers
 pub first_lines : (counts : Counts) (i : ℕ) → i < 4 → form_in counts i ≡ Tree → ⊥
 unfolding rent_forms goods_forms fares_forms
+first_lines (Pair goods) i low e = pair_lines_only goods i (let long = length_pair goods in omega arith) e
 first_lines (Rent n) zero low e = cc
 first_lines (Rent n) (suc zero) low e = cc
 first_lines (Rent n) (suc (suc zero)) low e = cc

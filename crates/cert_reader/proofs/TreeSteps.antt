@@ -9,7 +9,7 @@ use Rattle.cert_reader.specs.declared.ends.ReadEnd.TheVariants.{NoMemory, NotTex
 use Rattle.cert_reader.specs.declared.forms.Counts.{Counts}
 use Rattle.cert_reader.specs.declared.pieces.Piece.{Piece}
 use Rattle.cert_reader.specs.declared.pieces.Piece.TheVariants.{Done, Kind, Line, Mark}
-use Rattle.cert_reader.specs.Forms.{AreCounts, Tree, forms_of}
+use Rattle.cert_reader.specs.Forms.{AreCounts, Certificates, Tree, forms_of}
 use Rattle.cert_reader.specs.Order.{AgreeUpTo, form_in}
 use Rattle.cert_reader.specs.Reading.{Begins, EndsInTree, Goes, IsAnswer, IsEnd, IsMarkRead, IsRead, IsTreeRead, Reading, with_mark}
 use Rattle.cert_reader.specs.Stream.{Held, taken_count}
@@ -32,7 +32,7 @@ pub record TreePart (held : Held) (k : ℕ) (counts : Counts) (taken : List ℕ)
 
 -- the lines before it
 part_begins : (held : Held) (k : ℕ) (counts : Counts) (taken : List ℕ) (before : List Said) (marks rest : List ℕ) → TreePart held k counts taken before marks
-    → Begins (text_of (take k (forms_of counts)) before ++ rest) k counts before rest
+    → Begins Certificates (text_of (take k (forms_of counts)) before ++ rest) k counts before rest
 part_begins held k counts taken before marks rest h = record { are_counts = h.are_counts; within = (let w = h.within in omega arith); fits = h.fits; text = refl }
 
 -- the tree's line, whole
@@ -42,7 +42,7 @@ tree_line counts k marks rest tree = sym (append_assoc (tree_front ++ marks) (10
 
 -- with its LF behind them, such marks are one line more
 part_whole : (held : Held) (k : ℕ) (counts : Counts) (taken : List ℕ) (before : List Said) (marks rest : List ℕ) → TreePart held k counts taken before marks
-    → Begins (text_of (take k (forms_of counts)) before ++ ((tree_front ++ marks) ++ 10 ∷ rest)) (k + 1) counts (before ++ Marks marks ∷ []) rest
+    → Begins Certificates (text_of (take k (forms_of counts)) before ++ ((tree_front ++ marks) ++ 10 ∷ rest)) (k + 1) counts (before ++ Marks marks ∷ []) rest
 part_whole held k counts taken before marks rest h =
     begins_more (text_of (take k (forms_of counts)) before ++ ((tree_front ++ marks) ++ 10 ∷ rest)) ((tree_front ++ marks) ++ 10 ∷ rest) rest k counts before (Marks marks)
     (part_begins held k counts taken before marks ((tree_front ++ marks) ++ 10 ∷ rest) h) h.within (subst (λ f. CanSay f (Marks marks)) (sym h.tree) (h.some, h.each)) (tree_line counts k marks rest h.tree)
@@ -55,7 +55,7 @@ part_read held k counts taken before marks h =
     record {
       front = text ++ (tree_front ++ marks);
       is_taken = h.is_taken ∙ sym (append_assoc text (tree_front ++ marks) held.ahead);
-      begins = subst (λ bytes. Begins bytes (k + 1) counts (before ++ Marks marks ∷ []) held.ahead) (sym (append_assoc text (tree_front ++ marks) (10 ∷ held.ahead))) (part_whole held k counts taken before marks held.ahead h);
+      begins = subst (λ bytes. Begins Certificates bytes (k + 1) counts (before ++ Marks marks ∷ []) held.ahead) (sym (append_assoc text (tree_front ++ marks) (10 ∷ held.ahead))) (part_whole held k counts taken before marks held.ahead h);
       total = h.total;
     }
 
@@ -155,8 +155,8 @@ tree_closed a b x y k known tree p = (p.more, p.took, λ taken said h. read take
         let text = text_of (take k (forms_of known)) h.before in
         let marks = h.marks in
         begins_whole b (k + 1) known (taken ++ p.more) said
-        (subst (λ xs. Begins (taken ++ p.more) (k + 1) known xs b.ahead) (sym h.whole)
-        (subst (λ bytes. Begins bytes (k + 1) known (h.before ++ Marks marks ∷ []) b.ahead)
+        (subst (λ xs. Begins Certificates (taken ++ p.more) (k + 1) known xs b.ahead) (sym h.whole)
+        (subst (λ bytes. Begins Certificates bytes (k + 1) known (h.before ++ Marks marks ∷ []) b.ahead)
         (sym (ap (λ xs. xs ++ p.more) h.part.is_taken ∙ append_assoc text ((tree_front ++ marks) ++ a.ahead) p.more
         ∙ ap (λ xs. text ++ xs) (append_assoc (tree_front ++ marks) a.ahead p.more ∙ ap (λ xs. (tree_front ++ marks) ++ xs) p.seam)))
         (part_whole a k known taken h.before marks b.ahead h.part)))

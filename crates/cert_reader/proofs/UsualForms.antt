@@ -7,10 +7,10 @@ use Rattle.std.proofs.lemmas.List.{length-replicate}
 use Rattle.std.proofs.lemmas.List.Elements.{All-cons, All-nil, All-replicate}
 use Rattle.bid_rules.specs.Fractions.{Fraction}
 use Rattle.cert_reader.specs.declared.forms.Counts.{Counts}
-use Rattle.cert_reader.specs.declared.forms.Counts.TheVariants.{Fares, Goods, Rent}
+use Rattle.cert_reader.specs.declared.forms.Counts.TheVariants.{Fares, Goods, Pair, Rent}
 use Rattle.cert_reader.specs.declared.forms.Word.{Word}
 use Rattle.cert_reader.specs.declared.forms.Word.TheVariants as word
-use Rattle.cert_reader.specs.Forms.{AreCounts, Form, Line, Tree, fares_forms, forms_of, fractions_of, goods_forms, led_by, numbers_of, rent_forms, set_form}
+use Rattle.cert_reader.specs.Forms.{AreInRange, Form, Line, Tree, fares_forms, forms_of, fractions_of, goods_forms, led_by, numbers_of, rent_forms, set_form}
 use Rattle.cert_reader.specs.Numbers.{IsNumber}
 use Rattle.cert_reader.specs.Order.{IsLineOf, form_in}
 use Rattle.cert_reader.specs.Sets.{sets_of, starts}
@@ -92,8 +92,29 @@ usual_sets n first (suc many) few small = (
 )
 
 -- all forms of a text
-pub usual_forms : (counts : Counts) → AreCounts counts → AreUsual (forms_of counts)
+pub usual_forms : (counts : Counts) → AreInRange counts → AreUsual (forms_of counts)
 unfolding AreUsual rent_forms goods_forms fares_forms
+usual_forms (Pair goods) are =
+    let few = are.1 in
+    let values = usual_numbers word.Values goods (omega arith) in (
+      usual_led word.FairsplitPair 1 0 (omega arith) (omega arith),
+      (
+        usual_led word.Goods goods 0 (omega arith) (omega arith),
+        (
+          usual_numbers word.Who 2 (omega arith),
+          (
+            values,
+            (
+              values,
+              (
+                usual_fractions word.Shares goods (omega arith),
+                (usual_numbers word.Weights 2 (omega arith), (usual_fractions word.Total 1 (omega arith), (usual_numbers word.End 0 (omega arith), tt))),
+              ),
+            ),
+          ),
+        ),
+      ),
+    )
 usual_forms (Rent n) are =
     let few = are.1 in (
       usual_led word.Fairsplit 1 0 (omega arith) (omega arith),
@@ -195,7 +216,7 @@ some_said [] h = ([], tt)
 some_said (f ∷ forms) h = (h.0.said ∷ (some_said forms h.1).0, (h.0.can, (some_said forms h.1).1))
 
 -- a line of numbers of a text is within the longest
-pub short_in : (counts : Counts) (i : ℕ) (said : Said) (text : List ℕ) → AreCounts counts → i < length (forms_of counts) → (form_in counts i ≡ Tree → ⊥) → IsLineOf (form_in counts i) said text → length text ≤ 1024
+pub short_in : (counts : Counts) (i : ℕ) (said : Said) (text : List ℕ) → AreInRange counts → i < length (forms_of counts) → (form_in counts i ≡ Tree → ⊥) → IsLineOf (form_in counts i) said text → length text ≤ 1024
 short_in counts i said text are within line is = within_longest (form_in counts i) (usual_at (forms_of counts) i (usual_forms counts are) within).short line is
   where
     within_longest : (form : Form) → count_in form ≤ 24 → (form ≡ Tree → ⊥) → IsLineOf form said text → length text ≤ 1024

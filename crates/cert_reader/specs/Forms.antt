@@ -1,4 +1,4 @@
--- Which lines follow one another in a certificate text.
+-- Which lines follow one another in a certificate text, and in the text of a pair.
 use Rattle.std.specs.Prelude.{ℕ, ◌+◌, ◌≤◌, List, [], ◌∷◌, ◌++◌, length, map, replicate, true, false, Some, None}
 use Rattle.bid_rules.specs.declared.limits.TheConstants.{MOST_GOODS, MOST_MEMBERS, MOST_PLACES, MOST_RIDERS}
 use Rattle.cert_reader.specs.declared.forms.Counts.{Counts}
@@ -62,14 +62,43 @@ fares_tail n = numbers_of word.Route n ∷ fractions_of word.Fares n ∷ numbers
 unfoldable pub fares_forms : ℕ → ℕ → List Form
 fares_forms n places = fares_head n places ++ (replicate (places + 1) (numbers_of word.Legs places) ++ (rider_forms n ++ (map (set_form n) (sets_of n) ++ fares_tail n)))
 
+-- the lines of a pair with so many goods: the head, who they are, the values of each, player 1's share of each good, the weights and the total
+abbrev pub pair_forms : ℕ → List Form
+pair_forms goods = led_by word.FairsplitPair 1 1 ∷ led_by word.Goods goods 1 ∷ numbers_of word.Who 2 ∷ numbers_of word.Values goods ∷ numbers_of word.Values goods
+    ∷ fractions_of word.Shares goods ∷ numbers_of word.Weights 2 ∷ fractions_of word.Total 1 ∷ numbers_of word.End 0 ∷ []
+
 -- all lines of a text for these counts
 abbrev pub forms_of : Counts → List Form
 forms_of (count.Rent n) = rent_forms n
 forms_of (count.Goods n goods) = goods_forms n goods
 forms_of (count.Fares n places) = fares_forms n places
+forms_of (count.Pair goods) = pair_forms goods
 
 -- the counts that a text can have
+abbrev pub AreInRange : Counts → Type 0
+AreInRange (count.Rent n) = (1 ≤ n) × (n ≤ MOST_MEMBERS)
+AreInRange (count.Goods n goods) = (1 ≤ n) × (n ≤ MOST_MEMBERS) × (1 ≤ goods) × (goods ≤ MOST_GOODS)
+AreInRange (count.Fares n places) = (1 ≤ n) × (n ≤ MOST_RIDERS) × (1 ≤ places) × (places ≤ MOST_PLACES)
+AreInRange (count.Pair goods) = (1 ≤ goods) × (goods ≤ MOST_GOODS)
+
+-- what a reader of texts expects: certificates, of whatever kind, or pairs. No bytes are both
+pub data Series : Type 0 where
+  Certificates : Series
+  Pairs : Series
+
+abbrev pub series_of : Counts → Series
+series_of (count.Rent n) = Certificates
+series_of (count.Goods n goods) = Certificates
+series_of (count.Fares n places) = Certificates
+series_of (count.Pair goods) = Pairs
+
+-- the counts that a text of a series can have
+abbrev pub AreCountsOf : Series → Counts → Type 0
+AreCountsOf Certificates (count.Pair goods) = ⊥
+AreCountsOf Certificates counts = AreInRange counts
+AreCountsOf Pairs (count.Pair goods) = AreInRange (count.Pair goods)
+AreCountsOf Pairs counts = ⊥
+
+-- those of a certificate
 abbrev pub AreCounts : Counts → Type 0
-AreCounts (count.Rent n) = (1 ≤ n) × (n ≤ MOST_MEMBERS)
-AreCounts (count.Goods n goods) = (1 ≤ n) × (n ≤ MOST_MEMBERS) × (1 ≤ goods) × (goods ≤ MOST_GOODS)
-AreCounts (count.Fares n places) = (1 ≤ n) × (n ≤ MOST_RIDERS) × (1 ≤ places) × (places ≤ MOST_PLACES)
+AreCounts counts = AreCountsOf Certificates counts

@@ -4,13 +4,14 @@ use Rattle.arrayvec.specs.declared.array_vec.ArrayVec.{ArrayVec}
 use Rattle.bid_rules.specs.Fractions.{Fraction}
 use Rattle.split_frac.specs.declared.frac.Frac.{Frac}
 use Rattle.split_frac.specs.Frac.{fraction_of}
+use Rattle.cert_reader.specs.declared.limits.TheConstants.{MOST_NUMBERS}
 use Rattle.cert_reader.specs.Numbers.{IsNumber}
 use Rattle.cert_reader.specs.Text.{Marks, Numbers, Said}
 use Rattle.cert_reader.specs.Views.{says}
 
 -- the numbers of a line that was read
 abbrev pub Gathered : Type 0
-Gathered = ArrayVec Frac 24 (Unit {0})
+Gathered = ArrayVec Frac MOST_NUMBERS (Unit {0})
 
 abbrev pub line_said : Gathered → Said
 line_said line = Numbers (map fraction_of line.items)

@@ -5,12 +5,13 @@ pub mod Kinds
 pub mod Forms
 pub mod Text
 pub mod Views
+pub mod Gathered
+pub mod Pairs
 pub mod Shapes
 pub mod Order
 pub mod TreeLines
 pub mod Steps
 pub mod Reading
-pub mod Gathered
 pub mod GoodsViews
 pub mod Cuts
 pub mod Stream

@@ -3,7 +3,7 @@ use Rattle.std.specs.Prelude.{◌≡◌, ℕ, ℤ, ◌^◌, ◌<◌, ◌≤◌, 
 use Rattle.std.specs.Int.{IsGcd}
 use Rattle.bid_rules.specs.Fractions.{Fraction}
 use Rattle.split_frac.specs.declared.frac.Frac.{Frac}
-use Rattle.cert_reader.specs.declared.limits.TheConstants.{MOST_DENOMINATOR, MOST_DIGITS}
+use Rattle.cert_reader.specs.declared.limits.TheConstants.{MOST_PRINTED_DENOMINATOR, MOST_DIGITS}
 use Rattle.cert_reader.specs.Sets.{set_sizes}
 
 -- at most 25 digits
@@ -16,13 +16,13 @@ AreSmall numbers = All IsSmall numbers
 
 -- fractions of such numerators, with denominators up to 4294967295
 abbrev pub AreShort : List Frac → Type 0
-AreShort fractions = All (λ fraction. IsSmall fraction.num × (fraction.den ≤ MOST_DENOMINATOR)) fractions
+AreShort fractions = All (λ fraction. IsSmall fraction.num × (fraction.den ≤ MOST_PRINTED_DENOMINATOR)) fractions
 
 -- a number that a text can hold: a whole number is one over 1, and where not only whole numbers are asked for, a fraction in lowest terms stands too
 pub record IsNumber (whole : Bool) (number : Fraction) : Type 0 where
   pub size : IsSmall number.0
   pub positive : 1 ≤ number.1
-  pub small : number.1 ≤ MOST_DENOMINATOR
+  pub small : number.1 ≤ MOST_PRINTED_DENOMINATOR
   pub lowest : IsGcd (unsigned_abs number.0) number.1 1
   pub is_whole : IsTrue whole → number.1 ≡ 1
 

@@ -1,13 +1,12 @@
 -- One line taken from a source.
 use Rattle.std.specs.Prelude.{◌≡◌, ℕ, ◌+◌, ◌<◌, List, [], length, map, Option, Result, Ok, Err}
 use Rattle.std.specs.Io.KnownBytes.{IsAtEnd}
-use Rattle.arrayvec.specs.declared.array_vec.ArrayVec.{ArrayVec}
-use Rattle.split_frac.specs.declared.frac.Frac.{Frac}
 use Rattle.split_frac.specs.Frac.{fraction_of}
 use Rattle.cert_reader.specs.declared.ends.ReadEnd.{ReadEnd}
 use Rattle.cert_reader.specs.declared.ends.ReadEnd.TheVariants.{NoMemory, NotText, ReadFault, TooLong}
 use Rattle.cert_reader.specs.declared.forms.Counts.{Counts}
-use Rattle.cert_reader.specs.Forms.{AreCounts, forms_of}
+use Rattle.cert_reader.specs.Forms.{AreInRange, forms_of}
+use Rattle.cert_reader.specs.Gathered.{Gathered}
 use Rattle.cert_reader.specs.Order.{AgreeUpTo, HasNoLine, form_in}
 use Rattle.cert_reader.specs.Stream.{Hands, Held, IsStopped}
 use Rattle.cert_reader.specs.Text.{CanSay, Numbers, said_text}
@@ -20,8 +19,8 @@ IsRefused before after left left_after line none ReadFault = IsStopped before le
 IsRefused before after left left_after line none NoMemory = IsStopped before left left_after NoMemory
 
 -- a line was handed out that may follow for these counts, and says these numbers; or none stands there
-abbrev pub IsSettled : Held → Held → Option (List ℕ) → Option (List ℕ) → ℕ → Counts → Result (Counts × ArrayVec Frac 24 (Unit {0})) ReadEnd → Type 0
+abbrev pub IsSettled : Held → Held → Option (List ℕ) → Option (List ℕ) → ℕ → Counts → Result (Counts × Gathered) ReadEnd → Type 0
 IsSettled before after left left_after index known (Ok found) =
-    AreCounts found.0 × AgreeUpTo index known found.0 × (index < length (forms_of found.0)) × CanSay (form_in found.0 index) (Numbers (map fraction_of found.1.items))
+    AreInRange found.0 × AgreeUpTo index known found.0 × (index < length (forms_of found.0)) × CanSay (form_in found.0 index) (Numbers (map fraction_of found.1.items))
     × Hands before after left left_after (said_text (form_in found.0 index) (Numbers (map fraction_of found.1.items)))
 IsSettled before after left left_after index known (Err end) = IsRefused before after left left_after (index + 1) (HasNoLine index known) end

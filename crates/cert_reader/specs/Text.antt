@@ -1,4 +1,4 @@
--- Certificate text: the lines of its forms, with what they say; and the first broken line of bytes that are none.
+-- Texts: the lines of their forms, with what they say; and the first broken line of bytes that are none.
 use Rattle.std.specs.Prelude.{◌≡◌, ◌≢◌, ℕ, ℤ, pos, ◌<◌, ◌≤◌, ◌⊎◌, List, [], ◌∷◌, ◌++◌, length, map, take, All, IfSome}
 use Rattle.bid_rules.specs.Fractions.{Fraction}
 use Rattle.split_text.specs.Texts.{line, numbers_text}
@@ -6,7 +6,7 @@ use Rattle.cert_reader.specs.declared.forms.Counts.{Counts}
 use Rattle.cert_reader.specs.declared.forms.LineForm.{LineForm}
 use Rattle.cert_reader.specs.declared.forms.Word.TheVariants as word
 use Rattle.cert_reader.specs.declared.marks.TheConstants.{ANSWER_LEAF, INNER_NODE, LEFT_OUT}
-use Rattle.cert_reader.specs.Forms.{AreCounts, Form, Line, Tree, forms_of}
+use Rattle.cert_reader.specs.Forms.{AreCountsOf, Certificates, Form, Line, Series, Tree, forms_of}
 use Rattle.cert_reader.specs.Numbers.{IsNumber}
 use Rattle.cert_reader.specs.Words.{word_text}
 
@@ -61,24 +61,31 @@ abbrev pub text_of : List Form → List Said → List ℕ
 text_of (form ∷ forms) (said ∷ more) = said_text form said ++ text_of forms more
 text_of forms said = []
 
--- the bytes are a certificate text with these counts whose lines say this
-pub record IsText (bytes : List ℕ) (counts : Counts) (said : List Said) : Type 0 where
-  pub are_counts : AreCounts counts
+-- the bytes are a text of a series with these counts whose lines say this
+pub record IsTextOf (series : Series) (bytes : List ℕ) (counts : Counts) (said : List Said) : Type 0 where
+  pub are_counts : AreCountsOf series counts
   pub fits : CanSayAll (forms_of counts) said
   pub text : bytes ≡ text_of (forms_of counts) said
 
--- the first k lines of the bytes are the first k lines of some certificate text
-pub record HasFront (bytes : List ℕ) (k : ℕ) : Type 0 where
+-- the first k lines of the bytes are the first k lines of some text of the series
+pub record HasFrontOf (series : Series) (bytes : List ℕ) (k : ℕ) : Type 0 where
   pub counts : Counts
   pub said : List Said
-  pub are_counts : AreCounts counts
+  pub are_counts : AreCountsOf series counts
   pub fits : CanSayAll (forms_of counts) said
   pub within : k ≤ length said
   pub rest : List ℕ
   pub front : bytes ≡ text_of (take k (forms_of counts)) (take k said) ++ rest
 
--- the bytes are no certificate text, and k is the least number such that their first k lines are not those of any
-pub record IsBrokenText (bytes : List ℕ) (k : ℕ) : Type 0 where
-  pub no_text : (counts : Counts) (said : List Said) → IsText bytes counts said → ⊥
-  pub broken : HasFront bytes k → ⊥
-  pub least : (j : ℕ) → j < k → HasFront bytes j
+-- the bytes are no text of the series, and k is the least number such that their first k lines are not those of any
+pub record IsBrokenTextOf (series : Series) (bytes : List ℕ) (k : ℕ) : Type 0 where
+  pub no_text : (counts : Counts) (said : List Said) → IsTextOf series bytes counts said → ⊥
+  pub broken : HasFrontOf series bytes k → ⊥
+  pub least : (j : ℕ) → j < k → HasFrontOf series bytes j
+
+-- of certificates: the bytes are a certificate text, and the first broken line of bytes that are none
+abbrev pub IsText : List ℕ → Counts → List Said → Type 0
+IsText bytes counts said = IsTextOf Certificates bytes counts said
+
+abbrev pub IsBrokenText : List ℕ → ℕ → Type 0
+IsBrokenText bytes k = IsBrokenTextOf Certificates bytes k

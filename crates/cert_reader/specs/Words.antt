@@ -5,6 +5,7 @@ use Rattle.cert_reader.specs.declared.forms.Word.TheVariants as word
 
 abbrev pub word_text : Word → List ℕ
 word_text word.Fairsplit = codes "fairsplit"
+word_text word.FairsplitPair = codes "fairsplit pair"
 word_text word.KindRent = codes "kind rent"
 word_text word.KindGoods = codes "kind goods"
 word_text word.KindFares = codes "kind fares"
@@ -32,4 +33,7 @@ word_text word.Steps = codes "steps"
 word_text word.Tree = codes "tree"
 word_text word.Route = codes "route"
 word_text word.Fares = codes "fares"
+word_text word.Shares = codes "shares"
+word_text word.Weights = codes "weights"
+word_text word.Total = codes "total"
 word_text word.End = codes "end"

@@ -127,5 +127,6 @@ pub(crate) fn certificate_of(
             Ok(text) => Ok(Certificate::Fares(text)),
             Err(NoMemory) => Err(NoMemory),
         },
+        Counts::Pair { .. } => unreachable!(),
     }
 }

@@ -3,10 +3,11 @@ ghost use Rattle.std.specs.Prelude.{◌≡◌};
 ghost use Rattle.cert_reader.specs.Kinds.{kind_of};
 ghost use Rattle.cert_reader.specs.Words.{word_text};
 
-/// The word with which a line begins. The line of a kind has no numbers, so the kind is part of its word.
+/// The word with which a line begins. The line of a kind has no numbers, so the kind is part of its word, and `pair` is part of the first word of the text of a pair.
 #[derive(Clone, Copy, Debug, PartialEq, Eq)]
 pub enum Word {
     Fairsplit,
+    FairsplitPair,
     KindRent,
     KindGoods,
     KindFares,
@@ -34,6 +35,9 @@ pub enum Word {
     Tree,
     Route,
     Fares,
+    Shares,
+    Weights,
+    Total,
     End,
 }
 
@@ -44,6 +48,7 @@ impl Word {
     {
         match self {
             Word::Fairsplit => "fairsplit",
+            Word::FairsplitPair => "fairsplit pair",
             Word::KindRent => "kind rent",
             Word::KindGoods => "kind goods",
             Word::KindFares => "kind fares",
@@ -71,6 +76,9 @@ impl Word {
             Word::Tree => "tree",
             Word::Route => "route",
             Word::Fares => "fares",
+            Word::Shares => "shares",
+            Word::Weights => "weights",
+            Word::Total => "total",
             Word::End => "end",
         }
     }
@@ -111,10 +119,15 @@ pub enum Counts {
         /// How many places, 1 to 12.
         places: u8,
     },
+    /// The text of a pair: what adjusted winner gives two players.
+    Pair {
+        /// How many goods, 1 to 24.
+        goods: u8,
+    },
 }
 
 impl Counts {
-    /// The number of the kind: 1 for a rent, 2 for goods, 3 for fares.
+    /// The number of the kind: 1 for a rent, 2 for goods, 3 for fares. The text of a pair has none, which is 0.
     pub fn kind(self) -> u8
         ensures { result ≡ kind_of self }
     {
@@ -122,6 +135,7 @@ impl Counts {
             Counts::Rent { .. } => 1,
             Counts::Goods { .. } => 2,
             Counts::Fares { .. } => 3,
+            Counts::Pair { .. } => 0,
         }
     }
 }

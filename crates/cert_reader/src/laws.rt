@@ -2,10 +2,11 @@
 ghost use Rattle.std.specs.Prelude.{◌≡◌, ℕ, List, ◌++◌};
 ghost use Rattle.cert_reader.specs.declared.certificate.Certificate.{Certificate};
 ghost use Rattle.cert_reader.specs.declared.forms.Counts.{Counts};
-ghost use Rattle.cert_reader.specs.Forms.{forms_of};
+ghost use Rattle.cert_reader.specs.Forms.{Pairs, forms_of};
+ghost use Rattle.cert_reader.specs.Pairs.{IsPairText, PairView};
 ghost use Rattle.cert_reader.specs.Reading.{IsRead, Reading};
 ghost use Rattle.cert_reader.specs.Shapes.{HasRows};
-ghost use Rattle.cert_reader.specs.Text.{CanSayAll, IsBrokenText, IsText, Said};
+ghost use Rattle.cert_reader.specs.Text.{CanSayAll, IsBrokenText, IsBrokenTextOf, IsText, Said};
 ghost use Rattle.cert_reader.specs.Views.{View, counts_of, said_of, view_of};
 
 /// One text has one meaning: its counts and what its lines say are one, and two certificates, or views with all rows, that say it are the same. No text has a
@@ -19,4 +20,13 @@ pub fn text_law()
     ensures whole { (bytes : List ℕ) (counts : Counts) (said : List Said) (line : ℕ) → IsText bytes counts said → IsBrokenText bytes line → ⊥ }
     ensures broken { (bytes : List ℕ) (line other : ℕ) → IsBrokenText bytes line → IsBrokenText bytes other → other ≡ line }
     ensures completed { (reading : Reading) (taken : List ℕ) (said : List Said) → IsRead reading taken said → (rest : List Said) × CanSayAll (forms_of reading.counts) (said ++ rest) }
+{}
+
+/// The text of a pair has one meaning: two views that it says are the same. No such text has a broken line, and other bytes have one first broken line. It is no
+/// certificate text.
+pub fn pair_law()
+    ensures once { (bytes : List ℕ) (view other : PairView) → IsPairText bytes view → IsPairText bytes other → other ≡ view }
+    ensures whole { (bytes : List ℕ) (view : PairView) (line : ℕ) → IsPairText bytes view → IsBrokenTextOf Pairs bytes line → ⊥ }
+    ensures broken { (bytes : List ℕ) (line other : ℕ) → IsBrokenTextOf Pairs bytes line → IsBrokenTextOf Pairs bytes other → other ≡ line }
+    ensures apart { (bytes : List ℕ) (view : PairView) (counts : Counts) (said : List Said) → IsPairText bytes view → IsText bytes counts said → ⊥ }
 {}

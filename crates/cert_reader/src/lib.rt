@@ -1,4 +1,4 @@
-//! Certificate text: the type that holds one, what its bytes are, and the first broken line of bytes that are none.
+//! Certificate text, and the text of a pair: the types that hold one, what its bytes are, and the first broken line of bytes that are none.
 #![tactic(auto)]
 
 mod building;
@@ -11,6 +11,9 @@ mod line;
 pub mod marks;
 mod number;
 mod order;
+mod pair;
+mod pair_building;
+mod pair_lines;
 mod pieces;
 mod read;
 mod rows;
@@ -24,9 +27,11 @@ pub use building::{fares_text, goods_text, rent_text};
 pub use certificate::{Certificate, FaresText, GoodsText, RentText};
 pub use ends::ReadEnd;
 pub use forms::{Counts, LineForm, Word};
-pub use laws::text_law;
+pub use laws::{pair_law, text_law};
 pub use line::LineNumbers;
 pub use order::{set_count, start_count};
+pub use pair::PairText;
+pub use pair_lines::read_pair;
 pub use pieces::{Piece, Pieces};
 pub use read::read_certificate;
 pub use rows::{number_at, row_at, rows_of, whole_row};

@@ -8,20 +8,20 @@ ghost use Rattle.split_text.specs.Texts.{numbers_text};
 ghost use Rattle.cert_reader.specs.Cuts.{IsLine};
 ghost use Rattle.cert_reader.specs.Numbers.{IsNumber};
 ghost use Rattle.cert_reader.specs.Text.{Leads};
-ghost use Rattle.cert_reader.specs.declared.limits.TheConstants.{LINE_ROOM};
+ghost use Rattle.cert_reader.specs.declared.limits.TheConstants.{MOST_NUMBERS};
 
 use crate::forms::LineForm;
-use crate::limits::LINE_ROOM;
+use crate::limits::MOST_NUMBERS;
 use crate::number::{front_len, read_number};
 use arrayvec::ArrayVec;
 use split_frac::Frac;
 
 /// The numbers of a line, a whole number as a fraction over 1.
-pub type LineNumbers = ArrayVec<Frac, LINE_ROOM>;
+pub type LineNumbers = ArrayVec<Frac, MOST_NUMBERS>;
 
 /// The numbers of a line, given without its LF, where it has the form.
 pub(crate) fn read_line(line: &[u8], form: LineForm) -> Option<LineNumbers>
-    requires { form.count ≤ LINE_ROOM }
+    requires { form.count ≤ MOST_NUMBERS }
     ensures { MatchOption result
         ((numbers : List Fraction) → IsLine form numbers line.now → ⊥)
         (λ numbers. IsLine form (map fraction_of numbers.items) line.now) }
@@ -77,7 +77,7 @@ fn is_whole(number: Frac, value: u64) -> bool
 
 /// Reads so many numbers, to the end of the line.
 fn push_numbers(rest: &[u8], count: usize, whole: bool, numbers: &mut LineNumbers) -> bool
-    requires { array_vec_len numbers.old + count ≤ LINE_ROOM }
+    requires { array_vec_len numbers.old + count ≤ MOST_NUMBERS }
     ensures { MatchBool result
         ((read : List Fraction) × (map fraction_of numbers.new.items ≡ map fraction_of numbers.old.items ++ read) × (length read ≡ count) × All (IsNumber whole) read × (rest.now ≡ numbers_text read))
         ((read : List Fraction) → length read ≡ count → All (IsNumber whole) read → rest.now ≡ numbers_text read → ⊥) }

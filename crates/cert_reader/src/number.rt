@@ -8,13 +8,13 @@ ghost use Rattle.cert_reader.specs.Cuts.{IsFront};
 ghost use Rattle.cert_reader.specs.Numbers.{IsNumber, IsSmall};
 ghost use Rattle.cert_reader.specs.declared.limits.TheConstants.{MOST_DIGITS};
 
-use crate::limits::{MOST_DENOMINATOR, MOST_DIGITS};
+use crate::limits::{MOST_DIGITS, MOST_PRINTED_DENOMINATOR};
 use split_frac::{Frac, gcd};
 
 /// The least denominator that is written.
 const LEAST_DENOMINATOR: u128 = 2;
 /// The greatest one.
-const GREATEST_DENOMINATOR: u128 = MOST_DENOMINATOR as u128;
+const GREATEST_DENOMINATOR: u128 = MOST_PRINTED_DENOMINATOR as u128;
 
 /// The number of at most 25 digits that the token writes, with no zero in front.
 fn read_digits(token: &[u8]) -> Option<u128>

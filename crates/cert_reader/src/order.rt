@@ -4,13 +4,14 @@ ghost use Rattle.bid_rules.specs.declared.limits.TheConstants.{MOST_GOODS, MOST_
 ghost use Rattle.split_frac.specs.Frac.{fraction_of};
 ghost use Rattle.cert_reader.specs.declared.forms.Counts.{Counts};
 ghost use Rattle.cert_reader.specs.declared.forms.Counts.TheVariants as count;
-ghost use Rattle.cert_reader.specs.declared.limits.TheConstants.{LINE_ROOM};
-ghost use Rattle.cert_reader.specs.Forms.{AreCounts, Line, Tree, fares_forms, fares_head, fares_tail, forms_of, fractions_of, goods_forms, goods_head, goods_tail, led_by, numbers_of, rent_forms, rent_head, rent_tail};
+ghost use Rattle.cert_reader.specs.declared.limits.TheConstants.{MOST_CHOICES, MOST_LINES, MOST_NUMBERS};
+ghost use Rattle.cert_reader.specs.Forms.{AreInRange, Line, Tree, fares_forms, fares_head, fares_tail, forms_of, fractions_of, goods_forms, goods_head, goods_tail, led_by, numbers_of, pair_forms, rent_forms, rent_head, rent_tail};
 ghost use Rattle.cert_reader.specs.Order.{AgreeUpTo, IsLineOf, choice_count, choice_of, form_in};
 ghost use Rattle.cert_reader.specs.Sets.{starts};
 ghost use Rattle.cert_reader.specs.Text.{Numbers, Said};
 
 use crate::forms::{Counts, LineForm, Word};
+use crate::limits::{PAIR, PAIR_LINES};
 use crate::line::{LineNumbers, read_line};
 use bid_rules::limits::{MOST_GOODS, MOST_MEMBERS, MOST_PLACES, MOST_RIDERS};
 
@@ -104,7 +105,7 @@ fn rent_form(members: u8, index: u32) -> LineForm
     requires members { members ≤ MOST_MEMBERS }
     requires index { index < length (rent_forms members) }
     ensures form { slice_index_or (rent_forms members) index Tree ≡ Line result }
-    ensures short { result.count ≤ LINE_ROOM }
+    ensures short { result.count ≤ MOST_NUMBERS }
 {
     if index < 4 {
         return rent_head_form(members, index);
@@ -153,7 +154,7 @@ fn goods_form(players: u8, goods: u8, index: u32) -> LineForm
     requires index { index < length (goods_forms players goods) }
     requires line { index ≡ 8 + players → ⊥ }
     ensures form { slice_index_or (goods_forms players goods) index Tree ≡ Line result }
-    ensures short { result.count ≤ LINE_ROOM }
+    ensures short { result.count ≤ MOST_NUMBERS }
 {
     if index < 6 {
         return goods_head_form(players, goods, index);
@@ -207,7 +208,7 @@ fn fares_form(riders: u8, places: u8, index: u32) -> LineForm
     requires places { places ≤ MOST_PLACES }
     requires index { index < length (fares_forms riders places) }
     ensures form { slice_index_or (fares_forms riders places) index Tree ≡ Line result }
-    ensures short { result.count ≤ LINE_ROOM }
+    ensures short { result.count ≤ MOST_NUMBERS }
 {
     if index < 5 {
         return fares_head_form(riders, places, index);
@@ -230,6 +231,26 @@ fn fares_form(riders: u8, places: u8, index: u32) -> LineForm
     fares_tail_form(riders, index - who - 2 - sets)
 }
 
+/// A line of the text of a pair.
+fn pair_form(goods: u8, index: u32) -> LineForm
+    requires goods { goods ≤ MOST_GOODS }
+    requires index { index < length (pair_forms goods) }
+    ensures form { slice_index_or (pair_forms goods) index Tree ≡ Line result }
+    ensures short { result.count ≤ MOST_NUMBERS }
+{
+    match index {
+        0 => led(Word::FairsplitPair, 1, 1),
+        1 => led(Word::Goods, u64::from(goods), 1),
+        2 => numbers(Word::Who, PAIR),
+        3 => numbers(Word::Values, goods),
+        4 => numbers(Word::Values, goods),
+        5 => fractions(Word::Shares, goods),
+        6 => numbers(Word::Weights, PAIR),
+        7 => fractions(Word::Total, 1),
+        _ => numbers(Word::End, 0),
+    }
+}
+
 /// Whether the line of a tree stands at a place, counted from 0.
 pub(crate) fn is_tree(counts: Counts, index: u32) -> bool
     requires { index < length (forms_of counts) }
@@ -239,44 +260,48 @@ pub(crate) fn is_tree(counts: Counts, index: u32) -> bool
         Counts::Rent { .. } => false,
         Counts::Goods { players, .. } => index == 8 + players as u32,
         Counts::Fares { .. } => false,
+        Counts::Pair { .. } => false,
     }
 }
 
 /// The form of a line of numbers, counted from 0.
 pub(crate) fn form_at(counts: Counts, index: u32) -> LineForm
-    requires counts { AreCounts counts }
+    requires counts { AreInRange counts }
     requires index { index < length (forms_of counts) }
     requires line { form_in counts index ≡ Tree → ⊥ }
     ensures form { form_in counts index ≡ Line result }
-    ensures short { result.count ≤ LINE_ROOM }
+    ensures short { result.count ≤ MOST_NUMBERS }
 {
     match counts {
         Counts::Rent { members } => rent_form(members, index),
         Counts::Goods { players, goods } => goods_form(players, goods, index),
         Counts::Fares { riders, places } => fares_form(riders, places, index),
+        Counts::Pair { goods } => pair_form(goods, index),
     }
 }
 
 /// How many lines a text with these counts has.
 pub(crate) fn line_count(counts: Counts) -> u32
-    requires { AreCounts counts }
+    requires { AreInRange counts }
     ensures value { result ≡ length (forms_of counts) }
-    ensures few { result ≤ 1046 }
+    ensures few { result ≤ MOST_LINES }
     ensures some { 4 < result }
 {
     match counts {
         Counts::Rent { members } => 11 + members as u32,
         Counts::Goods { players, .. } => 10 + players as u32,
         Counts::Fares { riders, places } => 11 + places as u32 + set_count(riders),
+        Counts::Pair { .. } => PAIR_LINES,
     }
 }
 
 /// How many ways a line leaves open what the lines before it don't fix.
 fn choices(index: u32, known: Counts) -> u8
     ensures value { result ≡ choice_count index known }
-    ensures small { result ≤ 24 }
+    ensures small { result ≤ MOST_CHOICES }
 {
     match (index, known) {
+        (1, Counts::Pair { .. }) => MOST_GOODS,
         (1, _) => 3,
         (2, Counts::Rent { .. }) => MOST_MEMBERS,
         (2, Counts::Goods { .. }) => MOST_MEMBERS,
@@ -306,10 +331,11 @@ fn chosen_kind(choice: u8) -> Counts
 
 /// The counts that one of the ways stands for.
 fn chosen(index: u32, known: Counts, choice: u8) -> Counts
-    requires { choice < 24 }
+    requires { choice < MOST_CHOICES }
     ensures { result ≡ choice_of index known choice }
 {
     match (index, known) {
+        (1, Counts::Pair { .. }) => Counts::Pair { goods: choice + 1 },
         (1, _) => chosen_kind(choice),
         (2, Counts::Rent { .. }) => Counts::Rent {
             members: choice + 1,
@@ -336,7 +362,7 @@ fn chosen(index: u32, known: Counts, choice: u8) -> Counts
 
 /// The numbers of the line, where it has the form of its place.
 fn read_at(line: &[u8], index: u32, counts: Counts) -> Option<LineNumbers>
-    requires counts { AreCounts counts }
+    requires counts { AreInRange counts }
     requires index { index < length (forms_of counts) }
     requires line { form_in counts index ≡ Tree → ⊥ }
     ensures { MatchOption result
@@ -348,12 +374,12 @@ fn read_at(line: &[u8], index: u32, counts: Counts) -> Option<LineNumbers>
 
 /// The numbers of the line, where it has the form of its place for some counts that agree with those known so far; and such counts.
 pub(crate) fn settle(line: &[u8], index: u32, known: Counts) -> Option<(Counts, LineNumbers)>
-    requires known { AreCounts known }
+    requires known { AreInRange known }
     requires index { index < length (forms_of known) }
     requires line { form_in known index ≡ Tree → ⊥ }
     ensures { MatchOption result
-        ((counts : Counts) (said : Said) → AreCounts counts → AgreeUpTo index known counts → IsLineOf (form_in counts index) said line.now → ⊥)
-        (λ found. AreCounts found.0 × AgreeUpTo index known found.0 × (index < length (forms_of found.0)) × IsLineOf (form_in found.0 index) (Numbers (map fraction_of found.1.items)) line.now) }
+        ((counts : Counts) (said : Said) → AreInRange counts → AgreeUpTo index known counts → IsLineOf (form_in counts index) said line.now → ⊥)
+        (λ found. AreInRange found.0 × AgreeUpTo index known found.0 × (index < length (forms_of found.0)) × IsLineOf (form_in found.0 index) (Numbers (map fraction_of found.1.items)) line.now) }
 {
     for choice in 0..choices(index, known) {
         let counts = chosen(index, known, choice);

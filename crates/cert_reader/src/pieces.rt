@@ -2,7 +2,7 @@
 ghost use Rattle.std.specs.Prelude.{◌≡◌, ◌↔◌, ◌+◌, ◌<◌, ◌≤◌, [], ℕ, List, length, map, IfOk, IsErrOf, IsTrue, OnOk, Ok, None, false, true};
 ghost use Rattle.split_base.specs.Faults.{HasRisen};
 ghost use Rattle.split_frac.specs.Frac.{fraction_of};
-ghost use Rattle.cert_reader.specs.Forms.{Tree, forms_of};
+ghost use Rattle.cert_reader.specs.Forms.{Certificates, Tree, forms_of};
 ghost use Rattle.cert_reader.specs.Kinds.{kind_of};
 ghost use Rattle.cert_reader.specs.Order.{AgreeUpTo, form_in};
 ghost use Rattle.cert_reader.specs.Reading.{Goes, IsAnswer, IsEnd, IsLineRead, IsFinished, IsMarkRead, IsOpen, IsRead, IsTreeRead};
@@ -126,7 +126,7 @@ impl Pieces {
         requires open { IsOpen self.old }
         requires whole { self.old.in_tree ≡ false }
         requires line { form_in self.old.counts self.old.lines ≡ Tree → ⊥ }
-        ensures line { Goes self.old (S.left source.old) (S.left source.new) (λ taken said. IsLineRead self.old self.new (S.left source.new) taken said result) }
+        ensures line { Goes self.old (S.left source.old) (S.left source.new) (λ taken said. IsLineRead Certificates self.old self.new (S.left source.new) taken said result) }
         ensures lines { OnOk result (self.new.lines ≡ self.old.lines + 1) }
         ensures within { self.new.lines ≤ length (forms_of self.new.counts) }
         ensures whole { self.new.in_tree ≡ false }
@@ -153,7 +153,7 @@ impl Pieces {
     fn finish<S: Source>(&mut self, source: &mut S) -> Result<(), ReadEnd>
         requires lines { self.old.lines ≡ length (forms_of self.old.counts) }
         requires whole { self.old.in_tree ≡ false }
-        ensures finish { Goes self.old (S.left source.old) (S.left source.new) (λ taken said. IsFinished self.new (S.left source.new) taken said result) }
+        ensures finish { Goes self.old (S.left source.old) (S.left source.new) (λ taken said. IsFinished Certificates self.new (S.left source.new) taken said result) }
         ensures same { (self.new.lines ≡ self.old.lines) × (self.new.counts ≡ self.old.counts) }
         ensures few { self.new.given ≤ MOST_BYTES }
         ensures held { self.new.given + length self.new.ahead ≤ MOST_BYTES }

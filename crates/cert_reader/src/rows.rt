@@ -5,9 +5,9 @@ ghost use Rattle.cert_reader.specs.Gathered.{line_said, numbers_at};
 ghost use Rattle.cert_reader.specs.Numbers.{AreSmall, IsNumber, IsSmall};
 ghost use Rattle.cert_reader.specs.Text.{wholes};
 ghost use Rattle.cert_reader.specs.Views.{says};
-ghost use Rattle.cert_reader.specs.declared.limits.TheConstants.{LINE_ROOM};
+ghost use Rattle.cert_reader.specs.declared.limits.TheConstants.{MOST_NUMBERS};
 
-use crate::limits::LINE_ROOM;
+use crate::limits::MOST_NUMBERS;
 use crate::line::LineNumbers;
 use arrayvec::ArrayVec;
 use split_base::NoMemory;
@@ -101,15 +101,32 @@ pub fn number_at(lines: &[LineNumbers], index: usize) -> i128
     first_number(&lines[index])
 }
 
+/// The first of some fractions.
+fn first_fraction(numbers: &[Frac]) -> Frac
+    requires { length numbers.now ≡ 1 }
+    ensures { result ∷ [] ≡ numbers.now }
+{
+    numbers[0]
+}
+
+/// The fraction of a line of one.
+pub(crate) fn fraction_at(lines: &[LineNumbers], index: usize) -> Frac
+    requires index { index < length lines.now }
+    requires one { length (numbers_at lines.now index) ≡ 1 }
+    ensures { fraction_of result ∷ [] ≡ numbers_at lines.now index }
+{
+    first_fraction(&lines[index])
+}
+
 /// Appends the numbers of a line but for the first.
 fn push_row(table: &mut Vec<i128>, numbers: &[Frac]) -> Result<(), NoMemory>
     requires some { 1 ≤ length numbers.now }
-    requires room { length numbers.now ≤ LINE_ROOM }
+    requires room { length numbers.now ≤ MOST_NUMBERS }
     requires whole { All (IsNumber true) (map fraction_of numbers.now) }
     ensures said { OnOk result (wholes table.new.items ≡ wholes table.old.items ++ map fraction_of (drop 1 numbers.now)) }
     ensures small { OnOk result (AreSmall table.old.items → AreSmall table.new.items) }
 {
-    let row: ArrayVec<i128, LINE_ROOM> = whole_row(&numbers[1..]);
+    let row: ArrayVec<i128, MOST_NUMBERS> = whole_row(&numbers[1..]);
     match table.extend_from_slice(row.as_slice()) {
         Ok(()) => Ok(()),
         Err(_) => Err(NoMemory),

@@ -1,7 +1,7 @@
 // One line of a text from a source, and the end of a text that is none.
 ghost use Rattle.std.specs.Prelude.{◌≡◌, ◌+◌, ◌<◌, ◌≤◌, ◌∷◌, ◌++◌, ℕ, List, length, IsErrOf, Err};
 ghost use Rattle.split_base.specs.Faults.{HasRisen};
-ghost use Rattle.cert_reader.specs.Forms.{AreCounts, Tree, forms_of};
+ghost use Rattle.cert_reader.specs.Forms.{AreInRange, Tree, forms_of};
 ghost use Rattle.cert_reader.specs.Order.{form_in};
 ghost use Rattle.cert_reader.specs.Steps.{IsRefused, IsSettled};
 ghost use Rattle.cert_reader.specs.Stream.{faults_after, taken_count};
@@ -37,7 +37,7 @@ pub(crate) fn next_settled<S: Source>(
     index: u32,
     known: Counts,
 ) -> Result<(Counts, LineNumbers), ReadEnd>
-    requires known { AreCounts known }
+    requires known { AreInRange known }
     requires index { index < length (forms_of known) }
     requires line { form_in known index ≡ Tree → ⊥ }
     ensures line { IsSettled bytes.old bytes.new (S.left source.old) (S.left source.new) index known result }

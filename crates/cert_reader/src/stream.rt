@@ -47,7 +47,7 @@ pub(crate) struct Bytes {
 impl Model for Bytes {
     ghost use Rattle.std.specs.Prelude.{◌-◌, ◌≤◌, take, drop};
     ghost use Rattle.cert_reader.specs.Stream.{Held};
-    ghost use Rattle.cert_reader.specs.declared.limits.TheConstants.{MOST_BYTES};
+    ghost use Rattle.cert_reader.specs.declared.limits.TheConstants.{MOST_BYTES, PIECE_BYTES};
 
     ghost Value = { Held };
 
@@ -57,7 +57,7 @@ impl Model for Bytes {
       line = s.line.items;
     } };
 
-    ghost invariant = { λ s. (s.from ≤ s.to) × (s.to ≤ 4096) × (s.to - s.from ≤ s.total) × (s.total ≤ MOST_BYTES) };
+    ghost invariant = { λ s. (s.from ≤ s.to) × (s.to ≤ PIECE_BYTES) × (s.to - s.from ≤ s.total) × (s.total ≤ MOST_BYTES) };
 }
 
 impl Bytes {

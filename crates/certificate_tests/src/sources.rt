@@ -9,7 +9,7 @@ use std::test::Fail;
 use verdicts::Verdict;
 
 /// A source that gives a text in four pieces, the third of one byte, and whose call of this number fails.
-fn source_of(alloc: Global, text: &str, call: u64) -> Result<MemSource, Fail> {
+pub(crate) fn source_of(alloc: Global, text: &str, call: u64) -> Result<MemSource, Fail> {
     let pieces = [100, 14, 1].to_vec(alloc)?;
     let fails = [call].to_vec(alloc)?;
     Ok(MemSource::new(text.as_bytes().to_vec(alloc)?, pieces, fails))

@@ -15,10 +15,11 @@ use Rattle.cert_reader.specs.Words.{word_text}
 use Rattle.split_frac.specs.Frac.{pair_text}
 use Rattle.split_text.specs.Texts.{line, numbers_text}
 
--- words have at most 9 letters, `kind fares` 10
-word_short : (w : Word) → length (word_text w) ≤ 10
-word_short w = elim w as (λ v. length (word_text v) ≤ 10) [
+-- words have at most 14 letters, as `fairsplit pair` has
+word_short : (w : Word) → length (word_text w) ≤ 14
+word_short w = elim w as (λ v. length (word_text v) ≤ 14) [
   | word.Fairsplit ↦ omega arith
+  | word.FairsplitPair ↦ omega arith
   | word.KindRent ↦ omega arith
   | word.KindGoods ↦ omega arith
   | word.KindFares ↦ omega arith
@@ -46,6 +47,9 @@ word_short w = elim w as (λ v. length (word_text v) ≤ 10) [
   | word.Tree ↦ omega arith
   | word.Route ↦ omega arith
   | word.Fares ↦ omega arith
+  | word.Shares ↦ omega arith
+  | word.Weights ↦ omega arith
+  | word.Total ↦ omega arith
   | word.End ↦ omega arith
 ]
 
@@ -77,7 +81,7 @@ numbers_short whole (f ∷ fs) h =
     omega (arith, both, one, more)
 
 -- a line
-line_short : (form : LineForm) (numbers : List Fraction) → HasNumbers form numbers → length (line (word_text form.word ++ numbers_text numbers)) ≤ 11 + 38 * form.count
+line_short : (form : LineForm) (numbers : List Fraction) → HasNumbers form numbers → length (line (word_text form.word ++ numbers_text numbers)) ≤ 15 + 38 * form.count
 unfolding line
 line_short form numbers h =
     let words = word_short form.word in

@@ -15,10 +15,10 @@ use fare_rules::{START_ROOM, starts_law, starts_of};
 use split_base::NoMemory;
 
 /// Room for the number of a set and an entry a start.
-const SET_ROOM: usize = START_ROOM + 1;
+const SET_LINE_ROOM: usize = START_ROOM + 1;
 
 /// The numbers of the line of a set: its own number, and what its route costs from each of its starts.
-fn set_numbers(costs: &Costs, count: u8, set: u16) -> ArrayVec<u32, SET_ROOM>
+fn set_numbers(costs: &Costs, count: u8, set: u16) -> ArrayVec<u32, SET_LINE_ROOM>
     requires count { count ≡ length costs.now.at.items }
     requires few { count ≤ MOST_RIDERS }
     requires set { set < 2 ^ count }

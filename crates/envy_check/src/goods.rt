@@ -1,11 +1,14 @@
 ghost use Rattle.std.specs.Prelude.{◌≡◌, ℕ, ◌-◌, ◌*◌, ◌<◌, ◌≤◌, if◌then◌else◌, length};
 ghost use Rattle.bid_rules.specs.Goods.{AreOwners, IsValidGoodsCase, player_count, points};
+ghost use Rattle.envy_check.specs.Fairness.{AreBestOwners, HasNoFails};
 ghost use Rattle.envy_check.specs.BestGoods.{IsBetter};
 ghost use Rattle.envy_check.specs.Goods.{IsEf1, IsEf1Row, IsEf1Table, IsMostValued, IsPointsRow, IsPointsTable, goods_of, is_owner, points_envy, points_for};
 
+use crate::laws::one_good_law;
 use arrayvec::ArrayVec;
 use bid_rules::GoodsCase;
 use bid_rules::limits::{MEMBER_ROOM, MOST_GOODS, WHOLE_POINTS};
+use goods_laws::best_goods_law;
 
 /// Whether a player envies another, and what would end it (Budish 2011).
 #[derive(Clone, Copy, Debug, PartialEq, Eq)]
@@ -59,8 +62,11 @@ pub fn ef1_table(
     requires case { IsValidGoodsCase case.now }
     requires each { length owners.now ≡ case.now.facts.goods }
     requires owners { AreOwners case.now owners.now }
-    ensures { IsEf1Table case.now owners.now result.items }
+    ensures table { IsEf1Table case.now owners.now result.items }
+    ensures fair { AreBestOwners case.now owners.now → HasNoFails result.items }
 {
+    best_goods_law();
+    one_good_law();
     let mut table = ArrayVec::new();
     for place in 0..case.values.len() {
         table.push(ef1_row(case, owners, place as u8 + 1));

@@ -2,11 +2,21 @@
 ghost use Rattle.std.specs.Prelude.{◌≡◌, ◌↔◌, Contains, ℕ, ℤ, pos, negsuc, ◌<◌, ◌≤◌, ◌+ℤ◌, ◌-ℤ◌, ◌≤ℤ◌, List, [], ◌∷◌, slice_index, slice_index_or, ◌*ℤ◌, ◌<ℤ◌, All, count_by, nat_lt, length};
 ghost use Rattle.std.specs.List.{range_with_len};
 ghost use Rattle.bid_rules.specs.declared.goods.GoodsCase.{GoodsCase};
+ghost use Rattle.bid_rules.specs.declared.limits.TheConstants.{MEMBER_ROOM};
 ghost use Rattle.bid_rules.specs.declared.rents.RentCase.{RentCase};
 ghost use Rattle.bid_rules.specs.Cents.{IsCentPlan, amount_at, cent_plan, cents_left, floor_of, places_before, prices_by_member, remainder_of};
 ghost use Rattle.bid_rules.specs.Fractions.{Fraction, IsQuotient, sum_of_fractions};
+ghost use Rattle.bid_rules.specs.Goods.{owners_by_good};
 ghost use Rattle.bid_rules.specs.Rent.{HasParts, IsAssignment, IsEnvyFree, room_count, value};
-ghost use Rattle.envy_check.specs.Goods.{EndsEnvy, IsMostValued, goods_of};
+ghost use Rattle.goods_laws.specs.MaximumWelfare.{HasMaximumWelfare};
+ghost use Rattle.goods_laws.specs.WorkedGoods.{contested_good};
+ghost use Rattle.arrayvec.specs.declared.array_vec.ArrayVec.{ArrayVec};
+ghost use Rattle.envy_check.specs.declared.goods.Ef1.{Ef1};
+ghost use Rattle.envy_check.specs.Fairness.{HasNoFails, IsEnvyFreeUpToOneGood};
+ghost use Rattle.envy_check.specs.Goods.{EndsEnvy, Envies, IsEf1Table, IsMostValued, goods_of};
+
+use goods_laws::worked_goods_law;
+use nash_bounds::{owners_by_good_law, search_order_law};
 
 /// The floor is the greatest whole number that is not above the amount. As many places get a cent as cents are left over, and a
 /// place that fewer places come before has no smaller remainder.
@@ -40,3 +50,26 @@ pub fn ef1_law()
     ensures { (case : GoodsCase) (owners : List ℕ) (player other best : ℕ) → IsMostValued case player (goods_of owners other) best
         → (EndsEnvy case owners player other best ↔ ((good : ℕ) × Contains (goods_of owners other) good × EndsEnvy case owners player other good)) }
 {}
+
+/// An allocation of maximum Nash welfare is envy-free up to one good (Caragiannis and others 2016, theorem 3.2): whoever envies another
+/// stops once that good of the other's is taken away to which they give most points. So its table of answers has no `Fails`.
+pub fn one_good_law()
+    ensures up_to_one_good { (case : GoodsCase) (owners : List ℕ) → HasMaximumWelfare case owners → IsEnvyFreeUpToOneGood case (owners_by_good case owners) }
+    ensures no_fails { (case : GoodsCase) (owners : List ℕ) (table : List (ArrayVec Ef1 MEMBER_ROOM (Unit {0})))
+        → HasMaximumWelfare case owners → IsEf1Table case (owners_by_good case owners) table → HasNoFails table }
+{
+    search_order_law();
+    owners_by_good_law();
+}
+
+/// The definitions on a worked case: over the best owners of the contested good one of the two who want it alone envies the other, until it
+/// is taken away. Where the first player has both goods, the third envies past one good. The product over all three is 0 there as in each
+/// allocation, so it is by the count of players with points that this is no maximum welfare.
+pub fn worked_envy_law()
+    ensures envy { Envies contested_good (1 ∷ 3 ∷ []) 2 1 }
+    ensures ended { EndsEnvy contested_good (1 ∷ 3 ∷ []) 2 1 1 }
+    ensures past { IsEnvyFreeUpToOneGood contested_good (1 ∷ 1 ∷ []) → ⊥ }
+    ensures no_maximum { HasMaximumWelfare contested_good (1 ∷ 1 ∷ []) → ⊥ }
+{
+    worked_goods_law();
+}

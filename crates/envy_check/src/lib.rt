@@ -8,5 +8,7 @@ mod rents;
 
 pub use cents::cent_plan;
 pub use goods::{Ef1, ef1_table, points_of, points_table};
-pub use laws::{cent_envy_law, cent_plan_law, ef1_law, worked_plans_law};
+pub use laws::{
+    cent_envy_law, cent_plan_law, ef1_law, one_good_law, worked_envy_law, worked_plans_law,
+};
 pub use rents::{envy_table, is_envy_free, utility_at};

@@ -15,7 +15,8 @@ use Rattle.fare_laws.specs.Entries.{AreEntries, IsDeparture, cost_by, costs_from
 use Rattle.fare_laws.proofs.Least.{least_is}
 use Rattle.fare_laws.proofs.Parts.{map_map}
 use Rattle.fare_laws.proofs.RouteRecurrence.{first_leg, route_of_parts}
-use Rattle.fare_laws.proofs.SetParts.{map_all, parts_of_set}
+use Rattle.split_lemmas.proofs.MappedLists.{map_same_on}
+use Rattle.fare_laws.proofs.SetParts.{parts_of_set}
 use Rattle.fare_laws.proofs.SetRiders.{not_without, without_permutes}
 
 -- the recurrence of route costs by set
@@ -88,7 +89,7 @@ upto : (case : FareCase) (n : ℕ) (entry : ℕ → ℕ → ℕ) → AreEntries 
 upto case n entry h zero at set l start = absurd (omega arith)
 upto case n entry h (suc k) at set l start =
     h.each at set start
-    ∙ ap least (map_all (IsRider n set) (entry_by case entry at set) (λ rider. leg case.facts (start_of case at) (place_of case rider) + route_cost case (place_of case rider) (riders_in (set - 2 ^ (rider - 1)))) (riders_in set)
+    ∙ ap least (map_same_on (IsRider n set) (entry_by case entry at set) (λ rider. leg case.facts (start_of case at) (place_of case rider) + route_cost case (place_of case rider) (riders_in (set - 2 ^ (rider - 1)))) (riders_in set)
     (are_riders n set start.within)
     (λ rider is. ap (λ cents. leg case.facts (start_of case at) (place_of case rider) + cents)
     (behind case n entry h set rider start.some start.within is (λ at smaller below. upto case n entry h k at smaller (omega (arith, l, below))))))
@@ -109,6 +110,6 @@ are_costs case n = record {
   none = λ at. cost_of_none case (start_of case at);
   each = λ at set start.
       route_of_set case (start_of case at) set start.some
-      ∙ ap least (map_all (IsRider n set) (cost_by case (start_of case at) set) (entry_by case (costs_from case) at set) (riders_in set) (are_riders n set start.within)
+      ∙ ap least (map_same_on (IsRider n set) (cost_by case (start_of case at) set) (entry_by case (costs_from case) at set) (riders_in set) (are_riders n set start.within)
       (λ rider is. ap (λ place. leg case.facts (start_of case at) (place_of case rider) + route_cost case place (riders_in (set - 2 ^ (rider - 1)))) (sym (start_place case rider is.low))));
 }

@@ -1,9 +1,10 @@
 -- The parts of a set: each rider with the set without it.
-use Rattle.std.proofs.Common.{◌≡◌, ℕ, zero, suc, ◌+◌, ◌-◌, ◌*◌, ◌/◌, ◌%◌, ◌^◌, ◌≤◌, ◌==◌, List, [], ◌∷◌, map, All, Bool, true, false, cond, arith, refl, sym, ap, ◌∙◌, subst}
+use Rattle.std.proofs.Common.{◌≡◌, ℕ, zero, suc, ◌+◌, ◌-◌, ◌*◌, ◌/◌, ◌%◌, ◌^◌, ◌≤◌, ◌==◌, List, ◌∷◌, map, All, Bool, true, false, cond, arith, refl, sym, ap, ◌∙◌, subst}
 use Rattle.std.proofs.lemmas.Bool.{eqb-true}
 use Rattle.std.proofs.lemmas.Bool.Decides.{nat_tests}
-use Rattle.std.proofs.lemmas.List.Elements.{All-nil, All-cons, All-head, All-tail, All-weaker}
+use Rattle.std.proofs.lemmas.List.Elements.{All-nil, All-cons, All-weaker}
 use Rattle.bid_rules.specs.Coalitions.{riders_in}
+use Rattle.split_lemmas.proofs.MappedLists.{map_same_on}
 use Rattle.fare_laws.proofs.SetNumbers.{riders_from, riders_in-are, self_small, twice_power}
 use Rattle.fare_laws.proofs.Parts.{map_map, parts}
 
@@ -30,11 +31,6 @@ bits_in (suc n) a s =
   where
     here : (s % 2 == 1) ≡ true → 2 ^ (a - a) ≤ s
     here e = let odd : s % 2 ≡ 1 = grind (arith, nat_tests) in let z : a - a ≡ 0 = omega arith in let one : 2 ^ (a - a) ≡ 1 = ap (λ n. 2 ^ n) z in omega (arith, odd, one)
-
--- functions that agree on the elements
-pub map_all : {Y : Type 0} (P : ℕ → Type 0) (f g : ℕ → Y) (xs : List ℕ) → All P xs → ((x : ℕ) → P x → f x ≡ g x) → map f xs ≡ map g xs
-map_all P f g [] h e = refl
-map_all P f g (x ∷ xs) h e = ap (λ y. y ∷ map f xs) (e x (All-head P x xs h)) ∙ ap (λ ys. g x ∷ ys) (map_all P f g xs (All-tail P x xs h) e)
 
 -- each rider with the others, by numbers
 abbrev others : ℕ → ℕ → ℕ → ℕ → ℕ × List ℕ
@@ -79,17 +75,17 @@ parts_from (suc n) a s = by (s % 2 == 1) refl (parts_from n (a + 1) (s / 2))
         ∙ ap (λ ps. others (suc n) a s a ∷ ps)
         (ap (map (λ p. (p.0, a ∷ p.1))) more
         ∙ map_map (λ p. (p.0, a ∷ p.1)) (others n (a + 1) (s / 2)) rest
-        ∙ map_all (IsIn (a + 1) (s / 2)) (λ r. (r, a ∷ riders_from n (a + 1) (s / 2 - 2 ^ (r - (a + 1))))) (others (suc n) a s) rest (bits_in n (a + 1) (s / 2))
+        ∙ map_same_on (IsIn (a + 1) (s / 2)) (λ r. (r, a ∷ riders_from n (a + 1) (s / 2 - 2 ^ (r - (a + 1))))) (others (suc n) a s) rest (bits_in n (a + 1) (s / 2))
         (λ r h. ap (λ xs. (r, xs)) (later true e r h)))
     by false e more = more
-        ∙ map_all (IsIn (a + 1) (s / 2)) (others n (a + 1) (s / 2)) (others (suc n) a s) rest (bits_in n (a + 1) (s / 2)) (λ r h. ap (λ xs. (r, xs)) (later false e r h))
+        ∙ map_same_on (IsIn (a + 1) (s / 2)) (others n (a + 1) (s / 2)) (others (suc n) a s) rest (bits_in n (a + 1) (s / 2)) (λ r h. ap (λ xs. (r, xs)) (later false e r h))
 
 -- the parts of a set
 pub parts_of_set : (set : ℕ) → parts (riders_in set) ≡ map (λ rider. (rider, riders_in (set - 2 ^ (rider - 1)))) (riders_in set)
 parts_of_set set =
     let whole = riders_in-are set set (self_small set) in
     ap parts whole ∙ parts_from set 1 set
-    ∙ map_all (λ _. Unit {0}) (others set 1 set) (λ rider. (rider, riders_in (set - 2 ^ (rider - 1)))) (riders_from set 1 set) (λ k d l. tt)
+    ∙ map_same_on (λ _. Unit {0}) (others set 1 set) (λ rider. (rider, riders_in (set - 2 ^ (rider - 1)))) (riders_from set 1 set) (λ k d l. tt)
     (λ rider _. ap (λ xs. (rider, xs)) (sym (riders_in-are set (set - 2 ^ (rider - 1)) (let small = self_small set in omega (arith, small)))))
     ∙ ap (map (λ rider. (rider, riders_in (set - 2 ^ (rider - 1))))) (sym whole)
 

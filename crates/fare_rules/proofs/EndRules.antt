@@ -1,5 +1,5 @@
 -- The rules that are asked when all lines of sets have come.
-use Rattle.std.proofs.Common.{◌≡◌, ℕ, ℤ, pos, ◌+◌, ◌-◌, ◌^◌, ◌<◌, ◌≤◌, List, [], ◌∷◌, length, map, All, ◌≤ℤ◌, inl, inr, slice_index_or, Contains, arith, refl, sym, ap, ◌∙◌, subst, unsigned_abs}
+use Rattle.std.proofs.Common.{◌≡◌, ℕ, ℤ, pos, ◌+◌, ◌-◌, ◌^◌, ◌<◌, List, [], ◌∷◌, length, map, All, ◌≤ℤ◌, inl, inr, slice_index_or, Contains, arith, refl, sym, ap, ◌∙◌, subst, unsigned_abs}
 use Rattle.std.specs.List.{AllZip, range_with_len}
 use Rattle.std.specs.List.Sorted.{IsPermutation}
 use Rattle.std.proofs.lemmas.List.{length-map}
@@ -18,7 +18,7 @@ use Rattle.fare_rules.specs.Printed.{printed_case, printed_route}
 use Rattle.fare_rules.specs.Rules.{AreMeans, HasCase, HasRoute, fares_rule}
 use Rattle.verdicts.specs.declared.verdict.Verdict.TheVariants.{Yes, No}
 use Rattle.verdicts.specs.Verdicts.{AreKept, IsVerdict}
-use Rattle.verdict_lemmas.proofs.Order.{none_asked, one_asked}
+use Rattle.verdicts.proofs.Order.{none_asked, one_asked}
 
 -- the lowest riders go one way
 pub one_way : (nobody : riders_in 0 ≡ []) (case : FareCase) (entry : ℕ → ℕ → ℕ) (at set : ℕ) (xs ys : List ℕ) → IsLowestRoute case entry at set xs → IsLowestRoute case entry at set ys → xs ≡ ys

@@ -1,5 +1,5 @@
 -- What a state stands for, after the head and some lines of sets.
-use Rattle.std.specs.Prelude.{◌≡◌, ◌⊎◌, ℕ, ℤ, ◌+◌, List, length, map}
+use Rattle.std.specs.Prelude.{◌≡◌, ◌⊎◌, ℤ, ◌+◌, List, length, map}
 use Rattle.set_costs.specs.Table.{ListsCosts}
 use Rattle.cert_reader.specs.Views.{FaresView}
 use Rattle.fare_rules.specs.Head.{AreCostLines, HasOtherLine}

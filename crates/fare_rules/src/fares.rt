@@ -5,7 +5,7 @@ ghost use Rattle.bid_rules.specs.Fares.{riders_of, sum_of_marginal_costs};
 ghost use Rattle.bid_rules.specs.Fractions.{IsQuotient};
 ghost use Rattle.bid_rules.specs.Orders.{factorial as orders_of};
 ghost use Rattle.cert_reader.specs.Numbers.{AreShort, IsSmall};
-ghost use Rattle.cert_reader.specs.declared.limits.TheConstants.{MOST_DENOMINATOR};
+ghost use Rattle.cert_reader.specs.declared.limits.TheConstants.{MOST_PRINTED_DENOMINATOR};
 ghost use Rattle.split_frac.specs.Frac.{fraction_of};
 
 use bid_rules::limits::{MOST_FARE_CENTS, MOST_RIDERS};
@@ -15,7 +15,7 @@ use split_frac::Frac;
 /// A number of up to 25 digits, so many times.
 fn times(number: i128, many: u64) -> i128
     requires number { IsSmall number }
-    requires many { many ≤ MOST_DENOMINATOR }
+    requires many { many ≤ MOST_PRINTED_DENOMINATOR }
     ensures { result ≡ number *ℤ pos many }
 {
     number * i128::from(many)
@@ -25,7 +25,7 @@ fn times(number: i128, many: u64) -> i128
 fn is_mean(fare: &Frac, sum: i128, count: u8) -> bool
     requires count { count ≤ MOST_RIDERS }
     requires numerator { IsSmall fare.now.num }
-    requires denominator { fare.now.den ≤ MOST_DENOMINATOR }
+    requires denominator { fare.now.den ≤ MOST_PRINTED_DENOMINATOR }
     requires sum { unsigned_abs sum ≤ MOST_FARE_CENTS * (MOST_RIDERS + 1) * orders_of MOST_RIDERS }
     ensures { IsTrue result ↔ IsQuotient (fraction_of fare.now) sum (orders_of count) }
 {

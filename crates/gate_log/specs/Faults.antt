@@ -2,7 +2,7 @@
 use Rattle.std.specs.Prelude.{◌≡◌, ◌≢◌, ◌⊎◌, ℕ, ◌+◌, ◌≤◌, ◌<◌, List, [], ◌∷◌, ◌++◌, length, take, slice_index, All, ◌^◌}
 use Rattle.std.specs.Int.{from_le_bytes, w32}
 use Rattle.gate_log.specs.Records.{start_line, header, IsVersion, IsLength, IsRun, Begins, Stands, place_after}
-use Rattle.gate_log.specs.declared.limits.TheConstants.{LINE_SIZE, SECRET_SIZE, EMPTY_SIZE}
+use Rattle.gate_log.specs.declared.limits.TheConstants.{LINE_SIZE, SECRET_SIZE, LENGTH_SIZE, FRONT_SIZE, EMPTY_SIZE}
 
 -- the first byte of the start line that differs or is missing
 pub record IsLineFault (place : ℕ) (file : List ℕ) : Type 0 where
@@ -21,16 +21,16 @@ IsHeaderFault place file = IsLineFault place file ⊎ IsCutHeader place file
 
 -- the length that stands behind a gate
 abbrev pub length_in : List ℕ → ℕ
-length_in more = from_le_bytes w32 (take 4 more)
+length_in more = from_le_bytes w32 (take LENGTH_SIZE more)
 
 -- the fault of a record with an open gate at p, behind which more stands in a file of this size: the file's size where
 -- the bytes of the length are missing, p + 1 where the length is out of range, the file's size where the body or the
 -- next gate is missing
 abbrev pub IsShort : List ℕ → Type 0
-IsShort more = (length more < 4) ⊎ ((4 ≤ length more) × IsLength (length_in more) × (length more < 5 + length_in more))
+IsShort more = (length more < LENGTH_SIZE) ⊎ ((LENGTH_SIZE ≤ length more) × IsLength (length_in more) × (length more < FRONT_SIZE + length_in more))
 
 abbrev pub IsOutOfRange : List ℕ → Type 0
-IsOutOfRange more = (4 ≤ length more) × (¬ IsLength (length_in more))
+IsOutOfRange more = (LENGTH_SIZE ≤ length more) × (¬ IsLength (length_in more))
 
 abbrev pub IsRecordFault : (p : ℕ) (more : List ℕ) (size place : ℕ) → Type 0
 IsRecordFault p more size place = (IsShort more × (place ≡ size)) ⊎ (IsOutOfRange more × (place ≡ p + 1))

@@ -3,6 +3,7 @@ use Rattle.std.specs.Prelude.{◌≡◌, ◌≢◌, ◌⊎◌, ℕ, ◌+◌, ◌
 use Rattle.std.specs.Int.{to_le_bytes, w32}
 use Rattle.gate_log.specs.Records.{IsLength}
 use Rattle.gate_log.specs.Faults.{IsShort, IsOutOfRange}
+use Rattle.gate_log.specs.declared.limits.TheConstants.{LENGTH_SIZE, FRONT_SIZE}
 use Rattle.gate_log.specs.declared.gate.AtGate.{AtGate}
 use Rattle.gate_log.specs.declared.gate.AtGate.TheVariants as gate
 
@@ -12,7 +13,7 @@ EndsEarly ahead = (ahead ≡ []) ⊎ ((gate : ℕ) × (more : List ℕ) × (gate
 
 -- an open gate, this length in its range, and behind it as many bytes and one more for the next gate
 abbrev pub BeginsRecord : List ℕ → ℕ → Type 0
-BeginsRecord ahead n = (gate : ℕ) × (more : List ℕ) × (gate ≢ 0) × (ahead ≡ gate ∷ more) × IsLength n × (take 4 more ≡ to_le_bytes w32 n) × (5 + n ≤ length more)
+BeginsRecord ahead n = (gate : ℕ) × (more : List ℕ) × (gate ≢ 0) × (ahead ≡ gate ∷ more) × IsLength n × (take LENGTH_SIZE more ≡ to_le_bytes w32 n) × (FRONT_SIZE + n ≤ length more)
 
 abbrev pub Shows : List ℕ → AtGate → Type 0
 Shows ahead gate.Closed = (more : List ℕ) × (ahead ≡ 0 ∷ more)

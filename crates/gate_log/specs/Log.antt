@@ -1,7 +1,7 @@
 -- A log and the file to which it belongs.
 use Rattle.std.specs.Prelude.{◌≡◌, ℕ, ◌+◌, ◌≤◌, List, length, take, drop, Bool, true, IsFalse, slice_index}
 use Rattle.split_base.specs.Disk.{Each}
-use Rattle.gate_log.specs.declared.limits.TheConstants.{LINE_SIZE, SECRET_SIZE, VERSION_GATE, EMPTY_SIZE}
+use Rattle.gate_log.specs.declared.limits.TheConstants.{LINE_SIZE, SECRET_SIZE, FRONT_SIZE, VERSION_GATE, EMPTY_SIZE}
 use Rattle.gate_log.specs.Records.{start_line, IsVersion, Begins, Stands, place_after}
 
 -- A log as contracts see it: the place of its gate, the file's version, whether that gate is known to be closed, and
@@ -40,7 +40,7 @@ closed log = record { place = log.place; version = log.version; at_end = true; s
 
 -- the log behind a record with a body of this length
 abbrev pub past : LogView → ℕ → LogView
-past log n = record { place = log.place + 5 + n; version = log.version; at_end = log.at_end; size = log.size; ahead = drop (5 + n) log.ahead }
+past log n = record { place = log.place + FRONT_SIZE + n; version = log.version; at_end = log.at_end; size = log.size; ahead = drop (FRONT_SIZE + n) log.ahead }
 
 -- where the secret stands in a header
 abbrev pub secret_in : List ℕ → List ℕ

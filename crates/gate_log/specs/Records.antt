@@ -3,7 +3,7 @@ use Rattle.std.specs.Prelude.{◌≡◌, ◌≢◌, ◌⊎◌, ℕ, ◌+◌, ◌
 use Rattle.std.specs.List.{sum_by}
 use Rattle.std.specs.Int.{to_le_bytes, w32}
 use Rattle.split_base.specs.Disk.{IsWritten, IsTorn, Tears}
-use Rattle.gate_log.specs.declared.limits.TheConstants.{SECRET_SIZE, FIRST_GATE, BODY_LEAST, BODY_MOST}
+use Rattle.gate_log.specs.declared.limits.TheConstants.{SECRET_SIZE, FRONT_SIZE, FIRST_GATE, BODY_LEAST, BODY_MOST}
 
 -- the line that a journal begins with
 abbrev pub start_line : List ℕ
@@ -62,7 +62,7 @@ pub record Begins (version : ℕ) (secret : List ℕ) (bodies : List (List ℕ))
 
 -- the place of the gate behind them
 abbrev pub place_after : List (List ℕ) → ℕ
-place_after bodies = FIRST_GATE + sum_by (λ body. 5 + length body) bodies
+place_after bodies = FIRST_GATE + sum_by (λ body. FRONT_SIZE + length body) bodies
 
 -- the file stands for the bodies, with one more or without it
 abbrev pub IsBeforeOrAfter : ℕ → List ℕ → List (List ℕ) → List ℕ → List ℕ → Type 0

@@ -7,13 +7,13 @@ ghost use Rattle.gate_log.specs.Faults.{IsHeaderFault, IsFaultAfter};
 ghost use Rattle.gate_log.specs.Calls.{faults_after};
 ghost use Rattle.gate_log.specs.Log.{LogView, IsLogOf, IsReading, IsAhead, with_ahead, closed, past};
 ghost use Rattle.gate_log.specs.Gate.{Shows};
-ghost use Rattle.gate_log.specs.declared.limits.TheConstants.{RECORD_MOST, FIRST_GATE, VERSION_GATE};
+ghost use Rattle.gate_log.specs.declared.limits.TheConstants.{RECORD_MOST, FRONT_SIZE, FIRST_GATE, VERSION_GATE};
 
 use crate::LogFault;
 use crate::ahead::Ahead;
 use crate::gate::{AtGate, look};
 use crate::header::{read_secret, read_version};
-use crate::limits::{BEHIND_MOST, FIRST_GATE, RECORD_MOST, SECRET_SIZE, VERSION_GATE};
+use crate::limits::{BEHIND_MOST, FIRST_GATE, FRONT_SIZE, RECORD_MOST, SECRET_SIZE, VERSION_GATE};
 use arrayvec::ArrayVec;
 use split_base::{Disk, Failed, NoMemory, write_synced};
 use std::marker::Model;
@@ -122,7 +122,7 @@ impl Log {
         ensures refused { OnErr result (self.new ≡ with_ahead self.old self.new.ahead) }
         ensures again { D.is_honest disk.old → (secret : List ℕ) (bodies : List (List ℕ)) → IsReading (D.seen disk.old) self.old secret bodies
             → OnErr result (IsReading (D.seen disk.new) self.new secret bodies) }
-        ensures moves { IfOk result (λ more. IsTrue more → (self.new.place ≡ self.old.place + 5 + length body.new.items) × (self.new.place < 2 ^ 63)) }
+        ensures moves { IfOk result (λ more. IsTrue more → (self.new.place ≡ self.old.place + FRONT_SIZE + length body.new.items) × (self.new.place < 2 ^ 63)) }
         ensures goes_on { IfOk result (λ more. IsTrue more → self.new.at_end ≡ self.old.at_end) }
         ensures at_end { IfOk result (λ more. IsFalse more → IsTrue self.new.at_end) }
         ensures at_gate { IfOk result (λ more. IsFalse more → self.new.place ≡ self.old.place) }
@@ -253,10 +253,10 @@ impl Log {
     }
 
     fn body_ahead(&self, count: usize) -> &[u8]
-        requires { 5 + count ≤ length self.now.ahead }
-        ensures { result.now ≡ take count (drop 5 self.now.ahead) }
+        requires { FRONT_SIZE + count ≤ length self.now.ahead }
+        ensures { result.now ≡ take count (drop FRONT_SIZE self.now.ahead) }
     {
-        &self.ahead.bytes()[5..5 + count]
+        &self.ahead.bytes()[FRONT_SIZE..FRONT_SIZE + count]
     }
 
     fn size(&self) -> u64
@@ -273,11 +273,11 @@ impl Log {
 
     // Moves behind a record.
     fn pass(&mut self, count: usize)
-        requires { 6 + count ≤ length self.old.ahead }
+        requires { FRONT_SIZE + count < length self.old.ahead }
         ensures { self.new ≡ past self.old count }
     {
-        self.ahead.pass(5 + count);
-        self.place += 5;
+        self.ahead.pass(FRONT_SIZE + count);
+        self.place += FRONT_SIZE as u64;
         self.place += count as u64;
     }
 }

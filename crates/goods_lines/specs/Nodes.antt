@@ -1,5 +1,5 @@
 -- Nodes of a tree as the writer keeps them.
-use Rattle.std.specs.Prelude.{◌≡◌, ℕ, ◌≤◌, List, length}
+use Rattle.std.specs.Prelude.{◌≡◌, ◌≤◌, length}
 use Rattle.bid_rules.specs.declared.goods.GoodsCase.{GoodsCase}
 use Rattle.bid_rules.specs.Goods.{AreOwners, IsValidGoodsCase, pair_of}
 use Rattle.nash_bounds.specs.Lanes.{IsLanes}

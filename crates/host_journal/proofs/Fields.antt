@@ -3,7 +3,7 @@ use Rattle.std.proofs.Common.{◌≡◌, ℕ, zero, suc, ◌+◌, ◌^◌, ◌<�
 use Rattle.std.specs.Prelude.{All, flat_map}
 use Rattle.std.specs.Int.{Width, w32, w64, byte_len, from_le_bytes, to_le_bytes}
 use Rattle.std.specs.Str.{IsUtf8, is_utf8}
-use Rattle.std.proofs.lemmas.Bool.{cases_lt, ltb-false, le-ltb}
+use Rattle.std.proofs.lemmas.Bool.{cases_lt, false_from_ne_true, ltb-false, le-ltb}
 use Rattle.std.proofs.lemmas.List.{take_at, drop_at, take-append-drop, length-append, length-take, get_or-drop, get_or-take, get_or_past}
 use Rattle.std.proofs.lemmas.List.Concat.{flat_map-cons}
 use Rattle.std.proofs.lemmas.List.Elements.{All-nil, All-cons, All-head, All-tail}
@@ -222,15 +222,10 @@ pub text_done : (most n : ℕ) (bytes rest : List ℕ) → Some (n, rest) ≡ by
 unfolding text_at
 text_done most n bytes rest one long utf8 few = rw (← one, le-ltb _ _ long, is_utf8-from_IsUtf8 _ utf8, le-ltb _ _ few) refl
 
--- a test that is never true is false
-is_false : (b : Bool) → (b ≡ true → ⊥) → b ≡ false
-is_false true never = absurd (never refl)
-is_false false never = refl
-
 -- bytes that are no UTF-8 are no text
 pub text_broken : (most n : ℕ) (bytes rest : List ℕ) → Some (n, rest) ≡ byte_at bytes → n ≤ length rest → (IsUtf8 (take n rest) → ⊥) → text_at most bytes ≡ None
 unfolding text_at
-text_broken most n bytes rest one long broken = rw (← one, le-ltb _ _ long, is_false (is_utf8 (take n rest)) (λ yes. broken (IsUtf8-from_is_utf8 _ yes))) refl
+text_broken most n bytes rest one long broken = rw (← one, le-ltb _ _ long, false_from_ne_true (is_utf8 (take n rest)) (λ yes. broken (IsUtf8-from_is_utf8 _ yes))) refl
 
 -- ---- lists
 

@@ -8,7 +8,10 @@ mod reading;
 mod writing;
 
 pub use commits::{CommitFault, commit};
-pub use laws::{JOURNAL_MOST, events_law, file_law, size_law, spelling_law};
+pub use laws::{
+    BID_MOST, CLOSE_SIZE, CREATION_MOST, FARES_MOST, JOURNAL_MOST, WITHDRAWAL_SIZE, events_law,
+    file_law, size_law, spelling_law,
+};
 pub use opening::open_host;
 pub use reading::read_event;
 pub use writing::write_event;

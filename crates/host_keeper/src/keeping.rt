@@ -1,5 +1,5 @@
 // Keeping an event.
-ghost use Rattle.std.specs.Prelude.{◌≡◌, None};
+ghost use Rattle.std.specs.Prelude.{◌≡◌, ◌≤◌, ◌↔◌, None};
 ghost use Rattle.sealed_core.specs.Host.{CanApply, event_view};
 ghost use Rattle.host_keeper.specs.Calls.{Keeps, Leads};
 ghost use Rattle.host_keeper.specs.States.{Stands, State};
@@ -28,8 +28,12 @@ pub fn keep<D: Disk>(
 ) -> Result<(), LogFault>
     requires ready { serving.old.waiting ≡ None }
     requires can { CanApply serving.old.host.content (event_view event) }
-    ensures { (s : State) → Stands D.Disk serving.old disk.old s
+    ensures kept { (s : State) → Stands D.Disk serving.old disk.old s
         → Leads D.Disk serving.new disk.old disk.new s (λ new. Keeps D.Disk disk.old disk.new (event_view event) s new result) }
+
+    // Whatever the serving stands for.
+    ensures count { D.faults disk.old ≤ D.faults disk.new }
+    ensures honest { D.is_honest disk.old ↔ D.is_honest disk.new }
 {
     match commit(alloc, &mut serving.host, &mut serving.log, disk, event) {
         Ok(()) => Ok(()),

@@ -27,6 +27,10 @@ pub fn reopen<D: Disk>(alloc: Global, serving: &mut Serving, disk: &mut D) -> Re
     ensures reopened { (s : State) → Stands D.Disk serving.old disk.old s
         → Leads D.Disk serving.new disk.old disk.new s (λ new. Reopens D.Disk disk.old disk.new s new result) }
     ensures ready { OnOk result (serving.new.waiting ≡ None) }
+
+    // Whatever the serving stands for.
+    ensures count { D.faults disk.old ≤ D.faults disk.new }
+    ensures honest { D.is_honest disk.old ↔ D.is_honest disk.new }
 {
     events_law();
     match open_host(alloc, disk) {

@@ -1,5 +1,5 @@
 -- The replies that are due, and their bytes.
-use Rattle.std.specs.Prelude.{◌≡◌, ℕ, Bool, true, false, ◌||◌, List, ◌++◌, Option, Some}
+use Rattle.std.specs.Prelude.{◌≡◌, ◌<◌, ℕ, Bool, true, false, ◌||◌, List, length, ◌++◌, Option, Some}
 use Rattle.split_http.specs.declared.head.Head.{Head}
 use Rattle.split_http.specs.declared.head.Verb.{Verb}
 use Rattle.split_http.specs.declared.head.Verb.TheVariants as verb
@@ -57,6 +57,6 @@ pub record Tells (due : DueView) (reply : HttpReply) : Type 0 where
 abbrev pub AreBytes : DueView → List ℕ → Type 0
 AreBytes due bytes = (reply : HttpReply) × Tells due reply × IsReply reply bytes
 
--- a first part of the bytes
+-- a first part of the bytes, behind which at least one is missing
 abbrev pub IsPartOf : List ℕ → List ℕ → Type 0
-IsPartOf whole part = (rest : List ℕ) × (whole ≡ part ++ rest)
+IsPartOf whole part = (rest : List ℕ) × (whole ≡ part ++ rest) × (0 < length rest)

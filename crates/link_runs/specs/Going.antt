@@ -1,15 +1,14 @@
 -- From head to head: how the run of a link goes on.
-use Rattle.std.proofs.Common.{◌≡◌, ℕ, suc, ◌==◌, Bool, true, false, List, [], ◌∷◌, ◌++◌, Option, None, Some, refl, sym, ap, ◌∙◌, subst, inl, inr, append_assoc, append-nil, if◌then◌else◌}
+use Rattle.std.proofs.Common.{◌≡◌, ℕ, suc, ◌==◌, Bool, true, false, List, [], ◌∷◌, ◌++◌, Option, None, Some, refl, sym, ap, ◌∙◌, subst, inl, inr, append_assoc, if◌then◌else◌}
 use Rattle.std.proofs.KnownBytes.{Appends-nil, Appends-trans, prepend_known-nil}
 use Rattle.split_base.specs.Clocks.{ClockRun}
 use Rattle.split_http.specs.Turns.{Told}
 use Rattle.link_runs.specs.declared.ends.LinkEnd.{LinkEnd}
-use Rattle.link_runs.specs.declared.ends.LinkEnd.TheVariants as ends
 use Rattle.link_runs.specs.Dues.{DueView}
 use Rattle.link_runs.specs.Ends.{Ending}
 use Rattle.link_runs.specs.Hearing.{counts_joined, none_joined, some_told}
-use Rattle.link_runs.specs.Runs.{After, Heads, LastHead, LinkRun, Never, Run, Service, Stops, end_of}
-use Rattle.link_runs.specs.Served.{CountsEnd, FinishSays, Going, HeadServed, LinkView, NoneFailed, RanTo, Replied, WentOn, carried}
+use Rattle.link_runs.specs.Runs.{After, Heads, LastHead, LinkRun, Never, Run, Service, end_of}
+use Rattle.link_runs.specs.Served.{CountsEnd, CountsServed, FinishSays, Going, HeadServed, HeardQuiet, LinkView, NoneFailed, RanTo, Replied, WentOn, carried}
 
 -- calls of a clock, one row of them after the other
 pub clock_trans : {C : Type 0} (gives : C → Option ℕ → C → Type 0) (faults : C → ℕ) (a b c : C) (xs ys : List (Option ℕ))
@@ -18,7 +17,7 @@ clock_trans gives faults a b c [] ys p q = subst (λ z. ClockRun gives faults z 
 clock_trans gives faults a b c (x ∷ xs) ys p q = (p.0, p.1, p.2, p.3, clock_trans gives faults p.0 b c xs ys p.4 q)
 
 -- a reply that was written tells of no failed call
-ends_whole : (link now : LinkView) (memory : Bool) → NoneFailed link now → CountsEnd link now (if memory then Ending.memory else Ending.ended)
+pub ends_whole : (link now : LinkView) (memory : Bool) → NoneFailed link now → CountsEnd link now (if memory then Ending.memory else Ending.ended)
 ends_whole link now true none = none
 ends_whole link now false none = none
 
@@ -98,22 +97,29 @@ module _ {W : Type 0} (service : Service W) (link mid now : LinkView) (asked : L
         }
       ]
 
+-- the counts behind a reply
+pub counts_finished : (link mid now : LinkView) (due : DueView) (result : Option LinkEnd) → NoneFailed link mid → FinishSays mid now due result → CountsServed link now result
+counts_finished link mid now due None none (still, (bytes, counts)) = none_joined link mid now none counts
+counts_finished link mid now due (Some end) none (inl ((closed, is_end), (bytes, counts))) =
+    (end_of due, is_end, counts_joined link mid now (end_of due) none (ends_whole mid now due.said.memory counts))
+counts_finished link mid now due (Some end) none (inr ((bytes, counts), is_end)) = (Ending.write_fault, is_end, counts_joined link mid now Ending.write_fault none counts)
+
 -- no reply was begun
 pub head_quiet : {W : Type 0} (service : Service W) (link now : LinkView) (asked : List (Option ℕ) → Type 0) (stands : W → Type 0) (last : Bool) (w : W) (end : LinkEnd)
-    → RanTo Stops link now asked stands w end → HeadServed service link now asked stands last w (Some end)
-head_quiet service link now asked stands last w end q = record {
+    → HeardQuiet link now asked end → stands w → HeadServed service link now asked stands last w (Some end)
+head_quiet service link now asked stands last w end q st = record {
   all = q.all;
   answers = q.answers;
   out = q.out;
-  new = q.new;
+  new = w;
   ending = q.ending;
   is_end = q.is_end;
   told = q.told;
   clock = q.clock;
   wrote = q.wrote;
   counts = q.counts;
-  serving = q.serving;
-  run_is = inl q.run_is;
+  serving = st;
+  run_is = inl (q.stops, refl);
 }
 
 after_weak : {W : Type 0} (more : Run W) (rest : List ℕ) (answers : List (Option ℕ)) (w : W) (due : DueView) (out : List ℕ) (new : W) (end : Ending)
@@ -216,25 +222,3 @@ module _ {W C : Type 0} (service : Service W) (most : ℕ) (gives : C → Option
         serving = h.serving;
         run_is = whole.2;
       }
-
--- after the last of the heads that the link may make
-pub going_over : {W : Type 0} (service : Service W) (most : ℕ) (link now : LinkView) (asked : List (Option ℕ) → Type 0) (stands : W → Type 0) (w : W)
-    → (held : List ℕ) → Going service most link (carried held now) asked stands 0 w → RanTo (LinkRun service most) link now asked stands w ends.Ended
-going_over service most link now asked stands w held g =
-    let rest = some_told (carried held now).ahead in
-    let whole = g.goes rest.0 rest.1 [] [] g.mid Ending.ended (refl, refl, refl, refl) in
-    record {
-      all = whole.0;
-      answers = g.answers;
-      out = g.out;
-      new = g.mid;
-      ending = Ending.ended;
-      is_end = refl;
-      told = whole.1;
-      clock = g.clock;
-      wrote = g.wrote;
-      counts = g.counts;
-      serving = g.serving;
-      run_is = subst (λ z. LinkRun service most whole.0 z w g.out g.mid Ending.ended) (append-nil g.answers)
-          (subst (λ z. LinkRun service most whole.0 (g.answers ++ []) w z g.mid Ending.ended) (append-nil g.out) whole.2);
-    }

@@ -3,7 +3,9 @@ pub mod Ends
 pub mod Runs
 pub mod Served
 pub mod Ports
+pub mod Exchanges
 pub mod Hearing
 pub mod Finishing
 pub mod Going
 pub mod Porting
+pub mod Joining

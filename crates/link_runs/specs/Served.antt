@@ -1,13 +1,16 @@
 -- What the calls over a link say, where its bytes are told.
 use Rattle.std.specs.Prelude.{◌≡◌, ◌⊎◌, ℕ, Bool, true, false, List, [], ◌∷◌, ◌++◌, Option, Some, None}
 use Rattle.std.specs.Io.KnownBytes.{Appends, prepend_known}
+use Rattle.split_base.specs.declared.streams.Sink.{Ghosts as SinkSide}
+use Rattle.split_base.specs.declared.streams.Source.{Ghosts as SourceSide}
 use Rattle.split_http.specs.declared.head.Head.{Head}
-use Rattle.split_http.specs.Turns.{Told}
+use Rattle.split_http.specs.Turns.{Told, interim_of}
 use Rattle.link_runs.specs.declared.ends.LinkEnd.{LinkEnd}
 use Rattle.link_runs.specs.declared.ends.LinkEnd.TheVariants as ends
+use Rattle.link_runs.specs.declared.refusals.HeadRefusal.{HeadRefusal}
 use Rattle.link_runs.specs.Dues.{AreBytes, DueView, IsPartOf, closes}
 use Rattle.link_runs.specs.Ends.{Ending, end_as, reads_after, writes_after}
-use Rattle.link_runs.specs.Runs.{BodyStops, LastHead, LinkRun, Replies, RepliesTo, Run, Service, end_of}
+use Rattle.link_runs.specs.Runs.{Asks, LastHead, LinkRun, Refuses, Replies, Run, Service, Stops, end_of}
 
 -- how a type of links tells the bytes that are left and those that were written, and how many reads and how many writes have failed
 pub record LinkTells (L : Type 0) : Type 0 where
@@ -15,6 +18,10 @@ pub record LinkTells (L : Type 0) : Type 0 where
   pub written : L → Option (List ℕ)
   pub reads : L → ℕ
   pub writes : L → ℕ
+
+-- by what the two sides of a link tell
+abbrev pub tells_of : {L : Type 0} → SourceSide L → SinkSide L → LinkTells L
+tells_of source sink = record { left = source.left; written = sink.written; reads = source.faults; writes = sink.faults }
 
 -- a link at a moment: the bytes to come, those that were written, and its counts of failed reads and writes
 pub record LinkView : Type 0 where
@@ -53,6 +60,33 @@ pub record RanTo {W : Type 0} (run : Run W) (link now : LinkView) (asked : List 
   pub serving : stands new
   pub run_is : run all answers w out new ending
 
+-- the link ended, and no reply was begun
+pub record HeardQuiet (link now : LinkView) (asked : List (Option ℕ) → Type 0) (end : LinkEnd) : Type 0 where
+  pub all : List ℕ
+  pub answers : List (Option ℕ)
+  pub out : List ℕ
+  pub ending : Ending
+  pub is_end : end ≡ end_as ending
+  pub told : Told link.ahead all
+  pub clock : asked answers
+  pub wrote : Appends link.written now.written out
+  pub counts : CountsEnd link now ending
+  pub stops : Stops all answers out ending
+
+-- a head is refused, and nothing was written
+pub record HeardRefused (link now : LinkView) (asked : List (Option ℕ) → Type 0) (refusal : HeadRefusal) (answer : Option ℕ) (bodiless : Bool) : Type 0 where
+  pub clock : asked (answer ∷ [])
+  pub wrote : Appends link.written now.written []
+  pub counts : NoneFailed link now
+  pub refuses : (rest : List ℕ) → Told now.ahead rest → (all : List ℕ) × Told link.ahead all × Refuses all rest answer refusal bodiless
+
+-- a request was read whole, and the interim line written where it was due
+pub record HeardRequest (link now : LinkView) (asked : List (Option ℕ) → Type 0) (head : Head) (body : List ℕ) (moment : ℕ) : Type 0 where
+  pub clock : asked (Some moment ∷ [])
+  pub wrote : Appends link.written now.written (interim_of head.expects)
+  pub counts : NoneFailed link now
+  pub asks : (rest : List ℕ) → Told now.ahead rest → (all : List ℕ) × Told link.ahead all × Asks all rest head body
+
 -- a reply is due
 pub record Replied {W : Type 0} (service : Service W) (link now : LinkView) (asked : List (Option ℕ) → Type 0) (stands : W → Type 0) (last : Bool) (w : W) (due : DueView) : Type 0 where
   pub answer : Option ℕ
@@ -63,27 +97,6 @@ pub record Replied {W : Type 0} (service : Service W) (link now : LinkView) (ask
   pub counts : NoneFailed link now
   pub serving : stands mid
   pub replies : (rest : List ℕ) → Told now.ahead rest → (all : List ℕ) × Told link.ahead all × Replies service last all rest answer w interim mid due
-
--- the body of a head that stands in front of it: its end with no reply, or the reply to it
-pub record BodyQuiet {W : Type 0} (link now : LinkView) (stands : W → Type 0) (head : Head) (w : W) (end : LinkEnd) : Type 0 where
-  pub all : List ℕ
-  pub out : List ℕ
-  pub ending : Ending
-  pub is_end : end ≡ end_as ending
-  pub told : Told link.ahead all
-  pub wrote : Appends link.written now.written out
-  pub counts : CountsEnd link now ending
-  pub serving : stands w
-  pub accepted : head.refused ≡ None
-  pub stops : BodyStops head all out ending
-
-pub record BodyReplied {W : Type 0} (service : Service W) (link now : LinkView) (stands : W → Type 0) (last : Bool) (moment : ℕ) (head : Head) (w : W) (due : DueView) : Type 0 where
-  pub interim : List ℕ
-  pub mid : W
-  pub wrote : Appends link.written now.written interim
-  pub counts : NoneFailed link now
-  pub serving : stands mid
-  pub replies : (rest : List ℕ) → Told now.ahead rest → (all : List ℕ) × Told link.ahead all × RepliesTo service last all rest moment head w interim mid due
 
 -- all bytes of a reply that was due were written, and no call failed
 abbrev pub HasWritten : LinkView → LinkView → DueView → Type 0
@@ -102,6 +115,11 @@ EndsBehind due (Some end) = (closes due ≡ true) × (end ≡ end_as (end_of due
 abbrev pub FinishSays : LinkView → LinkView → DueView → Option LinkEnd → Type 0
 FinishSays link now due None = EndsBehind due None × HasWritten link now due
 FinishSays link now due (Some end) = (EndsBehind due (Some end) × HasWritten link now due) ⊎ (HasTorn link now due × (end ≡ ends.LinkFault))
+
+-- the counts of a link: no call failed where it goes on, and else the one that its end tells
+abbrev pub CountsServed : LinkView → LinkView → Option LinkEnd → Type 0
+CountsServed link now None = NoneFailed link now
+CountsServed link now (Some end) = (ending : Ending) × (end ≡ end_as ending) × CountsEnd link now ending
 
 pub record WentOn {W : Type 0} (service : Service W) (link now : LinkView) (asked : List (Option ℕ) → Type 0) (stands : W → Type 0) (last : Bool) (w : W) : Type 0 where
   pub answer : Option ℕ

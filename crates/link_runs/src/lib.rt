@@ -4,6 +4,8 @@
 
 mod ends;
 mod limits;
+mod refusals;
 
 pub use ends::LinkEnd;
 pub use limits::MAX_REQUESTS;
+pub use refusals::HeadRefusal;

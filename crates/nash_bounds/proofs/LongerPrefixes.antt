@@ -9,6 +9,7 @@ use Rattle.nash_bounds.proofs.PlayerPoints.{points_sum, points_le, AllZip_map, s
 use Rattle.std.proofs.lemmas.List.FromFn.{get_or-map-range_with_len, map-range_with_len_more, length-map-range_with_len}
 use Rattle.bid_rules.specs.declared.goods.GoodsCase.{GoodsCase}
 use Rattle.bid_rules.specs.Goods.{IsValidGoodsCase, player_count, order_of, greatest_points, points, utility, utilities}
+use Rattle.nash_bounds.specs.Lanes.{may_have}
 use Rattle.nash_bounds.specs.Prefixes.{free_goods, highest, top_of, IsPrefix, HasBound}
 use Rattle.nash_bounds.specs.NextOwner.{IsNext}
 use Rattle.nash_bounds.specs.Bound.{IsBound}
@@ -121,16 +122,19 @@ cond_le : (b : Bool) (n : ℕ) → cond b n 0 ≤ n
 cond_le true n = omega arith
 cond_le false n = omega arith
 
--- with one more owner no player may have more
+-- with one more owner a player may have no more
+pub may_have_falls : (case : GoodsCase) (owners : List ℕ) (owner player : ℕ) → length owners < case.facts.goods → may_have case (owners ++ owner ∷ []) player ≤ may_have case owners player
+may_have_falls case owners owner player l =
+    let e = low_next case owners owner player l in
+    let f = free_next (points case player) case owners owner l in
+    let g = cond_le (eqb owner player) (points case player (get_or (order_of case) (length owners) 0)) in
+    omega arith
+
+-- so none may
 pub high_falls : (case : GoodsCase) (owners : List ℕ) (owner : ℕ) → length owners < case.facts.goods → AllZip ◌≤◌ (highest case (owners ++ owner ∷ [])) (highest case owners)
 high_falls case owners owner l =
-    let high : List ℕ → ℕ → ℕ = λ os p. utility case p (order_of case) os + sum_by (points case p) (free_goods case os) in
-    AllZip_map (high (owners ++ owner ∷ [])) (high owners) (range_with_len 1 (player_count case))
-    (each_player (λ p. high (owners ++ owner ∷ []) p ≤ high owners p) case (λ p _ _.
-    let e = low_next case owners owner p l in
-    let f = free_next (points case p) case owners owner l in
-    let g = cond_le (eqb owner p) (points case p (get_or (order_of case) (length owners) 0)) in
-    omega arith))
+    AllZip_map (may_have case (owners ++ owner ∷ [])) (may_have case owners) (range_with_len 1 (player_count case))
+    (each_player (λ p. may_have case (owners ++ owner ∷ []) p ≤ may_have case owners p) case (λ p _ _. may_have_falls case owners owner p l))
 
 -- with one more owner the top is no higher
 pub top_falls : (case : GoodsCase) (owners : List ℕ) (owner : ℕ) → length owners < case.facts.goods → 1 ≤ owner → owner ≤ player_count case → top_of case (owners ++ owner ∷ []) ≤ top_of case owners

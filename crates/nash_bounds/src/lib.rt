@@ -16,7 +16,10 @@ mod table;
 
 pub use bid_rules::Pair;
 pub use lanes::{LaneRow, LaneTable, Lanes, fork, give, join, lane_table, lanes_of, players, take};
-pub use laws::{bound_law, owners_by_good_law, search_order_law, slow_filling_law, whole_list_law};
+pub use laws::{
+    bound_law, longer_prefix_law, owners_by_good_law, search_order_law, slow_filling_law,
+    whole_list_law,
+};
 pub use order::search_order;
 pub use owners::{owners_by_good, owners_in_order};
 pub use prefix::{Prefix, bound, empty_prefix, extend, extend_by};

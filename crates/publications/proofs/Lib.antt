@@ -1,1 +1,4 @@
+mod GoodsAudits
 pub mod OnePublication
+mod Pairs
+mod Statuses

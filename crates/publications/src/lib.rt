@@ -1,6 +1,5 @@
-//! What is published of an instance of the host: its division, the division's certificate or its report, or why it has none.
-//!
-//! The audit and the winner, which may be asked for, too, have texts of their own and are not told here.
+//! What is published of an instance of the host: its division, the division's certificate, its report or its audit, or the winner of goods
+//! between two; or why there is none.
 #![tactic(auto)]
 
 mod contents;
@@ -9,6 +8,6 @@ mod publishing;
 mod refusals;
 
 pub use contents::{ContentType, ReplyContent};
-pub use laws::{instance_law, one_publication_law};
-pub use publishing::{publication, tells_division};
+pub use laws::{instance_law, one_publication_law, publication_status_law};
+pub use publishing::publication;
 pub use refusals::{refusal_content, refusal_of};

@@ -7,7 +7,7 @@ ghost use Rattle.bid_rules.specs.Maximin.{AreMaximinPrices, least_in_parts, pric
 ghost use Rattle.bid_rules.specs.Rent.{IsAssignment, IsValidRentCase, room_count, value, welfare};
 ghost use Rattle.bid_rules.specs.Sums.{total};
 ghost use Rattle.bid_rules.specs.Walks.{weight_at};
-ghost use Rattle.cert_reader.specs.declared.limits.TheConstants.{MOST_DENOMINATOR};
+ghost use Rattle.cert_reader.specs.declared.limits.TheConstants.{MOST_PRINTED_DENOMINATOR};
 ghost use Rattle.cert_reader.specs.Numbers.{AreShort, AreSmall, IsSmall};
 ghost use Rattle.split_frac.specs.Frac.{fraction_of};
 
@@ -69,7 +69,7 @@ fn times(count: u8, number: i128) -> i128
 fn is_quotient(fraction: &Frac, whole: i128, parts: u8) -> bool
     requires parts { parts ≤ MOST_MEMBERS }
     requires num { IsSmall fraction.now.num }
-    requires den { fraction.now.den ≤ MOST_DENOMINATOR }
+    requires den { fraction.now.den ≤ MOST_PRINTED_DENOMINATOR }
     requires whole { unsigned_abs whole ≤ 10 ^ 27 }
     ensures { IsTrue result ↔ IsQuotient (fraction_of fraction.now) whole parts }
 {

@@ -1,5 +1,6 @@
 // Walks over the values.
 ghost use Rattle.std.specs.Prelude.{◌≡◌, ℕ, pos, ◌*◌, ◌^◌, ◌-◌, ◌<◌, ◌≤◌, ◌+ℤ◌, ◌≤ℤ◌, ◌↔◌, ◌⊎◌, length, unsigned_abs, IsTrue};
+ghost use Rattle.bid_rules.specs.declared.limits.TheConstants.{MOST_RENT};
 ghost use Rattle.bid_rules.specs.Maximin.{value_step};
 ghost use Rattle.bid_rules.specs.Rent.{IsAssignment, IsValidRentCase, room_count};
 ghost use Rattle.bid_rules.specs.Walks.{weight_at};
@@ -16,7 +17,7 @@ fn step(case: &RentCase, rooms: &[u8], from: usize, to: usize) -> i128
     requires from { from < room_count case.now }
     requires to { to < room_count case.now }
     ensures value { result ≡ value_step case.now rooms.now from to }
-    ensures small { unsigned_abs result ≤ 10000000 }
+    ensures small { unsigned_abs result ≤ MOST_RENT }
 {
     let room = room_at(case, rooms, from);
     value_at(case, to, room) - value_at(case, from, room)

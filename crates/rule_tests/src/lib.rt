@@ -1,4 +1,4 @@
-//! Tests of `bid_rules`, `split_frac`, `split_text`, `envy_check` and `printed_numbers`, over their
+//! Tests of `bid_rules`, `split_frac`, `split_text`, `envy_check` and `verdicts`, over their
 //! public names alone.
 #![tactic(auto)]
 

@@ -1,7 +1,7 @@
 use arrayvec::ArrayVec;
-use printed_numbers::{amounts, has_each, members_between, rows_of_amounts};
 use split_frac::make;
 use split_text::{Named, Numbers, push_line, push_numbers};
+use verdicts::{amounts, has_each, members_between, rows_of_amounts};
 
 #[test]
 fn lines_are_written(rt: HostRuntime) {

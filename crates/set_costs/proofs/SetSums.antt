@@ -14,6 +14,7 @@ use Rattle.std.proofs.Math.Nat.{mul-le-mul, mul-le-mul_right}
 use Rattle.std.proofs.lemmas.Int.{ints, unsigned_abs-mul}
 use Rattle.bid_rules.specs.Orders.{factorial}
 use Rattle.split_lemmas.proofs.Factorials.{factorial_rises}
+use Rattle.split_lemmas.proofs.WideNumbers.{kept_whole}
 
 -- a number up to a limit, once for each order of at most nine
 pub times_small : (z : ℤ) (others : ℕ) → unsigned_abs z ≤ 11000000 → others ≤ 9 → unsigned_abs (z *ℤ pos (factorial others)) ≤ 3991680000000
@@ -35,10 +36,6 @@ sum_of_ten z n small few =
 pub ten_small : (z : ℤ) (n : ℕ) → unsigned_abs z ≤ 11000000 * factorial n → n ≤ 10 → unsigned_abs z ≤ 39916800000000
 ten_small z n small few = let most = factorial_rises n 10 few in omega (arith, small, most)
 
--- such a number fits
-pub fits : (z : ℤ) → unsigned_abs z ≤ 39916800000000 → to_z w128 (of_z w128 z) ≡ z
-fits z small = omega (arith, ints)
-
 -- a number as the code keeps it
 abbrev kept : ℤ → ℤ
 kept z = to_z w128 (of_z w128 z)
@@ -48,14 +45,14 @@ pub added_is : (x y k : ℤ) (a b others : ℕ) → x ≡ pos a → y ≡ pos b 
     → (kept (kept (kept x -ℤ kept y) *ℤ kept k) ≡ (pos a -ℤ pos b) *ℤ pos (factorial others)) × (unsigned_abs (kept (kept (kept x -ℤ kept y) *ℤ kept k)) ≤ 3991680000000)
 added_is x y k a b others e f g high low few =
     let most : factorial others ≤ 362880 = factorial_rises others 9 few in
-    let inner : kept (pos a -ℤ pos b) ≡ pos a -ℤ pos b = fits (pos a -ℤ pos b) (omega (arith, ints, high, low)) in
+    let inner : kept (pos a -ℤ pos b) ≡ pos a -ℤ pos b = kept_whole (pos a -ℤ pos b) (omega (arith, ints, high, low)) in
     let sized : unsigned_abs ((pos a -ℤ pos b) *ℤ pos (factorial others)) ≤ 3991680000000 = times_small (pos a -ℤ pos b) others (omega (arith, ints, high, low)) few in
-    let first : kept x ≡ pos a = ap kept e ∙ fits (pos a) (omega (arith, ints, high)) in
-    let second : kept y ≡ pos b = ap kept f ∙ fits (pos b) (omega (arith, ints, low)) in
-    let third : kept k ≡ pos (factorial others) = ap kept g ∙ fits (pos (factorial others)) (omega (arith, ints, most)) in
+    let first : kept x ≡ pos a = ap kept e ∙ kept_whole (pos a) (omega (arith, ints, high)) in
+    let second : kept y ≡ pos b = ap kept f ∙ kept_whole (pos b) (omega (arith, ints, low)) in
+    let third : kept k ≡ pos (factorial others) = ap kept g ∙ kept_whole (pos (factorial others)) (omega (arith, ints, most)) in
     let whole : kept (kept (kept x -ℤ kept y) *ℤ kept k) ≡ (pos a -ℤ pos b) *ℤ pos (factorial others) =
     ap (λ z. kept (kept (z -ℤ kept y) *ℤ kept k)) first ∙ ap (λ z. kept (kept (pos a -ℤ z) *ℤ kept k)) second ∙ ap (λ z. kept (kept (pos a -ℤ pos b) *ℤ z)) third
-    ∙ ap (λ z. kept (z *ℤ pos (factorial others))) inner ∙ fits ((pos a -ℤ pos b) *ℤ pos (factorial others)) (omega (arith, sized)) in
+    ∙ ap (λ z. kept (z *ℤ pos (factorial others))) inner ∙ kept_whole ((pos a -ℤ pos b) *ℤ pos (factorial others)) (omega (arith, sized)) in
     (whole, subst (λ z. unsigned_abs z ≤ 3991680000000) (sym whole) sized)
 
 -- another than the first of a list is behind it

@@ -1,17 +1,13 @@
 -- The number of members takes no part in what routes and coalitions cost, nor in the best division.
-use Rattle.std.proofs.Common.{◌≡◌, ℕ, pos, get_or, ◌+◌, ◌+ℤ◌, ◌-ℤ◌, List, [], ◌∷◌, ◌++◌, length, map, fold, refl, sym, ap, ◌∙◌, subst}
+use Rattle.std.proofs.Common.{◌≡◌, ℕ, pos, get_or, ◌+◌, ◌+ℤ◌, ◌-ℤ◌, List, [], ◌∷◌, ◌++◌, length, fold, refl, sym, ap, ◌∙◌, subst}
 use Rattle.std.specs.List.{AllZip}
 use Rattle.bid_rules.specs.declared.cases.FareCase.{FareCase}
 use Rattle.bid_rules.specs.Facts.{leg}
 use Rattle.bid_rules.specs.Fares.{FareBest, IsLeastRoute, coalition_cost, least, legs_along, marginal_cost, place_of, riders_before, riders_of, route_cost, sum_of_marginal_costs}
 use Rattle.bid_rules.specs.Fractions.{Fraction, IsQuotient}
 use Rattle.bid_rules.specs.Orders.{factorial, orders}
+use Rattle.split_lemmas.proofs.MappedLists.{map_same}
 use Rattle.shapley_core.specs.Members.{with_members}
-
--- functions that agree everywhere give equal lists
-map_same : {X Y : Type 0} (f g : X → Y) (xs : List X) → ((x : X) → f x ≡ g x) → map f xs ≡ map g xs
-map_same f g [] h = refl
-map_same f g (x ∷ xs) h = ap (λ y. y ∷ map f xs) (h x) ∙ ap (λ ys. g x ∷ ys) (map_same f g xs h)
 
 -- the legs of an order
 legs_same : (case : FareCase) (m n from : ℕ) (riders : List ℕ) → legs_along (with_members case m) from riders ≡ legs_along (with_members case n) from riders

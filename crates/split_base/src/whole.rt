@@ -65,12 +65,12 @@ pub fn read_all<S: Source>(alloc: Global, source: &mut S, most: usize) -> Result
 
 /// Writes all the bytes. It takes no memory.
 ///
-/// `Failed` comes only where the sink's count of faults has risen. A prefix of the bytes was
-/// written then. A failed write is not tried again: the count has risen by one then, and not at
-/// all where all was written.
+/// `Failed` comes only where the sink's count of faults has risen. A first part of the bytes was
+/// written then, and not all of them: so it never comes where there are none. A failed write is not
+/// tried again: the count has risen by one then, and not at all where all was written.
 pub fn write_all<S: Sink>(sink: &mut S, bytes: &[u8]) -> Result<(), Failed>
     ensures ok { IfOk result (λ _. Appends (S.written sink.old) (S.written sink.new) bytes.now) }
-    ensures prefix { OnErr result ((n : ℕ) × (n ≤ length bytes.now) × Appends (S.written sink.old) (S.written sink.new) (take n bytes.now)) }
+    ensures prefix { OnErr result ((n : ℕ) × (n < length bytes.now) × Appends (S.written sink.old) (S.written sink.new) (take n bytes.now)) }
     ensures cause { HasCause (S.faults sink.old) (S.faults sink.new) result }
     ensures count { IsCounted (S.faults sink.old) (S.faults sink.new) result }
     ensures beside { S.beside sink.new ≡ S.beside sink.old }

@@ -1,5 +1,5 @@
 -- The cut of a link's bytes into heads and bodies.
-use Rattle.std.specs.Prelude.{◌≡◌, ℕ, ◌+◌, ◌<◌, ◌≤◌, ◌⊎◌, Bool, List, [], ◌++◌, length, codes, Option, Some, None, ⊤, if◌then◌else◌}
+use Rattle.std.specs.Prelude.{◌≡◌, ℕ, ◌+◌, ◌<◌, ◌≤◌, ◌⊎◌, Bool, true, List, [], ◌++◌, length, codes, Option, Some, None, ⊤, if◌then◌else◌}
 use Rattle.std.specs.Io.KnownBytes.{Appends, Consumes, IsAtEnd, Keeps}
 use Rattle.httparse.specs.Grammar.{RequestHead, print_request}
 use Rattle.split_base.specs.Faults.{counted}
@@ -10,7 +10,7 @@ use Rattle.split_http.specs.declared.bodies.BodyTurn.TheVariants as bodies
 use Rattle.split_http.specs.declared.head.Head.{Head}
 use Rattle.split_http.specs.declared.head.Verb.{Verb}
 use Rattle.split_http.specs.declared.limits.TheConstants.{MAX_HEAD}
-use Rattle.split_http.specs.Pieces.{AppendsPart}
+use Rattle.split_http.specs.Pieces.{AppendsPart, AppendsProperPart}
 use Rattle.split_http.specs.Heads.{IsHead, HasNoHead, IsHeadOf, text_of, verb_of}
 
 -- these are the bytes, where they are told
@@ -77,9 +77,9 @@ BodySays old new before now head bodies.LinkFault =
     (head.refused ≡ None) × ((part : List ℕ) × (length part ≤ head.length) × Consumes old new part) × AppendsPart before now (interim_of head.expects)
 BodySays old new before now head bodies.NoMemory = (head.refused ≡ None) × Keeps old new × (now ≡ before)
 
--- a write of the interim line failed: a first part of the line was written, and no byte of the link was taken
+-- a write of the interim line failed: it is due, some of it is missing behind what was written, and no byte of the link was taken
 abbrev pub IsWriteFault : Option (List ℕ) → Option (List ℕ) → Option (List ℕ) → Option (List ℕ) → Head → Type 0
-IsWriteFault old new before now head = Keeps old new × AppendsPart before now (interim_of head.expects)
+IsWriteFault old new before now head = (head.expects ≡ true) × Keeps old new × AppendsProperPart before now (interim_of head.expects)
 
 -- a read within the body failed: the interim line was written where it is due, and what was taken and what the carry holds are less than the body
 abbrev pub IsReadFault : Option (List ℕ) → Option (List ℕ) → Option (List ℕ) → Option (List ℕ) → List ℕ → Head → Type 0

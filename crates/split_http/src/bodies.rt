@@ -1,8 +1,8 @@
 // The body behind a head.
-ghost use Rattle.std.specs.Prelude.{◌≡◌, ◌≤◌, ◌+◌, ◌++◌, ◌⊎◌, take, drop, length, vec_len, vec_capacity, OnOk, OnErr};
+ghost use Rattle.std.specs.Prelude.{◌≡◌, ◌≤◌, ◌+◌, ◌++◌, ◌⊎◌, take, drop, length, vec_len, vec_capacity, OnOk, OnErr, IsTrue};
 ghost use Rattle.std.specs.Io.KnownBytes.{Appends, prepend_known};
 ghost use Rattle.split_base.specs.Faults.{HasCause, HasRisen, IsCounted};
-ghost use Rattle.split_http.specs.Pieces.{AppendsPart};
+ghost use Rattle.split_http.specs.Pieces.{AppendsProperPart};
 ghost use Rattle.split_http.specs.Turns.{BodySays, BodyCounts, interim_of};
 
 use crate::carry::Carry;
@@ -34,9 +34,9 @@ pub enum BodyTurn {
 /// - `Refused` comes exactly where the head is refused. Nothing is read or written then.
 /// - `Cut` comes exactly where the input ends within the body.
 /// - `LinkFault` comes for one failed call, which one of the link's two counts of faults tells: a
-///   write of the interim line, of which a first part was written then, before anything was read; or
-///   a read behind the whole line, while less than the body was read. So nothing is read where no
-///   body is due, and a failed call is not tried again.
+///   write of the interim line, where it is due, of which some is missing then, before anything was
+///   read; or a read behind the whole line, while less than the body was read. So nothing is read
+///   where no body is due, and a failed call is not tried again.
 /// - `NoMemory` comes for want of memory alone, and before anything is read or written.
 ///
 /// Each answer but `LinkFault` leaves both counts as they are.
@@ -75,7 +75,8 @@ pub fn next_body<L: Link>(alloc: Global, link: &mut L, carry: &mut Carry, head: 
 // Writes the interim line where it is due.
 fn write_interim<S: Sink>(sink: &mut S, due: bool) -> Result<(), Failed>
     ensures whole { OnOk result (Appends (S.written sink.old) (S.written sink.new) (interim_of due)) }
-    ensures part { OnErr result (AppendsPart (S.written sink.old) (S.written sink.new) (interim_of due)) }
+    ensures part { OnErr result (AppendsProperPart (S.written sink.old) (S.written sink.new) (interim_of due)) }
+    ensures due { OnErr result (IsTrue due) }
     ensures cause { HasCause (S.faults sink.old) (S.faults sink.new) result }
     ensures count { IsCounted (S.faults sink.old) (S.faults sink.new) result }
     ensures beside { S.beside sink.new ≡ S.beside sink.old }

@@ -3,7 +3,7 @@ ghost use Rattle.std.specs.Prelude.{◌≡◌, ◌++◌, ℕ, List, OnOk, OnErr}
 ghost use Rattle.std.specs.Io.KnownBytes.{Appends};
 ghost use Rattle.std.specs.List.{flat_map};
 ghost use Rattle.split_base.specs.Faults.{HasCause, IsCounted};
-ghost use Rattle.split_http.specs.Pieces.{AppendsPart};
+ghost use Rattle.split_http.specs.Pieces.{AppendsProperPart};
 
 use arrayvec::ArrayVec;
 use split_base::{Failed, Sink, write_all};
@@ -19,7 +19,7 @@ fn hold<S: Sink>(
     piece: &[u8],
 ) -> Result<(), Failed>
     ensures whole { OnOk result ((out : List ℕ) × Appends (S.written sink.old) (S.written sink.new) out × (held.old.items ++ piece.now ≡ out ++ held.new.items)) }
-    ensures part { OnErr result (AppendsPart (S.written sink.old) (S.written sink.new) (held.old.items ++ piece.now)) }
+    ensures part { OnErr result (AppendsProperPart (S.written sink.old) (S.written sink.new) (held.old.items ++ piece.now)) }
     ensures cause { HasCause (S.faults sink.old) (S.faults sink.new) result }
     ensures count { IsCounted (S.faults sink.old) (S.faults sink.new) result }
     ensures beside { S.beside sink.new ≡ S.beside sink.old }
@@ -39,7 +39,7 @@ fn hold<S: Sink>(
 // Writes all the pieces, up to the first write that fails. It takes no memory.
 pub(crate) fn write_pieces<S: Sink>(sink: &mut S, pieces: &[&[u8]]) -> Result<(), Failed>
     ensures whole { OnOk result (Appends (S.written sink.old) (S.written sink.new) (flat_map (λ p. p.now) pieces.now)) }
-    ensures part { OnErr result (AppendsPart (S.written sink.old) (S.written sink.new) (flat_map (λ p. p.now) pieces.now)) }
+    ensures part { OnErr result (AppendsProperPart (S.written sink.old) (S.written sink.new) (flat_map (λ p. p.now) pieces.now)) }
     ensures cause { HasCause (S.faults sink.old) (S.faults sink.new) result }
     ensures count { IsCounted (S.faults sink.old) (S.faults sink.new) result }
     ensures beside { S.beside sink.new ≡ S.beside sink.old }

@@ -4,7 +4,7 @@ ghost use Rattle.std.specs.Io.KnownBytes.{Appends};
 ghost use Rattle.http.specs.StatusCode.{code_digits, reason_phrase};
 ghost use Rattle.httpdate.specs.Date.{date_text};
 ghost use Rattle.split_base.specs.Faults.{HasCause, IsCounted};
-ghost use Rattle.split_http.specs.Pieces.{AppendsPart};
+ghost use Rattle.split_http.specs.Pieces.{AppendsProperPart};
 ghost use Rattle.split_http.specs.Replies.{IsReply, IsDateLine, allow_line, kind_line, close_line, body_of, joined};
 ghost use Rattle.split_base.specs.declared.limits.TheConstants.{LAST_MOMENT};
 
@@ -134,7 +134,7 @@ fn write_parts<'a, S: Sink>(
 ) -> Result<(), Failed>
     ensures whole { OnOk result (Appends (S.written sink.old) (S.written sink.new)
         (joined digits.now phrase.now date.now kind.now size.now allow.now close.now body.now)) }
-    ensures part { OnErr result (AppendsPart (S.written sink.old) (S.written sink.new)
+    ensures part { OnErr result (AppendsProperPart (S.written sink.old) (S.written sink.new)
         (joined digits.now phrase.now date.now kind.now size.now allow.now close.now body.now)) }
     ensures cause { HasCause (S.faults sink.old) (S.faults sink.new) result }
     ensures count { IsCounted (S.faults sink.old) (S.faults sink.new) result }
@@ -164,12 +164,12 @@ fn write_parts<'a, S: Sink>(
 /// line, and the body. It takes no memory.
 ///
 /// `Failed` comes only where the sink's count of faults has risen. A first part of the reply was
-/// written then.
+/// written then, and at least one byte of it is missing.
 pub fn write_reply<S: Sink>(sink: &mut S, reply: &HttpReply<'_>) -> Result<(), Failed>
     requires status { IsSome (reason_phrase reply.now.status) }
     requires moment { IfSome reply.now.moment (λ t. t ≤ LAST_MOMENT) }
     ensures whole { OnOk result ((bytes : List ℕ) × IsReply reply.now bytes × Appends (S.written sink.old) (S.written sink.new) bytes) }
-    ensures part { OnErr result ((bytes : List ℕ) × IsReply reply.now bytes × AppendsPart (S.written sink.old) (S.written sink.new) bytes) }
+    ensures part { OnErr result ((bytes : List ℕ) × IsReply reply.now bytes × AppendsProperPart (S.written sink.old) (S.written sink.new) bytes) }
     ensures cause { HasCause (S.faults sink.old) (S.faults sink.new) result }
     ensures count { IsCounted (S.faults sink.old) (S.faults sink.new) result }
     ensures beside { S.beside sink.new ≡ S.beside sink.old }

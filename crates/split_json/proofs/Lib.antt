@@ -3,4 +3,5 @@ pub mod JsonValues
 pub mod Lists
 pub mod ReadyCases
 pub mod ReadyCreations
+pub mod ReadyProposals
 pub mod WrittenBids

@@ -64,7 +64,7 @@ each-some {A} {B} rule P keeps (x ∷ xs) ys h =
     subst (λ (ws : List B). (length ws ≡ length (x ∷ xs)) × All P ws) is (omega (arith, more.0), All-cons P y zs (keeps x y first) more.1)))
 
 -- a list of just so many elements, and each keeps what the rule gives
-list_in-some : {B : Type 0} (rule : Data → Option B) (P : B → Type 0) → ((d : Data) (y : B) → rule d ≡ Some y → P y) → (count : ℕ) (d : Data) (ys : List B) → list_in rule count count d ≡ Some ys → (length ys ≡ count) × All P ys
+pub list_in-some : {B : Type 0} (rule : Data → Option B) (P : B → Type 0) → ((d : Data) (y : B) → rule d ≡ Some y → P y) → (count : ℕ) (d : Data) (ys : List B) → list_in rule count count d ≡ Some ys → (length ys ≡ count) × All P ys
 list_in-some rule P keeps count d ys h =
     option_and_then_some (each rule) (elements count count d) ys h (λ ds found kept.
     option_and_then_some (passing (λ es. is_within count count (length es))) (listed d) ds found (λ es some chosen.
@@ -153,7 +153,7 @@ head_of_object-ready body head h =
     by_kind kind.Fares title rest = fares_head-ready title body head rest
 
 -- a case that an object gives is ready
-case_of_object-ready : (body : Data) (case : CaseData) → case_of_object body ≡ Ok case → IsReady case
+pub case_of_object-ready : (body : Data) (case : CaseData) → case_of_object body ≡ Ok case → IsReady case
 unfolding case_of_object
 case_of_object-ready body case h =
     both-ok (head_of_object body) _ case h (λ head found after_head.

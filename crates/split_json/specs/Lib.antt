@@ -1,4 +1,5 @@
 pub mod Bodies
 pub mod Deadlines
+pub mod Proposals
 pub mod Reading
 pub mod Rules

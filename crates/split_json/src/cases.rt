@@ -35,7 +35,7 @@ pub fn read_case(alloc: Global, body: &[u8]) -> Result<Result<CaseInput, BodyFau
 
 // The head, and then the bids.
 #[tactic(auto, unfolding(crate::specs::Reading::case_of_object))]
-fn case_of_object(body: &Value) -> Result<CaseInput, FieldName>
+pub(crate) fn case_of_object(body: &Value) -> Result<CaseInput, FieldName>
     ensures { result_map_both shown (λ name. name) result ≡ case_of_object (view body.now) }
 {
     let head = head_of_object(body)?;

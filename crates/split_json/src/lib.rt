@@ -1,4 +1,4 @@
-//! Bodies of JSON: the case, the creation or the bid that one holds, or the first thing wrong with it.
+//! Bodies of JSON: the case, the proposal, the creation or the bid that one holds, or the first thing wrong with it.
 #![tactic(auto)]
 
 mod bid_bodies;
@@ -10,6 +10,7 @@ mod heads;
 mod held;
 mod input;
 mod laws;
+mod proposals;
 mod rules;
 
 pub use bid_bodies::read_bid;
@@ -17,3 +18,4 @@ pub use cases::read_case;
 pub use creations::read_creation;
 pub use input::{CaseInput, Head};
 pub use laws::{case_in_law, field_fault_law, field_rules_law, head_law};
+pub use proposals::read_proposal;

@@ -76,7 +76,7 @@ fn is_within(low: usize, high: usize, number: usize) -> bool
 }
 
 // The elements of a list that has at least and at most so many.
-fn elements(value: &Value, least: usize, most: usize) -> Option<&[Value]>
+pub(crate) fn elements(value: &Value, least: usize, most: usize) -> Option<&[Value]>
     ensures values { option_map (λ values. map view values.now) result ≡ elements least most (view value.now) }
     ensures few { IfSome result (λ values. length values.now ≤ most) }
 {

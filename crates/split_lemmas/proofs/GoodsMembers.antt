@@ -1,10 +1,11 @@
 -- How many members there are takes no part in what is said of players and goods, and players are no more than members can be.
-use Rattle.std.proofs.Common.{◌≡◌, ℕ, ◌+◌, ◌≤◌, List, [], ◌∷◌, length, map, cond, nat_le, ◌==◌, arith, refl, ap, ◌∙◌}
+use Rattle.std.proofs.Common.{◌≡◌, ℕ, ◌+◌, ◌≤◌, List, [], ◌∷◌, length, cond, nat_le, ◌==◌, arith, refl, ap, ◌∙◌}
 use Rattle.std.specs.List.{range_with_len}
 use Rattle.bid_rules.specs.declared.goods.GoodsCase.{GoodsCase}
 use Rattle.bid_rules.specs.Goods.{GoodsBest, IsValidGoodsCase, greatest_points, order_of, pair_of, IsBehind, player_count, points, put_in, sorted_goods, utilities, utility, with_members}
 use Rattle.bid_rules.specs.Pairs.{nash_welfare}
 use Rattle.split_lemmas.proofs.ListPlaces.{rising_few}
+pub use Rattle.split_lemmas.proofs.MappedLists.{map_same}
 
 -- a good is put in at the same place
 put_in_same : (case : GoodsCase) (m n good : ℕ) (goods : List ℕ) → put_in (with_members case m) good goods ≡ put_in (with_members case n) good goods
@@ -27,11 +28,6 @@ utility_same case m n player [] owners = refl
 utility_same case m n player (good ∷ goods) [] = refl
 utility_same case m n player (good ∷ goods) (owner ∷ owners) =
     ap (λ u. cond (owner == player) (points (with_members case m) player good) 0 + u) (utility_same case m n player goods owners)
-
--- functions with the same values map a list to the same
-pub map_same : (f g : ℕ → ℕ) (xs : List ℕ) → ((x : ℕ) → f x ≡ g x) → map f xs ≡ map g xs
-map_same f g [] h = refl
-map_same f g (x ∷ xs) h = ap (λ y. y ∷ map f xs) (h x) ∙ ap (λ ys. g x ∷ ys) (map_same f g xs h)
 
 -- so is a player's utility
 pub own_utility : (case : GoodsCase) (m n : ℕ) (owners : List ℕ) (player : ℕ)

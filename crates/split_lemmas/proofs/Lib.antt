@@ -7,6 +7,7 @@ pub mod FractionLaws
 pub mod GoodsMembers
 pub mod ListOrder
 pub mod ListPlaces
+pub mod MappedLists
 pub mod Multiples
 pub mod OrderLaws
 pub mod PairOrder
@@ -22,4 +23,5 @@ pub mod SignedProducts
 pub mod SignedRows
 pub mod SignedSums
 pub mod Totals
+pub mod WideNumbers
 pub mod Zipped

@@ -1,5 +1,3 @@
-pub mod HeldGoods
-pub mod Lines
 pub mod LoneRiders
 pub mod RentFigures
 pub mod FareReports

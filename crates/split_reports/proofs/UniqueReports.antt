@@ -30,7 +30,7 @@ use Rattle.rent_maximin.specs.Division.{IsRentDivision}
 use Rattle.rent_maximin.specs.declared.division.RentDivision.{RentDivision}
 use Rattle.shapley_core.specs.Division.{IsFareDivision}
 use Rattle.shapley_core.specs.declared.division.FareDivision.{FareDivision}
-use Rattle.split_reports.specs.Names.{NamesData}
+use Rattle.player_lines.specs.Names.{NamesData}
 use Rattle.split_reports.specs.Fares.{IsFaresReport, fares_report}
 use Rattle.split_reports.specs.Goods.{IsGoodsReport, goods_report}
 use Rattle.split_reports.specs.Rent.{AreUtilities, IsRentReport, RentTold, rent_report}

@@ -6,30 +6,17 @@ use Rattle.bid_rules.specs.declared.pair.Pair.{Pair}
 use Rattle.arrayvec.specs.declared.array_vec.ArrayVec.{ArrayVec}
 use Rattle.bid_rules.specs.declared.limits.TheConstants.{MEMBER_ROOM}
 use Rattle.bid_rules.specs.Goods.{player_count}
-use Rattle.envy_check.specs.Goods.{IsPointsTable, goods_of, points_for}
+use Rattle.envy_check.specs.Goods.{IsPointsTable}
 use Rattle.nash_search.specs.declared.division.GoodsDivision.{GoodsDivision}
-use Rattle.split_reports.specs.Names.{NamesData}
-use Rattle.split_reports.specs.Lines.{count_line, envy_line, lines_to, named_at, number_at}
-use Rattle.split_text.specs.Texts.{line_of, spaced}
-
--- the number of the member that a player is
-abbrev pub player_member : GoodsCase → ℕ → ℕ
-player_member case player = number_at case.who.items player
+use Rattle.player_lines.specs.Lines.{lines_to}
+use Rattle.player_lines.specs.Names.{NamesData}
+use Rattle.player_lines.specs.Players.{player_line, player_member}
+use Rattle.split_reports.specs.Lines.{count_line, envy_line}
+use Rattle.split_text.specs.Texts.{line_of}
 
 -- the title, and how many of the members are players
 abbrev pub goods_head : NamesData → GoodsCase → List ℕ
 goods_head given case = line_of (codes "goods " ∷ given.title ∷ []) ++ count_line (codes "players ") (length case.who.items) (length given.members)
-
--- the numbers of some goods, each after a space, or that there is none
-abbrev pub goods_list : List ℕ → List ℕ
-goods_list [] = codes " none"
-goods_list (good ∷ goods) = spaced (map decimal (good ∷ goods))
-
--- the line of a player: the member, the goods, and the player's own points for them
-abbrev pub player_line : NamesData → GoodsCase → List ℕ → ℕ → List ℕ
-player_line given case owners player =
-    line_of (named_at given.members (player_member case player) ∷ codes ": goods" ∷ goods_list (goods_of owners player)
-    ∷ codes ", points " ∷ decimal (points_for case player (goods_of owners player)) ∷ [])
 
 -- the line of the pair of the allocation and of the number of steps of the search
 abbrev pub pair_line : Pair → ℕ → List ℕ

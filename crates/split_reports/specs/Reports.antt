@@ -7,7 +7,7 @@ use Rattle.divisions.specs.declared.division.Division.TheVariants.{Rent, Goods, 
 use Rattle.split_json.specs.Reading.{CaseData}
 use Rattle.split_reports.specs.Fares.{IsFaresReport}
 use Rattle.split_reports.specs.Goods.{IsGoodsReport}
-use Rattle.split_reports.specs.Names.{NamesData, names_of}
+use Rattle.player_lines.specs.Names.{NamesData, names_of}
 use Rattle.split_reports.specs.Rent.{IsRentReport}
 
 -- the text is the report of the case and its division under these names

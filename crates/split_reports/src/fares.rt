@@ -5,18 +5,18 @@ ghost use Rattle.bid_rules.specs.Facts.{IsValidFareCase};
 ghost use Rattle.bid_rules.specs.Fares.{coalition_cost};
 ghost use Rattle.bid_rules.specs.declared.limits.TheConstants.{MOST_RIDERS, RIDER_ROOM};
 ghost use Rattle.shapley_core.specs.Division.{IsFareDivision};
-ghost use Rattle.split_reports.specs.Names.{shown_names};
-ghost use Rattle.split_reports.specs.Lines.{lines_to};
+ghost use Rattle.player_lines.specs.Names.{shown_names};
+ghost use Rattle.player_lines.specs.Lines.{lines_to};
 ghost use Rattle.split_reports.specs.Fares.{AreRiders, IsFaresReport, fares_head, fares_report, member_of, rider_line, total_line};
 
-use crate::names::Names;
-use crate::text::{amount_at, fraction_at, named};
+use crate::text::{amount_at, fraction_at};
 use arrayvec::ArrayVec;
 use bid_rules::FareCase;
 use bid_rules::limits::RIDER_ROOM;
 use envy_check::cent_plan;
 use fare_laws::{coalition_law, orders_law};
 use fare_routes::Costs;
+use player_lines::{Names, lines_law, named};
 use shapley_core::FareDivision;
 use split_base::NoMemory;
 use split_frac::Frac;
@@ -101,6 +101,7 @@ impl RiderLines<'_> {
         requires costs { costs.now ≡ self.now.case.now }
         ensures { OnOk result (string_bytes lines.new ≡ string_bytes lines.old ++ lines_to (length self.now.case.now.who.items) (rider_line (shown_names self.now.names.now) self.now.case.now self.now.fares.now self.now.pays.now)) }
     {
+        lines_law();
         for k in 0..self.case.who.len() as u8 {
             let rider = k + 1;
             self.push_rider(lines, cost_alone(costs, rider), rider)?;

@@ -1,42 +1,20 @@
 // The report of goods.
 ghost use Rattle.std.specs.Prelude.{◌≡◌, ◌≤◌, ◌++◌, ◌∷◌, ◌==◌, [], length, map, Some, IfOk, OnOk, string_bytes};
-ghost use Rattle.std.proofs.Props.{props};
 ghost use Rattle.bid_rules.specs.Goods.{IsValidGoodsCase, player_count};
-ghost use Rattle.bid_rules.specs.declared.limits.TheConstants.{ITEM_ROOM};
-ghost use Rattle.envy_check.specs.Goods.{goods_of};
 ghost use Rattle.nash_search.specs.Division.{IsGoodsDivision};
-ghost use Rattle.split_reports.specs.Names.{shown_names};
-ghost use Rattle.split_reports.specs.Lines.{lines_to};
-ghost use Rattle.split_reports.specs.Goods.{IsGoodsReport, goods_head, goods_list, goods_report, pair_line, player_envy, player_line};
+ghost use Rattle.player_lines.specs.Names.{shown_names};
+ghost use Rattle.player_lines.specs.Lines.{lines_to};
+ghost use Rattle.split_reports.specs.Goods.{IsGoodsReport, goods_head, goods_report, pair_line, player_envy};
 
-use crate::names::Names;
-use crate::text::named;
 use arrayvec::ArrayVec;
-use bid_rules::limits::{ITEM_ROOM, MEMBER_ROOM};
+use bid_rules::limits::MEMBER_ROOM;
 use bid_rules::{GoodsCase, Pair};
-use envy_check::{points_of, points_table};
+use envy_check::points_table;
 use nash_search::GoodsDivision;
+use player_lines::{Names, PlayerLines, lines_law};
 use split_base::NoMemory;
 use split_text::{Numbers, push_line};
 use std::alloc::Global;
-use std::fmt;
-
-/// The numbers of some goods, each after a space, or that there is none.
-#[derive(Clone, Copy)]
-struct GoodsList<'a>(&'a [u8]);
-
-impl fmt::Display for GoodsList<'_> {
-    ghost output = { λ goods. Some (goods_list goods.0.now) };
-
-    fn fmt<W: fmt::Write>(&self, f: &mut fmt::Formatter<W>) -> fmt::Result {
-        let numbers = Numbers(self.0);
-        if self.0.is_empty() {
-            write!(f, " none")
-        } else {
-            write!(f, "{numbers}")
-        }
-    }
-}
 
 /// Appends the title and the numbers of players and members.
 fn push_head(lines: &mut String, names: &Names<'_>, case: &GoodsCase) -> Result<(), NoMemory>
@@ -58,62 +36,6 @@ fn push_pair(lines: &mut String, pair: &Pair, steps: u32) -> Result<(), NoMemory
         lines,
         format_args!("positive {count}, product {product}, steps {steps}"),
     )
-}
-
-/// The goods, by number, that a player has.
-fn goods_of(owners: &[u8], player: u8) -> ArrayVec<u8, ITEM_ROOM>
-    requires { length owners.now ≤ ITEM_ROOM }
-    ensures { result.items ≡ goods_of owners.now player }
-{
-    let mut goods = ArrayVec::new();
-    for (k, owner) in owners.iter().enumerate() {
-        if *owner == player {
-            goods.push(k as u8 + 1);
-        }
-    }
-    goods
-}
-
-/// What the lines of players tell: names, the case, and the owner of each good.
-#[derive(Drop)]
-pub(crate) struct PlayerLines<'a> {
-    pub(crate) names: &'a Names<'a>,
-    pub(crate) case: &'a GoodsCase,
-    pub(crate) owners: &'a [u8],
-    ghost valid: { IsValidGoodsCase case.now } by { Prim.hlevel props },
-    ghost each_member: { length names.now.members.now.items ≡ case.now.facts.members },
-    ghost each: { length owners.now ≡ case.now.facts.goods },
-}
-
-impl PlayerLines<'_> {
-    /// Appends the line of a player.
-    fn push_player(&self, lines: &mut String, player: u8) -> Result<(), NoMemory>
-        requires low { 1 ≤ player }
-        requires high { player ≤ player_count self.now.case.now }
-        ensures { OnOk result (string_bytes lines.new ≡ string_bytes lines.old ++ player_line (shown_names self.now.names.now) self.now.case.now self.now.owners.now player) }
-    {
-        let person = named(
-            self.names.members.as_slice(),
-            self.case.who[player as usize - 1],
-        );
-        let held = goods_of(self.owners, player);
-        let goods = GoodsList(held.as_slice());
-        let points = points_of(self.case, self.owners, player, player);
-        push_line(
-            lines,
-            format_args!("{person}: goods{goods}, points {points}"),
-        )
-    }
-
-    /// Appends the lines of the players.
-    fn push_players(&self, lines: &mut String) -> Result<(), NoMemory>
-        ensures { OnOk result (string_bytes lines.new ≡ string_bytes lines.old ++ lines_to (player_count self.now.case.now) (player_line (shown_names self.now.names.now) self.now.case.now self.now.owners.now)) }
-    {
-        for k in 0..self.case.values.len() as u8 {
-            self.push_player(lines, k + 1)?;
-        }
-        Ok(())
-    }
 }
 
 /// Appends the line of a player in the table of points.
@@ -143,6 +65,7 @@ fn push_table(
     requires rows { length table.now ≡ player_count case.now }
     ensures { OnOk result (string_bytes lines.new ≡ string_bytes lines.old ++ lines_to (player_count case.now) (player_envy case.now (map (λ row. row.items) table.now))) }
 {
+    lines_law();
     for k in 0..case.values.len() as u8 {
         push_envy(lines, case, table, k + 1)?;
     }

@@ -4,11 +4,10 @@
 mod fares;
 mod goods;
 mod laws;
-mod names;
 mod rent;
 mod reports;
 mod text;
 
 pub use laws::report_law;
-pub use names::Names;
+pub use player_lines::Names;
 pub use reports::{named_report, report};

@@ -5,17 +5,17 @@ ghost use Rattle.bid_rules.specs.declared.limits.TheConstants.{MEMBER_ROOM};
 ghost use Rattle.envy_check.specs.Envy.{ArePrices};
 ghost use Rattle.rent_maximin.specs.Division.{IsRentDivision};
 ghost use Rattle.split_frac.specs.Frac.{fraction_of};
-ghost use Rattle.split_reports.specs.Names.{shown_names};
-ghost use Rattle.split_reports.specs.Lines.{lines_to};
+ghost use Rattle.player_lines.specs.Names.{shown_names};
+ghost use Rattle.player_lines.specs.Lines.{lines_to};
 ghost use Rattle.split_reports.specs.Rent.{AreFigures, AreFiguresOf, AreUtilities, IsRentReport, figures_shown, least_line, member_envy, member_line, rent_head, rent_report};
 
-use crate::names::Names;
-use crate::text::{amount_at, fraction_at, named};
+use crate::text::{amount_at, fraction_at};
 use arrayvec::ArrayVec;
 use bid_rules::RentCase;
 use bid_rules::limits::MEMBER_ROOM;
 use divisions::rent_pays;
 use envy_check::{envy_table, utility_at};
+use player_lines::{Names, lines_law, named};
 use rent_maximin::{RentDivision, division_range_law};
 use split_base::NoMemory;
 use split_frac::Frac;
@@ -79,6 +79,7 @@ fn push_members(
     requires figures { AreFigures (shown_names names.now) (figures_shown figures.now) }
     ensures { OnOk result (string_bytes lines.new ≡ string_bytes lines.old ++ lines_to (length names.now.members.now.items) (member_line (shown_names names.now) (figures_shown figures.now))) }
 {
+    lines_law();
     for k in 0..names.members.len() as u8 {
         push_member(lines, names, figures, k + 1)?;
     }
@@ -106,6 +107,7 @@ fn push_envy(lines: &mut String, figures: &RentFigures<'_>, member: u8) -> Resul
 fn push_table(lines: &mut String, figures: &RentFigures<'_>) -> Result<(), NoMemory>
     ensures { OnOk result (string_bytes lines.new ≡ string_bytes lines.old ++ lines_to (length figures.now.envy.items) (member_envy (figures_shown figures.now))) }
 {
+    lines_law();
     for k in 0..figures.envy.len() as u8 {
         push_envy(lines, figures, k + 1)?;
     }

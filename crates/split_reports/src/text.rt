@@ -1,25 +1,10 @@
-// What lines tell of lists: names, fractions and amounts, each by its number from 1.
+// What lines tell of lists: fractions and amounts, each by its number from 1.
 ghost use Rattle.std.specs.Prelude.{◌≡◌, ◌≤◌, map, length};
 ghost use Rattle.std.specs.Fmt.{signed_decimal};
 ghost use Rattle.split_frac.specs.Frac.{frac_text};
-ghost use Rattle.split_reports.specs.Lines.{text_at};
+ghost use Rattle.player_lines.specs.Lines.{text_at};
 
-use case_fields::Name;
 use split_frac::Frac;
-use split_text::Named;
-
-/// The number and the name that goes with it.
-pub(crate) fn named(names: &[Name], number: u8) -> Named<'_>
-    requires low { 1 ≤ number }
-    requires high { number ≤ length names.now }
-    ensures number { result.number ≡ number }
-    ensures name { result.name.now ≡ text_at (map (λ name. name.bytes) names.now) number }
-{
-    Named {
-        number,
-        name: names[number as usize - 1].as_str(),
-    }
-}
 
 /// The fraction with this number.
 pub(crate) fn fraction_at(fractions: &[Frac], number: u8) -> Frac

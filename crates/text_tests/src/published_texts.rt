@@ -1,5 +1,4 @@
 // What is published of instances: a flat for three, the same without a bid, and an estate that takes too many steps.
-ghost use Rattle.publications.specs.Publications.{TellsDivision};
 
 use crate::exchanges::{bid, creation, exchange, key, secret};
 use publications::publication;
@@ -79,9 +78,7 @@ fn published<R: Threads + Sync>(
     alloc: Global,
     host: &Host,
     what: What,
-) -> Result<(u16, bool, String), Fail>
-    requires { TellsDivision what }
-{
+) -> Result<(u16, bool, String), Fail> {
     let Some(instance) = instance_at(host, 1) else {
         return Err(Fail::from("no instance"));
     };

@@ -174,7 +174,7 @@ pub new-lines-requires : goal.new-lines-requires
 new-lines-requires g c =
     let next = rw c.in-Ok-Kind.field-0-is at c.in-Ok-Kind.ensures in
     let told = next.piece.2 [] [] c.new-pieces.ensures.read in
-    subst (λ (k : ℕ). (k ≡ 1) ⊎ (k ≡ 2) ⊎ (k ≡ 3)) (sym told.2) (kinds c.next.new.self.counts)
+    subst (λ (k : ℕ). (k ≡ 1) ⊎ (k ≡ 2) ⊎ (k ≡ 3)) (sym told.2) (kinds c.next.new.self.counts told.3.begins.are_counts)
 
 pub lines-init : goal.lines-init
 lines-init g c =

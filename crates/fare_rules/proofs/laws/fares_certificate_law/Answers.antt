@@ -6,7 +6,7 @@ use Rattle.fare_rules.specs.Printed.{printed_case, printed_route}
 use Rattle.fare_rules.specs.Rules.{fares_rule}
 use Rattle.fare_rules.proofs.EndRules.{AreMeansOf}
 use Rattle.fare_rules.proofs.LineLaws.{are_entries}
-use Rattle.verdict_lemmas.proofs.Order.{one_verdict}
+use Rattle.verdicts.proofs.Order.{one_verdict}
 use Rattle.fare_rules.proofs.laws.fares_certificate_law.Goals as goal
 
 pub returns-clause-valid : goal.returns-clause-valid

@@ -1,4 +1,4 @@
-use Rattle.std.proofs.Common.{arith, ◌∙◌, ℕ, ℤ, pos, ap, length, get_or, refl, true, false}
+use Rattle.std.proofs.Common.{arith, ◌∙◌, ℕ, ℤ, pos, ap, length, get_or, refl}
 use Rattle.cert_reader.specs.Sets.{starts}
 use Rattle.fare_rules.proofs.StartLists.{made, starts_within}
 use Rattle.fare_rules.proofs.lines.is_line.Goals as goal

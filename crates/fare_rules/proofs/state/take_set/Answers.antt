@@ -1,4 +1,4 @@
-use Rattle.std.proofs.Common.{arith, ◌^◌, ◌∙◌, ap, sym, subst, true}
+use Rattle.std.proofs.Common.{arith, ◌^◌, ◌∙◌, ap, sym, subst}
 use Rattle.fare_rules.specs.State.{StandsFor}
 use Rattle.fare_rules.proofs.SetLines.{rider_count, stands_broken}
 use Rattle.fare_rules.proofs.state.take_set.Goals as goal

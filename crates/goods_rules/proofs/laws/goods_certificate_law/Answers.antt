@@ -4,7 +4,7 @@ use Rattle.goods_rules.specs.Printed.{printed_answer, printed_case, printed_owne
 use Rattle.goods_rules.specs.Rules.{goods_rule}
 use Rattle.goods_rules.proofs.BestAnswer.{tree_best}
 use Rattle.goods_rules.proofs.PrintedNumbers.{owners_unsigned, players_same}
-use Rattle.verdict_lemmas.proofs.Order.{one_verdict}
+use Rattle.verdicts.proofs.Order.{one_verdict}
 use Rattle.goods_rules.proofs.laws.goods_certificate_law.Goals as goal
 
 pub returns-clause-valid : goal.returns-clause-valid

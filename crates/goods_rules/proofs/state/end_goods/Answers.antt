@@ -1,7 +1,7 @@
 use Rattle.goods_rules.specs.Rules.{goods_rule}
 use Rattle.goods_rules.specs.State.{walk_rule}
 use Rattle.goods_rules.proofs.WalkedTrees.{rules_same}
-use Rattle.verdict_lemmas.proofs.Order.{same_verdict}
+use Rattle.verdicts.proofs.Order.{same_verdict}
 use Rattle.goods_rules.proofs.state.end_goods.Goals as goal
 
 pub returns-in-Walking : goal.returns-in-Walking

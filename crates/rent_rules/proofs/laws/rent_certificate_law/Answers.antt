@@ -5,7 +5,7 @@ use Rattle.rent_rules.specs.Printed.{printed_case, printed_rooms}
 use Rattle.rent_rules.specs.Rules.{rent_rule}
 use Rattle.rent_rules.proofs.Padded.{are_dual, are_prices, are_weights, padded}
 use Rattle.rent_rules.proofs.Shown.{are_shown}
-use Rattle.verdict_lemmas.proofs.Order.{one_verdict}
+use Rattle.verdicts.proofs.Order.{one_verdict}
 use Rattle.rent_rules.proofs.laws.rent_certificate_law.Goals as goal
 
 pub returns-clause-best : goal.returns-clause-best

@@ -2,7 +2,7 @@ use Rattle.std.proofs.Common.{arith, ◌≡◌, ◌∙◌}
 use Rattle.cert_reader.specs.Views.{rent_view}
 use Rattle.rent_rules.specs.Printed.{printed_rooms}
 use Rattle.rent_rules.specs.Rules.{rent_rule}
-use Rattle.verdict_lemmas.proofs.Order.{none_asked, one_asked}
+use Rattle.verdicts.proofs.Order.{none_asked, one_asked}
 use Rattle.verdicts.specs.Verdicts.{AreKept}
 use Rattle.rent_rules.proofs.rules.check_rent.Goals as goal
 

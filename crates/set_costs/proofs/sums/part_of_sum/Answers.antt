@@ -10,7 +10,8 @@ use Rattle.bid_rules.specs.Coalitions.{riders_in}
 use Rattle.bid_rules.specs.Orders.{factorial}
 use Rattle.fare_laws.specs.Entries.{without}
 use Rattle.fare_laws.specs.MarginalSums.{marginal_sum, part_by_last}
-use Rattle.set_costs.proofs.SetSums.{behind_other, fits, sum_small}
+use Rattle.split_lemmas.proofs.WideNumbers.{kept_whole}
+use Rattle.set_costs.proofs.SetSums.{behind_other, sum_small}
 use Rattle.set_costs.proofs.sums.part_of_sum.Goals as goal
 
 -- the second of two where the test fails
@@ -54,7 +55,7 @@ returns-else-last-rider-clause-value c =
     let within : rest < length c.args.sums.now = (let power = pow_pos (c.args.last - 1) in let bit = c.without_rider_law.ensures.number c.args.set c.args.last c.requires.last in let below = c.requires.below in omega (arith, power, bit, below)) in
     let is : slice_index_or c.args.sums.now c.from.result (pos 0) ≡ marginal_sum case c.args.rider (riders_in rest) = ap (λ k. slice_index_or c.args.sums.now k (pos 0)) index ∙ c.requires.sums rest within there in
     let small = rest_small case c.args.rider c.args.set c.args.last c.args.others c.requires.others c.requires.few (c.marginal_set_law.ensures.small case c.args.rider (riders_in rest) c.requires.valid there) in
-    ap (λ z. to_z w128 (of_z w128 z)) is ∙ fits (marginal_sum case c.args.rider (riders_in rest)) (omega (arith, small)) ∙ sym (part_of_other case c.args.rider c.args.set c.args.last c.if-last-rider.false)
+    ap (λ z. to_z w128 (of_z w128 z)) is ∙ kept_whole (marginal_sum case c.args.rider (riders_in rest)) (omega (arith, small)) ∙ sym (part_of_other case c.args.rider c.args.set c.args.last c.if-last-rider.false)
 
 pub returns-else-last-rider-clause-small : goal.returns-else-last-rider-clause-small
 returns-else-last-rider-clause-small c =

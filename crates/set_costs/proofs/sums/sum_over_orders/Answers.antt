@@ -7,7 +7,8 @@ use Rattle.std.proofs.lemmas.List.FromFn.{length-range_with_len}
 use Rattle.bid_rules.specs.Coalitions.{riders_in}
 use Rattle.bid_rules.specs.Orders.{factorial}
 use Rattle.fare_laws.specs.MarginalSums.{marginal_sum}
-use Rattle.set_costs.proofs.SetSums.{fits, lists_more, rider_of_all, ten_small}
+use Rattle.split_lemmas.proofs.WideNumbers.{kept_whole}
+use Rattle.set_costs.proofs.SetSums.{lists_more, rider_of_all, ten_small}
 use Rattle.set_costs.proofs.sums.sum_over_orders.Goals as goal
 
 pub push-requires : goal.push-requires
@@ -41,4 +42,4 @@ returns-clause-small c =
     let whole : length (riders_in c.all_riders-all.result) ≡ c.args.count =
     ap (λ s. length (riders_in s)) c.all_riders-all.ensures ∙ ap length (c.coalition_law.ensures.all c.args.count) ∙ length-range_with_len 1 c.args.count in
     let small : unsigned_abs c.sum_of_set.result ≤ 11000000 * factorial c.args.count = subst (λ n. unsigned_abs c.sum_of_set.result ≤ 11000000 * factorial n) whole c.sum_of_set.ensures.small in
-    subst (λ z. unsigned_abs z ≤ 11000000 * factorial c.args.count) (sym (fits c.sum_of_set.result (ten_small c.sum_of_set.result c.args.count small few))) small
+    subst (λ z. unsigned_abs z ≤ 11000000 * factorial c.args.count) (sym (kept_whole c.sum_of_set.result (ten_small c.sum_of_set.result c.args.count small few))) small

@@ -1,6 +1,4 @@
-use Rattle.std.specs.Int.{w128}
-use Rattle.std.proofs.lemmas.Int.{ints}
-use Rattle.std.proofs.Common.{ℤ, unsigned_abs, to_z, of_z, arith, ◌≡◌, ◌≤◌, ◌-◌, ◌+◌, ◌^◌, ◌∙◌, ℕ, [], ◌∷◌, All, ap, sym, subst, map, length, take, get_or}
+use Rattle.std.proofs.Common.{arith, ◌≡◌, ◌≤◌, ◌-◌, ◌+◌, ◌^◌, ◌∙◌, ℕ, [], ◌∷◌, All, ap, sym, subst, map, length, take, get_or}
 use Rattle.std.specs.List.{AllZip, range_with_len}
 use Rattle.std.proofs.Math.Seq.{take-length}
 use Rattle.std.proofs.lemmas.List.{length-take, length-map, map-append}
@@ -13,16 +11,13 @@ use Rattle.bid_rules.specs.Fares.{sum_of_marginal_costs}
 use Rattle.bid_rules.specs.Fractions.{Fraction, IsQuotient}
 use Rattle.bid_rules.specs.Orders.{factorial}
 use Rattle.split_lemmas.proofs.Zipped.{AllZip-more, length-AllZip}
+use Rattle.split_lemmas.proofs.WideNumbers.{kept_whole}
 use Rattle.shapley_core.specs.Division.{IsFareInRange}
 use Rattle.shapley_core.proofs.division.fares_of.Goals as goal
 
 -- the fare is the mean of the rider's marginal costs
 abbrev IsMean : FareCase → ℕ → ℕ → Fraction → Type 0
 IsMean case count rider fare = IsQuotient fare (sum_of_marginal_costs case rider) (factorial count)
-
--- a sum within its range is kept whole
-whole_sum : (z : ℤ) → unsigned_abs z ≤ 39916800000000 → to_z w128 (of_z w128 z) ≡ z
-whole_sum z small = omega (arith, ints)
 
 pub sum_over_orders-requires-clause-low : goal.sum_over_orders-requires-clause-low
 sum_over_orders-requires-clause-low c =
@@ -64,7 +59,7 @@ loop-rider-preserved c =
     let fares = c.loop-rider.fares.items in
     let fare = c.mean.result in
     let i = c.loop-rider.rider-index in
-    let mean : IsMean case n (get_or riders i 0) (fraction_of fare) = subst (λ z. IsQuotient (fraction_of fare) z (factorial n)) (whole_sum c.sum_over_orders.result c.sum_over_orders.ensures.fits ∙ c.sum_over_orders.ensures.value) c.mean.ensures.value in
+    let mean : IsMean case n (get_or riders i 0) (fraction_of fare) = subst (λ z. IsQuotient (fraction_of fare) z (factorial n)) (kept_whole c.sum_over_orders.result c.sum_over_orders.ensures.fits ∙ c.sum_over_orders.ensures.value) c.mean.ensures.value in
     record {
       means = subst (λ ys. AllZip (IsMean case n) (take (i + 1) riders) ys) (sym (ap (map fraction_of) c.push.ensures.items ∙ map-append fraction_of fares (fare ∷ [])))
           (AllZip-more (IsMean case n) riders (map fraction_of fares) i 0 (fraction_of fare) c.loop-rider-test.true c.loop-rider.invariant.means mean);

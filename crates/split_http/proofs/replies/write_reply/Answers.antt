@@ -1,6 +1,6 @@
 use Rattle.std.proofs.Common.{◌∙◌, ap, subst, sym, Some}
 use Rattle.std.specs.Io.KnownBytes.{Appends}
-use Rattle.split_http.specs.Pieces.{AppendsPart}
+use Rattle.split_http.specs.Pieces.{AppendsProperPart}
 use Rattle.split_http.proofs.ReplyLemmas.{ArePartsOf, OnOk-reply, OnErr-reply}
 use Rattle.split_http.specs.Replies.{IsDateLine}
 use Rattle.split_http.proofs.replies.write_reply.Goals as goal
@@ -31,4 +31,4 @@ returns-clause-part g c =
       close = c.close_text.ensures;
       text = c.body.ensures;
     } in
-    OnErr-reply _ _ (AppendsPart _ _) _ _ _ _ _ _ _ _ parts c.write_parts.ensures.part
+    OnErr-reply _ _ (AppendsProperPart _ _) _ _ _ _ _ _ _ _ parts c.write_parts.ensures.part

@@ -2,16 +2,18 @@ use Rattle.std.proofs.Common.{arith, ◌≡◌, subst, sym}
 use Rattle.cert_reader.specs.Forms.{Tree}
 use Rattle.cert_reader.specs.Order.{form_in}
 use Rattle.cert_reader.specs.Reading.{IsOpen, Reading}
+use Rattle.cert_reader.specs.Forms.{Certificates}
+use Rattle.cert_reader.proofs.Agreeing.{in_range}
 use Rattle.cert_reader.proofs.FormPlaces.{lines_few}
 use Rattle.cert_reader.proofs.TreePlaces.{behind_tree}
 use Rattle.cert_reader.proofs.TreeSteps.{first_read_at, first_unread_at}
 use Rattle.cert_reader.proofs.pieces.Pieces.begin_tree.Goals as goal
 
 pub overflow_add-self-inside : goal.overflow_add-self-inside
-overflow_add-self-inside g c = let few = lines_few c.self.inside.counts c.self.invariant.0 in let within = c.self.invariant.1 in omega arith
+overflow_add-self-inside g c = let few = lines_few c.self.inside.counts (in_range Certificates c.self.inside.counts c.self.invariant.0) in let within = c.self.invariant.1 in omega arith
 
 pub overflow_add-self : goal.overflow_add-self
-overflow_add-self g c = let few = lines_few c.self.inside.counts c.self.invariant.0 in let within = c.self.invariant.1 in omega arith
+overflow_add-self g c = let few = lines_few c.self.inside.counts (in_range Certificates c.self.inside.counts c.self.invariant.0) in let within = c.self.invariant.1 in omega arith
 
 pub returns-in-Err-clause-mark : goal.returns-in-Err-clause-mark
 returns-in-Err-clause-mark g c =

@@ -2,7 +2,7 @@ use Rattle.std.proofs.Common.{arith, ◌≡◌, ◌<◌, ◌≤◌, ap, length, 
 use Rattle.std.proofs.lemmas.Bool.{cases_lt}
 use Rattle.std.specs.Prelude.{Ok}
 use Rattle.cert_reader.specs.declared.pieces.Piece.TheVariants.{Line, Mark}
-use Rattle.cert_reader.specs.Forms.{forms_of}
+use Rattle.cert_reader.specs.Forms.{Certificates, forms_of}
 use Rattle.cert_reader.specs.Reading.{IsLineRead, IsMarkRead, IsPiece}
 use Rattle.cert_reader.proofs.HeadAndEnd.{done_read, done_unread}
 use Rattle.cert_reader.proofs.PieceSteps.{goes_so}
@@ -15,7 +15,7 @@ returns-in-Ok-clause-piece g c =
 
 pub returns-then-is_open-clause-piece : goal.returns-then-is_open-clause-piece
 returns-then-is_open-clause-piece g c =
-    goes_so c.args.self.now _ _ (λ taken said. IsLineRead c.args.self.now c.next_line.new.self (g.S.Source.left c.next_line.new.source) taken said (Ok c.in-Ok-next_line.numbers)) (λ taken said. IsPiece c.args.self.now c.next_line.new.self (g.S.Source.left c.next_line.new.source) taken said (Line c.in-Ok-next_line.numbers))
+    goes_so c.args.self.now _ _ (λ taken said. IsLineRead Certificates c.args.self.now c.next_line.new.self (g.S.Source.left c.next_line.new.source) taken said (Ok c.in-Ok-next_line.numbers)) (λ taken said. IsPiece c.args.self.now c.next_line.new.self (g.S.Source.left c.next_line.new.source) taken said (Line c.in-Ok-next_line.numbers))
     (λ taken said h. (c.requires.some, h.0, h.1, h.2)) c.in-Ok-next_line.ensures.line
 
 pub returns-in-Ok-finish-clause-piece : goal.returns-in-Ok-finish-clause-piece

@@ -1,11 +1,13 @@
 use Rattle.std.proofs.Common.{arith, ◌<◌, subst, sym}
 use Rattle.cert_reader.specs.Reading.{IsOpen, Reading}
+use Rattle.cert_reader.specs.Forms.{Certificates}
+use Rattle.cert_reader.proofs.Agreeing.{in_range}
 use Rattle.cert_reader.proofs.FormPlaces.{lines_few}
 use Rattle.cert_reader.proofs.PieceSteps.{line_given, settled_end_at, settled_line_at}
 use Rattle.cert_reader.proofs.pieces.Pieces.next_line.Goals as goal
 
 pub overflow_add-self : goal.overflow_add-self
-overflow_add-self g c = let few = lines_few c.self.inside.counts c.self.invariant.0 in let within = c.self.invariant.1 in omega arith
+overflow_add-self g c = let few = lines_few c.self.inside.counts (in_range Certificates c.self.inside.counts c.self.invariant.0) in let within = c.self.invariant.1 in omega arith
 
 pub returns-in-Err-clause-line : goal.returns-in-Err-clause-line
 returns-in-Err-clause-line g c =

@@ -1,0 +1,3 @@
+mod ShownAnswers
+mod OneAnswer
+mod LastGoods

@@ -1,0 +1,21 @@
+-- Where the solver stands while goods move, by the latest of them.
+use Rattle.std.specs.Prelude.{◌≡◌, ℕ, ◌+◌, ◌<◌, ◌≤◌, List}
+use Rattle.bid_rules.specs.declared.goods.GoodsCase.{GoodsCase}
+use Rattle.bid_rules.specs.Goods.{points}
+use Rattle.divided_goods.specs.Moving.{latest}
+use Rattle.divided_goods.specs.Procedure.{HaveMoved, IsNextToMove, other_player}
+
+-- goods have moved whole up to this one, or none where it is 0, and one player is still richer
+pub record MovedUpTo (case : GoodsCase) (richer last rich poor : ℕ) : Type 0 where
+  pub moved : List ℕ
+  pub at : last ≡ latest moved
+  pub moves : HaveMoved case richer moved rich poor
+  pub more : poor < rich
+
+-- the good is the last to move, in whole or in part: then both have the same
+pub record IsLastToMove (case : GoodsCase) (richer rich poor last : ℕ) : Type 0 where
+  pub moved : List ℕ
+  pub moves : HaveMoved case richer moved rich poor
+  pub more : poor < rich
+  pub next : IsNextToMove case richer moved last
+  pub ends : rich ≤ poor + points case (other_player richer) last + points case richer last

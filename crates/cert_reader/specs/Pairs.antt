@@ -1,0 +1,48 @@
+-- What the text of a pair says, as lists, and what reading one answers.
+use Rattle.std.specs.Prelude.{ℕ, ℤ, pos, ◌≤◌, List, [], ◌∷◌, ◌++◌, length, map, Option, Result, Ok, Err}
+use Rattle.std.specs.Io.KnownBytes.{IsAtEnd}
+use Rattle.bid_rules.specs.Fractions.{Fraction}
+use Rattle.split_frac.specs.Frac.{fraction_of}
+use Rattle.cert_reader.specs.declared.ends.ReadEnd.{ReadEnd}
+use Rattle.cert_reader.specs.declared.forms.Counts.TheVariants as count
+use Rattle.cert_reader.specs.declared.limits.TheConstants.{MOST_BYTES}
+use Rattle.cert_reader.specs.declared.pair.PairText.{PairText}
+use Rattle.cert_reader.specs.Forms.{Pairs}
+use Rattle.cert_reader.specs.Reading.{IsEndOf}
+use Rattle.cert_reader.specs.Text.{IsTextOf, Numbers, Said}
+use Rattle.cert_reader.specs.Views.{says}
+
+-- what adjusted winner gives two players: how many goods, their member numbers, points by player and good, player 1's share of each good, the two weights, and
+-- the points that each gets
+pub record PairView : Type 0 where
+  pub goods : ℕ
+  pub who : List ℤ
+  pub values : List (List ℤ)
+  pub shares : List Fraction
+  pub weights : List ℤ
+  pub total : Fraction
+
+-- what the lines say, from the first to `end`
+abbrev pub pair_said : PairView → List Said
+pair_said view = says (pos 1 ∷ []) ∷ says (pos view.goods ∷ []) ∷ says view.who
+    ∷ (map says view.values ++ (Numbers view.shares ∷ says view.weights ∷ Numbers (view.total ∷ []) ∷ says [] ∷ []))
+
+-- the bytes are the text of a pair that says this
+abbrev pub IsPairText : List ℕ → PairView → Type 0
+IsPairText bytes view = IsTextOf Pairs bytes (count.Pair view.goods) (pair_said view)
+
+-- a text that was read
+abbrev pub pair_view : PairText → PairView
+pair_view text = record {
+  goods = text.goods;
+  who = text.who.items;
+  values = map (λ row. row.items) text.values.items;
+  shares = map fraction_of text.shares.items;
+  weights = text.weights.items;
+  total = fraction_of text.total;
+}
+
+-- all bytes of the source are the text of a pair that says this; or why they are none
+abbrev pub IsReadPair : Option (List ℕ) → List ℕ → Result PairText ReadEnd → Type 0
+IsReadPair left taken (Ok text) = IsPairText taken (pair_view text) × (length taken ≤ MOST_BYTES) × IsAtEnd left
+IsReadPair left taken (Err end) = IsEndOf Pairs end left taken

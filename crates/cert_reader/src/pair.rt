@@ -1,0 +1,38 @@
+// The text of a pair: what adjusted winner gives two players.
+ghost use Rattle.std.specs.Prelude.{◌≡◌, ◌≤◌, [], ◌∷◌, ◌++◌, All, length, map};
+ghost use Rattle.std.proofs.Props.{props};
+ghost use Rattle.bid_rules.specs.declared.limits.TheConstants.{MOST_GOODS};
+ghost use Rattle.cert_reader.specs.declared.limits.TheConstants.{MOST_PRINTED_DENOMINATOR};
+ghost use Rattle.cert_reader.specs.Numbers.{AreShort, AreSmall, IsSmall};
+
+use crate::limits::PAIR_ROOM;
+use arrayvec::ArrayVec;
+use bid_rules::limits::ITEM_ROOM;
+use split_frac::Frac;
+
+/// What the text of a pair says: two players, their points by player and good, what of each good goes to player 1, the weights of the two, and the points that
+/// each gets. Whether it shows a fair division is for its rules to say.
+///
+/// There are 1 to 24 goods. The numbers have at most 25 digits, and the fractions denominators up to 4294967295.
+#[derive(Debug, Drop)]
+pub struct PairText {
+    pub goods: u8,
+    pub who: ArrayVec<i128, PAIR_ROOM>,
+    pub values: ArrayVec<ArrayVec<i128, ITEM_ROOM>, PAIR_ROOM>,
+    pub shares: ArrayVec<Frac, ITEM_ROOM>,
+    pub weights: ArrayVec<i128, PAIR_ROOM>,
+    pub total: Frac,
+    pub ghost goods_low: { 1 ≤ goods },
+    pub ghost goods_high: { goods ≤ MOST_GOODS },
+    pub ghost two: { length who.items ≡ 2 },
+    pub ghost rows: { length values.items ≡ 2 },
+    pub ghost columns: { All (λ row. length row.items ≡ goods) values.items } by { Prim.hlevel props },
+    pub ghost each_share: { length shares.items ≡ goods },
+    pub ghost both: { length weights.items ≡ 2 },
+    pub ghost who_small: { AreSmall who.items } by { Prim.hlevel props },
+    pub ghost values_small: { All (λ row. AreSmall row.items) values.items } by { Prim.hlevel props },
+    pub ghost shares_short: { AreShort shares.items } by { Prim.hlevel props },
+    pub ghost weights_small: { AreSmall weights.items } by { Prim.hlevel props },
+    pub ghost total_small: { IsSmall total.num },
+    pub ghost total_short: { total.den ≤ MOST_PRINTED_DENOMINATOR },
+}

@@ -1,0 +1,34 @@
+// The text of a pair from its lines.
+ghost use Rattle.std.specs.Prelude.{◌≡◌, ◌≤◌, [], ◌∷◌, ◌++◌, map};
+ghost use Rattle.cert_reader.specs.declared.forms.Counts.TheVariants as count;
+ghost use Rattle.cert_reader.specs.Forms.{AreInRange, pair_forms};
+ghost use Rattle.cert_reader.specs.Gathered.{line_said};
+ghost use Rattle.cert_reader.specs.Pairs.{pair_said, pair_view};
+ghost use Rattle.cert_reader.specs.Text.{CanSayAll};
+ghost use Rattle.cert_reader.specs.Views.{says};
+
+use crate::line::LineNumbers;
+use crate::pair::PairText;
+use crate::rows::{fraction_at, fractions_at, row_at, rows_of};
+
+/// The text of a pair whose lines before `end` were read.
+pub(crate) fn pair_text(goods: u8, lines: &[LineNumbers]) -> PairText
+    requires goods { AreInRange (count.Pair goods) }
+    requires lines { CanSayAll (pair_forms goods) (map line_said lines.now ++ says [] ∷ []) }
+    ensures said { pair_said (pair_view result) ≡ map line_said lines.now ++ says [] ∷ [] }
+    ensures goods { result.goods ≡ goods }
+{
+    let who = row_at(lines, 2);
+    let values = rows_of(&lines[3..5]);
+    let shares = fractions_at(lines, 5);
+    let weights = row_at(lines, 6);
+    let total = fraction_at(lines, 7);
+    PairText {
+        goods,
+        who,
+        values,
+        shares,
+        weights,
+        total,
+    }
+}

@@ -1,0 +1,146 @@
+// The text of a pair, read line by line from a source.
+ghost use Rattle.std.specs.Prelude.{◌≡◌, ◌↔◌, ◌+◌, ◌<◌, ◌≤◌, [], ℕ, List, length, IsErrOf, IsTrue, OnOk};
+ghost use Rattle.std.specs.Io.KnownBytes.{Consumes};
+ghost use Rattle.split_base.specs.Faults.{HasRisen};
+ghost use Rattle.cert_reader.specs.declared.forms.Counts.TheVariants as count;
+ghost use Rattle.cert_reader.specs.declared.limits.TheConstants.{MOST_BYTES};
+ghost use Rattle.cert_reader.specs.Forms.{Pairs, forms_of};
+ghost use Rattle.cert_reader.specs.Pairs.{IsReadPair};
+ghost use Rattle.cert_reader.specs.Reading.{GoesOf, IsFinished, IsLineRead, IsOpen, IsReadOf};
+ghost use Rattle.cert_reader.specs.Stream.{faults_after};
+
+use crate::ends::ReadEnd;
+use crate::forms::Counts;
+use crate::limits::PAIR_LINE_ROOM;
+use crate::line::LineNumbers;
+use crate::order::line_count;
+use crate::pair::PairText;
+use crate::pair_building::pair_text;
+use crate::step::{next_settled, refuse};
+use crate::stream::Bytes;
+use arrayvec::ArrayVec;
+use split_base::Source;
+use std::marker::Model;
+
+/// The text of a pair that is being read, in fixed memory.
+#[derive(Debug, Drop)]
+struct PairLines {
+    bytes: Bytes,
+    lines: u32,
+    counts: Counts,
+}
+
+impl Model for PairLines {
+    ghost use Rattle.std.specs.Prelude.{◌≤◌, length, false};
+    ghost use Rattle.cert_reader.specs.Forms.{AreCountsOf, Pairs, forms_of};
+    ghost use Rattle.cert_reader.specs.Reading.{Reading};
+
+    ghost Value = { Reading };
+
+    ghost view = { λ s. record { ahead = s.bytes.ahead; given = s.bytes.given; lines = s.lines; counts = s.counts; in_tree = false } };
+
+    ghost invariant = { λ s. AreCountsOf Pairs s.counts × (s.lines ≤ length (forms_of s.counts)) };
+}
+
+impl PairLines {
+    /// Nothing was read yet.
+    fn new() -> Self
+        ensures read { IsReadOf Pairs result [] [] }
+        ensures start { result.lines ≡ 0 }
+        ensures open { IsOpen result }
+    {
+        PairLines {
+            bytes: Bytes::new(),
+            lines: 0,
+            counts: Counts::Pair { goods: 1 },
+        }
+    }
+
+    /// Whether a line is still to come.
+    fn is_open(&self) -> bool
+        ensures { IsTrue result ↔ IsOpen self.now }
+    {
+        self.lines < line_count(self.counts)
+    }
+
+    /// How many goods there are, as far as the lines say it.
+    fn goods(&self) -> u8
+        ensures { self.now.counts ≡ count.Pair result }
+    {
+        match self.counts {
+            Counts::Pair { goods } => goods,
+            _ => unreachable!(),
+        }
+    }
+
+    /// Takes the next line, where one may follow, and gives its numbers.
+    fn next_line<S: Source>(&mut self, source: &mut S) -> Result<LineNumbers, ReadEnd>
+        requires { IsOpen self.old }
+        ensures line { GoesOf Pairs self.old (S.left source.old) (S.left source.new) (λ taken said. IsLineRead Pairs self.old self.new (S.left source.new) taken said result) }
+        ensures lines { OnOk result (self.new.lines ≡ self.old.lines + 1) }
+        ensures within { self.new.lines ≤ length (forms_of self.new.counts) }
+        ensures memory { IsErrOf result ReadEnd.NoMemory → ⊥ }
+        ensures faults { S.faults source.new ≡ faults_after (S.faults source.old) result }
+        ensures fault { IsErrOf result ReadEnd.ReadFault → HasRisen (S.faults source.old) (S.faults source.new) }
+        ensures count { S.faults source.old ≤ S.faults source.new }
+        ensures beside { S.beside source.new ≡ S.beside source.old }
+    {
+        match next_settled(&mut self.bytes, source, self.lines, self.counts) {
+            Err(end) => Err(end),
+            Ok((counts, numbers)) => {
+                self.counts = counts;
+                self.lines += 1;
+                Ok(numbers)
+            }
+        }
+    }
+
+    /// Finds the end of the input behind all lines, or reads on to it.
+    fn finish<S: Source>(&mut self, source: &mut S) -> Result<(), ReadEnd>
+        requires { self.old.lines ≡ length (forms_of self.old.counts) }
+        ensures finish { GoesOf Pairs self.old (S.left source.old) (S.left source.new) (λ taken said. IsFinished Pairs self.new (S.left source.new) taken said result) }
+        ensures same { self.new.counts ≡ self.old.counts }
+        ensures memory { IsErrOf result ReadEnd.NoMemory → ⊥ }
+        ensures faults { S.faults source.new ≡ faults_after (S.faults source.old) result }
+        ensures fault { IsErrOf result ReadEnd.ReadFault → HasRisen (S.faults source.old) (S.faults source.new) }
+        ensures count { S.faults source.old ≤ S.faults source.new }
+        ensures beside { S.beside source.new ≡ S.beside source.old }
+    {
+        match self.bytes.next_byte(source) {
+            Err(end) => Err(end),
+            Ok(None) => Ok(()),
+            Ok(Some(_)) => Err(refuse(&mut self.bytes, source, self.lines + 1)),
+        }
+    }
+}
+
+/// Reads the text of a pair, and gives what it says. It takes no memory.
+///
+/// - `NotText` comes exactly where the input has at most 4,000,000 bytes and is not the text of a pair, with its first broken line. It was read to its end.
+/// - `TooLong` comes exactly where it has more, whatever its lines. 4,000,001 bytes were read.
+/// - `ReadFault` comes only where the source's count of faults has risen, and at once: the failed read is not tried again.
+pub fn read_pair<S: Source>(source: &mut S) -> Result<PairText, ReadEnd>
+    ensures read { (taken : List ℕ) × Consumes (S.left source.old) (S.left source.new) taken × IsReadPair (S.left source.new) taken result }
+    ensures memory { IsErrOf result ReadEnd.NoMemory → ⊥ }
+    ensures faults { S.faults source.new ≡ faults_after (S.faults source.old) result }
+    ensures fault { IsErrOf result ReadEnd.ReadFault → HasRisen (S.faults source.old) (S.faults source.new) }
+    ensures count { S.faults source.old ≤ S.faults source.new }
+    ensures beside { S.beside source.new ≡ S.beside source.old }
+{
+    let mut pair = PairLines::new();
+    let mut lines: ArrayVec<LineNumbers, PAIR_LINE_ROOM> = ArrayVec::new();
+    'lines: loop {
+        match pair.next_line(source) {
+            Err(end) => return Err(end),
+            Ok(numbers) => {
+                if !pair.is_open() {
+                    return match pair.finish(source) {
+                        Ok(()) => Ok(pair_text(pair.goods(), &lines)),
+                        Err(end) => Err(end),
+                    };
+                }
+                lines.push(numbers);
+            }
+        }
+    }
+}

@@ -1,0 +1,15 @@
+pub mod Weighted
+pub mod SupportedDivisions
+pub mod MovingOrder
+pub mod WinnerWeights
+pub mod ShownDivisions
+pub mod OneTotal
+pub mod OneWinner
+pub mod RicherPlayers
+pub mod NextGoods
+pub mod FinalMoves
+pub mod FirstShares
+pub mod Procedures
+pub mod SplitShares
+pub mod PrintedShares
+pub mod RicherAtFirst

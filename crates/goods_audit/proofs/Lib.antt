@@ -1,0 +1,7 @@
+mod FirstFound
+mod OneText
+mod OpenPrefixes
+mod PathLists
+mod RoomTests
+mod WalkSteps
+mod WholeDivisions

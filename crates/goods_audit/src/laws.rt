@@ -1,0 +1,34 @@
+// What holds of audits, for all cases: each law is the contract of a function that does nothing.
+ghost use Rattle.std.specs.Prelude.{◌≡◌, ℕ, List, Option, None};
+ghost use Rattle.bid_rules.specs.declared.goods.GoodsCase.{GoodsCase};
+ghost use Rattle.bid_rules.specs.Goods.{Dominates, IsAllocation, in_search_order};
+ghost use Rattle.envy_check.specs.Fairness.{AreBestOwners};
+ghost use Rattle.nash_search.specs.declared.division.GoodsDivision.{GoodsDivision};
+ghost use Rattle.nash_search.specs.Division.{IsGoodsDivision};
+ghost use Rattle.player_lines.specs.Names.{NamesData};
+ghost use Rattle.goods_audit.specs.Texts.{IsAuditText, IsDivisionAudit, SaysFair};
+
+use envy_check::one_good_law;
+use goods_laws::best_goods_law;
+use nash_bounds::owners_by_good_law;
+use nash_search::step_count_law;
+
+/// Over the best division the audit says that nothing dominates it, which is true, and of nobody that envy goes past one good (Caragiannis
+/// and others 2016).
+pub fn fair_audit_law()
+    ensures fair { (given : NamesData) (case : GoodsCase) (owners text : List ℕ) → AreBestOwners case owners → IsAuditText given case owners None text → SaysFair given case owners text }
+    ensures undominated { (case : GoodsCase) (owners others : List ℕ) → AreBestOwners case owners → IsAllocation case others → Dominates case others (in_search_order case owners) → ⊥ }
+{
+    best_goods_law();
+    one_good_law();
+    owners_by_good_law();
+}
+
+/// Since a case has one division by the solver, it has one audit under the names of its members and goods: there is one answer on each two
+/// players.
+pub fn one_goods_audit_law()
+    ensures { (given : NamesData) (case : GoodsCase) (division others : GoodsDivision) (text other : List ℕ) → IsGoodsDivision case division → IsGoodsDivision case others
+        → IsDivisionAudit given case division text → IsDivisionAudit given case others other → text ≡ other }
+{
+    step_count_law();
+}

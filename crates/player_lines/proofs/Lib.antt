@@ -1,0 +1,2 @@
+pub mod HeldGoods
+pub mod Lines

@@ -1,0 +1,7 @@
+mod AskedCommands
+mod Contents
+mod SealedReplies
+mod Settled
+mod Statuses
+mod Stepped
+mod Unrouted

@@ -1,0 +1,54 @@
+-- What the opening of the file of a host that waits says.
+use Rattle.std.proofs.Common.{◌≡◌, ℕ, List, None, Some, Ok, Err, refl, ap, subst, ⊎_elim}
+use Rattle.split_base.specs.declared.disk.Disk.{Ghosts}
+use Rattle.gate_log.specs.declared.fault.LogFault.{LogFault}
+use Rattle.gate_log.specs.declared.fault.LogFault.TheVariants as fault
+use Rattle.host_keeper.specs.Calls.{Reopens}
+use Rattle.host_keeper.specs.Leading.{opened_files}
+use Rattle.host_keeper.specs.States.{IsFile, State}
+use Rattle.reply_texts.specs.declared.refusals.ServiceRefusal.TheVariants as service
+use Rattle.requests.specs.Cases.{Settles}
+use Rattle.requests.specs.Keeping.{FaultSays}
+use Rattle.requests.specs.Said.{SaidView, memory_said, refused_said}
+
+module _ {D T : Type 0} (d : Ghosts D) (disk after : D) (s new : State) where
+  pub settled_ok : (x : T) → Reopens {T = T} d disk after s new (Ok x) → Settles d disk after s new None
+  settled_ok x (Reopens.opened e secret kept waits ok count told is) = Settles.opened e secret kept waits count told is refl
+  settled_ok x (Reopens.failed e waits bad count torn is) = absurd (cc)
+  settled_ok x (Reopens.damaged e place waits bad count never is) = absurd (cc)
+  settled_ok x (Reopens.memory e waits bad count rests is) = absurd (cc)
+
+  settled_fault : (said : SaidView) → said ≡ refused_said service.StoreFault → Reopens {T = T} d disk after s new (Err fault.Disk) → Settles d disk after s new (Some said)
+  settled_fault said same (Reopens.opened e secret kept waits ok count told is) = absurd (cc)
+  settled_fault said same (Reopens.failed e waits was count torn is) = Settles.store_fault e waits count torn is (ap Some same)
+  settled_fault said same (Reopens.damaged e place waits bad count never is) = absurd (cc)
+  settled_fault said same (Reopens.memory e waits bad count rests is) = absurd (cc)
+
+  -- where the text of the place found no memory, that is said
+  settled_damaged : (place : ℕ) (said : SaidView) → FaultSays (fault.NotALog place) said → Reopens {T = T} d disk after s new (Err (fault.NotALog place)) → Settles d disk after s new (Some said)
+  settled_damaged place said same (Reopens.opened e secret kept waits ok count told is) = absurd (cc)
+  settled_damaged place said same (Reopens.failed e waits bad count torn is) = absurd (cc)
+  settled_damaged place said same (Reopens.damaged e other waits was count never is) =
+      ⊎_elim (λ told. Settles.damaged e place waits count never is (ap Some told)) (λ memory. Settles.memory e waits count (λ h. absurd (never h)) is (ap Some memory)) same
+  settled_damaged place said same (Reopens.memory e waits bad count rests is) = absurd (cc)
+
+  settled_memory : (said : SaidView) → said ≡ memory_said → Reopens {T = T} d disk after s new (Err fault.NoMemory) → Settles d disk after s new (Some said)
+  settled_memory said same (Reopens.opened e secret kept waits ok count told is) = absurd (cc)
+  settled_memory said same (Reopens.failed e waits bad count torn is) = absurd (cc)
+  settled_memory said same (Reopens.damaged e place waits bad count never is) = absurd (cc)
+  settled_memory said same (Reopens.memory e waits was count rests is) = Settles.memory e waits count rests is (ap Some same)
+
+  -- what is said of a fault is what the case says
+  pub settled_by : (f : LogFault) (said : SaidView) → FaultSays f said → Reopens {T = T} d disk after s new (Err f) → Settles d disk after s new (Some said)
+  settled_by fault.Disk said says p = settled_fault said says p
+  settled_by (fault.NotALog place) said says p = settled_damaged place said says p
+  settled_by fault.NoMemory said says p = settled_memory said says p
+
+-- where the request goes on, the files are those of the state before
+pub settled_files : {D : Type 0} (d : Ghosts D) (disk after : D) (s new : State) → Settles d disk after s new None → (file : List ℕ) → d.is_honest disk → IsFile new file → IsFile s file
+settled_files d disk after s new (Settles.ready waits same is none) file honest here = subst (λ (x : State). IsFile x file) is here
+settled_files d disk after s new (Settles.store_fault e waits count torn is bad) file honest here = absurd (cc)
+settled_files d disk after s new (Settles.damaged e place waits count never is bad) file honest here = absurd (cc)
+settled_files d disk after s new (Settles.opened e secret kept waits count told is none) file honest here =
+    opened_files s e secret kept waits (told honest).secret_stays (told honest).either file (subst (λ (x : State). IsFile x file) is here)
+settled_files d disk after s new (Settles.memory e waits count rests is bad) file honest here = absurd (cc)

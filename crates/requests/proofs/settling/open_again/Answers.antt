@@ -1,0 +1,12 @@
+use Rattle.host_keeper.specs.Leading.{leads_as}
+use Rattle.requests.specs.Said.{said_view}
+use Rattle.requests.proofs.Settled.{settled_by, settled_ok}
+use Rattle.requests.proofs.settling.open_again.Goals as goal
+
+pub returns-in-Ok-clause-settled : goal.returns-in-Ok-clause-settled
+returns-in-Ok-clause-settled g c s stands =
+    leads_as g.D.Disk _ _ _ s _ _ (c.in-Ok.ensures.reopened s stands) (λ new p. settled_ok g.D.Disk _ _ s new (tt {0}) p)
+
+pub returns-in-Err-clause-settled : goal.returns-in-Err-clause-settled
+returns-in-Err-clause-settled g c s stands =
+    leads_as g.D.Disk _ _ _ s _ _ (c.in-Err.ensures.reopened s stands) (λ new p. settled_by g.D.Disk _ _ s new c.in-Err.fault (said_view c.failure.result) c.failure.ensures p)

@@ -1,0 +1,35 @@
+use Rattle.std.proofs.Common.{refl, ap, None, Some, option_map}
+use Rattle.host_keeper.specs.Leading.{leads_as, leads_still}
+use Rattle.publications.specs.Contents.{content_view}
+use Rattle.sealed_core.specs.Host.{event_view}
+use Rattle.sealed_core.specs.Step.{answer_view, command_view}
+use Rattle.requests.specs.Cases.{Steps}
+use Rattle.requests.specs.Said.{said_view}
+use Rattle.requests.proofs.Stepped.{event_is, replied, stepped}
+use Rattle.requests.proofs.stepping.step.Goals as goal
+
+pub returns-in-Err-clause-stepped : goal.returns-in-Err-clause-stepped
+returns-in-Err-clause-stepped g c s stands =
+    leads_still g.D.Disk g.met.D.Disk.only_now c.args.serving.now c.args.disk.now s _ stands (Steps.memory refl refl c.out_of_memory.ensures)
+
+pub returns-in-None-clause-stepped : goal.returns-in-None-clause-stepped
+returns-in-None-clause-stepped g c s stands =
+    let h = c.args.serving.now.host.content in
+    let command = command_view c.args.command in
+    let a = answer_view c.answer-answered.result in
+    let is = c.answer-answered.ensures.step in
+    leads_still g.D.Disk g.met.D.Disk.only_now c.args.serving.now c.args.disk.now s _ stands
+    (Steps.no_event (content_view c.in-Ok.told) (event_is h s stands.host.is_host c.args.moment command a is None (ap (option_map event_view) c.in-None.is)) refl
+    (replied h s stands.host.is_host c.args.moment command a is (content_view c.in-Ok.told) c.in-Ok.ensures.shows) refl c.told-said.ensures)
+
+pub returns-in-Some-clause-stepped : goal.returns-in-Some-clause-stepped
+returns-in-Some-clause-stepped g c s stands =
+    let h = c.args.serving.now.host.content in
+    let command = command_view c.args.command in
+    let a = answer_view c.answer-answered.result in
+    let is = c.answer-answered.ensures.step in
+    let event = event_view c.in-Some.event in
+    leads_as g.D.Disk _ _ _ s _ _ (c.keep_first.ensures.kept s stands)
+    (λ new p. stepped g.D.Disk _ _ event (content_view c.in-Ok.told) (said_view c.told-said.result) s new _ c.args.moment command
+    (event_is h s stands.host.is_host c.args.moment command a is (Some event) (ap (option_map event_view) c.in-Some.is))
+    (replied h s stands.host.is_host c.args.moment command a is (content_view c.in-Ok.told) c.in-Ok.ensures.shows) c.told-said.ensures p)

@@ -1,0 +1,31 @@
+-- What private functions say: for their contracts alone.
+use Rattle.std.specs.Prelude.{◌≡◌, ◌⊎◌, [], ◌∷◌, ◌++◌}
+use Rattle.gate_log.specs.declared.fault.LogFault.{LogFault}
+use Rattle.gate_log.specs.declared.fault.LogFault.TheVariants as fault
+use Rattle.split_base.specs.declared.disk.Disk.{Ghosts}
+use Rattle.split_base.specs.Faults.{counted}
+use Rattle.host_keeper.specs.Calls.{IsAppended}
+use Rattle.host_keeper.specs.States.{State, ready_with, waits_with}
+use Rattle.reply_texts.specs.declared.refusals.ServiceRefusal.TheVariants as service
+use Rattle.sealed_core.specs.Host.{EventView}
+use Rattle.split_http.specs.declared.routes.RouteFault.{RouteFault}
+use Rattle.split_http.specs.declared.routes.RouteFault.TheVariants.{NoRoute, Method}
+use Rattle.requests.specs.Said.{SaidView, memory_said, method_said, refused_said}
+
+-- the event was kept and this is said; or the disk failed in the append and the host waits; or there was no memory
+pub data KeepsSaid {D : Type 0} (d : Ghosts D) (disk after : D) (event : EventView) (due : SaidView) (s new : State) (said : SaidView) : Type 0 where
+  kept : d.faults after ≡ d.faults disk → (d.is_honest disk → IsAppended d disk after s.secret (s.kept ++ event ∷ []))
+      → new ≡ ready_with s.secret (s.kept ++ event ∷ []) → said ≡ due → KeepsSaid d disk after event due s new said
+  failed : d.faults after ≡ counted (d.faults disk) → new ≡ waits_with s event → said ≡ refused_said service.StoreFault → KeepsSaid d disk after event due s new said
+  memory : after ≡ disk → new ≡ s → said ≡ memory_said → KeepsSaid d disk after event due s new said
+
+-- what is said where the journal has failed; the text of a place takes memory
+abbrev pub FaultSays : LogFault → SaidView → Type 0
+FaultSays fault.Disk said = said ≡ refused_said service.StoreFault
+FaultSays (fault.NotALog place) said = (said ≡ refused_said (service.StoreDamaged place)) ⊎ (said ≡ memory_said)
+FaultSays fault.NoMemory said = said ≡ memory_said
+
+-- what is said where a request leads nowhere
+abbrev pub unrouted_said : RouteFault → SaidView
+unrouted_said NoRoute = refused_said service.NoRoute
+unrouted_said (Method allow) = method_said allow

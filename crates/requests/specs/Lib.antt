@@ -1,0 +1,6 @@
+pub mod Said
+pub mod Commands
+pub mod Replies
+pub mod Cases
+pub mod Keeping
+pub mod Sent

@@ -1,0 +1,108 @@
+// A request that was read whole.
+ghost use Rattle.std.specs.Prelude.{◌≡◌, ◌≤◌, ◌↔◌, None};
+ghost use Rattle.host_keeper.specs.Calls.{Leads};
+ghost use Rattle.host_keeper.specs.States.{Stands, State};
+ghost use Rattle.search_workers.specs.declared.limits.TheConstants.{MOST_WORKERS};
+ghost use Rattle.requests.specs.Cases.{Responds, Steps};
+ghost use Rattle.split_http.specs.Places.{IsRouted};
+ghost use Rattle.requests.specs.Commands.{command_of as command_at};
+ghost use Rattle.requests.specs.Keeping.{unrouted_said};
+ghost use Rattle.requests.specs.Said.{said_view};
+
+use crate::commands::command_of;
+use crate::said::Said;
+use crate::settling::settle;
+use crate::stepping::step;
+use host_keeper::Serving;
+use reply_texts::ServiceRefusal;
+use sealed_core::Key;
+use split_base::{Disk, Gate, NoMemory};
+use split_http::{Head, Route, RouteFault, Routes};
+use std::alloc::Global;
+use std::thread::Threads;
+
+/// What is said to a request that was read whole, at a moment.
+///
+/// - A path that no route has and a method that the route hasn't are refused, and nothing changes.
+/// - Then a host that waits opens its file again. Where that fails the request ends with it, and the host waits on.
+/// - Then the command is answered: its reply is made, with all of its text, and all memory is taken; its event is kept; and then the reply is
+///   said.
+///
+/// A store fault is said only where a call of the disk failed in this request, which is counted once and not tried again; that the file is
+/// no journal, never on an honest disk. That memory ran out may be said at any point, with no event of the request. On an honest disk a
+/// crash at any moment leaves the events kept before, with or without the one of the request.
+#[allow(clippy::too_many_arguments)]
+pub fn respond<D: Disk, R: Threads + Sync, G: Gate + Sync>(
+    alloc: Global,
+    rt: &R,
+    serving: &mut Serving,
+    disk: &mut D,
+    routes: &Routes,
+    head: &Head,
+    body: &[u8],
+    moment: u64,
+    workers: u8,
+    gate: &G,
+) -> Said
+    requires { (1 ≤ workers) × (workers ≤ MOST_WORKERS) }
+    ensures responds { (s : State) → Stands D.Disk serving.old disk.old s
+        → Leads D.Disk serving.new disk.old disk.new s (λ new. Responds D.Disk disk.old disk.new head.now body.now moment s new (said_view result)) }
+
+    // Whatever the serving stands for.
+    ensures count { D.faults disk.old ≤ D.faults disk.new }
+    ensures honest { D.is_honest disk.old ↔ D.is_honest disk.new }
+{
+    match route_of(routes, head) {
+        Err(fault) => unrouted(fault),
+        Ok(route) => match settle(alloc, serving, disk) {
+            Some(said) => said,
+            None => perform(
+                alloc, rt, serving, disk, route, head.key, body, moment, workers, gate,
+            ),
+        },
+    }
+}
+
+/// Where a request leads.
+fn route_of(routes: &Routes, head: &Head) -> Result<Route, RouteFault>
+    ensures { IsRouted head.now.verb head.now.path result }
+{
+    routes.find(head.verb, head.path.as_ref())
+}
+
+/// What is said where a request leads nowhere.
+fn unrouted(fault: RouteFault) -> Said
+    ensures { said_view result ≡ unrouted_said fault }
+{
+    match fault {
+        RouteFault::NoRoute => Said::refused(&ServiceRefusal::NoRoute),
+        RouteFault::Method { allow } => Said::refused_method(allow),
+    }
+}
+
+/// What a host that is ready says to a request that leads somewhere.
+#[allow(clippy::too_many_arguments)]
+fn perform<D: Disk, R: Threads + Sync, G: Gate + Sync>(
+    alloc: Global,
+    rt: &R,
+    serving: &mut Serving,
+    disk: &mut D,
+    route: Route,
+    key: Option<Key>,
+    body: &[u8],
+    moment: u64,
+    workers: u8,
+    gate: &G,
+) -> Said
+    requires ready { serving.old.waiting ≡ None }
+    requires workers { (1 ≤ workers) × (workers ≤ MOST_WORKERS) }
+    ensures performed { (s : State) → Stands D.Disk serving.old disk.old s
+        → Leads D.Disk serving.new disk.old disk.new s (λ new. Steps D.Disk disk.old disk.new moment (command_at route.place route.id key body.now) s new (said_view result)) }
+    ensures count { D.faults disk.old ≤ D.faults disk.new }
+    ensures honest { D.is_honest disk.old ↔ D.is_honest disk.new }
+{
+    match command_of(alloc, route, key, body) {
+        Ok(command) => step(alloc, rt, serving, disk, moment, command, workers, gate),
+        Err(NoMemory) => Said::out_of_memory(),
+    }
+}

@@ -1,0 +1,31 @@
+// What is said in reply to a request, whoever asked and when.
+ghost use Rattle.std.specs.Prelude.{IsTrue};
+ghost use Rattle.split_http.specs.Replies.{is_host_status};
+
+use publications::ContentType;
+use split_http::Allow;
+
+/// The text of a reply.
+#[derive(Debug, Drop)]
+pub enum ReplyText {
+    /// It was written for this reply.
+    Written(Vec<u8>),
+    /// It is a constant, and takes no memory.
+    Constant(&'static [u8]),
+}
+
+/// What is said in reply to a request.
+#[derive(Debug, Drop)]
+pub struct Said {
+    /// The HTTP status, one with which a host replies.
+    pub status: u16,
+    /// The type of the text.
+    pub content_type: ContentType,
+    /// The whole text.
+    pub text: ReplyText,
+    /// The methods of the route, where they are told.
+    pub allow: Option<Allow>,
+    /// Whether it says that memory ran out: the connection is closed behind it then.
+    pub memory: bool,
+    ghost known: { IsTrue (is_host_status status) },
+}

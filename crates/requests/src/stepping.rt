@@ -1,0 +1,74 @@
+// One step on a host that is ready: its reply is made, and then its event is kept.
+ghost use Rattle.std.specs.Prelude.{◌≡◌, ◌≤◌, ◌↔◌, None};
+ghost use Rattle.host_keeper.specs.Calls.{Leads};
+ghost use Rattle.host_keeper.specs.States.{Stands, State};
+ghost use Rattle.search_workers.specs.declared.limits.TheConstants.{MOST_WORKERS};
+ghost use Rattle.sealed_core.specs.Host.{CanApply, event_view};
+ghost use Rattle.sealed_core.specs.Step.{IsCheckedCommand, command_view};
+ghost use Rattle.requests.specs.Cases.{Steps};
+ghost use Rattle.requests.specs.Keeping.{KeepsSaid};
+ghost use Rattle.requests.specs.Said.{said_view};
+
+use crate::replies::content;
+use crate::said::Said;
+use crate::telling::failure;
+use host_keeper::{Serving, keep};
+use sealed_core::{Command, Event, answer};
+use split_base::{Disk, Gate, NoMemory};
+use std::alloc::Global;
+use std::thread::Threads;
+
+/// What is said to a command at a moment: the reply, made whole before its event is kept, or that the disk failed.
+#[allow(clippy::too_many_arguments)]
+pub(crate) fn step<D: Disk, R: Threads + Sync, G: Gate + Sync>(
+    alloc: Global,
+    rt: &R,
+    serving: &mut Serving,
+    disk: &mut D,
+    moment: u64,
+    command: Command,
+    workers: u8,
+    gate: &G,
+) -> Said
+    requires ready { serving.old.waiting ≡ None }
+    requires command { IsCheckedCommand (command_view command) }
+    requires workers { (1 ≤ workers) × (workers ≤ MOST_WORKERS) }
+    ensures stepped { (s : State) → Stands D.Disk serving.old disk.old s
+        → Leads D.Disk serving.new disk.old disk.new s (λ new. Steps D.Disk disk.old disk.new moment (command_view command) s new (said_view result)) }
+    ensures count { D.faults disk.old ≤ D.faults disk.new }
+    ensures honest { D.is_honest disk.old ↔ D.is_honest disk.new }
+{
+    let answered = answer(&serving.host, moment, command);
+    match content(alloc, rt, &serving.host, &answered, workers, gate) {
+        Err(NoMemory) => Said::out_of_memory(),
+        Ok(told) => {
+            let said = Said::told(told);
+            let event = answered.event;
+            match event {
+                None => said,
+                Some(event) => keep_first(alloc, serving, disk, event, said),
+            }
+        }
+    }
+}
+
+/// Keeps an event, and says this then.
+fn keep_first<D: Disk>(
+    alloc: Global,
+    serving: &mut Serving,
+    disk: &mut D,
+    event: Event,
+    due: Said,
+) -> Said
+    requires ready { serving.old.waiting ≡ None }
+    requires can { CanApply serving.old.host.content (event_view event) }
+    ensures kept { (s : State) → Stands D.Disk serving.old disk.old s
+        → Leads D.Disk serving.new disk.old disk.new s (λ new. KeepsSaid D.Disk disk.old disk.new (event_view event) (said_view due) s new (said_view result)) }
+    ensures count { D.faults disk.old ≤ D.faults disk.new }
+    ensures honest { D.is_honest disk.old ↔ D.is_honest disk.new }
+{
+    match keep(alloc, serving, disk, event) {
+        Ok(()) => due,
+        Err(fault) => failure(alloc, fault),
+    }
+}

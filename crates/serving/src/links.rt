@@ -1,0 +1,127 @@
+// The heads of a link in order.
+ghost use Rattle.std.specs.Prelude.{◌≡◌, ◌≤◌, ◌↔◌, ◌||◌, ℕ, Option, IsSome, Some, true};
+ghost use Rattle.host_keeper.specs.States.{State};
+ghost use Rattle.search_workers.specs.declared.limits.TheConstants.{MOST_WORKERS};
+ghost use Rattle.split_base.specs.Clocks.{ClockRun};
+ghost use Rattle.link_runs.specs.declared.limits.TheConstants.{MAX_REQUESTS};
+ghost use Rattle.link_runs.specs.Runs.{LinkRun};
+ghost use Rattle.link_runs.specs.Served.{CountsServed, HeadServed, RanTo, carried, link_view, tells_of};
+ghost use Rattle.serving.specs.Serving.{StandsAt, host_service};
+
+use crate::replies::{refusal_said, write_said};
+use hearing::{Heard, hear, is_head};
+use host_keeper::Serving;
+use link_runs::{LinkEnd, MAX_REQUESTS};
+use requests::respond;
+use split_base::{Clock, Disk, Gate, Link};
+use split_http::{Carry, Head, Routes};
+use std::alloc::Global;
+use std::thread::Threads;
+
+// Serves the next head. None where the link goes on, which it does not behind the last one.
+#[allow(clippy::too_many_arguments)]
+fn serve_head<D: Disk, L: Link, C: Clock, R: Threads + Sync, G: Gate + Sync>(
+    alloc: Global,
+    rt: &R,
+    serving: &mut Serving,
+    disk: &mut D,
+    link: &mut L,
+    clock: &mut C,
+    routes: &Routes,
+    carry: &mut Carry,
+    last: bool,
+    workers: u8,
+    gate: &G,
+) -> Option<LinkEnd>
+    requires { (1 ≤ workers) × (workers ≤ MOST_WORKERS) }
+    ensures says { (w : D × State) → StandsAt D.Disk serving.old disk.old w → HeadServed (host_service D.Disk)
+        (carried carry.old (link_view (tells_of L.Source L.Sink) link.old)) (carried carry.new (link_view (tells_of L.Source L.Sink) link.new))
+        (ClockRun C.gives C.faults clock.old clock.new) (StandsAt D.Disk serving.new disk.new) last w result }
+    ensures ends { last ≡ true → IsSome result }
+    ensures counts { CountsServed (link_view (tells_of L.Source L.Sink) link.old) (link_view (tells_of L.Source L.Sink) link.new) result }
+    ensures reads { L.Source.faults link.old ≤ L.Source.faults link.new }
+    ensures writes { L.Sink.faults link.old ≤ L.Sink.faults link.new }
+    ensures clock { C.faults clock.old ≤ C.faults clock.new }
+    ensures disk { D.faults disk.old ≤ D.faults disk.new }
+    ensures honest { D.is_honest disk.old ↔ D.is_honest disk.new }
+{
+    match hear(alloc, link, clock, carry) {
+        Heard::Quiet(end) => Some(end),
+        Heard::Refused {
+            refusal,
+            answer,
+            bodiless,
+        } => write_said(link, &refusal_said(refusal), answer, bodiless, true),
+        Heard::Request { head, body, moment } => {
+            let said = respond(
+                alloc, rt, serving, disk, routes, &head, &body, moment, workers, gate,
+            );
+            let bodiless = is_head(head.verb);
+            write_said(link, &said, Some(moment), bodiless, closes(&head, last))
+        }
+    }
+}
+
+// Whether the connection is closed behind the reply to this head.
+fn closes(head: &Head, last: bool) -> bool
+    ensures { result ≡ (head.now.closes || last) }
+{
+    head.closes || last
+}
+
+/// Serves one connection: its heads in order, at most `MAX_REQUESTS` of them, each at one answer of the clock and with one reply. It takes no
+/// memory but what a head or a request may be refused for.
+///
+/// - `Ended`: no byte was left where a head would begin, or the last reply was written, closed the connection and wasn't a memory reply.
+/// - `Cut`: the input ended within a body. Nothing is replied to its head.
+/// - `LinkFault` comes only where one of the link's two counts of faults has risen, by one. The link got a first part of the bytes due.
+/// - `Memory`: a memory reply was the last, and was written.
+///
+/// Goods are searched by 1 to `MOST_WORKERS` workers, who take no part in what is written.
+#[allow(clippy::too_many_arguments)]
+pub fn serve_one<D: Disk, L: Link, C: Clock, R: Threads + Sync, G: Gate + Sync>(
+    alloc: Global,
+    rt: &R,
+    serving: &mut Serving,
+    disk: &mut D,
+    link: &mut L,
+    clock: &mut C,
+    routes: &Routes,
+    workers: u8,
+    gate: &G,
+) -> LinkEnd
+    requires { (1 ≤ workers) × (workers ≤ MOST_WORKERS) }
+    ensures run { (w : D × State) → StandsAt D.Disk serving.old disk.old w → RanTo (LinkRun (host_service D.Disk) MAX_REQUESTS)
+        (link_view (tells_of L.Source L.Sink) link.old) (link_view (tells_of L.Source L.Sink) link.new)
+        (ClockRun C.gives C.faults clock.old clock.new) (StandsAt D.Disk serving.new disk.new) w result }
+
+    // Whatever the serving stands for.
+    ensures counts { CountsServed (link_view (tells_of L.Source L.Sink) link.old) (link_view (tells_of L.Source L.Sink) link.new) (Some result) }
+    ensures reads { L.Source.faults link.old ≤ L.Source.faults link.new }
+    ensures writes { L.Sink.faults link.old ≤ L.Sink.faults link.new }
+    ensures clock { C.faults clock.old ≤ C.faults clock.new }
+    ensures disk { D.faults disk.old ≤ D.faults disk.new }
+    ensures honest { D.is_honest disk.old ↔ D.is_honest disk.new }
+{
+    let mut carry = Carry::new();
+    let mut left = MAX_REQUESTS;
+    loop {
+        left -= 1;
+        match serve_head(
+            alloc,
+            rt,
+            serving,
+            disk,
+            link,
+            clock,
+            routes,
+            &mut carry,
+            left == 0,
+            workers,
+            gate,
+        ) {
+            Some(end) => return end,
+            None => {}
+        }
+    }
+}

@@ -1,0 +1,92 @@
+// The links of a port in order.
+ghost use Rattle.std.specs.Prelude.{◌≡◌, ◌<◌, ◌≤◌, ◌-◌, ◌⊎◌, ◌↔◌, ℕ, IfOk, IsErr, Ok};
+ghost use Rattle.host_keeper.specs.States.{State};
+ghost use Rattle.split_base.specs.Clocks.{ClockRun};
+ghost use Rattle.split_base.specs.Faults.{HasCause, IsCounted};
+ghost use Rattle.search_workers.specs.declared.limits.TheConstants.{MOST_WORKERS};
+ghost use Rattle.link_runs.specs.Ports.{LinkGone, PortServed};
+ghost use Rattle.link_runs.specs.Served.{tells_of};
+ghost use Rattle.serving.specs.Serving.{StandsAt, host_service};
+
+use crate::serve_one;
+use host_keeper::Serving;
+use split_base::{Clock, Disk, Failed, Gate, Port};
+use split_http::Routes;
+use std::alloc::Global;
+use std::thread::Threads;
+
+// Serves a link and gives it back, whatever its end.
+#[allow(clippy::too_many_arguments)]
+fn serve_link<D: Disk, P: Port, C: Clock, R: Threads + Sync, G: Gate + Sync>(
+    alloc: Global,
+    rt: &R,
+    serving: &mut Serving,
+    disk: &mut D,
+    port: &mut P,
+    clock: &mut C,
+    routes: &Routes,
+    mut link: P::Link,
+    workers: u8,
+    gate: &G,
+)
+    requires { (1 ≤ workers) × (workers ≤ MOST_WORKERS) }
+    ensures served { (w : D × State) → StandsAt D.Disk serving.old disk.old w
+        → LinkGone (host_service D.Disk) (tells_of P.Link.Source P.Link.Sink) link
+        (P.given_back port.old) (P.given_back port.new) (P.places port.old) (ClockRun C.gives C.faults clock.old clock.new) (StandsAt D.Disk serving.new disk.new) w }
+    ensures come { P.to_come port.new ≡ P.to_come port.old }
+    ensures stays { P.has_ended port.old ↔ P.has_ended port.new }
+    ensures places { P.places port.new ≡ P.places port.old - 1 }
+    ensures faults { P.faults port.new ≡ P.faults port.old }
+    ensures clock { C.faults clock.old ≤ C.faults clock.new }
+    ensures disk { D.faults disk.old ≤ D.faults disk.new }
+    ensures honest { D.is_honest disk.old ↔ D.is_honest disk.new }
+{
+    let _end = serve_one(
+        alloc, rt, serving, disk, &mut link, clock, routes, workers, gate,
+    );
+    port.done(link);
+}
+
+/// Serves `count` links, or fewer only where the port has ended or a call of it failed. It answers their number. Each link is given back,
+/// whatever its end. It takes no memory but what a request may be refused for.
+///
+/// `Failed` comes only where the port's count of faults has risen, by one; no link is asked for again then. `Ok` leaves the count as it is.
+#[allow(clippy::too_many_arguments)]
+pub fn serve<D: Disk, P: Port, C: Clock, R: Threads + Sync, G: Gate + Sync>(
+    alloc: Global,
+    rt: &R,
+    serving: &mut Serving,
+    disk: &mut D,
+    port: &mut P,
+    clock: &mut C,
+    routes: &Routes,
+    count: u64,
+    workers: u8,
+    gate: &G,
+) -> Result<u64, Failed>
+    requires { (1 ≤ workers) × (workers ≤ MOST_WORKERS) }
+    ensures run { (w : D × State) → StandsAt D.Disk serving.old disk.old w → (number : ℕ) × (result ≡ Ok number ⊎ IsErr result)
+        × PortServed (host_service D.Disk) (tells_of P.Link.Source P.Link.Sink)
+        (P.to_come port.old) (P.to_come port.new) (P.given_back port.old) (P.given_back port.new) (P.places port.old)
+        (ClockRun C.gives C.faults clock.old clock.new) (StandsAt D.Disk serving.new disk.new) w number }
+    ensures few { IfOk result (λ number. number < count → P.has_ended port.new) }
+    ensures most { IfOk result (λ number. number ≤ count) }
+    ensures cause { HasCause (P.faults port.old) (P.faults port.new) result }
+    ensures counted { IsCounted (P.faults port.old) (P.faults port.new) result }
+
+    // Whatever the serving stands for.
+    ensures clock { C.faults clock.old ≤ C.faults clock.new }
+    ensures disk { D.faults disk.old ≤ D.faults disk.new }
+    ensures honest { D.is_honest disk.old ↔ D.is_honest disk.new }
+{
+    for served in 0..count {
+        match port.accept() {
+            Err(Failed) => return Err(Failed),
+            Ok(None) => return Ok(served),
+            Ok(Some(link)) => serve_link(
+                alloc, rt, serving, disk, port, clock, routes, link, workers, gate,
+            ),
+        }
+    }
+    Ok(count)
+}

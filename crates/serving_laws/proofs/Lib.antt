@@ -1,0 +1,8 @@
+mod Chains
+mod Accepted
+mod Growing
+mod Crashing
+mod Answered
+mod Moved
+mod Alike
+mod Sealed

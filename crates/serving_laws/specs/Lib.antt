@@ -1,0 +1,6 @@
+pub mod Accepting
+pub mod Crashes
+pub mod Answering
+pub mod Moving
+pub mod Writing
+pub mod Sealing

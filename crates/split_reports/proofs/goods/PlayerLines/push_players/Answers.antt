@@ -1,7 +1,0 @@
-use Rattle.split_reports.specs.Names.{shown_names}
-use Rattle.split_reports.specs.Goods.{player_line}
-use Rattle.split_reports.proofs.Lines.{lines_more}
-use Rattle.split_reports.proofs.goods.PlayerLines.push_players.Goals as goal
-
-pub loop-k-preserved : goal.loop-k-preserved
-loop-k-preserved c = lines_more (player_line (shown_names c.args.self.now.names.now) c.args.self.now.case.now c.args.self.now.owners.now) c.loop-k.k _ _ _ c.loop-k.invariant c.in_ok-push_player.ensures

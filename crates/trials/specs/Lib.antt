@@ -1,0 +1,4 @@
+pub mod Draws
+pub mod Prefixes
+pub mod Spreads
+pub mod Trials

@@ -1,0 +1,4 @@
+mod PrintedNumbers
+mod Splits
+mod PartTotals
+mod FairTexts

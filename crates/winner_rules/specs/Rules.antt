@@ -1,0 +1,37 @@
+-- The four rules that the text of adjusted winner keeps: they show its division equitable, envy-free and efficient (Brams and Taylor 1996).
+use Rattle.std.specs.Prelude.{◌≡◌, ℕ, zero, suc, pos, ◌≤ℤ◌, List, [], ◌∷◌, All, length, map, unsigned_abs}
+use Rattle.bid_rules.specs.declared.goods.GoodsCase.{GoodsCase}
+use Rattle.bid_rules.specs.declared.limits.TheConstants.{MOST_MEMBERS, MOST_STEPS}
+use Rattle.bid_rules.specs.Goods.{IsValidGoodsCase}
+use Rattle.divided_goods.specs.Printed.{AreProperShares, HaveTotal, SupportShares}
+use Rattle.cert_reader.specs.Pairs.{PairView}
+
+-- the case with the numbers without a sign. A text counts no members and has no step limit, so they are as many as there may be
+abbrev pub printed_case : PairView → GoodsCase
+printed_case view = record {
+  facts = record { members = MOST_MEMBERS; goods = view.goods; limit = MOST_STEPS };
+  who = record { items = map unsigned_abs view.who };
+  values = record { items = map (λ row. record { items = map unsigned_abs row }) view.values };
+}
+
+-- the numbers are 0 or more, and a case of two players: rising members up to 12, and points that sum to 1000 for each
+pub record HasCase (view : PairView) : Type 0 where
+  pub two : length view.who ≡ 2
+  pub who : All (λ member. pos 0 ≤ℤ member) view.who
+  pub values : All (λ row. All (λ points. pos 0 ≤ℤ points) row) view.values
+  pub valid : IsValidGoodsCase (printed_case view)
+
+-- the two weights support the shares
+pub record HasWeights (view : PairView) : Type 0 where
+  pub first : ℕ
+  pub second : ℕ
+  pub are : view.weights ≡ pos first ∷ pos second ∷ []
+  pub support : SupportShares (printed_case view) view.shares first second
+
+-- the rule of a number, from 1 to 4
+abbrev pub winner_rule : PairView → ℕ → Type 0
+winner_rule view zero = Unit {0}
+winner_rule view (suc zero) = HasCase view
+winner_rule view (suc (suc zero)) = AreProperShares (printed_case view) view.shares
+winner_rule view (suc (suc (suc zero))) = HaveTotal (printed_case view) view.shares view.total
+winner_rule view (suc (suc (suc (suc number)))) = HasWeights view

@@ -1,0 +1,14 @@
+//! The four rules of the text of adjusted winner for two players: judged in one pass and in fixed memory, and what they show.
+#![tactic(auto)]
+
+mod case;
+mod checking;
+mod laws;
+mod rules;
+mod shares;
+mod totals;
+mod weights;
+
+pub use checking::check_winner;
+pub use laws::{winner_certificate_law, winner_verdict_law};
+pub use rules::check_pair;
