@@ -1,22 +1,40 @@
-//! The program: the commands over the standard streams.
+//! The program: the commands over the journal's file, TCP, the system's clock and the standard streams.
 #![tactic(auto)]
 
 use adapters::{Reading, Started, Writing, words_of};
+use host_adapters::{JournalFile, LinkLimits, SystemClock, TcpDialer, TcpPort};
 use split_base::{NoMemory, Quiet, write_all};
-use split_top::run;
+use split_top::{Stop, run};
 use std::io;
 use std::process::ExitCode;
+
+/// The file of the journal, in the folder that the program is run in.
+const JOURNAL: &str = "split.journal";
+
+/// That folder.
+const FOLDER: &str = ".";
 
 fn main(rt: HostRuntime) -> ExitCode {
     let mut output = Writing::new(io::writer(&rt));
     let words = match words_of(rt.alloc(), &Started::new(&rt)) {
         Ok(words) => words,
         Err(NoMemory) => {
-            let _ = write_all(&mut output, b"no memory\n");
-            return ExitCode::from(9);
+            let owed = Stop::NoMemory.owed();
+            let _ = write_all(&mut output, &owed.line);
+            return ExitCode::from(owed.status);
         }
     };
-    let mut input = Reading::new(rt.reader());
-    let status = run(rt.alloc(), &rt, &words, &mut input, &mut output, &Quiet);
+    let status = run(
+        rt.alloc(),
+        &rt,
+        &words,
+        &mut JournalFile::new(&rt, JOURNAL, FOLDER),
+        &mut TcpPort::new(&rt, LinkLimits::usual()),
+        &mut SystemClock::new(&rt),
+        &mut Reading::new(rt.reader()),
+        &mut output,
+        &Quiet,
+        &mut TcpDialer::new(&rt, LinkLimits::usual()),
+    );
     ExitCode::from(status.code)
 }

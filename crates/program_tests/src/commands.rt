@@ -1,6 +1,6 @@
 // The commands over sources and sinks in memory: what fails, what is too small, and pieces of one byte.
 use printed_certificates::{FLAT, TAXI};
-use split_base::{MemSink, MemSource, Quiet};
+use split_base::{MemClock, MemDial, MemDisk, MemPort, MemSink, MemSource, Quiet};
 use split_top::{Stop, run};
 use std::alloc::Global;
 use std::process::Abort;
@@ -85,7 +85,28 @@ fn ends(
     let Ok(mut sink) = MemSink::new(alloc, outside.room, outside.bad_writes.to_vec(alloc)?) else {
         return Err(Fail::from("no memory"));
     };
-    let status = run(alloc, rt, &given, &mut source, &mut sink, &Quiet);
+    let Ok(mut disk) = MemDisk::new(alloc, Vec::new(alloc), 0, Vec::new(alloc), None) else {
+        return Err(Fail::from("no memory"));
+    };
+    let Ok(mut port) = MemPort::new(alloc, Vec::new(alloc), Vec::new(alloc)) else {
+        return Err(Fail::from("no memory"));
+    };
+    let Ok(mut dialer) = MemDial::new(alloc, Vec::new(alloc), Vec::new(alloc)) else {
+        return Err(Fail::from("no memory"));
+    };
+    let mut clock = MemClock::new([0].to_vec(alloc)?, Vec::new(alloc));
+    let status = run(
+        alloc,
+        rt,
+        &given,
+        &mut disk,
+        &mut port,
+        &mut clock,
+        &mut source,
+        &mut sink,
+        &Quiet,
+        &mut dialer,
+    );
     assert!(rt; sink.bytes() == text.as_bytes(), "{text}");
     assert_eq!(rt; status.code, code, "{text}");
     Ok(())

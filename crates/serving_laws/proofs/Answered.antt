@@ -15,16 +15,16 @@ use Rattle.split_http.specs.declared.routes.Route.{Route}
 use Rattle.split_http.specs.Places.{IsRouted}
 use Rattle.serving_laws.specs.Answering.{HasAnswer, IsReadyFor}
 
-counted_rises : (n : ℕ) → HasRisen n (counted n)
+pub counted_rises : (n : ℕ) → HasRisen n (counted n)
 counted_rises n =
     ⊎_elim (λ (full : 2 ^ 64 - 1 < n + 1). inr (min-eq_right (omega (arith, full))))
     (λ (room : n + 1 ≤ 2 ^ 64 - 1). let is : counted n ≡ n + 1 = min-eq_left room in inl (subst (λ m. n < m) (sym is) (omega arith))) (cases_lt (2 ^ 64 - 1) (n + 1))
 
-not_counted : (n now : ℕ) → (HasRisen n now → ⊥) → now ≡ counted n → ⊥
+pub not_counted : (n now : ℕ) → (HasRisen n now → ⊥) → now ≡ counted n → ⊥
 not_counted n now none is = none (subst (λ m. HasRisen n m) (sym is) (counted_rises n))
 
 -- what is settled before the step where no call fails, and the count is as it was
-settled_for : {D : Type 0} (d : Ghosts D) (disk between : D) (s settled : State) → d.is_honest disk → Settles d disk between s settled None → IsReadyFor s settled × (d.faults between ≡ d.faults disk)
+pub settled_for : {D : Type 0} (d : Ghosts D) (disk between : D) (s settled : State) → d.is_honest disk → Settles d disk between s settled None → IsReadyFor s settled × (d.faults between ≡ d.faults disk)
 settled_for {D} d disk between s settled honest (Settles.ready a same is c) = (inl is, ap (λ (x : D). d.faults x) same)
 settled_for d disk between s settled honest (Settles.store_fault e a up torn is c) = absurd (cc)
 settled_for d disk between s settled honest (Settles.damaged e place a same never is c) = absurd (never honest)

@@ -4,5 +4,10 @@ mod Growing
 mod Crashing
 mod Answered
 mod Moved
+mod Quiet
+mod Refused
+mod Lasts
+mod MemoryReplies
 mod Alike
 mod Sealed
+mod HeardRuns

@@ -10,7 +10,7 @@ use Rattle.split_http.specs.declared.routes.Route.{Route}
 use Rattle.split_http.specs.Places.{IsRouted}
 use Rattle.serving_laws.specs.Moving.{IsReopened, Moves}
 
-settles_reopen : {D : Type 0} (d : Ghosts D) (disk after : D) (s new : State) (result : Option SaidView) → Settles d disk after s new result → IsReopened s new
+pub settles_reopen : {D : Type 0} (d : Ghosts D) (disk after : D) (s new : State) (result : Option SaidView) → Settles d disk after s new result → IsReopened s new
 settles_reopen d disk after s new result (Settles.ready a b is c) = inl is
 settles_reopen d disk after s new result (Settles.store_fault e a up torn is c) = inl is
 settles_reopen d disk after s new result (Settles.damaged e place a same never is c) = inl is

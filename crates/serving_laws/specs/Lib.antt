@@ -2,5 +2,8 @@ pub mod Accepting
 pub mod Crashes
 pub mod Answering
 pub mod Moving
+pub mod Refusing
+pub mod Last
 pub mod Writing
 pub mod Sealing
+pub mod Heard

@@ -1,27 +1,35 @@
 // Laws of whole runs.
-ghost use Rattle.std.specs.Prelude.{◌≡◌, ℕ, List, Option, false};
+ghost use Rattle.std.specs.Prelude.{◌≡◌, ◌↔◌, ◌⊎◌, ℕ, List, [], None, Option, true, false};
 ghost use Rattle.split_base.specs.Disk.{Each};
 ghost use Rattle.split_base.specs.Faults.{HasRisen};
-ghost use Rattle.host_keeper.specs.States.{IsFile, State};
+ghost use Rattle.host_keeper.specs.States.{IsFile, State, ready_with};
 ghost use Rattle.link_runs.specs.declared.limits.TheConstants.{MAX_REQUESTS};
-ghost use Rattle.link_runs.specs.Ends.{Ending};
+ghost use Rattle.link_runs.specs.declared.ends.LinkEnd.TheVariants as ends;
+ghost use Rattle.link_runs.specs.Dues.{DueView};
+ghost use Rattle.link_runs.specs.Ends.{Ending, end_as};
 ghost use Rattle.link_runs.specs.Exchanges.{Answered, Exchange, IsExchange, LinkExchanges};
 ghost use Rattle.link_runs.specs.Ports.{PortRun};
 ghost use Rattle.link_runs.specs.Runs.{LinkRun};
-ghost use Rattle.link_runs.specs.Served.{tells_of};
+ghost use Rattle.link_runs.specs.Served.{CountsEnd, LinkView, tells_of};
+ghost use Rattle.requests.specs.Said.{memory_said};
 ghost use Rattle.serving.specs.Serving.{host_service};
 ghost use Rattle.serving_laws.specs.Accepting.{Accepts};
-ghost use Rattle.serving_laws.specs.Answering.{HasAnswer};
+ghost use Rattle.serving_laws.specs.Answering.{HasAnswer, IsReadyFor};
 ghost use Rattle.serving_laws.specs.Crashes.{Acknowledges, Since};
-ghost use Rattle.serving_laws.specs.Moving.{Moves};
+ghost use Rattle.serving_laws.specs.Heard.{AreSteps, IsStep, IsUnrouted, got_all};
+ghost use Rattle.serving_laws.specs.Last.{IsMemoryReply, IsPlainReply, IsWritten, Last, LinkEnds, end_by};
+ghost use Rattle.serving_laws.specs.Moving.{IsReopened, Moves};
+ghost use Rattle.serving_laws.specs.Refusing.{IsSuccess, StaysBut};
 ghost use Rattle.sealed_core.specs.declared.commands.Ask.{Ask};
 ghost use Rattle.sealed_core.specs.Host.{HostView};
-ghost use Rattle.sealed_core.specs.Sealed.{caller_number, host_after, is_closed, view};
+ghost use Rattle.sealed_core.specs.Sealed.{Asked, Caller, RunAlike, caller_number, empty, host_after, is_closed, view};
 ghost use Rattle.sealed_core.specs.Step.{To};
 ghost use Rattle.serving_laws.specs.Sealing.{AsksOf};
 ghost use Rattle.serving_laws.specs.Writing.{Answering, IsDone, answering_so};
 
+use reply_texts::text_sealing_law;
 use requests::sent_sealing_law;
+use sealed_core::{machine_law, publication_law};
 use split_base::{Disk, Port};
 use split_http::{cut_law, reply_law};
 
@@ -30,6 +38,22 @@ use split_http::{cut_law, reply_law};
 pub fn link_law<D: Disk>()
     ensures { (n : ℕ) (all : List ℕ) (answers : List (Option ℕ)) (w : D × State) (out : List ℕ) (new : D × State) (end : Ending)
         → LinkRun (host_service D.Disk) n all answers w out new end → LinkExchanges (host_service D.Disk) all answers w out new end }
+{}
+
+/// The run of a link ends by what came last on it. It is `Ended` exactly where no byte was left where a head would begin, or where the last
+/// thing was a reply that was written, closed the connection and wasn't the memory reply; `Cut` exactly where the input ended within the body
+/// of a head that isn't refused; `Memory` exactly where the memory reply was the last thing and was written; and `LinkFault` exactly where a
+/// call of the link failed, so only where a count of the link has risen.
+pub fn ends_law<D: Disk>()
+    ensures last { (n : ℕ) (all : List ℕ) (answers : List (Option ℕ)) (w : D × State) (out : List ℕ) (new : D × State) (end : Ending)
+        → LinkRun (host_service D.Disk) n all answers w out new end → LinkEnds (host_service D.Disk) all answers w out new end }
+    ensures ended { (last : Last) → (end_by last ≡ ends.Ended) ↔ ((last ≡ Last.nothing_left) ⊎ IsPlainReply last) }
+    ensures cut { (last : Last) → (end_by last ≡ ends.Cut) ↔ (last ≡ Last.body_cut) }
+    ensures memory { (last : Last) → (end_by last ≡ ends.Memory) ↔ IsMemoryReply last }
+    ensures fault { (last : Last) → (end_by last ≡ ends.LinkFault) ↔ ((last ≡ Last.read_failed) ⊎ (last ≡ Last.write_failed)) }
+    ensures said { (due : DueView) (w : D × State) (all : List ℕ) (answers : List (Option ℕ)) (out : List ℕ) (new : D × State)
+        → IsWritten (host_service D.Disk) due w all answers out new → due.said.memory ≡ true → due.said ≡ memory_said }
+    ensures counted { (link now : LinkView) (ending : Ending) → end_as ending ≡ ends.LinkFault → CountsEnd link now ending → HasRisen link.reads now.reads ⊎ HasRisen link.writes now.writes }
 {}
 
 /// The run of a port is such a list over all of its links, in order, each request at the state and the disk that the one before it left.
@@ -72,6 +96,17 @@ pub fn moved_law<D: Disk>()
     ensures { (x : Exchange (D × State)) → IsExchange (host_service D.Disk) x → Moves x }
 {}
 
+/// A request without success changes nothing but, where the deadline of the instance that it asks has passed, by the Close of that: whatever
+/// the disk, the state stays as it was, or as its file was opened where it waited, or it has this one event more. Or the disk failed in the
+/// append, which is told: then the events stay, and the request's own one waits. On an honest disk the file of a host that waits is opened as
+/// the events kept before, with the one that waited or without it.
+pub fn refused_law<D: Disk>()
+    ensures stays { (x : Exchange (D × State)) → IsExchange (host_service D.Disk) x → (IsSuccess x.due.said.status → ⊥) → StaysBut IsReopened x }
+    ensures honest { (x : Exchange (D × State)) → IsExchange (host_service D.Disk) x → D.is_honest x.before.0 → (IsSuccess x.due.said.status → ⊥) → StaysBut IsReadyFor x }
+{
+    publication_law();
+}
+
 /// Over the same bytes and answers of the clock, where the machine with its disk and its memory answers each request in one way, a link on which
 /// no call fails gets the same bytes and ends alike. So neither the pieces in which its bytes come nor the number of workers takes part in
 /// what it gets.
@@ -92,4 +127,22 @@ pub fn sealed_law<D: Disk>()
         → (x.due.said.status ≡ y.due.said.status) × (x.due.said.text ≡ y.due.said.text) }
 {
     sent_sealing_law();
+}
+
+/// Bids are sealed in whole runs of requests. Take two runs of a host with an empty journal whose steps are equal pair by pair, but that some
+/// of them may be two bids on an instance by the same member other than the caller, at the same moment, each of them kept. Then the caller
+/// gets the same status and text in reply to each of their own commands on the instance in both, up to the step at which it is closed. A
+/// request at a host that is ready goes by a step, or its path or method is refused, where no call of the disk failed in it and memory didn't
+/// run out.
+pub fn sealed_runs_law<D: Disk>()
+    ensures got { (secret : List ℕ) (id : ℕ) (caller : Caller) (run others : List (Exchange (D × State))) (asked besides : List Asked) (w v new after : D × State)
+        → Answered (host_service D.Disk) w run new → Answered (host_service D.Disk) v others after → w.1 ≡ ready_with secret [] → v.1 ≡ ready_with secret []
+        → AreSteps run asked → AreSteps others besides → RunAlike (empty secret) (empty secret) id caller asked besides
+        → got_all (empty secret) id caller run asked ≡ got_all (empty secret) id caller others besides }
+    ensures step { (x : Exchange (D × State)) → IsExchange (host_service D.Disk) x → x.before.1.waiting ≡ None → (HasRisen (D.faults x.before.0) (D.faults x.after.0) → ⊥)
+        → x.due.said.memory ≡ false → IsUnrouted x ⊎ ((a : Asked) × IsStep x a) }
+{
+    machine_law();
+    sent_sealing_law();
+    text_sealing_law();
 }

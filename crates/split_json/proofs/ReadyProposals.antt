@@ -10,7 +10,7 @@ use Rattle.bid_rules.specs.Decisions.{is_checked_facts, where_holds}
 use Rattle.bid_rules.specs.Facts.{IsCheckedFacts}
 use Rattle.split_json.specs.Rules.{bids_in, kind_in, name_in, names_in, number_in, passing, place_in}
 use Rattle.split_json.specs.Reading.{CaseData, HeadData, allowed, case_of_object, field_text, goods_facts, goods_head, head_of_object, held, held_or, rest_of_head}
-use Rattle.split_json.specs.Proposals.{AreOfGoods, IsReadyProposal, goods_alone, goods_in, has_bid, owner_in, owners_in, proposal_answer, proposal_of_object}
+use Rattle.split_json.specs.Proposals.{AreOfGoods, IsReadyGoods, IsReadyProposal, goods_alone, goods_answer, goods_case_of_object, goods_in, has_bid, owner_in, owners_in, proposal_answer, proposal_of_object}
 use Rattle.case_fields.specs.declared.fields.FieldName.{FieldName}
 use Rattle.case_fields.specs.declared.fields.FieldName.TheVariants as field
 use Rattle.case_fields.specs.declared.fields.BodyFault.TheVariants.{Field}
@@ -78,6 +78,18 @@ case_goods body passing case first h =
     let of_goods : AreOfGoods head.facts = head_goods body passing head first found in
     subst (λ (c : CaseData). AreOfGoods c.facts) whole of_goods))
 
+-- a case of goods that an object gives is ready
+goods_case_of_object-ready : (body : Data) (case : CaseData) → goods_case_of_object body ≡ Ok case → IsReadyGoods case
+unfolding goods_case_of_object
+goods_case_of_object-ready body case h =
+    both-ok (held field.Kind goods_in body) _ case h (λ passing kinds found. record { ready = case_of_object-ready body case found; goods = case_goods body passing case kinds found })
+
+-- and so is one that a value gives
+pub goods_answer-ready : (value : Option Data) (case : CaseData) → goods_answer value ≡ Ok case → IsReadyGoods case
+goods_answer-ready None case h = cc h
+goods_answer-ready (Some body) case h = answer-ok (λ read. read) Field (goods_case_of_object body) case h (λ read found is.
+    subst IsReadyGoods is (goods_case_of_object-ready body read found))
+
 -- an owner that is read has bid
 owner_in-some : (bids : List (Option Bid)) (d : Data) (member : ℕ) → owner_in bids d ≡ Some member → has_bid bids member ≡ true
 owner_in-some bids d member h =
@@ -89,20 +101,20 @@ owner_in-some bids d member h =
 proposal_of_object-ready : (body : Data) (proposal : CaseData × List ℕ) → proposal_of_object body ≡ Ok proposal → IsReadyProposal proposal.0 proposal.1
 unfolding proposal_of_object
 proposal_of_object-ready body proposal h =
-    both-ok (held field.Kind goods_in body) _ proposal h (λ passing kinds after_kind.
-    both-ok (case_of_object body) _ proposal after_kind (λ case found after_case.
+    both-ok (goods_case_of_object body) _ proposal h (λ case found after_case.
+    let of_goods = goods_case_of_object-ready body case found in
     both-ok (held field.Owners (owners_in (length case.items) case.bids) body) _ proposal after_case (λ owners owners_held is.
     held-ok field.Owners (owners_in (length case.items) case.bids) body owners owners_held (λ value kept.
     let all = list_in-some (owner_in case.bids) (λ member. has_bid case.bids member ≡ true) (owner_in-some case.bids) (length case.items) value owners kept in
     let ready : IsReadyProposal case owners = record {
-      ready = case_of_object-ready body case found;
-      goods = case_goods body passing case kinds found;
+      ready = of_goods.ready;
+      goods = of_goods.goods;
       each = all.0;
       bidders = all.1;
     } in
     let made : CaseData × List ℕ = (case, owners) in
     let whole : made ≡ proposal = cc is in
-    subst (λ (p : CaseData × List ℕ). IsReadyProposal p.0 p.1) whole ready))))
+    subst (λ (p : CaseData × List ℕ). IsReadyProposal p.0 p.1) whole ready)))
 
 -- and so is one that a value gives
 pub proposal_answer-ready : (value : Option Data) (proposal : CaseData × List ℕ) → proposal_answer value ≡ Ok proposal → IsReadyProposal proposal.0 proposal.1

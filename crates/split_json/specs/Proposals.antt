@@ -1,4 +1,4 @@
--- What the body of a proposed division of goods gives.
+-- What the body of a case of goods gives, and that of a proposed division of them.
 use Rattle.std.specs.Prelude.{◌≡◌, ℕ, ◌-◌, ◌&&◌, nat_le, Bool, true, List, All, length, slice_index_or, Option, Some, None, is_some, option_and_then, Result, Ok, Err}
 use Rattle.std.specs.Result.{result_map_both}
 use Rattle.serde_json.specs.Data.{Data}
@@ -14,7 +14,7 @@ use Rattle.split_json.specs.declared.rules.Kind.TheVariants as kind
 use Rattle.split_json.specs.Reading.{CaseData, IsReady, case_of_object, held, ◌>>=◌}
 use Rattle.split_json.specs.Rules.{json_of, kind_in, list_in, passing, place_in}
 
--- the kind of a proposal: goods alone
+-- the kind of a case of goods: goods alone
 abbrev pub goods_alone : Kind → Option Kind
 goods_alone kind.Rent = None
 goods_alone kind.Goods = Some kind.Goods
@@ -35,11 +35,25 @@ owner_in bids d = option_and_then (passing (has_bid bids)) (place_in d)
 abbrev pub owners_in : ℕ → List (Option Bid) → Data → Option (List ℕ)
 owners_in goods bids = list_in (owner_in bids) goods goods
 
+-- a case of goods: another kind is the first broken field
+unfoldable pub goods_case_of_object : Data → Result CaseData FieldName
+goods_case_of_object body = do
+  kind ← held field.Kind goods_in body
+  case_of_object body
+
+-- the answer on a JSON value, and on none
+abbrev pub goods_answer : Option Data → Result CaseData BodyFault
+goods_answer None = Err Json
+goods_answer (Some body) = result_map_both (λ case. case) Field (goods_case_of_object body)
+
+-- what a body gives: `Json` exactly where it is no JSON, else the first broken field, else the case of goods
+abbrev pub goods_case_in : List ℕ → Result CaseData BodyFault
+goods_case_in body = goods_answer (json_of body)
+
 -- a case of goods, and then the owners
 unfoldable pub proposal_of_object : Data → Result (CaseData × List ℕ) FieldName
 proposal_of_object body = do
-  kind ← held field.Kind goods_in body
-  case ← case_of_object body
+  case ← goods_case_of_object body
   owners ← held field.Owners (owners_in (length case.items) case.bids) body
   Ok (case, owners)
 
@@ -57,6 +71,11 @@ abbrev pub AreOfGoods : Facts → Type 0
 AreOfGoods (facts.Rent rent) = ⊥
 AreOfGoods (facts.Goods goods) = Unit {0}
 AreOfGoods (facts.Fares fares) = ⊥
+
+-- a case of goods whose facts and bids have no fault
+pub record IsReadyGoods (case : CaseData) : Type 0 where
+  pub ready : IsReady case
+  pub goods : AreOfGoods case.facts
 
 -- a case of goods whose facts and bids have no fault, and an owner for each good, a member who has bid
 pub record IsReadyProposal (case : CaseData) (owners : List ℕ) : Type 0 where

@@ -18,4 +18,4 @@ pub use cases::read_case;
 pub use creations::read_creation;
 pub use input::{CaseInput, Head};
 pub use laws::{case_in_law, field_fault_law, field_rules_law, head_law};
-pub use proposals::read_proposal;
+pub use proposals::{read_goods, read_proposal};

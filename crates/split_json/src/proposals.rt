@@ -1,9 +1,9 @@
-// Reads a proposed division of goods from the bytes of its JSON text.
+// Reads a case of goods, or a proposed division of them, from the bytes of its JSON text.
 ghost use Rattle.std.specs.Prelude.{◌≡◌, ◌≤◌, ◌↔◌, length, map, IfOk, None, option_map};
 ghost use Rattle.std.specs.Result.{result_map_both};
 ghost use Rattle.bid_rules.specs.declared.limits.TheConstants.{ITEM_ROOM};
 ghost use Rattle.serde_json.specs.View.{view};
-ghost use Rattle.split_json.specs.Proposals.{IsReadyProposal, goods_alone, goods_in, has_bid, owner_in, owners_in, proposal_in, proposal_of_object};
+ghost use Rattle.split_json.specs.Proposals.{IsReadyGoods, IsReadyProposal, goods_alone, goods_case_in, goods_case_of_object, goods_in, has_bid, owner_in, owners_in, proposal_in, proposal_of_object};
 ghost use Rattle.split_json.specs.Reading.{held, shown};
 ghost use Rattle.split_json.specs.Rules.{each, json_of};
 
@@ -19,6 +19,24 @@ use case_fields::{BodyFault, FieldName};
 use serde_json::Value;
 use split_base::NoMemory;
 use std::alloc::Global;
+
+/// The case of goods that a body of JSON holds, or what is wrong with the body.
+///
+/// The refusals are those of `read_case`, but that another kind than goods breaks `kind`, which comes first. `NoMemory` where memory ran
+/// out.
+pub fn read_goods(alloc: Global, body: &[u8]) -> Result<Result<CaseInput, BodyFault>, NoMemory>
+    ensures case { IfOk result (λ answer. result_map_both shown (λ fault. fault) answer ≡ goods_case_in body.now) }
+    ensures json { IfOk result (λ answer. (answer ≡ Err BodyFault.Json) ↔ (json_of body.now ≡ None)) }
+    ensures checked { IfOk result (λ answer. IfOk answer (λ input. IsReadyGoods (shown input))) }
+{
+    let Some(value) = parsed(alloc, body)? else {
+        return Ok(Err(BodyFault::Json));
+    };
+    match goods_case_of_object(&value) {
+        Ok(input) => Ok(Ok(input)),
+        Err(name) => Ok(Err(BodyFault::Field { name })),
+    }
+}
 
 /// The case of goods and the proposed owner of each good, by the number of the member, that a body of JSON holds, or what is wrong with
 /// the body.
@@ -121,13 +139,21 @@ fn owners_of(
         .ok_or(FieldName::Owners)
 }
 
-// The kind, the case, and then the owners.
+// The kind, and then the case.
+#[tactic(auto, unfolding(crate::specs::Proposals::goods_case_of_object))]
+fn goods_case_of_object(body: &Value) -> Result<CaseInput, FieldName>
+    ensures { result_map_both shown (λ name. name) result ≡ goods_case_of_object (view body.now) }
+{
+    let _kind = goods_of(body)?;
+    case_of_object(body)
+}
+
+// The case, and then the owners.
 #[tactic(auto, unfolding(crate::specs::Proposals::proposal_of_object))]
 fn proposal_of_object(body: &Value) -> Result<(CaseInput, ArrayVec<u8, ITEM_ROOM>), FieldName>
     ensures { result_map_both (λ proposal. (shown proposal.0, proposal.1.items)) (λ name. name) result ≡ proposal_of_object (view body.now) }
 {
-    let _kind = goods_of(body)?;
-    let input = case_of_object(body)?;
+    let input = goods_case_of_object(body)?;
     let owners = owners_of(body, input.items.len(), input.bids.as_slice())?;
     Ok((input, owners))
 }

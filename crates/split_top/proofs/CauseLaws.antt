@@ -1,342 +1,309 @@
--- What each status shows, and where each ending must come, from the ending and the text that goes with it.
-use Rattle.std.proofs.Common.{◌≡◌, ◌⊎◌, ◌<◌, ◌≤◌, ℕ, List, [], ◌∷◌, ◌++◌, Contains, None, Some, IfSome, Result, Ok, Err, length, arith, inl, inr, refl, sym, ap, ◌∙◌, append-nil, ⊎_elim, length-append, subst}
-use Rattle.std.specs.Prelude.{Option}
-use Rattle.std.specs.Io.KnownBytes.{Consumes, IsAtEnd}
-use Rattle.bid_rules.specs.declared.cases.Case.{Case}
-use Rattle.bid_rules.specs.declared.cases.Case.TheVariants as case
-use Rattle.bid_rules.specs.declared.cases.Missing.{Missing}
-use Rattle.bid_rules.specs.declared.goods.GoodsCase.{GoodsCase}
-use Rattle.bid_rules.specs.Facts.{case_of}
-use Rattle.cert_checker.specs.Judged.{IsJudged}
-use Rattle.cert_reader.specs.Text.{IsBrokenText}
-use Rattle.nash_search.specs.Division.{HasSteps}
-use Rattle.divisions.specs.Division.{IsDivisionOf}
-use Rattle.divisions.specs.declared.division.Division.{Division}
-use Rattle.divisions.specs.declared.division.Division.TheVariants as division
-use Rattle.case_fields.specs.declared.fields.BodyFault.{BodyFault}
-use Rattle.split_json.specs.Reading.{CaseData, case_in}
-use Rattle.split_top.specs.declared.command.Command.{Command}
-use Rattle.split_top.specs.declared.command.Command.TheVariants.{Solve, Report, Check}
-use Rattle.split_top.specs.declared.stop.Stop.{Stop}
-use Rattle.split_top.specs.declared.stop.Stop.TheVariants.{Void, OverLimit, BrokenRule, BadWords, TooLong, BadCase, BrokenLine, ReadFault, NoMemory}
-use Rattle.split_top.specs.Told.{Ends, HasNoFault, HasWritten, IsSound, IsTooLong, IsWhole, Told}
-use Rattle.split_solve.specs.Solving.{IsAboveLimit}
-use Rattle.split_top.specs.Commands.{AreNoRow, Names, ReadsCase, ReadsCertificate, longest}
-use Rattle.split_top.specs.Texts.{Holds, IsBestText, IsOutput, IsVoid, MakesCase}
-use Rattle.split_top.specs.Endings.{owed}
-use Rattle.split_top.specs.Causes.{HasCauses, HasText, IsComplete, IsDue, IsShort, IsWithinLimit, LacksMemory}
+-- What each status shows, from the ending and the text that goes with it.
+use Rattle.std.proofs.Common.{◌≡◌, ◌⊎◌, ◌+◌, ◌-◌, ◌^◌, ◌<◌, ◌≤◌, ℕ, List, Result, Ok, Err, inl, inr, refl, sym, ⊎_elim, subst, arith}
+use Rattle.endings.specs.Endings.{owed}
+use Rattle.endings.specs.Told.{Ends, HasNoFault, HasOneFault, HasWritten}
+use Rattle.endings.specs.declared.stop.Stop.{Stop}
+use Rattle.endings.specs.declared.stop.Stop.TheVariants.{Void, OverLimit, NotTwo, BrokenRule, BadWords, TooLong, BadCase, BrokenLine, BadReply, BadStatus, BadJournal, ReadFault, StoreFault, PortFault, NoMemory}
+use Rattle.gate_log.specs.declared.fault.LogFault.{LogFault}
+use Rattle.host_commands.specs.Files.{state_of}
+use Rattle.host_keeper.specs.States.{State}
+use Rattle.link_runs.specs.Served.{LinkTells}
+use Rattle.remote_check.specs.declared.request.Words.{Words}
+use Rattle.split_base.specs.declared.clock.Clock.{Ghosts as ClockTells}
+use Rattle.split_base.specs.declared.dial.Dial.{Ghosts as DialTells}
+use Rattle.split_base.specs.declared.disk.Disk.{Ghosts as DiskTells}
+use Rattle.split_base.specs.declared.port.Port.{Ghosts as PortTells}
+use Rattle.split_base.specs.Faults.{HasRisen, counted}
+use Rattle.split_base.specs.PastLaws.{le_or_lt}
+use Rattle.split_top.specs.Audits.{faults_behind}
+use Rattle.gate_log.specs.declared.fault.LogFault.TheVariants as fault
+use Rattle.host_commands.specs.Files.{Dumps, FailedOnce, Makes, Opens, stop_of}
+use Rattle.host_commands.specs.Serves.{RunEnds, Serves, ServesOpened}
+use Rattle.input_commands.specs.declared.command.InputCommand.{InputCommand}
+use Rattle.input_commands.specs.declared.command.InputCommand.TheVariants.{Solve, Report, Check, Weigh, Winner, CheckWinner}
+use Rattle.input_commands.specs.Answers.{Answers}
+use Rattle.remote_check.specs.declared.ends.FetchEnd.{FetchEnd}
+use Rattle.remote_check.specs.declared.ends.FetchEnd.TheVariants as fetch
 use Rattle.verdicts.specs.declared.verdict.Verdict.{Verdict}
 use Rattle.verdicts.specs.declared.verdict.Verdict.TheVariants.{No, Yes}
+use Rattle.split_top.specs.Audits.{Audits, fetch_ending}
+use Rattle.split_top.specs.Causes.{Ended, HasCauses, TakesMemory, licences}
+use Rattle.split_top.specs.Commands.{AreNoRow, Names}
+use Rattle.split_top.specs.Outside.{Outside, UsesNothing}
+use Rattle.split_top.specs.Runs.{Came, Comes, Ran, Tells}
+use Rattle.split_top.specs.declared.command.Command.{Command}
+use Rattle.split_top.specs.declared.command.Command.TheVariants.{Init, Serve, Dump, Trial, Audit, Read}
 
--- an ending that came licenses its status
-came : (words : List (List ℕ)) (input output : Told) (ending : Result (List ℕ) Stop) → (owed ending).cause words input → HasWritten output (owed ending).text → HasNoFault output
-    → HasCauses words input output (owed ending).status
-came words input output (Ok text) cause wrote sound = (text, (cause, wrote, sound))
-came words input output (Err (Void missing)) cause wrote sound = inl (missing, (cause, wrote, sound))
-came words input output (Err (OverLimit limit)) cause wrote sound = inr (inl (limit, (cause, wrote, sound)))
-came words input output (Err (BrokenRule rule)) cause wrote sound = inr (inr (rule, (cause, wrote, sound)))
-came words input output (Err BadWords) cause wrote sound = (cause, wrote, sound)
-came words input output (Err TooLong) cause wrote sound = inl (cause, wrote, sound)
-came words input output (Err (BadCase fault)) cause wrote sound = inr (inl (fault, (cause, wrote, sound)))
-came words input output (Err (BrokenLine number)) cause wrote sound = inr (inr (number, (cause, wrote, sound)))
-came words input output (Err ReadFault) cause wrote sound = (cause, wrote, sound)
-came words input output (Err NoMemory) cause wrote sound = (cause, wrote, sound)
+-- an ending without a text
+abbrev ends : Stop → Result (List ℕ) Stop
+ends stop = Err stop
 
--- each status comes only by its cause
-pub has_causes : (words : List (List ℕ)) (input output : Told) (ending : Result (List ℕ) Stop) (status : ℕ)
-    → (owed ending).cause words input → Ends output (owed ending).text (owed ending).status status → HasCauses words input output status
-has_causes words input output ending status cause ends = ⊎_elim
-    (λ w. subst (HasCauses words input output) (sym w.0) (came words input output ending cause w.1 w.2))
-    (λ w. subst (HasCauses words input output) (sym w.0) w.1)
-    ends
+-- which count a fault of the store shows: that of the disk
+make_store : {D : Type 0} (d : DiskTells D) (disk after : D) (secret : List ℕ) → Makes d disk after secret (Err StoreFault) → FailedOnce (d.faults disk) (d.faults after)
+make_store d disk after secret (Makes.made is count says) = cc is
+make_store d disk after secret (Makes.filled is count says) = cc is
+make_store d disk after secret (Makes.failed is once says) = once
 
--- words that are no row end with status 2
-no_row_due : (words : List (List ℕ)) (input : Told) (ending : Result (List ℕ) Stop) → AreNoRow words → (owed ending).cause words input → (owed ending).status ≡ 2
-no_row_due words input (Ok text) none h = absurd (none h.0 h.1)
-no_row_due words input (Err (Void missing)) none h = absurd (none h.0 h.1)
-no_row_due words input (Err (OverLimit limit)) none h = absurd (none h.0 h.1)
-no_row_due words input (Err (BrokenRule rule)) none h = absurd (none h.0 h.1)
-no_row_due words input (Err BadWords) none h = refl
-no_row_due words input (Err TooLong) none h = absurd (none h.0 h.1)
-no_row_due words input (Err (BadCase fault)) none h = absurd (none h.0 h.1)
-no_row_due words input (Err (BrokenLine number)) none h = absurd (none h.0 h.1)
-no_row_due words input (Err ReadFault) none h = absurd (none h.0 h.1)
-no_row_due words input (Err NoMemory) none h = absurd (none h.0 h.1)
+-- a file that could not be opened
+open_store : {D : Type 0} (d : DiskTells D) (disk after : D) (why : LogFault) → Opens d disk after (Err why) → ends StoreFault ≡ ends (stop_of why) → FailedOnce (d.faults disk) (d.faults after)
+open_store d disk after fault.Disk opens is = opens.failed refl
+open_store d disk after (fault.NotALog place) opens is = cc is
+open_store d disk after fault.NoMemory opens is = cc is
 
--- the words of `check` are those of no command that reads a case
-apart : (words : List (List ℕ)) (command : Command) → ReadsCase command → Names words command → Names words Check → ⊥
-apart words (Solve workers) reads row check = let same = row.1 in cc (same, check)
-apart words (Report workers) reads row check = let same = row.1 in cc (same, check)
-apart words Check reads row check = reads
+dump_store : {D : Type 0} (d : DiskTells D) (disk after : D) → Dumps d disk after (Err StoreFault) → FailedOnce (d.faults disk) (d.faults after)
+dump_store d disk after (Dumps.dumped serving opens is) = cc is
+dump_store d disk after (Dumps.no_rows serving opens is) = cc is
+dump_store d disk after (Dumps.not_opened why opens is) = open_store d disk after why opens is
 
--- words name commands of one kind
-one_kind : (words : List (List ℕ)) (command other : Command) → Names words command → Names words other → ReadsCase command → ReadsCase other
-one_kind words command (Solve workers) row too reads = tt
-one_kind words command (Report workers) row too reads = tt
-one_kind words command Check row too reads = apart words command reads row too
+run_port : {P L : Type 0} (p : PortTells P L) (port after : P) (count number : ℕ) → RunEnds p port after count number (Err PortFault) → FailedOnce (p.faults port) (p.faults after)
+run_port p port after count number (RunEnds.told is still most few) = cc is
+run_port p port after count number (RunEnds.cut is once) = once
 
--- a row of the table ends with 0, 1 or 3, up to want of memory
-row_due : (words : List (List ℕ)) (input : Told) (ending : Result (List ℕ) Stop) (command : Command) → IsSound input → Names words command → (owed ending).cause words input
-    → Contains (0 ∷ 1 ∷ 3 ∷ []) (owed ending).status ⊎ LacksMemory command (owed ending).status
-row_due words input (Ok text) command sound row h = inl (0, omega arith, refl)
-row_due words input (Err (Void missing)) command sound row h = inl (1, omega arith, refl)
-row_due words input (Err (OverLimit limit)) command sound row h = inl (1, omega arith, refl)
-row_due words input (Err (BrokenRule rule)) command sound row h = inl (1, omega arith, refl)
-row_due words input (Err BadWords) command sound row h = absurd (h.0 command row)
-row_due words input (Err TooLong) command sound row h = inl (2, omega arith, refl)
-row_due words input (Err (BadCase fault)) command sound row h = inl (2, omega arith, refl)
-row_due words input (Err (BrokenLine number)) command sound row h = inl (2, omega arith, refl)
-row_due words input (Err ReadFault) command sound row h = absurd (sound h.2.0.0)
-row_due words input (Err NoMemory) command sound row h = inr (one_kind words h.0 command h.1 row h.2.0, refl)
+run_store : {P L : Type 0} (p : PortTells P L) (port after : P) (count number : ℕ) → RunEnds p port after count number (Err StoreFault) → ⊥
+run_store p port after count number (RunEnds.told is still most few) = cc is
+run_store p port after count number (RunEnds.cut is once) = cc is
 
--- and `check` without want of memory
-pub check_needs_none : (words : List (List ℕ)) (input output : Told) (status : ℕ) → HasCauses words input output status → Names words Check → status ≡ 9 → ⊥
-check_needs_none words input output status causes row is = let came = subst (HasCauses words input output) is causes in
-    let h = came.0 in apart words h.0 h.2.0 h.1 row
+-- a file that isn't opened is no fault of a port
+not_port : (why : LogFault) → ends PortFault ≡ ends (stop_of why) → ⊥
+not_port fault.Disk is = cc is
+not_port (fault.NotALog place) is = cc is
+not_port fault.NoMemory is = cc is
 
--- what facts and bids come to: a case, or the status that refuses them
-abbrev of_case : Result Case Missing → Result Case ℕ
-of_case (Ok case) = Ok case
-of_case (Err missing) = Err 1
+module _ {D P L C : Type 0} (d : DiskTells D) (p : PortTells P L) (links : LinkTells L) (c : ClockTells C) (disk after : D) (port port_after : P) (clock clock_after : C) (count : ℕ) where
+  opened_store : (w : D × State) → ServesOpened d p links c w after port port_after clock clock_after count (Err StoreFault) → ⊥
+  opened_store w (ServesOpened.deaf at asked none once is) = cc is
+  opened_store w (ServesOpened.ran number runs ends) = run_store p port port_after count number ends
 
--- what a body comes to: a case, or the status that refuses it
-abbrev of_body : Result CaseData BodyFault → Result Case ℕ
-of_body (Ok given) = of_case (case_of given.facts given.bids)
-of_body (Err fault) = Err 3
+  serve_store : Serves d p links c disk after port port_after clock clock_after count (Err StoreFault) → FailedOnce (d.faults disk) (d.faults after)
+  serve_store (Serves.no_routes same still asked is) = cc is
+  serve_store (Serves.not_opened why opens still asked is) = open_store d disk after why opens is
+  serve_store (Serves.opened serving between opens served) = absurd (opened_store (between, state_of opens.opened) served)
 
--- the status by what the body comes to: of a case 1 where its step count is above its limit, and else 0
-abbrev Settles : Result Case ℕ → ℕ → Type 0
-Settles found status =
-    (found ≡ Err status)
-    ⊎ ((case : Case) × (found ≡ Ok case) × (((limit : ℕ) × IsAboveLimit case limit × (status ≡ 1)) ⊎ (((limit : ℕ) → IsAboveLimit case limit → ⊥) × (status ≡ 0))))
+  opened_port : (w : D × State) → ServesOpened d p links c w after port port_after clock clock_after count (Err PortFault) → FailedOnce (p.faults port) (p.faults port_after)
+  opened_port w (ServesOpened.deaf at asked none once is) = once
+  opened_port w (ServesOpened.ran number runs ends) = run_port p port port_after count number ends
 
--- a body settles one status
-one_settled : (found : Result Case ℕ) (status other : ℕ) → Settles found status → Settles found other → status ≡ other
-one_settled found status other (inl a) (inl b) = cc (a, b)
-one_settled found status other (inl a) (inr b) = let case = b.1 in cc (a, case)
-one_settled found status other (inr a) (inl b) = let case = a.1 in cc (b, case)
-one_settled found status other (inr a) (inr b) = let same : a.0 ≡ b.0 = cc (a.1, b.1) in ⊎_elim
-    (λ over. ⊎_elim (λ too. over.2 ∙ sym too.2) (λ within. absurd (within.0 over.0 (subst (λ c. IsAboveLimit c over.0) same over.1))) b.2)
-    (λ within. ⊎_elim (λ over. absurd (within.0 over.0 (subst (λ c. IsAboveLimit c over.0) (sym same) over.1))) (λ too. within.1 ∙ sym too.1) b.2)
-    a.2
+  serve_port : Serves d p links c disk after port port_after clock clock_after count (Err PortFault) → FailedOnce (p.faults port) (p.faults port_after)
+  serve_port (Serves.no_routes same still asked is) = cc is
+  serve_port (Serves.not_opened why opens still asked is) = absurd (not_port why is)
+  serve_port (Serves.opened serving between opens served) = opened_port (between, state_of opens.opened) served
 
--- a certificate's status by its verdict or its first broken line
-abbrev Judges : List ℕ → ℕ → Type 0
-Judges bytes status = (IsJudged bytes Yes × (status ≡ 0)) ⊎ ((rule : ℕ) × IsJudged bytes (No rule) × (status ≡ 1)) ⊎ ((number : ℕ) × IsBrokenText bytes number × (status ≡ 3))
+-- no answer of a fetch is a fault of the store or of a read, or want of memory
+no_store : (answer : Result Verdict FetchEnd) → ends StoreFault ≡ fetch_ending answer → ⊥
+no_store (Ok Yes) is = cc is
+no_store (Ok (No rule)) is = cc is
+no_store (Err fetch.Reply) is = cc is
+no_store (Err (fetch.Status code)) is = cc is
+no_store (Err (fetch.NotText line)) is = cc is
+no_store (Err fetch.TooLong) is = cc is
+no_store (Err fetch.LinkFault) is = cc is
 
--- the status by bytes that are not too long
-abbrev SettlesOn : Command → List ℕ → ℕ → Type 0
-SettlesOn (Solve workers) bytes status = Settles (of_body (case_in bytes)) status
-SettlesOn (Report workers) bytes status = Settles (of_body (case_in bytes)) status
-SettlesOn Check bytes status = Judges bytes status
+no_read : (answer : Result Verdict FetchEnd) → ends ReadFault ≡ fetch_ending answer → ⊥
+no_read (Ok Yes) is = cc is
+no_read (Ok (No rule)) is = cc is
+no_read (Err fetch.Reply) is = cc is
+no_read (Err (fetch.Status code)) is = cc is
+no_read (Err (fetch.NotText line)) is = cc is
+no_read (Err fetch.TooLong) is = cc is
+no_read (Err fetch.LinkFault) is = cc is
 
--- of a command that reads a case
-on_case : (command : Command) (bytes : List ℕ) (status : ℕ) → ReadsCase command → Settles (of_body (case_in bytes)) status → SettlesOn command bytes status
-on_case (Solve workers) bytes status reads settles = settles
-on_case (Report workers) bytes status reads settles = settles
-on_case Check bytes status reads settles = absurd reads
+no_memory : (answer : Result Verdict FetchEnd) → ends NoMemory ≡ fetch_ending answer → ⊥
+no_memory (Ok Yes) is = cc is
+no_memory (Ok (No rule)) is = cc is
+no_memory (Err fetch.Reply) is = cc is
+no_memory (Err (fetch.Status code)) is = cc is
+no_memory (Err (fetch.NotText line)) is = cc is
+no_memory (Err fetch.TooLong) is = cc is
+no_memory (Err fetch.LinkFault) is = cc is
 
--- and of one that reads a certificate
-on_certificate : (command : Command) (bytes : List ℕ) (status : ℕ) → ReadsCertificate command → Judges bytes status → SettlesOn command bytes status
-on_certificate (Solve workers) bytes status reads judges = absurd reads
-on_certificate (Report workers) bytes status reads judges = absurd reads
-on_certificate Check bytes status reads judges = judges
+-- where it is a fault of the port, the link has failed, which the dialer counts
+link_failed : (before after : ℕ) (answer : Result Verdict FetchEnd) → ends PortFault ≡ fetch_ending answer → after ≡ faults_behind before answer → after ≡ counted before
+link_failed before after (Ok Yes) is count = cc is
+link_failed before after (Ok (No rule)) is count = cc is
+link_failed before after (Err fetch.Reply) is count = cc is
+link_failed before after (Err (fetch.Status code)) is count = cc is
+link_failed before after (Err (fetch.NotText line)) is count = cc is
+link_failed before after (Err fetch.TooLong) is count = cc is
+link_failed before after (Err fetch.LinkFault) is count = count
 
--- the status by the bytes: 3 where they are too long, and else by what they hold
-abbrev IsSettled : Command → List ℕ → ℕ → Type 0
-IsSettled command bytes status = ((longest command < length bytes) × (status ≡ 3)) ⊎ (IsShort command bytes × SettlesOn command bytes status)
+-- a count that goes up by one has risen
+has_risen : (before after : ℕ) → (before + 1 ≤ 2 ^ 64 - 1) ⊎ (2 ^ 64 - 1 < before + 1) → after ≡ counted before → HasRisen before after
+has_risen before after (inl room) count = inl (omega (arith, count, room))
+has_risen before after (inr full) count = inr (omega (arith, count, full))
 
--- words name commands for which bytes settle the same
-settled_too : (words : List (List ℕ)) (command other : Command) (bytes : List ℕ) (status : ℕ) → Names words command → Names words other
-    → IsSettled command bytes status → IsSettled other bytes status
-settled_too words (Solve workers) (Solve others) bytes status row too settled = settled
-settled_too words (Solve workers) (Report others) bytes status row too settled = settled
-settled_too words (Report workers) (Solve others) bytes status row too settled = settled
-settled_too words (Report workers) (Report others) bytes status row too settled = settled
-settled_too words Check Check bytes status row too settled = settled
-settled_too words (Solve workers) Check bytes status row too settled = absurd (apart words (Solve workers) tt row too)
-settled_too words (Report workers) Check bytes status row too settled = absurd (apart words (Report workers) tt row too)
-settled_too words Check (Solve others) bytes status row too settled = absurd (apart words (Solve others) tt too row)
-settled_too words Check (Report others) bytes status row too settled = absurd (apart words (Report others) tt too row)
+pub once_more : (before after : ℕ) → after ≡ counted before → FailedOnce before after
+once_more before after count = (has_risen before after (le_or_lt (before + 1) (2 ^ 64 - 1)) count, count)
 
--- bytes that hold no facts and bids settle status 3
-refused : (bytes : List ℕ) (fault : BodyFault) → case_in bytes ≡ Err fault → Settles (of_body (case_in bytes)) 3
-refused bytes fault is = inl (ap of_body is)
+-- what is told of files and ports in no other way
+module _ (stop : Stop) (not_opened : (why : LogFault) → ends stop ≡ ends (stop_of why) → ⊥) where
+  make_never : {D : Type 0} (d : DiskTells D) (disk after : D) (secret : List ℕ) → Makes d disk after secret (Err stop) → ⊥
+  make_never d disk after secret (Makes.made is count says) = cc is
+  make_never d disk after secret (Makes.filled is count says) = not_opened (fault.NotALog 0) is
+  make_never d disk after secret (Makes.failed is once says) = not_opened fault.Disk is
 
--- bytes whose facts and bids make no case settle status 1
-void : (bytes : List ℕ) (missing : Missing) → Holds bytes (IsVoid missing) → Settles (of_body (case_in bytes)) 1
-void bytes missing h = inl (ap of_body h.1 ∙ ap of_case h.2)
+  dump_never : {D : Type 0} (d : DiskTells D) (disk after : D) → Dumps d disk after (Err stop) → ⊥
+  dump_never d disk after (Dumps.dumped serving opens is) = cc is
+  dump_never d disk after (Dumps.no_rows serving opens is) = not_opened fault.NoMemory is
+  dump_never d disk after (Dumps.not_opened why opens is) = not_opened why is
 
--- the case that bytes hold
-held : (bytes : List ℕ) (so : Case → Type 0) (h : Holds bytes (λ given. MakesCase given so)) → of_body (case_in bytes) ≡ Ok h.2.0
-held bytes so h = ap of_body h.1 ∙ ap of_case h.2.1
+  module _ (not_port : ends stop ≡ ends PortFault → ⊥) where
+    run_never : {P L : Type 0} (p : PortTells P L) (port after : P) (count number : ℕ) → RunEnds p port after count number (Err stop) → ⊥
+    run_never p port after count number (RunEnds.told is still most few) = cc is
+    run_never p port after count number (RunEnds.cut is once) = not_port is
 
--- bytes that hold a case above its limit of steps settle status 1
-over : (bytes : List ℕ) (limit : ℕ) → Holds bytes (λ given. MakesCase given (λ case. IsAboveLimit case limit)) → Settles (of_body (case_in bytes)) 1
-over bytes limit h = inr (h.2.0, held bytes (λ case. IsAboveLimit case limit) h, inl (limit, h.2.2, refl))
+    module _ {D P L C : Type 0} (d : DiskTells D) (p : PortTells P L) (links : LinkTells L) (c : ClockTells C) (disk after : D) (port port_after : P) (clock clock_after : C) (count : ℕ) where
+      opened_never : (w : D × State) → ServesOpened d p links c w after port port_after clock clock_after count (Err stop) → ⊥
+      opened_never w (ServesOpened.deaf at asked none once is) = not_port is
+      opened_never w (ServesOpened.ran number runs ends) = run_never p port port_after count number ends
 
--- bytes that hold a case above no limit of steps settle status 0
-within : (bytes : List ℕ) → Holds bytes (λ given. MakesCase given (λ case. (limit : ℕ) → IsAboveLimit case limit → ⊥)) → Settles (of_body (case_in bytes)) 0
-within bytes h = inr (h.2.0, held bytes (λ case. (limit : ℕ) → IsAboveLimit case limit → ⊥) h, inr (h.2.2, refl))
+      serve_never : Serves d p links c disk after port port_after clock clock_after count (Err stop) → ⊥
+      serve_never (Serves.no_routes same still asked is) = not_opened fault.NoMemory is
+      serve_never (Serves.not_opened why opens still asked is) = not_opened why is
+      serve_never (Serves.opened serving between opens served) = opened_never (between, state_of opens.opened) served
 
--- what a command comes to its text on settles status 0
-text_settled : (command : Command) (bytes : List ℕ) → HasText command bytes → SettlesOn command bytes 0
-text_settled (Solve workers) bytes h = within bytes h
-text_settled (Report workers) bytes h = within bytes h
-text_settled Check bytes h = inl (h, refl)
+-- a file that isn't opened is no fault of a read, or of a port
+file_not_read : (why : LogFault) → ends ReadFault ≡ ends (stop_of why) → ⊥
+file_not_read fault.Disk is = cc is
+file_not_read (fault.NotALog place) is = cc is
+file_not_read fault.NoMemory is = cc is
 
--- the ending for which bytes call has the status that they settle
-due_settled : (command : Command) (bytes : List ℕ) (ending : Result (List ℕ) Stop) → IsDue command bytes ending → IsSettled command bytes (owed ending).status
-due_settled command bytes (Ok text) due = inr (due.0, text_settled command bytes due.1)
-due_settled command bytes (Err (Void missing)) due = inr (due.0, on_case command bytes 1 due.1 (void bytes missing due.2))
-due_settled command bytes (Err (OverLimit limit)) due = inr (due.0, on_case command bytes 1 due.1 (over bytes limit due.2))
-due_settled command bytes (Err (BrokenRule rule)) due = inr (due.0, on_certificate command bytes 1 due.1 (inr (inl (rule, due.2, refl))))
-due_settled command bytes (Err BadWords) due = absurd due
-due_settled command bytes (Err TooLong) due = inl (due, refl)
-due_settled command bytes (Err (BadCase fault)) due = inr (due.0, on_case command bytes 3 due.1 (refused bytes fault due.2))
-due_settled command bytes (Err (BrokenLine number)) due = inr (due.0, on_certificate command bytes 3 due.1 (inr (inr (number, due.2, refl))))
-due_settled command bytes (Err ReadFault) due = absurd due
-due_settled command bytes (Err NoMemory) due = absurd due
+module _ {L X : Type 0} (x : DialTells X L) (tells : LinkTells L) (before after : X) (asked : Words) where
+  audit_port : Audits x tells before after asked (Err PortFault) → FailedOnce (x.faults before) (x.faults after)
+  audit_port (inl none) = once_more (x.faults before) (x.faults after) none.fault
+  audit_port (inr fetched) = once_more (x.faults before) (x.faults after) (link_failed (x.faults before) (x.faults after) fetched.answer fetched.is fetched.fault)
 
--- a fact of whatever bytes are known
-known_all : {P : List ℕ → Type 0} (known : Option (List ℕ)) → ((bytes : List ℕ) → P bytes) → IfSome known P
-known_all None h = tt
-known_all (Some bytes) h = h bytes
+  audit_not : (stop : Stop) → (ends stop ≡ ends PortFault → ⊥) → ((answer : Result Verdict FetchEnd) → ends stop ≡ fetch_ending answer → ⊥) → Audits x tells before after asked (Err stop) → ⊥
+  audit_not stop dial fetch (inl none) = dial none.is
+  audit_not stop dial fetch (inr fetched) = fetch fetched.answer fetched.is
 
--- a fact of the known bytes from another
-known_from : {P Q : List ℕ → Type 0} (known : Option (List ℕ)) → ((bytes : List ℕ) → P bytes → Q bytes) → IfSome known P → IfSome known Q
-known_from None h p = tt
-known_from (Some bytes) h p = h bytes p
+-- what reads an input answers no fault of the store or of a port
+no_answer : (command : InputCommand) (bytes : List ℕ) → Answers command bytes (Err StoreFault) ⊎ Answers command bytes (Err PortFault) → ⊥
+no_answer (Solve workers) bytes (inl h) = h.2
+no_answer (Solve workers) bytes (inr h) = h.2
+no_answer (Report workers) bytes (inl h) = h.2
+no_answer (Report workers) bytes (inr h) = h.2
+no_answer Check bytes (inl h) = h
+no_answer Check bytes (inr h) = h
+no_answer Weigh bytes (inl h) = h.2.2
+no_answer Weigh bytes (inr h) = h.2.2
+no_answer Winner bytes (inl h) = h.2
+no_answer Winner bytes (inr h) = h.2
+no_answer CheckWinner bytes (inl h) = h
+no_answer CheckWinner bytes (inr h) = h
 
--- what was given whole is what was known
-pub whole_is : (before after : Option (List ℕ)) (bytes : List ℕ) → Consumes before after bytes → IsAtEnd after → IfSome before (λ known. known ≡ bytes)
-whole_is None after bytes p q = tt
-whole_is (Some x) None bytes p q = absurd p
-whole_is (Some x) (Some y) bytes p q = p ∙ ap (λ l. bytes ++ l) q ∙ append-nil bytes
+no_memory_made : {D : Type 0} (d : DiskTells D) (disk after : D) (secret : List ℕ) → Makes d disk after secret (Err NoMemory) → ⊥
+no_memory_made d disk after secret (Makes.made is count says) = cc is
+no_memory_made d disk after secret (Makes.filled is count says) = cc is
+no_memory_made d disk after secret (Makes.failed is once says) = cc is
 
--- what was given is not longer than what was known
-pub given_is : (before after : Option (List ℕ)) (bytes : List ℕ) → Consumes before after bytes → IfSome before (λ known. length bytes ≤ length known)
-given_is None after bytes p = tt
-given_is (Some x) None bytes p = absurd p
-given_is (Some x) (Some y) bytes p = let e = ap length p in omega (arith, e, length-append bytes y)
+-- nor bad words
+no_bad_words : (why : LogFault) → ends BadWords ≡ ends (stop_of why) → ⊥
+no_bad_words fault.Disk is = cc is
+no_bad_words (fault.NotALog place) is = cc is
+no_bad_words fault.NoMemory is = cc is
 
--- the known bytes settle the status, or it is that of want of memory
-abbrev IsKnown : Command → Told → ℕ → Type 0
-IsKnown command input status = IfSome input.bytes_before (λ bytes. IsSettled command bytes status ⊎ LacksMemory command status)
+no_fetch_words : (answer : Result Verdict FetchEnd) → ends BadWords ≡ fetch_ending answer → ⊥
+no_fetch_words (Ok Yes) is = cc is
+no_fetch_words (Ok (No rule)) is = cc is
+no_fetch_words (Err fetch.Reply) is = cc is
+no_fetch_words (Err (fetch.Status code)) is = cc is
+no_fetch_words (Err (fetch.NotText line)) is = cc is
+no_fetch_words (Err fetch.TooLong) is = cc is
+no_fetch_words (Err fetch.LinkFault) is = cc is
 
--- the bytes that were given whole settle the status
-of_whole : (command : Command) (input : Told) (bytes : List ℕ) (status : ℕ) → IsWhole (longest command) input bytes → SettlesOn command bytes status → IsKnown command input status
-of_whole command input bytes status whole settles = known_from input.bytes_before
-    (λ known is. inl (subst (λ b. IsSettled command b status) (sym is) (inr (whole.0, settles))))
-    (whole_is input.bytes_before input.bytes_after bytes whole.1 whole.2)
+no_answer_words : (command : InputCommand) (bytes : List ℕ) → Answers command bytes (Err BadWords) → ⊥
+no_answer_words (Solve workers) bytes h = h.2
+no_answer_words (Report workers) bytes h = h.2
+no_answer_words Check bytes h = h
+no_answer_words Weigh bytes h = h.2.2
+no_answer_words Winner bytes h = h.2
+no_answer_words CheckWinner bytes h = h
 
--- and so do those that were too long
-of_long : (command : Command) (input : Told) → IsTooLong (longest command) input → IsKnown command input 3
-of_long command input h =
-    known_from input.bytes_before (λ known low. (let long = h.1 in inl (inl (omega (arith, long, low), refl))))
-    (given_is input.bytes_before input.bytes_after h.0 h.2)
+module _ {D P L C X M : Type 0} (tells : Tells D P L C X M) (outside : Outside D P C X) where
+  -- a fault of the store shows in the disk's count
+  store_of : (command : Command) → Came tells outside command (Err StoreFault) → FailedOnce (tells.disk.faults outside.disk) (tells.disk.faults outside.disk_now)
+  store_of (Init secret) h = make_store tells.disk outside.disk outside.disk_now secret h.1
+  store_of (Serve port workers count) h =
+      serve_store tells.disk tells.port tells.links tells.clock outside.disk outside.disk_now outside.port outside.port_now outside.clock outside.clock_now count h.1
+  store_of Dump h = dump_store tells.disk outside.disk outside.disk_now h.1
+  store_of (Trial number workers) h = absurd h.1
+  store_of (Audit port asked) h = absurd (audit_not tells.dialer tells.dialled outside.dialer outside.dialer_now asked StoreFault (λ e. cc e) no_store h.1)
+  store_of (Read reads) h = absurd (no_answer reads h.1.0 (inl h.1.2))
 
--- the status that is known is so for each command that the words name
-known_too : (words : List (List ℕ)) (command other : Command) (input : Told) (status : ℕ) → Names words command → Names words other
-    → IsKnown command input status → IsKnown other input status
-known_too words command other input status row too known = known_from input.bytes_before
-    (λ bytes settled. ⊎_elim
-    (λ one. inl (settled_too words command other bytes status row too one))
-    (λ none. inr (one_kind words command other row too none.0, none.1))
-    settled)
-    known
+  -- a fault of a port in the port's or the dialer's
+  port_of : (command : Command) → Came tells outside command (Err PortFault)
+      → FailedOnce (tells.port.faults outside.port) (tells.port.faults outside.port_now) ⊎ FailedOnce (tells.dialer.faults outside.dialer) (tells.dialer.faults outside.dialer_now)
+  port_of (Init secret) h = absurd (make_never PortFault not_port tells.disk outside.disk outside.disk_now secret h.1)
+  port_of (Serve port workers count) h =
+      inl (serve_port tells.disk tells.port tells.links tells.clock outside.disk outside.disk_now outside.port outside.port_now outside.clock outside.clock_now count h.1)
+  port_of Dump h = absurd (dump_never PortFault not_port tells.disk outside.disk outside.disk_now h.1)
+  port_of (Trial number workers) h = absurd h.1
+  port_of (Audit port asked) h = inr (audit_port tells.dialer tells.dialled outside.dialer outside.dialer_now asked h.1)
+  port_of (Read reads) h = absurd (no_answer reads h.1.0 (inr h.1.2))
 
-module _
-    (one_count : (case : GoodsCase) (steps other : ℕ) → HasSteps case steps → HasSteps case other → steps ≡ other)
-    (one_verdict : (bytes : List ℕ) (verdict other : Verdict) → IsJudged bytes verdict → IsJudged bytes other → other ≡ verdict)
-    (whole_text : (bytes : List ℕ) (verdict : Verdict) (number : ℕ) → IsJudged bytes verdict → IsBrokenText bytes number → ⊥)
-  where
-    -- a certificate has one status
-    one_judgement : (bytes : List ℕ) (status other : ℕ) → Judges bytes status → Judges bytes other → status ≡ other
-    one_judgement bytes status other (inl a) (inl b) = a.1 ∙ sym b.1
-    one_judgement bytes status other (inl a) (inr (inl b)) = let same = one_verdict bytes Yes (No b.0) a.0 b.1 in absurd (cc (same))
-    one_judgement bytes status other (inl a) (inr (inr b)) = absurd (whole_text bytes Yes b.0 a.0 b.1)
-    one_judgement bytes status other (inr (inl a)) (inl b) = let same = one_verdict bytes Yes (No a.0) b.0 a.1 in absurd (cc (same))
-    one_judgement bytes status other (inr (inl a)) (inr (inl b)) = a.2 ∙ sym b.2
-    one_judgement bytes status other (inr (inl a)) (inr (inr b)) = absurd (whole_text bytes (No a.0) b.0 a.1 b.1)
-    one_judgement bytes status other (inr (inr a)) (inl b) = absurd (whole_text bytes Yes a.0 b.0 a.1)
-    one_judgement bytes status other (inr (inr a)) (inr (inl b)) = absurd (whole_text bytes (No b.0) a.0 b.1 a.1)
-    one_judgement bytes status other (inr (inr a)) (inr (inr b)) = a.2 ∙ sym b.2
+  -- a fault of a read in the input's
+  read_of : (command : Command) → Came tells outside command (Err ReadFault) → HasOneFault outside.input
+  read_of (Init secret) h = absurd (make_never ReadFault file_not_read tells.disk outside.disk outside.disk_now secret h.1)
+  read_of (Serve port workers count) h = absurd (serve_never ReadFault file_not_read (λ e. cc e) tells.disk tells.port tells.links tells.clock outside.disk outside.disk_now outside.port outside.port_now outside.clock outside.clock_now count h.1)
+  read_of Dump h = absurd (dump_never ReadFault file_not_read tells.disk outside.disk outside.disk_now h.1)
+  read_of (Trial number workers) h = absurd h.1
+  read_of (Audit port asked) h = absurd (audit_not tells.dialer tells.dialled outside.dialer outside.dialer_now asked ReadFault (λ e. cc e) no_read h.1)
+  read_of (Read reads) h = h.1.0
 
-    -- so do bytes that are not too long
-    one_short : (command : Command) (bytes : List ℕ) (status other : ℕ) → SettlesOn command bytes status → SettlesOn command bytes other → status ≡ other
-    one_short (Solve workers) bytes status other a b = one_settled (of_body (case_in bytes)) status other a b
-    one_short (Report workers) bytes status other a b = one_settled (of_body (case_in bytes)) status other a b
-    one_short Check bytes status other a b = one_judgement bytes status other a b
+  -- and memory lacks of a command that takes some
+  memory_of : (command : Command) → Came tells outside command (Err NoMemory) → TakesMemory command
+  memory_of (Init secret) h = absurd (no_memory_made tells.disk outside.disk outside.disk_now secret h.1)
+  memory_of (Serve port workers count) h = tt
+  memory_of Dump h = tt
+  memory_of (Trial number workers) h = tt
+  memory_of (Audit port asked) h = absurd (audit_not tells.dialer tells.dialled outside.dialer outside.dialer_now asked NoMemory (λ e. cc e) no_memory h.1)
+  memory_of (Read reads) h = h.1.0
 
-    -- bytes settle one status
-    one_status : (command : Command) (bytes : List ℕ) (status other : ℕ) → IsSettled command bytes status → IsSettled command bytes other → status ≡ other
-    one_status command bytes status other (inl a) (inl b) = a.1 ∙ sym b.1
-    one_status command bytes status other (inl a) (inr b) = let long = a.0 in let short = b.0 in absurd (omega (arith, long, short))
-    one_status command bytes status other (inr a) (inl b) = let short = a.0 in let long = b.0 in absurd (omega (arith, long, short))
-    one_status command bytes status other (inr a) (inr b) = one_short command bytes status other a.1 b.1
+  never_bad : (command : Command) → Came tells outside command (Err BadWords) → ⊥
+  never_bad (Init secret) h = make_never BadWords no_bad_words tells.disk outside.disk outside.disk_now secret h.1
+  never_bad (Serve port workers count) h =
+      serve_never BadWords no_bad_words (λ e. cc e) tells.disk tells.port tells.links tells.clock outside.disk outside.disk_now outside.port outside.port_now outside.clock outside.clock_now count h.1
+  never_bad Dump h = dump_never BadWords no_bad_words tells.disk outside.disk outside.disk_now h.1
+  never_bad (Trial number workers) h = h.1
+  never_bad (Audit port asked) h = audit_not tells.dialer tells.dialled outside.dialer outside.dialer_now asked BadWords (λ e. cc e) no_fetch_words h.1
+  never_bad (Read reads) h = no_answer_words reads h.1.0 h.1.2
 
-    -- a case above its limit has no division
-    pub allowed : (case : Case) (division : Division) → IsDivisionOf case division → (limit : ℕ) → IsAboveLimit case limit → ⊥
-    allowed (case.Goods goods) (division.Goods found) is limit above =
-        let same = one_count goods found.steps above.above.0 is.steps above.above.1 in
-        let low = is.allowed in
-        let high = above.above.2 in
-        omega (arith, same, low, high)
-    allowed (case.Goods goods) (division.Rent rent) is limit above = absurd is
-    allowed (case.Goods goods) (division.Fares fares) is limit above = absurd is
-    allowed (case.Rent rent) division is limit above = absurd above
-    allowed (case.Fares fares) division is limit above = absurd above
+  module _ (words : List (List ℕ)) where
+    abbrev Wrote : Result (List ℕ) Stop → Type 0
+    Wrote ending = HasWritten outside.output (owed ending).text × HasNoFault outside.output
 
-    -- a case with a division is within its limit
-    best_within : (command : Command) (bytes text : List ℕ) → Holds bytes (IsBestText command text) → IsWithinLimit bytes
-    best_within command bytes text found = (found.0, found.1, (found.2.0, found.2.1, allowed found.2.0 found.2.2.0 found.2.2.1))
+    -- an ending that comes of words that are a row is that of their command
+    row_of : (stop : Stop) → (ends stop ≡ ends BadWords → ⊥) → Comes tells outside words (Err stop) → (command : Command) × Names words command × Came tells outside command (Err stop)
+    row_of stop other (inl none) = absurd (other none.2)
+    row_of stop other (inr row) = row
 
-    -- the bytes on which a command came to its text settle status 0
-    output_settled : (command : Command) (bytes text : List ℕ) → IsOutput command bytes text → SettlesOn command bytes 0
-    output_settled (Solve workers) bytes text found = within bytes (best_within (Solve workers) bytes text found)
-    output_settled (Report workers) bytes text found = within bytes (best_within (Report workers) bytes text found)
-    output_settled Check bytes text found = inl (found.0, refl)
+    none_of : Comes tells outside words (Err BadWords) → AreNoRow words × UsesNothing outside
+    none_of (inl none) = (none.0, none.1)
+    none_of (inr row) = absurd (never_bad row.0 row.2)
 
-    -- an ending whose cause holds has the status that the known bytes settle, up to want of memory
-    cause_settled : (words : List (List ℕ)) (input : Told) (ending : Result (List ℕ) Stop) (command : Command) → IsSound input → Names words command → (owed ending).cause words input
-        → IsKnown command input (owed ending).status
-    cause_settled words input (Ok text) command sound row h =
-        known_too words h.0 command input 0 h.1 row (of_whole h.0 input h.2.0 0 h.2.1 (output_settled h.0 h.2.0 text h.2.2))
-    cause_settled words input (Err (Void missing)) command sound row h =
-        known_too words h.0 command input 1 h.1 row (of_whole h.0 input h.2.0 1 h.2.1 (on_case h.0 h.2.0 1 h.2.2.0 (void h.2.0 missing h.2.2.1)))
-    cause_settled words input (Err (OverLimit limit)) command sound row h =
-        known_too words h.0 command input 1 h.1 row (of_whole h.0 input h.2.0 1 h.2.1 (on_case h.0 h.2.0 1 h.2.2.0 (over h.2.0 limit h.2.2.1)))
-    cause_settled words input (Err (BrokenRule rule)) command sound row h =
-        known_too words h.0 command input 1 h.1 row (of_whole h.0 input h.2.0 1 h.2.1 (on_certificate h.0 h.2.0 1 h.2.2.0 (inr (inl (rule, h.2.2.1, refl)))))
-    cause_settled words input (Err BadWords) command sound row h = absurd (h.0 command row)
-    cause_settled words input (Err TooLong) command sound row h = known_too words h.0 command input 3 h.1 row (of_long h.0 input h.2)
-    cause_settled words input (Err (BadCase fault)) command sound row h =
-        known_too words h.0 command input 3 h.1 row (of_whole h.0 input h.2.0 3 h.2.1 (on_case h.0 h.2.0 3 h.2.2.0 (refused h.2.0 fault h.2.2.1)))
-    cause_settled words input (Err (BrokenLine number)) command sound row h =
-        known_too words h.0 command input 3 h.1 row (of_whole h.0 input h.2.0 3 h.2.1 (on_certificate h.0 h.2.0 3 h.2.2.0 (inr (inr (number, h.2.2.1, refl)))))
-    cause_settled words input (Err ReadFault) command sound row h = absurd (sound h.2.0.0)
-    cause_settled words input (Err NoMemory) command sound row h = known_all input.bytes_before (λ known. inr (one_kind words h.0 command h.1 row h.2.0, refl))
+    -- an ending that came licenses its status
+    came : (ending : Result (List ℕ) Stop) → Comes tells outside words ending → Wrote ending → HasCauses tells outside words (owed ending).status
+    came (Ok text) comes wrote = (Ok text, refl, comes, wrote.0, wrote.1)
+    came (Err (Void missing)) comes wrote = (Err (Void missing), refl, comes, wrote.0, wrote.1)
+    came (Err (OverLimit limit)) comes wrote = (Err (OverLimit limit), refl, comes, wrote.0, wrote.1)
+    came (Err NotTwo) comes wrote = (Err NotTwo, refl, comes, wrote.0, wrote.1)
+    came (Err (BrokenRule rule)) comes wrote = (Err (BrokenRule rule), refl, comes, wrote.0, wrote.1)
+    came (Err BadWords) comes wrote = let none = none_of comes in ((Err BadWords, refl, comes, wrote.0, wrote.1), none.0, none.1)
+    came (Err TooLong) comes wrote = (Err TooLong, refl, comes, wrote.0, wrote.1)
+    came (Err (BadCase fault)) comes wrote = (Err (BadCase fault), refl, comes, wrote.0, wrote.1)
+    came (Err (BrokenLine number)) comes wrote = (Err (BrokenLine number), refl, comes, wrote.0, wrote.1)
+    came (Err BadReply) comes wrote = (Err BadReply, refl, comes, wrote.0, wrote.1)
+    came (Err (BadStatus code)) comes wrote = (Err (BadStatus code), refl, comes, wrote.0, wrote.1)
+    came (Err (BadJournal place)) comes wrote =
+        let row = row_of (BadJournal place) (λ e. cc e) comes in ((Err (BadJournal place), refl, comes, wrote.0, wrote.1), (row.0, row.1, (place, row.2)))
+    came (Err ReadFault) comes wrote = let row = row_of ReadFault (λ e. cc e) comes in ((Err ReadFault, refl, comes, wrote.0, wrote.1), read_of row.0 row.2)
+    came (Err StoreFault) comes wrote = let row = row_of StoreFault (λ e. cc e) comes in ((Err StoreFault, refl, comes, wrote.0, wrote.1), store_of row.0 row.2)
+    came (Err PortFault) comes wrote = let row = row_of PortFault (λ e. cc e) comes in ((Err PortFault, refl, comes, wrote.0, wrote.1), port_of row.0 row.2)
+    came (Err NoMemory) comes wrote = let row = row_of NoMemory (λ e. cc e) comes in ((Err NoMemory, refl, comes, wrote.0, wrote.1), (row.0, row.1, memory_of row.0 row.2))
 
-    -- where no write failed, the status is the one that goes with the ending
-    no_failure : (output : Told) (text : List ℕ) (due status : ℕ) → IsSound output → Ends output text due status → status ≡ due
-    no_failure output text due status sound ends = ⊎_elim (λ w. w.0) (λ w. absurd (sound w.1.0)) ends
-
-    -- each ending comes wherever it is called for
-    pub is_complete : (words : List (List ℕ)) (input output : Told) (ending : Result (List ℕ) Stop) (status : ℕ)
-        → (owed ending).cause words input → Ends output (owed ending).text (owed ending).status status → IsComplete words input output status
-    is_complete words input output ending status cause ends =
-        let is : IsSound output → status ≡ (owed ending).status = λ wrote. no_failure output (owed ending).text (owed ending).status status wrote ends in
-        let moved : (command : Command) → IsSound output → LacksMemory command (owed ending).status → LacksMemory command status = λ command wrote none. (none.0, is wrote ∙ none.1) in record {
-          bad_words = λ wrote none. is wrote ∙ no_row_due words input ending none cause;
-          row = λ read wrote command row. ⊎_elim
-              (λ usual. inl (subst (Contains (0 ∷ 1 ∷ 3 ∷ [])) (sym (is wrote)) usual))
-              (λ none. inr (moved command wrote none))
-              (row_due words input ending command read row cause);
-          due = λ read wrote command row. known_from input.bytes_before
-              (λ bytes settled other due. ⊎_elim
-              (λ known. inl (is wrote ∙ one_status command bytes (owed ending).status (owed other).status known (due_settled command bytes other due)))
-              (λ none. inr (moved command wrote none))
-              settled)
-              (cause_settled words input ending command read row cause);
-        }
+    -- each status comes only by its cause
+    pub has_causes : (status : ℕ) → Ran tells outside words status → HasCauses tells outside words status
+    has_causes status (ending, comes, ends) = ⊎_elim
+        (λ w. subst (HasCauses tells outside words) (sym w.0) (came ending comes (w.1, w.2)))
+        (λ w. subst (HasCauses tells outside words) (sym w.0) w.1)
+        ends

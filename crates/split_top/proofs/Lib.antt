@@ -1,5 +1,5 @@
-mod CaseOutputs
+mod AuditLaws
 mod CauseLaws
-mod OneEnding
-mod OneOutput
-mod Solved
+mod Finishing
+mod SameOutput
+mod ServeLaws

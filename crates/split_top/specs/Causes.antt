@@ -1,89 +1,83 @@
--- What each status shows, and where each ending must come. All of it follows from the ending and the text that goes with it.
-use Rattle.std.specs.Prelude.{◌≡◌, ◌⊎◌, ℕ, ◌<◌, ◌≤◌, List, [], ◌∷◌, Result, Ok, Err, IfSome, length, Contains, get_or}
-use Rattle.bid_rules.specs.declared.cases.Missing.{Missing}
-use Rattle.cert_checker.specs.Judged.{IsCertificate, IsJudged}
-use Rattle.cert_reader.specs.Text.{IsBrokenText}
-use Rattle.case_fields.specs.declared.fields.BodyFault.{BodyFault}
-use Rattle.split_json.specs.Reading.{case_in}
+-- What each status shows, and where it must come. All of it follows from the ending and the text that goes with it.
+use Rattle.std.specs.Prelude.{◌≡◌, ◌⊎◌, ℕ, ◌<◌, List, [], ◌∷◌, Contains, Result, Ok, Err, IfSome, length, get_or}
+use Rattle.endings.specs.Endings.{owed}
+use Rattle.endings.specs.Told.{HasNoFault, HasOneFault, HasWritten, IsSound}
+use Rattle.endings.specs.declared.stop.Stop.{Stop}
+use Rattle.endings.specs.declared.stop.Stop.TheVariants.{BadJournal}
+use Rattle.host_commands.specs.Files.{FailedOnce}
+use Rattle.host_commands.specs.Headline.{HasHeadline, HasNoRun}
+use Rattle.host_commands.specs.Serves.{served_line}
+use Rattle.host_journal.specs.Journal.{HoldsSome}
+use Rattle.input_commands.specs.Commands.{TakesMemory as ReadingTakesMemory}
+use Rattle.input_commands.specs.Ends.{CallsFor}
+use Rattle.split_base.specs.Faults.{HasRisen}
+use Rattle.split_top.specs.Commands.{AreNoRow, Names}
+use Rattle.split_top.specs.Outside.{Outside, UsesNothing}
+use Rattle.split_top.specs.Runs.{Came, Comes, Tells}
 use Rattle.split_top.specs.declared.command.Command.{Command}
-use Rattle.split_top.specs.declared.command.Command.TheVariants.{Solve, Report, Check}
-use Rattle.split_top.specs.declared.stop.Stop.{Stop}
-use Rattle.split_top.specs.declared.stop.Stop.TheVariants.{Void, OverLimit, BrokenRule, BadWords, TooLong, BadCase, BrokenLine, ReadFault, NoMemory}
-use Rattle.split_top.specs.Told.{Ends, HasNoFault, HasOneFault, HasWritten, IsSound, Told}
-use Rattle.split_solve.specs.Solving.{IsAboveLimit}
-use Rattle.split_top.specs.Commands.{AreNoRow, Names, ReadsCase, ReadsCertificate, longest}
-use Rattle.split_top.specs.Texts.{Holds, IsOutput, IsVoid, MakesCase}
-use Rattle.split_top.specs.Endings.{owed}
-use Rattle.verdicts.specs.declared.verdict.Verdict.TheVariants.{No}
+use Rattle.split_top.specs.declared.command.Command.TheVariants.{Init, Serve, Dump, Trial, Audit, Read}
 
--- the command came to one of its endings, and wrote that ending's text with its status
-abbrev pub Ran : List (List ℕ) → Told → Told → ℕ → Type 0
-Ran words input output status = (ending : Result (List ℕ) Stop) × (owed ending).cause words input × Ends output (owed ending).text (owed ending).status status
+-- the command may lack memory
+abbrev pub TakesMemory : Command → Type 0
+TakesMemory (Init secret) = ⊥
+TakesMemory (Serve port workers count) = Unit {0}
+TakesMemory Dump = Unit {0}
+TakesMemory (Trial number workers) = Unit {0}
+TakesMemory (Audit port asked) = ⊥
+TakesMemory (Read reads) = ReadingTakesMemory reads
 
--- the ending came: its cause holds, its text was written, and no write failed
-abbrev pub Came : List (List ℕ) → Told → Told → Result (List ℕ) Stop → Type 0
-Came words input output ending = (owed ending).cause words input × HasWritten output (owed ending).text × HasNoFault output
+-- an ending of this status came: its cause holds, its text was written, and no write failed
+abbrev pub Ended : {D P L C X M : Type 0} → Tells D P L C X M → Outside D P C X → List (List ℕ) → ℕ → Type 0
+Ended tells outside words status =
+    (ending : Result (List ℕ) Stop) × ((owed ending).status ≡ status) × Comes tells outside words ending × HasWritten outside.output (owed ending).text × HasNoFault outside.output
 
--- what licenses each status, from 0: which ending came, or that one write failed
-abbrev pub licences : List (List ℕ) → Told → Told → List (Type 0)
-licences words input output =
-    ((text : List ℕ) × Came words input output (Ok text))
-    ∷ (((missing : Missing) × Came words input output (Err (Void missing)))
-    ⊎ ((limit : ℕ) × Came words input output (Err (OverLimit limit)))
-    ⊎ ((rule : ℕ) × Came words input output (Err (BrokenRule rule))))
-    ∷ Came words input output (Err BadWords)
-    ∷ (Came words input output (Err TooLong)
-    ⊎ ((fault : BodyFault) × Came words input output (Err (BadCase fault)))
-    ⊎ ((number : ℕ) × Came words input output (Err (BrokenLine number))))
-    ∷ ⊥
-    ∷ Came words input output (Err ReadFault)
-    ∷ HasOneFault output
-    ∷ ⊥
-    ∷ ⊥
-    ∷ Came words input output (Err NoMemory)
+-- what licenses each status, from 0: an ending that has it came, and which count rose, or that one write failed
+abbrev pub licences : {D P L C X M : Type 0} → Tells D P L C X M → Outside D P C X → List (List ℕ) → List (Type 0)
+licences tells outside words =
+    Ended tells outside words 0
+    ∷ Ended tells outside words 1
+    ∷ (Ended tells outside words 2 × AreNoRow words × UsesNothing outside)
+    ∷ Ended tells outside words 3
+    ∷ (Ended tells outside words 4 × ((command : Command) × Names words command × ((place : ℕ) × Came tells outside command (Err (BadJournal place)))))
+    ∷ (Ended tells outside words 5 × HasOneFault outside.input)
+    ∷ HasOneFault outside.output
+    ∷ (Ended tells outside words 7 × FailedOnce (tells.disk.faults outside.disk) (tells.disk.faults outside.disk_now))
+    ∷ (Ended tells outside words 8
+    × (FailedOnce (tells.port.faults outside.port) (tells.port.faults outside.port_now) ⊎ FailedOnce (tells.dialer.faults outside.dialer) (tells.dialer.faults outside.dialer_now)))
+    ∷ (Ended tells outside words 9 × ((command : Command) × Names words command × TakesMemory command))
     ∷ []
 
 -- each status comes only by its cause and with its text, and no other status is answered
-abbrev pub HasCauses : List (List ℕ) → Told → Told → ℕ → Type 0
-HasCauses words input output status = get_or (licences words input output) status ⊥
+abbrev pub HasCauses : {D P L C X M : Type 0} → Tells D P L C X M → Outside D P C X → List (List ℕ) → ℕ → Type 0
+HasCauses tells outside words status = get_or (licences tells outside words) status ⊥
 
--- the bytes are as many as the command's input may have
-abbrev pub IsShort : Command → List ℕ → Type 0
-IsShort command bytes = length bytes ≤ longest command
+-- no call of an object of this count failed
+abbrev pub IsStill : ℕ → ℕ → Type 0
+IsStill before after = HasRisen before after → ⊥
 
--- the bytes hold a case that is not above its limit
-abbrev pub IsWithinLimit : List ℕ → Type 0
-IsWithinLimit bytes = Holds bytes (λ given. MakesCase given (λ case. (limit : ℕ) → IsAboveLimit case limit → ⊥))
+-- where no call of an object that the command uses failed, it ends as its input or its file calls for, up to want of memory where it takes some
+abbrev pub Finishes : {D P L C X M : Type 0} → Tells D P L C X M → Outside D P C X → Command → ℕ → Type 0
+Finishes tells outside (Init secret) status =
+    tells.disk.is_honest outside.disk → IsStill (tells.disk.faults outside.disk) (tells.disk.faults outside.disk_now) → length (tells.disk.seen outside.disk) ≡ 0 → status ≡ 0
+Finishes tells outside (Serve port workers count) status =
+    tells.disk.is_honest outside.disk → IsStill (tells.disk.faults outside.disk) (tells.disk.faults outside.disk_now)
+    → IsStill (tells.port.faults outside.port) (tells.port.faults outside.port_now) → HoldsSome (tells.disk.seen outside.disk) → Contains (0 ∷ 9 ∷ []) status
+Finishes tells outside Dump status =
+    tells.disk.is_honest outside.disk → IsStill (tells.disk.faults outside.disk) (tells.disk.faults outside.disk_now) → HoldsSome (tells.disk.seen outside.disk) → Contains (0 ∷ 9 ∷ []) status
+Finishes tells outside (Trial number workers) status = Contains (0 ∷ 9 ∷ []) status
+Finishes tells outside (Audit port asked) status = IsStill (tells.dialer.faults outside.dialer) (tells.dialer.faults outside.dialer_now) → Contains (0 ∷ 1 ∷ 3 ∷ []) status
+Finishes tells outside (Read reads) status =
+    IsSound outside.input
+    → IfSome outside.input.bytes_before (λ bytes. (ending : Result (List ℕ) Stop) → CallsFor reads bytes ending → (status ≡ (owed ending).status) ⊎ (ReadingTakesMemory reads × (status ≡ 9)))
 
--- the bytes have what the command comes to its text on
-abbrev pub HasText : Command → List ℕ → Type 0
-HasText (Solve workers) bytes = IsWithinLimit bytes
-HasText (Report workers) bytes = IsWithinLimit bytes
-HasText Check bytes = IsCertificate bytes
+-- where no write failed, the status is 2 exactly where the words are no row, and else that with which their command finishes
+abbrev pub IsComplete : {D P L C X M : Type 0} → Tells D P L C X M → Outside D P C X → List (List ℕ) → ℕ → Type 0
+IsComplete tells outside words status =
+    IsSound outside.output → (AreNoRow words × (status ≡ 2)) ⊎ ((command : Command) × Names words command × Finishes tells outside command status)
 
--- the ending of the command for which the input's bytes call
-abbrev pub IsDue : Command → List ℕ → Result (List ℕ) Stop → Type 0
-IsDue command bytes (Ok text) = IsShort command bytes × HasText command bytes
-IsDue command bytes (Err (Void missing)) = IsShort command bytes × ReadsCase command × Holds bytes (IsVoid missing)
-IsDue command bytes (Err (OverLimit limit)) = IsShort command bytes × ReadsCase command × Holds bytes (λ given. MakesCase given (λ case. IsAboveLimit case limit))
-IsDue command bytes (Err (BrokenRule rule)) = IsShort command bytes × ReadsCertificate command × IsJudged bytes (No rule)
-IsDue command bytes (Err TooLong) = longest command < length bytes
-IsDue command bytes (Err (BadCase fault)) = IsShort command bytes × ReadsCase command × (case_in bytes ≡ Err fault)
-IsDue command bytes (Err (BrokenLine number)) = IsShort command bytes × ReadsCertificate command × IsBrokenText bytes number
-IsDue command bytes (Err other) = ⊥
-
--- the same, with its text: the ending to which the command comes on these bytes, where no call fails and memory is there
-abbrev pub CallsFor : Command → List ℕ → Result (List ℕ) Stop → Type 0
-CallsFor command bytes (Ok text) = IsShort command bytes × IsOutput command bytes text
-CallsFor command bytes (Err stop) = IsDue command bytes (Err stop)
-
--- memory ran out, as it may for a command that reads a case
-abbrev pub LacksMemory : Command → ℕ → Type 0
-LacksMemory command status = ReadsCase command × (status ≡ 9)
-
--- where no count rose, the status is that of the ending for which the words and the bytes call, up to want of memory
-pub record IsComplete (words : List (List ℕ)) (input output : Told) (status : ℕ) : Type 0 where
-  pub bad_words : IsSound output → AreNoRow words → status ≡ 2
-  pub row : IsSound input → IsSound output → (command : Command) → Names words command → Contains (0 ∷ 1 ∷ 3 ∷ []) status ⊎ LacksMemory command status
-  pub due : IsSound input → IsSound output → (command : Command) → Names words command
-      → IfSome input.bytes_before (λ bytes. (ending : Result (List ℕ) Stop) → IsDue command bytes ending → (status ≡ (owed ending).status) ⊎ LacksMemory command status)
+-- what holds of the words of `serve`: nothing was served, or the headline holds of so many links, and with status 0 their number was written
+abbrev pub IsServed : {D P L C X M : Type 0} → Tells D P L C X M → Outside D P C X → ℕ → Type 0
+IsServed tells outside status =
+    HasNoRun tells.port outside.port outside.port_now outside.clock outside.clock_now
+    ⊎ ((number : ℕ) × HasHeadline tells.disk tells.port tells.links tells.clock outside.disk outside.disk_now outside.port outside.port_now outside.clock outside.clock_now number
+    × (status ≡ 0 → HasWritten outside.output (served_line number)))

@@ -1,57 +1,51 @@
 -- The command table.
-use Rattle.std.specs.Prelude.{◌≡◌, ◌≤◌, ℕ, List, [], ◌∷◌, Option, None, Some, codes}
-use Rattle.std.specs.Fmt.{decimal}
-use Rattle.cert_reader.specs.declared.limits.TheConstants.{MOST_BYTES}
+use Rattle.std.specs.Prelude.{◌≡◌, ℕ, List, [], ◌∷◌, codes}
+use Rattle.input_commands.specs.declared.command.InputCommand.{InputCommand}
+use Rattle.input_commands.specs.declared.command.InputCommand.TheVariants.{Solve, Report, Check, Weigh, Winner, CheckWinner}
+use Rattle.input_commands.specs.Commands.{AreWorkers, HasWorkers}
 use Rattle.search_workers.specs.declared.limits.TheConstants.{MOST_WORKERS}
 use Rattle.split_top.specs.declared.command.Command.{Command}
-use Rattle.split_top.specs.declared.command.Command.TheVariants.{Solve, Report, Check}
-use Rattle.split_top.specs.declared.limits.TheConstants.{LONGEST_INPUT}
+use Rattle.split_top.specs.declared.command.Command.TheVariants.{Init, Serve, Dump, Trial, Audit, Read}
+use Rattle.split_top.specs.declared.limits.TheConstants.{MOST_COUNT, MOST_ID, MOST_NUMBER, MOST_PORT}
+use Rattle.split_top.specs.Words.{IsKey, IsNumber, IsSecret}
 
--- the word says this number of workers in plain decimal
+-- the word says a number of workers
 abbrev pub IsWorkers : List ℕ → ℕ → Type 0
-IsWorkers word workers = (1 ≤ workers) × (workers ≤ MOST_WORKERS) × (word ≡ decimal workers)
+IsWorkers = IsNumber 1 MOST_WORKERS
 
--- the word says no number of workers
-abbrev pub IsNoWorkers : List ℕ → Type 0
-IsNoWorkers word = (workers : ℕ) → IsWorkers word workers → ⊥
+-- the word says the number of a port
+abbrev pub IsPort : List ℕ → ℕ → Type 0
+IsPort = IsNumber 1 MOST_PORT
+
+-- the words are the row of a command that reads an input
+abbrev pub NamesReading : List (List ℕ) → InputCommand → Type 0
+NamesReading words (Solve workers) = (word : List ℕ) × (words ≡ codes "solve" ∷ word ∷ []) × IsWorkers word workers
+NamesReading words (Report workers) = (word : List ℕ) × (words ≡ codes "report" ∷ word ∷ []) × IsWorkers word workers
+NamesReading words Check = words ≡ codes "check" ∷ []
+NamesReading words Weigh = words ≡ codes "weigh" ∷ []
+NamesReading words Winner = words ≡ codes "winner" ∷ []
+NamesReading words CheckWinner = words ≡ codes "checkwinner" ∷ []
 
 -- the words are the command's row of the table
 abbrev pub Names : List (List ℕ) → Command → Type 0
-Names words (Solve workers) = (word : List ℕ) × (words ≡ codes "solve" ∷ word ∷ []) × IsWorkers word workers
-Names words (Report workers) = (word : List ℕ) × (words ≡ codes "report" ∷ word ∷ []) × IsWorkers word workers
-Names words Check = words ≡ codes "check" ∷ []
+Names words (Init secret) = (word : List ℕ) × (words ≡ codes "init" ∷ word ∷ []) × IsSecret word secret
+Names words (Serve port workers count) =
+    (first second third : List ℕ) × (words ≡ codes "serve" ∷ first ∷ second ∷ third ∷ []) × IsPort first port × IsWorkers second workers × IsNumber 1 MOST_COUNT third count
+Names words Dump = words ≡ codes "dump" ∷ []
+Names words (Trial number workers) = (first second : List ℕ) × (words ≡ codes "trial" ∷ first ∷ second ∷ []) × IsNumber 0 MOST_NUMBER first number × IsWorkers second workers
+Names words (Audit port asked) =
+    (first second third : List ℕ) × (words ≡ codes "audit" ∷ first ∷ second ∷ third ∷ []) × IsPort first port × IsNumber 1 MOST_ID second asked.id × IsKey third asked.key
+Names words (Read reads) = NamesReading words reads
 
 -- the words are no row of the command table
 abbrev pub AreNoRow : List (List ℕ) → Type 0
 AreNoRow words = (command : Command) → Names words command → ⊥
 
--- how many workers search for the best division, where the command reads a case
-abbrev pub worker_count : Command → Option ℕ
-worker_count (Solve workers) = Some workers
-worker_count (Report workers) = Some workers
-worker_count Check = None
-
--- the command reads a case
-abbrev pub ReadsCase : Command → Type 0
-ReadsCase (Solve workers) = Unit {0}
-ReadsCase (Report workers) = Unit {0}
-ReadsCase Check = ⊥
-
--- the command reads a certificate
-abbrev pub ReadsCertificate : Command → Type 0
-ReadsCertificate (Solve workers) = ⊥
-ReadsCertificate (Report workers) = ⊥
-ReadsCertificate Check = Unit {0}
-
--- the most bytes that the command's input may have
-abbrev pub longest : Command → ℕ
-longest (Solve workers) = LONGEST_INPUT
-longest (Report workers) = LONGEST_INPUT
-longest Check = MOST_BYTES
-
--- the two commands differ in the number of workers alone
-abbrev pub AreAlike : Command → Command → Type 0
-AreAlike (Solve workers) (Solve others) = Unit {0}
-AreAlike (Report workers) (Report others) = Unit {0}
-AreAlike Check Check = Unit {0}
-AreAlike command other = ⊥
+-- the numbers of workers of the command are in their range
+abbrev pub IsInRange : Command → Type 0
+IsInRange (Init secret) = Unit {0}
+IsInRange (Serve port workers count) = AreWorkers workers
+IsInRange Dump = Unit {0}
+IsInRange (Trial number workers) = AreWorkers workers
+IsInRange (Audit port asked) = Unit {0}
+IsInRange (Read reads) = HasWorkers reads

@@ -1,6 +1,6 @@
+pub mod Audits
 pub mod Causes
 pub mod Commands
-pub mod Endings
-pub mod Steps
-pub mod Texts
-pub mod Told
+pub mod Outside
+pub mod Runs
+pub mod Words

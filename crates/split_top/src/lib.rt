@@ -1,17 +1,18 @@
-//! The commands of the program, over any source and sink.
+//! The commands of the program, over any disk, port, clock, source, sink, gate and dialer.
 #![tactic(auto)]
 
-mod checking;
+mod auditing;
 mod command;
-mod dividing;
 mod laws;
-mod limits;
+pub mod limits;
 mod program;
-mod stop;
-mod text;
+mod words;
 
 pub use command::Command;
-pub use laws::{output_law, solved_law, yes_law};
-pub use limits::LONGEST_INPUT;
+pub use endings::Stop;
+pub use host_keeper::Serving;
+pub use input_commands::InputCommand;
+pub use laws::output_law;
+pub use link_runs::LinkEnd;
 pub use program::{Status, run};
-pub use stop::Stop;
+pub use serving::serve_one;

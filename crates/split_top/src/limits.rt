@@ -1,9 +1,16 @@
-// The limits of what a command reads, and of the lines that end it.
-use bid_rules::limits::MEMBER_ROOM;
+// The limits of what the words of a command say.
 
-/// The most bytes that a case may have as JSON. What a certificate may have is `MOST_BYTES` of `cert_reader`.
-pub const LONGEST_INPUT: usize = 65_536;
+/// The greatest number of a port.
+pub const MOST_PORT: u64 = 65_535;
 
-/// Room for a line that ends a command: a word of up to 15 bytes, for each member a space and three digits, and LF. A field's
-/// name takes less than the members do.
-pub const LINE_ROOM: usize = 16 + 4 * MEMBER_ROOM;
+/// The most connections that a host serves.
+pub const MOST_COUNT: u64 = 1_000_000;
+
+/// The greatest number of an instance.
+pub const MOST_ID: u64 = 4_294_967_295;
+
+/// The greatest number of a trial.
+pub const MOST_NUMBER: u64 = 18_446_744_073_709_551_615;
+
+/// How many digits a key has.
+pub const KEY_DIGITS: usize = 64;

@@ -1,74 +1,111 @@
-// The top call: from words and input to a status and what is written.
-ghost use Rattle.std.specs.Prelude.{◌≢◌, ◌≤◌, ℕ, List, Result, map, string_bytes};
-ghost use Rattle.split_top.specs.Causes.{HasCauses, IsComplete};
-ghost use Rattle.split_top.specs.Commands.{Names};
-ghost use Rattle.split_top.specs.Endings.{owed};
-ghost use Rattle.split_top.specs.Steps.{ending_of};
-ghost use Rattle.split_top.specs.Told.{Ends, told};
-ghost use Rattle.split_top.specs.declared.command.Command.TheVariants.{Check};
-ghost use Rattle.split_top.specs.declared.stop.Stop.{Stop};
+// The top call: from words to a status and what is written.
+ghost use Rattle.std.specs.Prelude.{◌≤◌, ℕ, map, string_bytes};
+ghost use Rattle.endings.specs.Endings.{ending_of, owed};
+ghost use Rattle.endings.specs.Told.{Ends, Told, told};
+ghost use Rattle.link_runs.specs.Served.{tells_of};
+ghost use Rattle.input_commands.specs.Commands.{AreWorkers};
+ghost use Rattle.split_top.specs.Causes.{HasCauses, IsComplete, IsServed};
+ghost use Rattle.split_top.specs.Commands.{IsInRange, Names};
+ghost use Rattle.split_top.specs.declared.command.Command.TheVariants.{Serve};
+ghost use Rattle.split_top.specs.Outside.{outside_of};
+ghost use Rattle.split_top.specs.Runs.{Came, Comes, Ran, Tries, tells_by};
 
-use crate::checking::check;
-use crate::command::command_of;
-use crate::dividing::divide;
-use crate::stop::Stop;
-use crate::text::Text;
-use cert_checker::certificate_verdict_law;
-use nash_search::step_count_law;
-use split_base::{Failed, Gate, Sink, Source, write_all};
+use crate::auditing::audit;
+use crate::command::{Command, command_of};
+use endings::{Stop, Text};
+use host_commands::{dump, headline_law, make, serve_port};
+use host_journal::events_law;
+use input_commands::{input_answer_law, input_ending};
+use split_base::{Clock, Dial, Disk, Failed, Gate, NoMemory, Port, Sink, Source, write_all};
 use std::alloc::Global;
 use std::thread::Threads;
+use trial_runs::trial_text;
 
 /// The status with which the program ends.
 #[derive(Clone, Copy, Debug, PartialEq, Eq)]
 pub struct Status {
-    /// 0, 1, 2, 3, 5, 6 or 9, as `run` says.
+    /// From 0 to 9, as `run` says.
     pub code: u8,
 }
 
-/// Does what the words ask for: reads the input, and writes what the command owes.
+/// Does what the words ask for, and writes what the command owes.
 ///
-/// `solve WORKERS` and `report WORKERS` read a case of at most `LONGEST_INPUT` bytes as JSON and find its best division, the same for
-/// every number of workers. `solve` writes the canonical certificate, and `report` what the division means for each member. `check` reads
-/// a certificate of at most `MOST_BYTES` of `cert_reader` and writes whether all its rules hold. The gate is told when a worker enters and
-/// leaves a task of the search.
+/// | words | does |
+/// |---|---|
+/// | `init SECRET` | makes the journal, with the secret of 64 hexadecimal digits; writes nothing |
+/// | `serve PORT WORKERS COUNT` | opens the journal, listens, and serves COUNT connections, or fewer only where the port has ended; writes `served` and their number |
+/// | `dump` | opens the journal, and writes its instances as comma-separated values |
+/// | `trial NUMBER WORKERS` | makes three cases from the number, solves them and checks their certificates, and writes four lines |
+/// | `audit PORT ID KEY` | has a host on this machine give an instance's certificate, judges it, and writes `yes` or `no` and the rule |
+/// | `solve WORKERS`, `report WORKERS` | reads a case as JSON, and writes the certificate or the report of its best division |
+/// | `weigh` | reads a case of goods and a proposed division, and writes the audit of that division |
+/// | `winner` | reads a case of goods, and writes the division by adjusted winner between its two players |
+/// | `check`, `checkwinner` | reads a certificate, or the text of adjusted winner, and writes `yes` or `no` and the first broken rule |
+///
+/// WORKERS are 1 to `MOST_WORKERS`, who take no part in what is written. The gate is told when one enters and leaves a task of a search.
 ///
 /// | status | comes | line |
 /// |---|---|---|
-/// | 0 | the case has a division, or all rules of the certificate hold, and the input was read to its end | the command's text, of `check` the line `yes` |
-/// | 1 | exactly where bids are missing, on a rent any, on goods and fares all; where the step count of goods is above the limit; where a rule of the certificate does not hold | `void:` and the members who lack a bid; `step limit` and the limit; `no` and the first such rule |
+/// | 0 | the command came to its text | that text |
+/// | 1 | exactly where bids are missing; where the step count of goods, or the count of prefixes that an audit leaves open, is above the case's limit; where a case for adjusted winner has not two players; where a rule is broken | `void:` and the members who lack a bid; `step limit` and the limit; `not two`; `no` and the first such rule |
 /// | 2 | exactly where the words are no row of the command table | `refused: words` |
-/// | 3 | exactly where the input is too long, no JSON, breaks a field's rule, or is no certificate text | `refused: too long`, `refused: json`, `refused: field NAME`, `refused: line K` with the first broken line |
+/// | 3 | exactly where the input is too long, no JSON, breaks a field's rule, or is no text of its grammar; where what a host replied is no reply that holds a certificate, or has another status than 200 | `refused: too long`, `refused: json`, `refused: field NAME`, `refused: line K` with the first broken line, `refused: reply`, `refused: status N` |
+/// | 4 | exactly where the file is no journal, or not empty where one is made | `refused: journal at PLACE` |
 /// | 5 | only where the input's count of faults rose in this call, by one | `read fault` |
 /// | 6 | only where the output's count rose in this call, by one | a prefix of the text due |
-/// | 9 | want of memory, which `check` has not | `no memory` |
+/// | 7 | only where the disk's count rose, by one, while the file was made or opened | `store fault` |
+/// | 8 | only where the port's count rose in `listen` or `accept`, or the dialer's, by one | `port fault` |
+/// | 9 | want of memory, which `init`, `check`, `checkwinner` and `audit` have not, nor `serve` once it listens | `no memory` |
 ///
-/// The tests come in the order of the work: words, reading, solving or judging, writing. 6 stands in place of the status whose text could
-/// not be written, and 9 may come in place of any but 2. With status 2 the input is untouched, and else at most one byte more than the
-/// command's input may have was read.
-pub fn run<R: Threads + Sync, I: Source, O: Sink, G: Gate + Sync>(
+/// The tests come in the order of the work: words, reading, file, port, solving or judging, writing. What a command doesn't use is untouched.
+#[allow(clippy::too_many_arguments)]
+pub fn run<
+    R: Threads + Sync,
+    D: Disk,
+    P: Port,
+    C: Clock,
+    I: Source,
+    O: Sink,
+    G: Gate + Sync,
+    X: Dial,
+>(
     alloc: Global,
     rt: &R,
     words: &[String],
+    disk: &mut D,
+    port: &mut P,
+    clock: &mut C,
     input: &mut I,
     output: &mut O,
     gate: &G,
+    dialer: &mut X,
 ) -> Status
-    // The command came to one of its endings, and wrote that ending's text with its status.
-    ensures ending { (ending : Result (List ℕ) Stop)
-        × (owed ending).cause (map string_bytes words.now) (told I.left I.faults input.old input.new)
-        × Ends (told O.written O.faults output.old output.new) (owed ending).text (owed ending).status result.code }
+    // The command of the words came to one of its endings, and wrote that ending's text with its status.
+    ensures ran { Ran (tells_by D.Disk P.Port (tells_of P.Link.Source P.Link.Sink) C.Clock X.Dial (tells_of X.Link.Source X.Link.Sink))
+        (outside_of disk.old disk.new port.old port.new clock.old clock.new dialer.old dialer.new (told I.left I.faults input.old input.new) (told O.written O.faults output.old output.new))
+        (map string_bytes words.now) result.code }
 
     // The same, cause by cause: each status only by its cause, and each cause with its status.
-    ensures causes { HasCauses (map string_bytes words.now) (told I.left I.faults input.old input.new) (told O.written O.faults output.old output.new) result.code }
-    ensures complete { IsComplete (map string_bytes words.now) (told I.left I.faults input.old input.new) (told O.written O.faults output.old output.new) result.code }
-    // `check` needs no memory.
-    ensures memory { Names (map string_bytes words.now) Check → result.code ≢ 9 }
-    ensures counts { (I.faults input.old ≤ I.faults input.new) × (O.faults output.old ≤ O.faults output.new) }
+    ensures causes { HasCauses (tells_by D.Disk P.Port (tells_of P.Link.Source P.Link.Sink) C.Clock X.Dial (tells_of X.Link.Source X.Link.Sink))
+        (outside_of disk.old disk.new port.old port.new clock.old clock.new dialer.old dialer.new (told I.left I.faults input.old input.new) (told O.written O.faults output.old output.new))
+        (map string_bytes words.now) result.code }
+    ensures complete { IsComplete (tells_by D.Disk P.Port (tells_of P.Link.Source P.Link.Sink) C.Clock X.Dial (tells_of X.Link.Source X.Link.Sink))
+        (outside_of disk.old disk.new port.old port.new clock.old clock.new dialer.old dialer.new (told I.left I.faults input.old input.new) (told O.written O.faults output.old output.new))
+        (map string_bytes words.now) result.code }
+
+    // The headline, of the words of `serve`: for every list of connections, bytes and clock moments the host writes the bytes of one machine of
+    // accepted commands; each published division is best for its rule among all, least among equals, and the same for every number of workers;
+    // its printed certificate passes the checker; and a crash at any moment leaves a prefix of the commands that holds each acknowledged one.
+    ensures headline { (number workers count : ℕ) → Names (map string_bytes words.now) (Serve number workers count)
+        → IsServed (tells_by D.Disk P.Port (tells_of P.Link.Source P.Link.Sink) C.Clock X.Dial (tells_of X.Link.Source X.Link.Sink))
+        (outside_of disk.old disk.new port.old port.new clock.old clock.new dialer.old dialer.new (told I.left I.faults input.old input.new) (told O.written O.faults output.old output.new))
+        result.code }
+    ensures output { O.faults output.old ≤ O.faults output.new }
 {
-    step_count_law();
-    certificate_verdict_law();
-    let ending = decide(alloc, rt, words, input, gate);
+    events_law();
+    headline_law::<D, P, C>();
+    input_answer_law();
+    let ending = decide(alloc, rt, words, disk, port, clock, input, gate, dialer);
     write_ending(output, &ending)
 }
 
@@ -97,22 +134,77 @@ fn write_text<O: Sink>(output: &mut O, text: &[u8], code: u8) -> Status
     }
 }
 
-/// How the command ends, before anything is written.
-fn decide<R: Threads + Sync, I: Source, G: Gate + Sync>(
+/// How the command of the words ends, before anything is written.
+#[allow(clippy::too_many_arguments)]
+fn decide<R: Threads + Sync, D: Disk, P: Port, C: Clock, I: Source, G: Gate + Sync, X: Dial>(
     alloc: Global,
     rt: &R,
     words: &[String],
+    disk: &mut D,
+    port: &mut P,
+    clock: &mut C,
     input: &mut I,
     gate: &G,
+    dialer: &mut X,
 ) -> Result<Text, Stop>
-    ensures ending { (owed (ending_of result)).cause (map string_bytes words.now) (told I.left I.faults input.old input.new) }
-    ensures count { I.faults input.old ≤ I.faults input.new }
+    ensures { (output : Told) → Comes (tells_by D.Disk P.Port (tells_of P.Link.Source P.Link.Sink) C.Clock X.Dial (tells_of X.Link.Source X.Link.Sink))
+        (outside_of disk.old disk.new port.old port.new clock.old clock.new dialer.old dialer.new (told I.left I.faults input.old input.new) output)
+        (map string_bytes words.now) (ending_of result) }
 {
-    let Some(command) = command_of(words) else {
-        return Err(Stop::BadWords);
-    };
-    match command.workers() {
-        None => check(input),
-        Some(workers) => divide(alloc, rt, command, workers, input, gate),
+    match command_of(words) {
+        None => Err(Stop::BadWords),
+        Some(command) => execute(alloc, rt, command, disk, port, clock, input, gate, dialer),
+    }
+}
+
+/// How a command ends, before anything is written.
+#[allow(clippy::too_many_arguments)]
+fn execute<R: Threads + Sync, D: Disk, P: Port, C: Clock, I: Source, G: Gate + Sync, X: Dial>(
+    alloc: Global,
+    rt: &R,
+    command: Command,
+    disk: &mut D,
+    port: &mut P,
+    clock: &mut C,
+    input: &mut I,
+    gate: &G,
+    dialer: &mut X,
+) -> Result<Text, Stop>
+    requires { IsInRange command }
+    ensures { (output : Told) → Came (tells_by D.Disk P.Port (tells_of P.Link.Source P.Link.Sink) C.Clock X.Dial (tells_of X.Link.Source X.Link.Sink))
+        (outside_of disk.old disk.new port.old port.new clock.old clock.new dialer.old dialer.new (told I.left I.faults input.old input.new) output)
+        command (ending_of result) }
+{
+    match command {
+        Command::Init { secret } => make(disk, &secret),
+        Command::Serve {
+            port: number,
+            workers,
+            count,
+        } => serve_port(alloc, rt, disk, port, clock, number, workers, count, gate),
+        Command::Dump => dump(alloc, disk),
+        Command::Trial { number, workers } => trial(alloc, rt, number, workers, gate),
+        Command::Audit {
+            port: number,
+            words,
+        } => audit(dialer, number, &words),
+        Command::Read { reads } => input_ending(alloc, rt, reads, input, gate),
+    }
+}
+
+/// The trial of a number.
+fn trial<R: Threads + Sync, G: Gate + Sync>(
+    alloc: Global,
+    rt: &R,
+    number: u64,
+    workers: u8,
+    gate: &G,
+) -> Result<Text, Stop>
+    requires { AreWorkers workers }
+    ensures { Tries number (ending_of result) }
+{
+    match trial_text(alloc, rt, number, workers, gate) {
+        Ok(text) => Ok(Text::Kept(text)),
+        Err(NoMemory) => Err(Stop::NoMemory),
     }
 }

@@ -1,25 +1,37 @@
 use Rattle.std.proofs.Common.{map, string_bytes}
-use Rattle.split_top.specs.Steps.{ending_of}
-use Rattle.split_top.specs.Told.{told}
-use Rattle.split_top.proofs.CauseLaws.{check_needs_none, has_causes, is_complete}
+use Rattle.endings.specs.Endings.{ending_of}
+use Rattle.endings.specs.Told.{told}
+use Rattle.link_runs.specs.Served.{tells_of}
+use Rattle.split_top.specs.Outside.{outside_of}
+use Rattle.split_top.specs.Runs.{tells_by}
+use Rattle.split_top.proofs.CauseLaws.{has_causes}
+use Rattle.split_top.proofs.Finishing.{is_complete}
+use Rattle.split_top.proofs.ServeLaws.{is_served}
 use Rattle.split_top.proofs.program.run.Goals as goal
 
+pub returns-clause-ran : goal.returns-clause-ran
+returns-clause-ran g c =
+    (ending_of c.decide-ending.result, c.decide-ending.ensures (told g.O.Sink.written g.O.Sink.faults c.args.output.now c.write_ending.new.output), c.write_ending.ensures.ends)
+
 pub returns-clause-causes : goal.returns-clause-causes
-returns-clause-causes g c =
-    has_causes (map string_bytes c.args.words.now) (told g.I.Source.left g.I.Source.faults c.args.input.now c.decide-ending.new.input)
-    (told g.O.Sink.written g.O.Sink.faults c.args.output.now c.write_ending.new.output) (ending_of c.decide-ending.result)
-    c.write_ending.result.code c.decide-ending.ensures.ending c.write_ending.ensures.ends
+returns-clause-causes g c = has_causes (tells_by g.D.Disk g.P.Port (tells_of g.P.Link.Source g.P.Link.Sink) g.C.Clock g.X.Dial (tells_of g.X.Link.Source g.X.Link.Sink))
+    (outside_of c.args.disk.now c.decide-ending.new.disk c.args.port.now c.decide-ending.new.port c.args.clock.now c.decide-ending.new.clock c.args.dialer.now c.decide-ending.new.dialer
+    (told g.I.Source.left g.I.Source.faults c.args.input.now c.decide-ending.new.input) (told g.O.Sink.written g.O.Sink.faults c.args.output.now c.write_ending.new.output))
+    (map string_bytes c.args.words.now) c.write_ending.result.code
+    (ending_of c.decide-ending.result, c.decide-ending.ensures (told g.O.Sink.written g.O.Sink.faults c.args.output.now c.write_ending.new.output), c.write_ending.ensures.ends)
 
 pub returns-clause-complete : goal.returns-clause-complete
-returns-clause-complete g c =
-    is_complete c.step_count_law.ensures.one_count c.certificate_verdict_law.ensures.one c.certificate_verdict_law.ensures.whole
-    (map string_bytes c.args.words.now) (told g.I.Source.left g.I.Source.faults c.args.input.now c.decide-ending.new.input)
-    (told g.O.Sink.written g.O.Sink.faults c.args.output.now c.write_ending.new.output) (ending_of c.decide-ending.result)
-    c.write_ending.result.code c.decide-ending.ensures.ending c.write_ending.ensures.ends
+returns-clause-complete g c = is_complete c.events_law.ensures.no_fault c.input_answer_law.ensures.one c.input_answer_law.ensures.ends (tells_by g.D.Disk g.P.Port (tells_of g.P.Link.Source g.P.Link.Sink) g.C.Clock g.X.Dial (tells_of g.X.Link.Source g.X.Link.Sink))
+    (outside_of c.args.disk.now c.decide-ending.new.disk c.args.port.now c.decide-ending.new.port c.args.clock.now c.decide-ending.new.clock c.args.dialer.now c.decide-ending.new.dialer
+    (told g.I.Source.left g.I.Source.faults c.args.input.now c.decide-ending.new.input) (told g.O.Sink.written g.O.Sink.faults c.args.output.now c.write_ending.new.output))
+    (map string_bytes c.args.words.now) c.write_ending.result.code
+    (ending_of c.decide-ending.result, c.decide-ending.ensures (told g.O.Sink.written g.O.Sink.faults c.args.output.now c.write_ending.new.output), c.write_ending.ensures.ends)
 
-pub returns-clause-memory : goal.returns-clause-memory
-returns-clause-memory g c = check_needs_none (map string_bytes c.args.words.now) (told g.I.Source.left g.I.Source.faults c.args.input.now c.decide-ending.new.input)
-    (told g.O.Sink.written g.O.Sink.faults c.args.output.now c.write_ending.new.output) c.write_ending.result.code
-    (has_causes (map string_bytes c.args.words.now) (told g.I.Source.left g.I.Source.faults c.args.input.now c.decide-ending.new.input)
-    (told g.O.Sink.written g.O.Sink.faults c.args.output.now c.write_ending.new.output) (ending_of c.decide-ending.result)
-    c.write_ending.result.code c.decide-ending.ensures.ending c.write_ending.ensures.ends)
+pub returns-clause-headline : goal.returns-clause-headline
+returns-clause-headline g c = λ number workers count row. is_served (tells_by g.D.Disk g.P.Port (tells_of g.P.Link.Source g.P.Link.Sink) g.C.Clock g.X.Dial (tells_of g.X.Link.Source g.X.Link.Sink))
+    (outside_of c.args.disk.now c.decide-ending.new.disk c.args.port.now c.decide-ending.new.port c.args.clock.now c.decide-ending.new.clock c.args.dialer.now c.decide-ending.new.dialer
+    (told g.I.Source.left g.I.Source.faults c.args.input.now c.decide-ending.new.input) (told g.O.Sink.written g.O.Sink.faults c.args.output.now c.write_ending.new.output))
+    (c.headline_law.ensures.told c.args.disk.now c.decide-ending.new.disk c.args.port.now c.decide-ending.new.port c.args.clock.now c.decide-ending.new.clock)
+    (c.headline_law.ensures.any c.args.disk.now c.decide-ending.new.disk c.args.port.now c.decide-ending.new.port c.args.clock.now c.decide-ending.new.clock)
+    (map string_bytes c.args.words.now) number workers count c.write_ending.result.code row
+    (ending_of c.decide-ending.result, c.decide-ending.ensures (told g.O.Sink.written g.O.Sink.faults c.args.output.now c.write_ending.new.output), c.write_ending.ensures.ends)

@@ -1,0 +1,130 @@
+-- The main theorem, from the laws of whole runs.
+use Rattle.std.proofs.Common.{◌≡◌, ◌⊎◌, ℕ, ◌≤◌, List, [], ◌∷◌, Result, Ok, refl, sym, subst, inl, inr, ⊎_elim, le_trans, Contains}
+use Rattle.endings.specs.declared.stop.Stop.{Stop}
+use Rattle.host_journal.specs.Journal.{HasEvents}
+use Rattle.host_keeper.specs.declared.serving.Serving.{Serving}
+use Rattle.host_keeper.specs.Leading.{files_of}
+use Rattle.host_keeper.specs.States.{IsFile, Passes, State, host_in, lists_of}
+use Rattle.link_runs.specs.Exchanges.{Answered, Exchange, IsExchange}
+use Rattle.link_runs.specs.Served.{LinkTells}
+use Rattle.sealed_core.specs.declared.commands.What.{What}
+use Rattle.sealed_core.specs.Host.{AreCheckedInstances, EventView}
+use Rattle.serving.specs.Serving.{host_service}
+use Rattle.serving_laws.specs.Accepting.{Accepts}
+use Rattle.serving_laws.specs.Answering.{HasAnswer}
+use Rattle.serving_laws.specs.Crashes.{Acknowledges, IsFileOfOne, Since}
+use Rattle.serving_laws.specs.Moving.{Moves}
+use Rattle.split_base.specs.declared.clock.Clock.{Ghosts as ClockSide}
+use Rattle.split_base.specs.declared.disk.Disk.{Ghosts}
+use Rattle.split_base.specs.declared.port.Port.{Ghosts as PortSide}
+use Rattle.split_base.specs.Disk.{Each}
+use Rattle.split_base.specs.Faults.{HasRisen}
+use Rattle.host_commands.specs.Files.{Opens, state_of}
+use Rattle.host_commands.specs.Headline.{HasHeadline, HasNoRun, Headline}
+use Rattle.host_commands.specs.Publishing.{AsksFor, Publishes}
+use Rattle.host_commands.specs.Serves.{HasNoLink, RunEnds, Runs, Serves, ServesOpened, served_line}
+use Rattle.host_commands.proofs.Links.{every_step, links_answered, one_machine}
+use Rattle.host_commands.proofs.Published.{CaseLaws, publishes}
+use Rattle.host_commands.proofs.Sound.{sound_file}
+
+-- the laws of runs
+pub record RunLaws {D : Type 0} (d : Ghosts D) : Type 0 where
+  pub seen : (disk : D) → d.is_honest disk → d.images disk (d.seen disk)
+  pub one_meaning : (v other : ℕ) (secret word : List ℕ) (events others : List EventView) (file : List ℕ) → HasEvents v secret events file → HasEvents other word others file
+      → (v ≡ other) × (secret ≡ word) × (events ≡ others)
+  pub crash : (w : D × State) (run : List (Exchange (D × State))) (new : D × State) → Answered (host_service d) w run new → d.is_honest w.0 → Each (d.images w.0) (IsFile w.1) → Since d new.0 w run
+  pub acknowledged : (w : D × State) (run : List (Exchange (D × State))) (new : D × State) → Answered (host_service d) w run new → d.is_honest w.0 → Each (d.images w.0) (IsFile w.1) → Acknowledges d new.0 w run
+  pub accepted : (w : D × State) (run : List (Exchange (D × State))) (new : D × State) → Answered (host_service d) w run new → d.is_honest w.0 → Accepts run w.1 new.1
+  pub answered : (x : Exchange (D × State)) → IsExchange (host_service d) x → d.is_honest x.before.0 → (HasRisen (d.faults x.before.0) (d.faults x.after.0) → ⊥) → HasAnswer x
+  pub moved : (x : Exchange (D × State)) → IsExchange (host_service d) x → Moves x
+
+-- what a crash since an earlier moment might have left it might have left before the run, or it is a file of one of its states
+before_run : {D : Type 0} (d : Ghosts D) (w : D × State) (run : List (Exchange (D × State))) (new : D × State) → Answered (host_service d) w run new → d.is_honest w.0 → (t : ℕ) → t ≤ d.moment w.0
+    → (file : List ℕ) → d.left_since new.0 t file → d.left_since w.0 t file ⊎ IsFileOfOne w.1 run file
+before_run {D} d w [] new same honest t early file left = inl (subst (λ (x : D × State). d.left_since x.0 t file) same left)
+before_run {D} d w (x ∷ later) new (at, step, rest) honest t early file left =
+    let passes : Passes d w.0 w.1 x.after.0 x.after.1 = subst (λ (y : D × State). Passes d y.0 y.1 x.after.0 x.after.1) at step.responds.1 in
+    let leaves = passes.any_moment honest in
+    ⊎_elim
+    (λ after. ⊎_elim (λ start. inl start) (λ either. ⊎_elim (λ is. inr (inl is)) (λ is. inr (inr (first_of x.after.1 later file is))) either) (leaves.before t file early after))
+    (λ one. inr (inr one)) (before_run d x.after later new rest (passes.honest.0 honest) t (le_trans early leaves.later) file left)
+  where
+    first_of : {D : Type 0} (s : State) (others : List (Exchange (D × State))) (file : List ℕ) → IsFile s file → IsFileOfOne s others file
+    first_of s [] file is = is
+    first_of s (y ∷ others) file is = inl is
+
+module _ {D P L C : Type 0} (d : Ghosts D) (p : PortSide P L) (tells : LinkTells L) (c : ClockSide C) (laws : RunLaws d) (case_laws : CaseLaws) (disk after : D) (port port_after : P) (clock clock_after : C) where
+  -- the host after a request of a trusted one is sound
+  sound_after : (x : Exchange (D × State)) → IsExchange (host_service d) x → d.is_honest x.before.0 → AreCheckedInstances (host_in x.after.1).instances
+  sound_after x step honest =
+      let passes = step.responds.1 in
+      let still = passes.honest.0 honest in
+      sound_file x.after.1 (d.seen x.after.0) (passes.left still (d.seen x.after.0) (laws.seen x.after.0 still))
+
+  module _ (serving : Serving) (between : D) (opens : Opens d disk between (Ok serving)) (number : ℕ) (runs : Runs d p tells c (between, state_of opens.opened) after port port_after clock clock_after number) where
+    -- the events with which the machine begins
+    begins : d.is_honest disk → (s : State) → Each (d.images disk) (IsFile s) → (opens.opened.secret ≡ s.secret) × Contains (lists_of s.kept s.waiting) opens.opened.kept
+    begins h s each =
+        let (events, among, (other, holds)) = each (d.seen disk) (laws.seen disk h) in
+        let (v, has) = (opens.opened.file h).before in
+        let one = laws.one_meaning v other opens.opened.secret s.secret opens.opened.kept events (d.seen disk) has holds in
+        (one.1, subst (λ (l : List EventView). Contains (lists_of s.kept s.waiting) l) (sym one.2) among)
+
+    headline : Headline d p tells c disk (between, state_of opens.opened) after port port_after clock clock_after number
+    headline =
+        let served = runs.served in
+        let (run, written) = links_answered (host_service d) tells served.links served.answers (between, state_of opens.opened) served.new served.run in
+        let machine = one_machine (host_service d) tells served.links served.answers (between, state_of opens.opened) run served.new written in
+        record {
+          links = served.links;
+          answers = served.answers;
+          count = served.number;
+          handed = served.handed;
+          given = served.given;
+          moments = served.clock;
+          run = run;
+          ended = served.new;
+          machine = machine;
+          written = written;
+          found = opens.opened.file;
+          begins = begins;
+          serving = runs.serving;
+          stands = served.serving;
+          moved = every_step (host_service d) (λ (w : D × State). Unit {0}) Moves (λ x step good. tt) (λ x step good. laws.moved x step) (between, state_of opens.opened) run served.new machine tt;
+          replied = λ h. every_step (host_service d) (λ (w : D × State). d.is_honest w.0)
+              (λ (x : Exchange (D × State)). (HasRisen (d.faults x.before.0) (d.faults x.after.0) → ⊥) → HasAnswer x)
+              (λ x step honest. step.responds.1.honest.0 honest) (λ x step honest. laws.answered x step honest) (between, state_of opens.opened) run served.new machine (opens.honest.0 h);
+          accepted = λ h. laws.accepted (between, state_of opens.opened) run served.new machine (opens.honest.0 h);
+          published = every_step (host_service d) (λ (w : D × State). d.is_honest disk → d.is_honest w.0)
+              (λ (x : Exchange (D × State)). (asked : What) → AsksFor x asked → x.due.said.status ≡ 200 → Publishes (d.is_honest disk) x asked)
+              (λ x step honest h. step.responds.1.honest.0 (honest h))
+              (λ x step honest asked asks success. publishes case_laws (d.is_honest disk) d x (λ h. sound_after x step (honest h)) asked success asks step.responds.0)
+              (between, state_of opens.opened) run served.new machine opens.honest.0;
+          crash = λ h. laws.crash (between, state_of opens.opened) run served.new machine (opens.honest.0 h) (files_of d serving between (state_of opens.opened) opens.opened.stands (opens.honest.0 h));
+          any_moment = λ h s each file left.
+              let leaves = opens.any_moment h s each in
+              ⊎_elim (λ start. inl (leaves.each file start)) (λ one. inr one)
+              (before_run d (between, state_of opens.opened) run served.new machine (opens.honest.0 h) (d.moment disk) leaves.later file left);
+          acknowledged = λ h. laws.acknowledged (between, state_of opens.opened) run served.new machine (opens.honest.0 h)
+              (files_of d serving between (state_of opens.opened) opens.opened.stands (opens.honest.0 h));
+        }
+
+  pub told_headline : (count : ℕ) (text : List ℕ) → Serves d p tells c disk after port port_after clock clock_after count (Ok text)
+      → (number : ℕ) × (text ≡ served_line number) × HasHeadline d p tells c disk after port port_after clock clock_after number
+  told_headline count text (Serves.no_routes still quiet mute is) = absurd (cc)
+  told_headline count text (Serves.not_opened why opens quiet mute is) = absurd (cc)
+  told_headline count text (Serves.opened serving between opens (ServesOpened.deaf still mute none fault is)) = absurd (cc)
+  told_headline count text (Serves.opened serving between opens (ServesOpened.ran number runs (RunEnds.told is faults most few))) =
+      let one : text ≡ served_line number = cc in
+      (number, one, ((between, state_of opens.opened), headline serving between opens number runs))
+  told_headline count text (Serves.opened serving between opens (ServesOpened.ran number runs (RunEnds.cut is fault))) = absurd (cc)
+
+  no_link : port_after ≡ port → HasNoLink p port port_after
+  no_link quiet = subst (λ (q : P). HasNoLink p port q) (sym quiet) (record { come = refl; back = refl; places = refl; ended = (λ e. e, λ e. e) })
+
+  pub any_headline : (count : ℕ) (ending : Result (List ℕ) Stop) → Serves d p tells c disk after port port_after clock clock_after count ending
+      → HasNoRun p port port_after clock clock_after ⊎ ((number : ℕ) × HasHeadline d p tells c disk after port port_after clock clock_after number)
+  any_headline count ending (Serves.no_routes still quiet mute is) = inl (no_link quiet, mute)
+  any_headline count ending (Serves.not_opened why opens quiet mute is) = inl (no_link quiet, mute)
+  any_headline count ending (Serves.opened serving between opens (ServesOpened.deaf still mute none fault is)) = inl (none, mute)
+  any_headline count ending (Serves.opened serving between opens (ServesOpened.ran number runs ends)) = inr (number, ((between, state_of opens.opened), headline serving between opens number runs))

@@ -1,0 +1,5 @@
+mod Listened
+mod Links
+mod Sound
+mod Published
+mod Headlines

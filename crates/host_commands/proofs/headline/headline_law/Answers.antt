@@ -1,0 +1,48 @@
+use Rattle.link_runs.specs.Served.{tells_of}
+use Rattle.host_commands.proofs.Headlines.{RunLaws, any_headline, told_headline}
+use Rattle.host_commands.proofs.Published.{CaseLaws}
+use Rattle.host_commands.proofs.headline.headline_law.Goals as goal
+
+pub returns-clause-told : goal.returns-clause-told
+returns-clause-told g c =
+    let runs : RunLaws g.D.Disk = record {
+      seen = g.met.D.Disk.seen_is_image;
+      one_meaning = c.events_law.ensures.one_meaning;
+      crash = c.crash_law.ensures;
+      acknowledged = c.acknowledged_law.ensures;
+      accepted = c.accepted_law.ensures;
+      answered = c.answered_law.ensures;
+      moved = c.moved_law.ensures;
+    } in
+    let cases : CaseLaws = record {
+      valid = c.case_law.ensures.valid;
+      certificate = c.certificate_law.ensures.certificate;
+      prints = c.certificate_verdict_law.ensures.best;
+      ready = c.instance_law.ensures.ready;
+      one_told = c.one_publication_law.ensures;
+      one_more = c.machine_law.ensures.one_more;
+      shut = λ h t id command asked. c.publication_law.ensures.closed h t id command asked;
+    } in
+    told_headline g.D.Disk g.P.Port (tells_of g.P.Link.Source g.P.Link.Sink) g.C.Clock runs cases
+
+pub returns-clause-any : goal.returns-clause-any
+returns-clause-any g c =
+    let runs : RunLaws g.D.Disk = record {
+      seen = g.met.D.Disk.seen_is_image;
+      one_meaning = c.events_law.ensures.one_meaning;
+      crash = c.crash_law.ensures;
+      acknowledged = c.acknowledged_law.ensures;
+      accepted = c.accepted_law.ensures;
+      answered = c.answered_law.ensures;
+      moved = c.moved_law.ensures;
+    } in
+    let cases : CaseLaws = record {
+      valid = c.case_law.ensures.valid;
+      certificate = c.certificate_law.ensures.certificate;
+      prints = c.certificate_verdict_law.ensures.best;
+      ready = c.instance_law.ensures.ready;
+      one_told = c.one_publication_law.ensures;
+      one_more = c.machine_law.ensures.one_more;
+      shut = λ h t id command asked. c.publication_law.ensures.closed h t id command asked;
+    } in
+    any_headline g.D.Disk g.P.Port (tells_of g.P.Link.Source g.P.Link.Sink) g.C.Clock runs cases

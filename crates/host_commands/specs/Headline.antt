@@ -1,0 +1,75 @@
+-- The main theorem: what holds of a whole run of the host, whatever its port, its links and its clock gave.
+use Rattle.std.specs.Prelude.{◌≡◌, ◌⊎◌, ℕ, List, Option, length, map, take, Contains}
+use Rattle.host_keeper.specs.Calls.{IsFound}
+use Rattle.host_keeper.specs.declared.serving.Serving.{Serving}
+use Rattle.host_keeper.specs.States.{IsFile, State, lists_of}
+use Rattle.link_runs.specs.Exchanges.{Answered, Exchange}
+use Rattle.link_runs.specs.Ports.{GivesBack, HandsOut}
+use Rattle.link_runs.specs.Served.{LinkTells}
+use Rattle.sealed_core.specs.declared.commands.What.{What}
+use Rattle.serving.specs.Serving.{StandsAt, host_service}
+use Rattle.serving_laws.specs.Accepting.{Accepts}
+use Rattle.serving_laws.specs.Answering.{HasAnswer}
+use Rattle.serving_laws.specs.Crashes.{Acknowledges, IsFileOfOne, Since}
+use Rattle.serving_laws.specs.Moving.{Moves}
+use Rattle.split_base.specs.Clocks.{ClockRun}
+use Rattle.split_base.specs.declared.clock.Clock.{Ghosts as ClockSide}
+use Rattle.split_base.specs.declared.disk.Disk.{Ghosts}
+use Rattle.split_base.specs.declared.port.Port.{Ghosts as PortSide}
+use Rattle.split_base.specs.Disk.{Each}
+use Rattle.split_base.specs.Faults.{HasRisen}
+use Rattle.host_commands.specs.Links.{Every, LinksAnswered}
+use Rattle.host_commands.specs.Publishing.{AsksFor, Publishes}
+use Rattle.host_commands.specs.Serves.{HasNoLink}
+
+-- For every list of connections, bytes and clock moments, the host writes the bytes of one machine of accepted commands: each published division
+-- is best for its rule among all divisions of the bids kept, least among equals and the same for every number of workers, its printed certificate
+-- passes the checker, and a crash at any moment leaves a prefix of the commands holding each acknowledged one.
+--
+-- `disk` is the file before it was opened, `begun` the file as it was opened with the state for which it stands. A file is trusted where its disk is
+-- honest; what is said without that premise holds of every disk.
+pub record Headline {D P L C : Type 0} (d : Ghosts D) (p : PortSide P L) (tells : LinkTells L) (c : ClockSide C) (disk : D) (begun : D × State) (after : D)
+    (port port_after : P) (clock clock_after : C) (number : ℕ) : Type 0 where
+  -- for every list of connections, bytes and clock moments: so many links, the first that were to come, each as it was handed out and as it was
+  -- given back where there was a place for it, and the answers of the clock
+  pub links : List (L × L)
+  pub answers : List (Option ℕ)
+  pub count : length links ≡ number
+  pub handed : HandsOut (p.to_come port) (map (λ l. l.0) links) (p.to_come port_after)
+  pub given : GivesBack (p.given_back port) (take (p.places port) (map (λ l. l.1) links)) (p.given_back port_after)
+  pub moments : ClockRun c.gives c.faults clock clock_after answers
+  -- the host writes the bytes of one machine: requests that were answered one after the other, each a step from the disk and the state that the one
+  -- before it left; on each link its own, whose replies are what the link got, or a first part of it where a call of the link failed
+  pub run : List (Exchange (D × State))
+  pub ended : D × State
+  pub machine : Answered (host_service d) begun run ended
+  pub written : LinksAnswered (host_service d) tells links answers begun run ended
+  -- the machine begins with the events of the file and no other: where the file was one of a state, with those that this state keeps, or with the one
+  -- more for which it waits; and the host that serves is that of its last state
+  pub found : d.is_honest disk → IsFound d disk begun.0 begun.1.secret begun.1.kept
+  pub begins : d.is_honest disk → (s : State) → Each (d.images disk) (IsFile s) → (begun.1.secret ≡ s.secret) × Contains (lists_of s.kept s.waiting) begun.1.kept
+  pub serving : Serving
+  pub stands : StandsAt d serving after ended
+  -- each request changes the state by the machine's one step, or by opening the file of a host that waits; and where no call of the disk failed in
+  -- it, it has the reply of that step
+  pub moved : Every Moves run
+  pub replied : d.is_honest disk → Every (λ x. (HasRisen (d.faults x.before.0) (d.faults x.after.0) → ⊥) → HasAnswer x) run
+  -- of accepted commands: each event that is kept was made by a command of this run, in one step
+  pub accepted : d.is_honest disk → Accepts run begun.1 ended.1
+  -- each published division is best for its rule among all divisions of the bids kept, least among equals and the same for every number of workers,
+  -- and its printed certificate passes the checker: so of each request for what is published that has a reply with status 200
+  pub published : Every (λ x. (asked : What) → AsksFor x asked → x.due.said.status ≡ 200 → Publishes (d.is_honest disk) x asked) run
+  -- a crash at any moment leaves a prefix of the commands: since each request a file of the state that it left or of a later one, with or without the
+  -- event that is being appended; and since before the opening, of a file of a state, a file of that one or of one of these
+  pub crash : d.is_honest disk → Since d ended.0 begun run
+  pub any_moment : d.is_honest disk → (s : State) → Each (d.images disk) (IsFile s) → (file : List ℕ) → d.left_since ended.0 (d.moment disk) file → IsFile s file ⊎ IsFileOfOne begun.1 run file
+  -- holding each acknowledged one: since each request all events that were kept when it was answered, at their places
+  pub acknowledged : d.is_honest disk → Acknowledges d ended.0 begun run
+
+-- the same, from whatever state the file stood for when it was opened
+abbrev pub HasHeadline : {D P L C : Type 0} → Ghosts D → PortSide P L → LinkTells L → ClockSide C → (disk after : D) (port port_after : P) (clock clock_after : C) (number : ℕ) → Type 0
+HasHeadline {D} d p tells c disk after port port_after clock clock_after number = (begun : D × State) × Headline d p tells c disk begun after port port_after clock clock_after number
+
+-- no link was handed out, and the clock was not asked
+abbrev pub HasNoRun : {P L C : Type 0} → PortSide P L → (port port_after : P) (clock clock_after : C) → Type 0
+HasNoRun p port port_after clock clock_after = HasNoLink p port port_after × (clock_after ≡ clock)

@@ -1,0 +1,5 @@
+pub mod Files
+pub mod Serves
+pub mod Links
+pub mod Publishing
+pub mod Headline

@@ -1,0 +1,47 @@
+-- The links of a port in order, with the requests that were answered on them.
+use Rattle.std.specs.Prelude.{◌≡◌, ℕ, List, [], ◌∷◌, ◌++◌, Option}
+use Rattle.std.specs.Io.KnownBytes.{Appends}
+use Rattle.link_runs.specs.declared.limits.TheConstants.{MAX_REQUESTS}
+use Rattle.link_runs.specs.Ends.{Ending}
+use Rattle.link_runs.specs.Exchanges.{EndsLink, Exchange, LinkExchanges}
+use Rattle.link_runs.specs.Runs.{LinkRun, Service}
+use Rattle.link_runs.specs.Served.{CountsEnd, LinkTells, link_view}
+use Rattle.split_http.specs.Turns.{Told}
+
+-- P holds of each
+abbrev pub Every : {A : Type 0} → (A → Type 0) → List A → Type 0
+Every P [] = Unit {0}
+Every P (x ∷ xs) = P x × Every P xs
+
+-- the last request of a link, where it was answered: behind its reply, or a first part of it, the link ended
+abbrev pub last_request : {W : Type 0} {service : Service W} {w : W} {rest : List ℕ} {answers : List (Option ℕ)} {out : List ℕ} {new : W} {end : Ending}
+    → EndsLink service w rest answers out new end → List (Exchange W)
+last_request (EndsLink.replied left e input clock at is still got how) = e ∷ []
+last_request (EndsLink.refused left answer refusal bodiless bytes why clock still are how) = []
+last_request (EndsLink.quiet stops still) = []
+
+-- all requests of a link that were answered, in order
+abbrev pub requests_of : {W : Type 0} {service : Service W} {all : List ℕ} {answers : List (Option ℕ)} {w : W} {out : List ℕ} {new : W} {end : Ending}
+    → LinkExchanges service all answers w out new end → List (Exchange W)
+requests_of link = link.exchanges ++ last_request link.ends
+
+-- One link, as it was handed out and as it was given back. Of the bytes that came of it the requests were read, at most `MAX_REQUESTS`, and it
+-- got the bytes of their replies, each whole but the last, which may be torn by a failed write; and then the link ended. On each side its count
+-- tells the failed call that ended it, and no other.
+pub record LinkAnswered {L W : Type 0} (service : Service W) (tells : LinkTells L) (begun ended : L) (answers : List (Option ℕ)) (w : W) (requests : List (Exchange W)) (new : W) : Type 0 where
+  pub input : List ℕ
+  pub out : List ℕ
+  pub ending : Ending
+  pub told : Told (tells.left begun) input
+  pub wrote : Appends (tells.written begun) (tells.written ended) out
+  pub counts : CountsEnd (link_view tells begun) (link_view tells ended) ending
+  pub run : LinkRun service MAX_REQUESTS input answers w out new ending
+  pub link : LinkExchanges service input answers w out new ending
+  pub all : requests ≡ requests_of link
+
+-- The links in order, each from the world that the one before it left. The requests of all of them are these, in order.
+abbrev pub LinksAnswered : {L W : Type 0} → Service W → LinkTells L → List (L × L) → List (Option ℕ) → W → List (Exchange W) → W → Type 0
+LinksAnswered service tells [] answers w requests new = (answers ≡ []) × (requests ≡ []) × (new ≡ w)
+LinksAnswered {L} {W} service tells (l ∷ links) answers w requests new =
+    (now later : List (Option ℕ)) × (here behind : List (Exchange W)) × (mid : W) × (answers ≡ now ++ later) × (requests ≡ here ++ behind)
+    × LinkAnswered service tells l.0 l.1 now w here mid × LinksAnswered service tells links later mid behind new

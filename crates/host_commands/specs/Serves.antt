@@ -1,0 +1,61 @@
+-- What the serving of a port does with file, port and clock.
+use Rattle.std.specs.Prelude.{◌≡◌, ◌↔◌, ℕ, ◌<◌, ◌≤◌, List, [], ◌∷◌, Result, Ok, Err, codes}
+use Rattle.std.specs.Fmt.{decimal}
+use Rattle.endings.specs.declared.stop.Stop.{Stop}
+use Rattle.endings.specs.declared.stop.Stop.TheVariants as stop
+use Rattle.gate_log.specs.declared.fault.LogFault.{LogFault}
+use Rattle.host_keeper.specs.declared.serving.Serving.{Serving}
+use Rattle.host_keeper.specs.States.{State}
+use Rattle.link_runs.specs.Ports.{PortServed}
+use Rattle.link_runs.specs.Served.{LinkTells}
+use Rattle.serving.specs.Serving.{StandsAt, host_service}
+use Rattle.split_base.specs.Clocks.{ClockRun}
+use Rattle.split_base.specs.declared.clock.Clock.{Ghosts as ClockSide}
+use Rattle.split_base.specs.declared.disk.Disk.{Ghosts}
+use Rattle.split_base.specs.declared.port.Port.{Ghosts as PortSide}
+use Rattle.split_text.specs.Texts.{word_line}
+use Rattle.host_commands.specs.Files.{FailedOnce, Opens, state_of, stop_of}
+
+-- the port handed out no link and took none back
+pub record HasNoLink {P L : Type 0} (p : PortSide P L) (port after : P) : Type 0 where
+  pub come : p.to_come after ≡ p.to_come port
+  pub back : p.given_back after ≡ p.given_back port
+  pub places : p.places after ≡ p.places port
+  pub ended : p.has_ended port ↔ p.has_ended after
+
+-- so many links were served
+abbrev pub served_line : ℕ → List ℕ
+served_line number = word_line (codes "served") (decimal number ∷ [])
+
+-- The run of the host over so many links of the port, in order, from this disk and state on, at the answers of the clock. Each link is given
+-- back, and the serving then stands for the state that the last one left.
+pub record Runs {D P L C : Type 0} (d : Ghosts D) (p : PortSide P L) (tells : LinkTells L) (c : ClockSide C) (w : D × State) (after : D) (port port_after : P) (clock clock_after : C) (number : ℕ) : Type 0 where
+  pub serving : Serving
+  pub served : PortServed (host_service d) tells (p.to_come port) (p.to_come port_after) (p.given_back port) (p.given_back port_after) (p.places port)
+      (ClockRun c.gives c.faults clock clock_after) (StandsAt d serving after) w number
+
+-- How the run ends: so many links as asked were served, or fewer only where no link comes any more, and their number is told; or the port
+-- failed to hand out one more.
+pub data RunEnds {P L : Type 0} (p : PortSide P L) (port port_after : P) (count number : ℕ) (ending : Result (List ℕ) Stop) : Type 0 where
+  told : ending ≡ Ok (served_line number) → p.faults port_after ≡ p.faults port → number ≤ count → (number < count → p.has_ended port_after) → RunEnds p port port_after count number ending
+  cut : ending ≡ Err stop.PortFault → FailedOnce (p.faults port) (p.faults port_after) → RunEnds p port port_after count number ending
+
+-- From a file that was opened, and stands for this state: the port fails to listen, and neither disk nor clock is called; or it listens, and its
+-- links are served.
+pub data ServesOpened {D P L C : Type 0} (d : Ghosts D) (p : PortSide P L) (tells : LinkTells L) (c : ClockSide C) (w : D × State) (after : D) (port port_after : P) (clock clock_after : C) (count : ℕ)
+    (ending : Result (List ℕ) Stop) : Type 0 where
+  deaf : after ≡ w.0 → clock_after ≡ clock → HasNoLink p port port_after → FailedOnce (p.faults port) (p.faults port_after) → ending ≡ Err stop.PortFault
+      → ServesOpened d p tells c w after port port_after clock clock_after count ending
+  ran : (number : ℕ) → Runs d p tells c w after port port_after clock clock_after number → RunEnds p port port_after count number ending
+      → ServesOpened d p tells c w after port port_after clock clock_after count ending
+
+-- In this order: the routes, for which there may be no memory; the file, which may not be opened; and then the port. Nothing is called that comes
+-- later.
+pub data Serves {D P L C : Type 0} (d : Ghosts D) (p : PortSide P L) (tells : LinkTells L) (c : ClockSide C) (disk after : D) (port port_after : P) (clock clock_after : C) (count : ℕ)
+    (ending : Result (List ℕ) Stop) : Type 0 where
+  no_routes : after ≡ disk → port_after ≡ port → clock_after ≡ clock → ending ≡ Err stop.NoMemory → Serves d p tells c disk after port port_after clock clock_after count ending
+  not_opened : (why : LogFault) → Opens d disk after (Err why) → port_after ≡ port → clock_after ≡ clock → ending ≡ Err (stop_of why)
+      → Serves d p tells c disk after port port_after clock clock_after count ending
+  opened : (serving : Serving) (between : D) (opens : Opens d disk between (Ok serving))
+      → ServesOpened d p tells c (between, state_of opens.opened) after port port_after clock clock_after count ending
+      → Serves d p tells c disk after port port_after clock clock_after count ending

@@ -1,0 +1,45 @@
+// The main theorem, as the contract of a function that does nothing.
+ghost use Rattle.std.specs.Prelude.{◌≡◌, ◌⊎◌, ℕ, List, Ok, Result};
+ghost use Rattle.endings.specs.declared.stop.Stop.{Stop};
+ghost use Rattle.link_runs.specs.Served.{tells_of};
+ghost use Rattle.host_commands.specs.Headline.{HasHeadline, HasNoRun};
+ghost use Rattle.host_commands.specs.Serves.{Serves, served_line};
+
+use bid_rules::case_law;
+use cert_checker::certificate_verdict_law;
+use certificates::certificate_law;
+use host_journal::events_law;
+use publications::{instance_law, one_publication_law};
+use sealed_core::{machine_law, publication_law};
+use serving_laws::{accepted_law, acknowledged_law, answered_law, crash_law, moved_law};
+use split_base::{Clock, Disk, Port};
+
+/// The headline: for every list of connections, bytes and clock moments, the host writes the bytes of one machine of accepted commands: each
+/// published division is best for its rule among all divisions of the bids kept, least among equals and the same for every number of workers, its
+/// printed certificate passes the checker, and a crash at any moment leaves a prefix of the commands holding each acknowledged one.
+///
+/// It holds of whatever `serve_port` says of a file, a port and a clock: where it tells how many links were served, of these, and else of those that
+/// were served until the port failed, unless no link was handed out.
+pub fn headline_law<D: Disk, P: Port, C: Clock>()
+    ensures told { (disk after : D) (port port_after : P) (clock clock_after : C) (count : ℕ) (text : List ℕ)
+        → Serves D.Disk P.Port (tells_of P.Link.Source P.Link.Sink) C.Clock disk after port port_after clock clock_after count (Ok text)
+        → (number : ℕ) × (text ≡ served_line number) × HasHeadline D.Disk P.Port (tells_of P.Link.Source P.Link.Sink) C.Clock disk after port port_after clock clock_after number }
+    ensures any { (disk after : D) (port port_after : P) (clock clock_after : C) (count : ℕ) (ending : Result (List ℕ) Stop)
+        → Serves D.Disk P.Port (tells_of P.Link.Source P.Link.Sink) C.Clock disk after port port_after clock clock_after count ending
+        → HasNoRun P.Port port port_after clock clock_after
+        ⊎ ((number : ℕ) × HasHeadline D.Disk P.Port (tells_of P.Link.Source P.Link.Sink) C.Clock disk after port port_after clock clock_after number) }
+{
+    accepted_law::<D>();
+    acknowledged_law::<D>();
+    answered_law::<D>();
+    case_law();
+    certificate_law();
+    certificate_verdict_law();
+    crash_law::<D>();
+    events_law();
+    instance_law();
+    machine_law();
+    moved_law::<D>();
+    one_publication_law();
+    publication_law();
+}

@@ -1,0 +1,101 @@
+// Serving the links of a port from the file of a host.
+ghost use Rattle.std.specs.Prelude.{◌≤◌, ◌↔◌};
+ghost use Rattle.endings.specs.Endings.{ending_of};
+ghost use Rattle.host_keeper.specs.States.{State};
+ghost use Rattle.link_runs.specs.Served.{tells_of};
+ghost use Rattle.search_workers.specs.declared.limits.TheConstants.{MOST_WORKERS};
+ghost use Rattle.serving.specs.Serving.{StandsAt};
+ghost use Rattle.host_commands.specs.Serves.{Serves, ServesOpened};
+
+use crate::opening::{open_file, stop_of};
+use endings::{Stop, Text};
+use host_keeper::Serving;
+use serving::serve;
+use split_base::{Clock, Disk, Failed, Gate, NoMemory, Port};
+use split_http::Routes;
+use std::alloc::Global;
+use std::thread::Threads;
+
+/// Opens the file of a host, listens at the port of this number, and serves `count` links, or fewer only where no link comes any more. The text
+/// tells how many were served. Each link is given back, whatever its end.
+///
+/// - `BadJournal` comes exactly where the file is no journal, with the place of its first fault.
+/// - `StoreFault` comes only where the disk's count of faults has risen, by one, in the opening. A fault of the disk within a request is that
+///   request's reply, and no stop.
+/// - `PortFault` comes only where the port's count of faults has risen, by one: it failed to listen, or to hand out one more link.
+/// - `NoMemory` comes for want of memory alone, and only before the port listens.
+///
+/// No other stop comes. Before the file is opened neither the port nor the clock is called. Goods are searched by 1 to `MOST_WORKERS` workers, who
+/// take no part in what is written.
+#[allow(clippy::too_many_arguments)]
+pub fn serve_port<D: Disk, P: Port, C: Clock, R: Threads + Sync, G: Gate + Sync>(
+    alloc: Global,
+    rt: &R,
+    disk: &mut D,
+    port: &mut P,
+    clock: &mut C,
+    number: u16,
+    workers: u8,
+    count: u64,
+    gate: &G,
+) -> Result<Text, Stop>
+    requires { (1 ≤ workers) × (workers ≤ MOST_WORKERS) }
+    ensures serves { Serves D.Disk P.Port (tells_of P.Link.Source P.Link.Sink) C.Clock disk.old disk.new port.old port.new clock.old clock.new count (ending_of result) }
+    ensures disk { D.faults disk.old ≤ D.faults disk.new }
+    ensures honest { D.is_honest disk.old ↔ D.is_honest disk.new }
+    ensures port { P.faults port.old ≤ P.faults port.new }
+    ensures clock { C.faults clock.old ≤ C.faults clock.new }
+{
+    match Routes::new(alloc) {
+        Err(NoMemory) => Err(Stop::NoMemory),
+        Ok(routes) => match open_file(alloc, disk) {
+            Err(fault) => Err(stop_of(fault)),
+            Ok(serving) => serve_opened(
+                alloc, rt, serving, disk, port, clock, &routes, number, workers, count, gate,
+            ),
+        },
+    }
+}
+
+/// Listens, and serves the links of the port by a host whose file was opened.
+#[allow(clippy::too_many_arguments)]
+fn serve_opened<D: Disk, P: Port, C: Clock, R: Threads + Sync, G: Gate + Sync>(
+    alloc: Global,
+    rt: &R,
+    mut serving: Serving,
+    disk: &mut D,
+    port: &mut P,
+    clock: &mut C,
+    routes: &Routes,
+    number: u16,
+    workers: u8,
+    count: u64,
+    gate: &G,
+) -> Result<Text, Stop>
+    requires { (1 ≤ workers) × (workers ≤ MOST_WORKERS) }
+    ensures serves { (w : D × State) → StandsAt D.Disk serving disk.old w
+        → ServesOpened D.Disk P.Port (tells_of P.Link.Source P.Link.Sink) C.Clock w disk.new port.old port.new clock.old clock.new count (ending_of result) }
+    ensures disk { D.faults disk.old ≤ D.faults disk.new }
+    ensures honest { D.is_honest disk.old ↔ D.is_honest disk.new }
+    ensures port { P.faults port.old ≤ P.faults port.new }
+    ensures clock { C.faults clock.old ≤ C.faults clock.new }
+{
+    match port.listen(number) {
+        Err(Failed) => Err(Stop::PortFault),
+        Ok(()) => match serve(
+            alloc,
+            rt,
+            &mut serving,
+            disk,
+            port,
+            clock,
+            routes,
+            count,
+            workers,
+            gate,
+        ) {
+            Err(Failed) => Err(Stop::PortFault),
+            Ok(served) => Ok(Text::served(served)),
+        },
+    }
+}

@@ -1,0 +1,27 @@
+// Making the file of a host.
+ghost use Rattle.std.specs.Prelude.{◌≤◌, ◌↔◌};
+ghost use Rattle.endings.specs.Endings.{ending_of};
+ghost use Rattle.host_commands.specs.Files.{Makes};
+
+use crate::opening::stop_of;
+use endings::{Stop, Text};
+use gate_log::{SECRET_SIZE, create_log};
+use split_base::Disk;
+
+/// Makes the file of a host, with this secret and no events, in an empty file. It writes nothing out, and takes no memory.
+///
+/// - `BadJournal`, with place 0, comes exactly where the file isn't empty.
+/// - `StoreFault` comes only where the disk's count of faults has risen, by one.
+///
+/// No other stop comes. No byte of a file that isn't empty changes, whatever the answer. Of an empty file, what a crash leaves before the answer
+/// is Ok isn't promised.
+pub fn make<D: Disk>(disk: &mut D, secret: &[u8; SECRET_SIZE]) -> Result<Text, Stop>
+    ensures makes { Makes D.Disk disk.old disk.new secret.now (ending_of result) }
+    ensures count { D.faults disk.old ≤ D.faults disk.new }
+    ensures honest { D.is_honest disk.old ↔ D.is_honest disk.new }
+{
+    match create_log(disk, secret) {
+        Ok(()) => Ok(Text::nothing()),
+        Err(fault) => Err(stop_of(fault)),
+    }
+}

@@ -1,0 +1,5 @@
+pub mod Answers
+pub mod Commands
+pub mod Ends
+pub mod Players
+pub mod Steps

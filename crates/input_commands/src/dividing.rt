@@ -1,0 +1,99 @@
+// The commands that read a case and find its best division.
+ghost use Rattle.std.specs.Prelude.{◌≡◌, Ok, IfOk};
+ghost use Rattle.bid_rules.specs.Facts.{case_of};
+ghost use Rattle.divisions.specs.Division.{IsDivisionOf};
+ghost use Rattle.endings.specs.Endings.{ending_of};
+ghost use Rattle.split_json.specs.Reading.{IsReady, case_in, shown};
+ghost use Rattle.input_commands.specs.Answers.{OfBody, OfCase};
+ghost use Rattle.input_commands.specs.Commands.{AreWorkers};
+ghost use Rattle.input_commands.specs.Steps.{IsTextOf, UpToMemory};
+
+use bid_rules::{Case, case_law};
+use certificates::write_certificate;
+use divisions::Division;
+use endings::{Stop, Text};
+use split_base::{Gate, NoMemory};
+use split_json::{CaseInput, read_case};
+use split_reports::report;
+use split_solve::{SolveFault, solve};
+use std::alloc::Global;
+use std::thread::Threads;
+
+/// What is written of a case and its division.
+#[derive(Clone, Copy, Debug, PartialEq, Eq)]
+pub enum DivisionText {
+    /// The canonical certificate.
+    Certificate,
+    /// The report.
+    Report,
+}
+
+/// The text of the best division of the case that the bytes hold.
+pub(crate) fn divide<R: Threads + Sync, G: Gate + Sync>(
+    alloc: Global,
+    rt: &R,
+    workers: u8,
+    sort: DivisionText,
+    bytes: &[u8],
+    gate: &G,
+) -> Result<Text, Stop>
+    requires workers { AreWorkers workers }
+    ensures { UpToMemory (OfBody case_in (OfCase (IsTextOf sort)) bytes.now) (ending_of result) }
+{
+    match read_case(alloc, bytes) {
+        Ok(Ok(input)) => divide_case(alloc, rt, workers, sort, &input, gate),
+        Ok(Err(fault)) => Err(Stop::BadCase { fault }),
+        Err(NoMemory) => Err(Stop::NoMemory),
+    }
+}
+
+/// The text of the best division of the case that facts and bids make.
+fn divide_case<R: Threads + Sync, G: Gate + Sync>(
+    alloc: Global,
+    rt: &R,
+    workers: u8,
+    sort: DivisionText,
+    input: &CaseInput,
+    gate: &G,
+) -> Result<Text, Stop>
+    requires input { IsReady (shown input.now) }
+    requires workers { AreWorkers workers }
+    ensures { UpToMemory (OfCase (IsTextOf sort) (shown input.now)) (ending_of result) }
+{
+    match solve(
+        alloc,
+        rt,
+        &input.facts,
+        input.bids.as_slice(),
+        workers,
+        gate,
+    ) {
+        Ok((case, division)) => match division_text(alloc, sort, input, &case, &division) {
+            Ok(text) => Ok(Text::Kept(text)),
+            Err(NoMemory) => Err(Stop::NoMemory),
+        },
+        Err(SolveFault::Void { missing }) => Err(Stop::Void { missing }),
+        Err(SolveFault::OverLimit { limit }) => Err(Stop::OverLimit { limit }),
+        Err(SolveFault::NoMemory) => Err(Stop::NoMemory),
+    }
+}
+
+/// The text of a case and its division.
+fn division_text(
+    alloc: Global,
+    sort: DivisionText,
+    input: &CaseInput,
+    case: &Case,
+    division: &Division,
+) -> Result<Vec<u8>, NoMemory>
+    requires input { IsReady (shown input.now) }
+    requires case { case_of input.now.facts input.now.bids.items ≡ Ok case.now }
+    requires division { IsDivisionOf case.now division.now }
+    ensures { IfOk result (λ text. IsTextOf sort (shown input.now) case.now division.now text.items) }
+{
+    case_law();
+    match sort {
+        DivisionText::Certificate => write_certificate(alloc, case, division),
+        DivisionText::Report => report(alloc, input, case, division),
+    }
+}

@@ -1,0 +1,18 @@
+//! The commands that read an input: what each answers to its bytes, whatever the number of workers, and how it ends where a read fails,
+//! where the input is too long, or where memory runs out.
+#![tactic(auto)]
+
+mod command;
+mod dividing;
+mod ending;
+mod goods;
+mod judging;
+mod laws;
+mod limits;
+mod pairing;
+mod weighing;
+
+pub use command::InputCommand;
+pub use ending::input_ending;
+pub use laws::{input_answer_law, solved_law, yes_law};
+pub use limits::LONGEST_INPUT;

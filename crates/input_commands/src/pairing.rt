@@ -1,0 +1,73 @@
+// The commands of adjusted winner: the one that divides goods between two players, and its judge, which takes no memory.
+ghost use Rattle.std.specs.Prelude.{◌≤◌};
+ghost use Rattle.bid_rules.specs.Goods.{IsValidGoodsCase};
+ghost use Rattle.endings.specs.Endings.{ending_of};
+ghost use Rattle.endings.specs.Told.{told};
+ghost use Rattle.split_json.specs.Proposals.{IsReadyGoods, goods_case_in};
+ghost use Rattle.split_json.specs.Reading.{shown};
+ghost use Rattle.input_commands.specs.Answers.{OfBody, OfPair};
+ghost use Rattle.input_commands.specs.Ends.{EndsOn};
+ghost use Rattle.input_commands.specs.Steps.{OfPlayers, UpToMemory};
+ghost use Rattle.input_commands.specs.declared.command.InputCommand.TheVariants.{CheckWinner};
+
+use crate::goods::goods_case;
+use adjusted_winner::winner_text;
+use bid_rules::GoodsCase;
+use cert_reader::ReadEnd;
+use endings::{Stop, Text};
+use split_base::{NoMemory, Source};
+use split_json::{CaseInput, read_goods};
+use std::alloc::Global;
+use verdicts::Verdict;
+use winner_rules::check_winner;
+
+/// The text of adjusted winner on the case of goods that the bytes hold.
+pub(crate) fn pair(alloc: Global, bytes: &[u8]) -> Result<Text, Stop>
+    ensures { UpToMemory (OfBody goods_case_in OfPair bytes.now) (ending_of result) }
+{
+    match read_goods(alloc, bytes) {
+        Ok(Ok(input)) => pair_case(alloc, &input),
+        Ok(Err(fault)) => Err(Stop::BadCase { fault }),
+        Err(NoMemory) => Err(Stop::NoMemory),
+    }
+}
+
+/// The text on the case that facts and bids make.
+fn pair_case(alloc: Global, input: &CaseInput) -> Result<Text, Stop>
+    requires { IsReadyGoods (shown input.now) }
+    ensures { UpToMemory (OfPair (shown input.now)) (ending_of result) }
+{
+    match goods_case(input) {
+        Ok(case) => pair_players(alloc, &case),
+        Err(missing) => Err(Stop::Void { missing }),
+    }
+}
+
+/// The text on a case, where it has two players.
+fn pair_players(alloc: Global, case: &GoodsCase) -> Result<Text, Stop>
+    requires { IsValidGoodsCase case.now }
+    ensures { UpToMemory (OfPlayers case.now) (ending_of result) }
+{
+    if case.values.len() != 2 {
+        return Err(Stop::NotTwo);
+    }
+    match winner_text(alloc, case) {
+        Ok(text) => Ok(Text::Kept(text)),
+        Err(NoMemory) => Err(Stop::NoMemory),
+    }
+}
+
+/// How `checkwinner` ends on an input.
+pub(crate) fn check_pair<I: Source>(input: &mut I) -> Result<Text, Stop>
+    ensures ending { EndsOn CheckWinner (told I.left I.faults input.old input.new) (ending_of result) }
+    ensures count { I.faults input.old ≤ I.faults input.new }
+{
+    match check_winner(input) {
+        Ok(Verdict::Yes) => Ok(Text::yes()),
+        Ok(Verdict::No { rule }) => Err(Stop::BrokenRule { rule }),
+        Err(ReadEnd::NotText { line }) => Err(Stop::BrokenLine { line }),
+        Err(ReadEnd::TooLong) => Err(Stop::TooLong),
+        Err(ReadEnd::ReadFault) => Err(Stop::ReadFault),
+        Err(ReadEnd::NoMemory) => unreachable!(),
+    }
+}

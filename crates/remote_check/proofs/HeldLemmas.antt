@@ -1,0 +1,23 @@
+-- The bytes that were read.
+use Rattle.std.proofs.Common.{◌≡◌, ℕ, ◌+◌, ◌≤◌, List, ◌++◌, length, take, Option, Some, None, refl, sym, ap, ◌∙◌, arith, append_assoc}
+use borrow.Rule.Slice.PartMut.{put_mid}
+use Rattle.std.proofs.lemmas.Slice.{take-put_mid}
+use Rattle.std.proofs.lemmas.List.{take-take, length-take-le}
+use Rattle.std.proofs.Math.Seq.{take-append-add}
+use Rattle.std.specs.Io.KnownBytes.{Keeps, Consumes, prepend_known}
+
+-- the first n of what was read stand behind the first a
+pub take-put_part : (a k n : ℕ) (xs ys : List ℕ) → a ≤ length xs → n ≤ length ys → take (a + n) (put_mid a k xs ys) ≡ take a xs ++ take n ys
+take-put_part a k n xs ys h l =
+    let whole = take-put_mid a k xs ys (a + length ys) refl h in
+    let front : length (take a xs) ≡ a = length-take-le a xs h in
+    sym (take-take (a + n) (a + length ys) (put_mid a k xs ys) (omega arith))
+    ∙ ap (take (a + n)) whole
+    ∙ ap (λ m. take (m + n) (take a xs ++ ys)) (sym front)
+    ∙ take-append-add (take a xs) ys n
+
+-- what a read gave goes behind the bytes that were there
+pub Keeps-read : (a b : Option (List ℕ)) (old new front : List ℕ) → Consumes a b new → front ≡ old ++ new → Keeps (prepend_known old a) (prepend_known front b)
+Keeps-read None b old new front p e = tt
+Keeps-read (Some x) None old new front p e = absurd p
+Keeps-read (Some x) (Some y) old new front p e = rw (e, p) (append_assoc old new y)

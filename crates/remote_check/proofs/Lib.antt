@@ -1,0 +1,7 @@
+mod AnswerLemmas
+mod BodyLemmas
+mod FetchLemmas
+mod FieldLemmas
+mod HeadLemmas
+mod HeldLemmas
+mod LawLemmas

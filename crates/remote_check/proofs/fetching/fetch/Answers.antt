@@ -1,0 +1,12 @@
+use Rattle.std.proofs.Common.{subst}
+use Rattle.remote_check.specs.Fetched.{FetchSays}
+use Rattle.remote_check.proofs.FetchLemmas.{asks_heard}
+use Rattle.remote_check.proofs.LawLemmas.{yes_told}
+use Rattle.remote_check.proofs.fetching.fetch.Goals as goal
+
+pub returns-in-Ok-clause-best : goal.returns-in-Ok-clause-best
+returns-in-Ok-clause-best g c =
+    yes_told c.fetched_law.ensures.best _ c.hear.result (subst (λ left. FetchSays left c.hear.result) c.in-Ok.ensures.left c.hear.ensures.says)
+
+pub returns-in-Ok-clause-asked : goal.returns-in-Ok-clause-asked
+returns-in-Ok-clause-asked g c = asks_heard _ _ _ _ c.hear.result c.in-Ok.ensures.whole c.hear.ensures.written

@@ -1,0 +1,25 @@
+-- The head of a response at the front of bytes.
+use Rattle.std.specs.Prelude.{◌≡◌, ◌≢◌, ℕ, ◌≤◌, List, ◌++◌, length, map}
+use Rattle.httparse.specs.Grammar.{ResponseHead, IsResponseHead, print_response}
+use Rattle.httparse.specs.Spans.{name_and_value}
+use Rattle.remote_check.specs.declared.limits.TheConstants.{MAX_HEAD, MAX_FIELDS}
+use Rattle.remote_check.specs.Fields.{Pair}
+
+-- a head by the grammar of `httparse` (RFC 9112), of at most 8,192 bytes and with at most 64 fields
+pub record IsHead (head : ResponseHead) : Type 0 where
+  pub valid : IsResponseHead head
+  pub few : length head.fields ≤ MAX_FIELDS
+  pub short : length (print_response head) ≤ MAX_HEAD
+
+-- the bytes begin with no head
+abbrev pub HasNoHead : List ℕ → Type 0
+HasNoHead bytes = (head : ResponseHead) (rest : List ℕ) → IsHead head → bytes ≢ print_response head ++ rest
+
+-- the bytes are this head and then the rest
+pub record BeginsWith (bytes : List ℕ) (head : ResponseHead) (rest : List ℕ) : Type 0 where
+  pub is_head : IsHead head
+  pub text : bytes ≡ print_response head ++ rest
+
+-- its fields, as names and values
+abbrev pub fields_of : ResponseHead → List Pair
+fields_of head = map name_and_value head.fields

@@ -1,0 +1,7 @@
+pub mod Bodies
+pub mod Fetched
+pub mod Fields
+pub mod Heads
+pub mod Requests
+pub mod Search
+pub mod Taken

@@ -1,0 +1,112 @@
+// A certificate fetched over a link.
+ghost use Rattle.std.specs.Prelude.{◌≡◌, ◌≤◌, ◌<◌, ℕ, List, length, take, IfOk, IfSome, OnErr, IsErrOf, Ok};
+ghost use Rattle.std.specs.Io.KnownBytes.{Appends, prepend_known};
+ghost use Rattle.split_base.specs.Faults.{HasCause, HasRisen, IsCounted};
+ghost use Rattle.split_base.specs.Links.{LinkHasRisen};
+ghost use Rattle.cert_checker.specs.Judged.{PrintsBest};
+ghost use Rattle.remote_check.specs.declared.limits.TheConstants.{MAX_HEAD};
+ghost use Rattle.remote_check.specs.Fetched.{FetchSays, IsReplyOf};
+ghost use Rattle.remote_check.specs.Requests.{Asks, Counts, faults_of, request_of};
+ghost use Rattle.remote_check.specs.Search.{IsFoundAt};
+
+use crate::ends::FetchEnd;
+use crate::head::length_of;
+use crate::held::Held;
+use crate::judged::judge_body;
+use crate::laws::fetched_law;
+use crate::request::{Words, request_text};
+use crate::search::{ROOM, Turn, read_head};
+use httparse::spans::{EMPTY_HEADER_SPAN, HeaderSpan, ResponseSpans};
+use split_base::{Failed, Link, Source, write_all};
+use verdicts::Verdict;
+
+/// Asks a host for the certificate of an instance, and judges it as it comes, in one pass and in fixed memory. One request is written, and nothing else.
+///
+/// What is answered depends on the bytes of the reply alone, and not on the pieces in which they come. In this order:
+///
+/// 1. `Reply`, where no first part of the first 8,192 bytes is the head of a response as `httparse` reads it (RFC 9112), with at most 64 fields.
+/// 2. `Status`, where its status isn't 200.
+/// 3. `Reply`, where it has a Transfer-Encoding, or not exactly one Content-Length of one to ten digits.
+/// 4. `TooLong`, where that length is above 4,000,000.
+/// 5. `Reply`, where the input ends within the body of this length.
+/// 6. The judge's verdict on the body, or `NotText`, where it is no certificate text, with its first broken line. What follows the body is not read as part
+///    of it.
+///
+/// `LinkFault` comes for one failed call, which one of the link's two counts of faults tells. Any other answer leaves both as they are.
+pub fn fetch<L: Link>(link: &mut L, words: &Words) -> Result<Verdict, FetchEnd>
+    ensures says { FetchSays (L.Source.left link.old) result }
+    ensures best { result ≡ Ok Verdict.Yes → IfSome (L.Source.left link.old) (λ bytes. (body : List ℕ) × IsReplyOf bytes body × PrintsBest body) }
+    ensures asked { Asks (L.Sink.written link.old) (L.Sink.written link.new) (request_of words.now) result }
+    ensures fault { IsErrOf result FetchEnd.LinkFault → LinkHasRisen (L.Source.faults link.old) (L.Source.faults link.new) (L.Sink.faults link.old) (L.Sink.faults link.new) }
+    ensures counts { Counts (L.Source.faults link.old) (L.Source.faults link.new) (L.Sink.faults link.old) (L.Sink.faults link.new) result }
+    ensures reads { L.Source.faults link.old ≤ L.Source.faults link.new }
+    ensures writes { L.Sink.faults link.old ≤ L.Sink.faults link.new }
+{
+    fetched_law();
+    match ask(link, words) {
+        Err(Failed) => Err(FetchEnd::LinkFault),
+        Ok(()) => hear(link),
+    }
+}
+
+// Writes the request.
+fn ask<L: Link>(link: &mut L, words: &Words) -> Result<(), Failed>
+    ensures whole { IfOk result (λ _. Appends (L.Sink.written link.old) (L.Sink.written link.new) (request_of words.now)) }
+    ensures prefix { OnErr result ((n : ℕ) × (n < length (request_of words.now)) × Appends (L.Sink.written link.old) (L.Sink.written link.new) (take n (request_of words.now))) }
+    ensures cause { HasCause (L.Sink.faults link.old) (L.Sink.faults link.new) result }
+    ensures count { IsCounted (L.Sink.faults link.old) (L.Sink.faults link.new) result }
+    ensures left { L.Source.left link.new ≡ L.Source.left link.old }
+    ensures reads { L.Source.faults link.new ≡ L.Source.faults link.old }
+{
+    write_all(link, request_text(words).as_slice())
+}
+
+// Reads the reply, which leaves what was written as it is.
+fn hear<L: Link>(link: &mut L) -> Result<Verdict, FetchEnd>
+    ensures says { FetchSays (L.Source.left link.old) result }
+    ensures faults { L.Source.faults link.new ≡ faults_of (L.Source.faults link.old) result }
+    ensures fault { IsErrOf result FetchEnd.LinkFault → HasRisen (L.Source.faults link.old) (L.Source.faults link.new) }
+    ensures count { L.Source.faults link.old ≤ L.Source.faults link.new }
+    ensures written { L.Sink.written link.new ≡ L.Sink.written link.old }
+    ensures writes { L.Sink.faults link.new ≡ L.Sink.faults link.old }
+{
+    read_reply(link)
+}
+
+// Reads the reply.
+fn read_reply<S: Source>(source: &mut S) -> Result<Verdict, FetchEnd>
+    ensures says { FetchSays (S.left source.old) result }
+    ensures faults { S.faults source.new ≡ faults_of (S.faults source.old) result }
+    ensures fault { IsErrOf result FetchEnd.LinkFault → HasRisen (S.faults source.old) (S.faults source.new) }
+    ensures count { S.faults source.old ≤ S.faults source.new }
+    ensures beside { S.beside source.new ≡ S.beside source.old }
+{
+    let mut held = Held::new();
+    let mut fields = [EMPTY_HEADER_SPAN; ROOM];
+    match read_head(source, &mut held, &mut fields) {
+        Turn::Fault => Err(FetchEnd::LinkFault),
+        Turn::Bad => Err(FetchEnd::Reply),
+        Turn::Found(spans) => read_body(source, held.as_slice(), &fields, &spans),
+    }
+}
+
+// Reads the body behind a head, which stands at the front of what was read.
+fn read_body<S: Source>(
+    source: &mut S,
+    held: &[u8],
+    fields: &[HeaderSpan; ROOM],
+    spans: &ResponseSpans,
+) -> Result<Verdict, FetchEnd>
+    requires found { IsFoundAt held.now fields.now spans.now }
+    requires most { length held.now ≤ MAX_HEAD }
+    ensures says { FetchSays (prepend_known held.now (S.left source.old)) result }
+    ensures faults { S.faults source.new ≡ faults_of (S.faults source.old) result }
+    ensures fault { IsErrOf result FetchEnd.LinkFault → HasRisen (S.faults source.old) (S.faults source.new) }
+    ensures count { S.faults source.old ≤ S.faults source.new }
+    ensures beside { S.beside source.new ≡ S.beside source.old }
+{
+    match length_of(held, fields, spans) {
+        Err(end) => Err(end),
+        Ok(length) => judge_body(source, &held[spans.len..], length),
+    }
+}

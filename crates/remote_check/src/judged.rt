@@ -1,0 +1,57 @@
+// The judge's answer on a body.
+ghost use Rattle.std.specs.Prelude.{◌≡◌, ◌≢◌, ◌≤◌, IfSome, IsErrOf, Err};
+ghost use Rattle.std.specs.Io.KnownBytes.{prepend_known};
+ghost use Rattle.cert_reader.specs.Stream.{faults_after};
+ghost use Rattle.cert_reader.specs.declared.limits.TheConstants.{MOST_BYTES};
+ghost use Rattle.split_base.specs.Faults.{HasRisen};
+ghost use Rattle.remote_check.specs.Bodies.{JudgeSays, given_of};
+ghost use Rattle.remote_check.specs.Fetched.{SaysBody};
+ghost use Rattle.remote_check.specs.Requests.{faults_of};
+
+use crate::ahead::Ahead;
+use crate::body::Body;
+use crate::ends::FetchEnd;
+use cert_checker::judge;
+use cert_reader::ReadEnd;
+use split_base::Source;
+use verdicts::Verdict;
+
+// Judges the body of this length, of which the first bytes, and maybe some behind it, were read ahead.
+pub(crate) fn judge_body<S: Source>(
+    link: &mut S,
+    held: &[u8],
+    length: usize,
+) -> Result<Verdict, FetchEnd>
+    requires { length ≤ MOST_BYTES }
+    ensures says { IfSome (prepend_known held.now (S.left link.old)) (λ rest. result ≢ Err FetchEnd.LinkFault → SaysBody length rest result) }
+    ensures faults { S.faults link.new ≡ faults_of (S.faults link.old) result }
+    ensures fault { IsErrOf result FetchEnd.LinkFault → HasRisen (S.faults link.old) (S.faults link.new) }
+    ensures count { S.faults link.old ≤ S.faults link.new }
+    ensures beside { S.beside link.new ≡ S.beside link.old }
+{
+    match judge_given(link, held, length) {
+        Ok(verdict) => Ok(verdict),
+        Err(ReadEnd::NotText { line }) => Err(FetchEnd::NotText { line }),
+        // It was told to be shorter: so the input ended within it.
+        Err(ReadEnd::TooLong) => Err(FetchEnd::Reply),
+        Err(ReadEnd::ReadFault) => Err(FetchEnd::LinkFault),
+        Err(ReadEnd::NoMemory) => unreachable!(),
+    }
+}
+
+// Judges what is given of the input for a body of this length.
+fn judge_given<S: Source>(link: &mut S, held: &[u8], length: usize) -> Result<Verdict, ReadEnd>
+    ensures says { IfSome (prepend_known held.now (S.left link.old)) (λ rest. JudgeSays (given_of length 0 rest) result) }
+    ensures memory { IsErrOf result ReadEnd.NoMemory → ⊥ }
+    ensures faults { S.faults link.new ≡ faults_after (S.faults link.old) result }
+    ensures fault { IsErrOf result ReadEnd.ReadFault → HasRisen (S.faults link.old) (S.faults link.new) }
+    ensures count { S.faults link.old ≤ S.faults link.new }
+    ensures beside { S.beside link.new ≡ S.beside link.old }
+{
+    let mut body = Body {
+        input: Ahead { link, held },
+        awaited: length,
+        filler: 0,
+    };
+    judge(&mut body)
+}

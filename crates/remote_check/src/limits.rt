@@ -1,0 +1,17 @@
+// Limits of a reply.
+use cert_reader::limits::MOST_BYTES;
+
+/// The most bytes of a head, with the empty lines before it and the one that ends it.
+pub const MAX_HEAD: usize = 8192;
+
+/// The most fields of a head.
+pub const MAX_FIELDS: usize = 64;
+
+/// The most digits of a Content-Length.
+pub const MAX_LENGTH_DIGITS: usize = 10;
+
+/// The status of a reply that has what was asked for: OK (RFC 9110, section 15.3.1).
+pub const OK_STATUS: u16 = 200;
+
+// How many bytes are given to the judge behind a body that ends early: one more than a certificate has.
+pub(crate) const FILLER: usize = MOST_BYTES + 1;

@@ -1,0 +1,21 @@
+// Numbers in decimal.
+ghost use Rattle.std.specs.Prelude.{◌≡◌, ◌≤◌, ◌^◌, MatchOption, min, All};
+ghost use Rattle.std.specs.Char.{IsAsciiDigit};
+ghost use Rattle.std.specs.Str.Parse.{digits_value};
+
+// The number that the digits write, or `most` where it is greater; `None` where a byte is no
+// digit. Zeros may lead, and any number of digits counts.
+#[tactic(auto, using(std::proofs::lemmas::Int::Digits::digits_value_more))]
+pub(crate) fn capped_number(text: &[u8], most: u64) -> Option<u64>
+    requires { most ≤ 2 ^ 32 }
+    ensures { MatchOption result (¬ (All IsAsciiDigit text.now)) (λ n. All IsAsciiDigit text.now × (n ≡ min (digits_value 10 text.now) most)) }
+{
+    let mut number = 0u64;
+    for byte in text {
+        if !byte.is_ascii_digit() {
+            return None;
+        }
+        number = (number * 10 + u64::from(*byte - b'0')).min(most);
+    }
+    Some(number)
+}

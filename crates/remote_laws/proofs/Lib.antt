@@ -1,0 +1,5 @@
+pub mod DateBytes
+pub mod Lengths
+pub mod ReplyHeads
+pub mod SentCertificates
+pub mod Taken

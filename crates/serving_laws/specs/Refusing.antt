@@ -1,0 +1,35 @@
+-- What a request without success may change.
+use Rattle.std.specs.Prelude.{◌≡◌, ◌⊎◌, ℕ, [], ◌∷◌, ◌++◌, Some, Ok}
+use Rattle.host_keeper.specs.States.{State, host_in, ready_with, waits_with}
+use Rattle.link_runs.specs.Exchanges.{Exchange}
+use Rattle.reply_texts.specs.declared.refusals.ServiceRefusal.TheVariants as service
+use Rattle.requests.specs.Commands.{command_of}
+use Rattle.requests.specs.Said.{refused_said}
+use Rattle.sealed_core.specs.Host.{EventView}
+use Rattle.sealed_core.specs.Sealed.{IsLateClose}
+use Rattle.sealed_core.specs.Step.{step}
+use Rattle.split_http.specs.declared.routes.Route.{Route}
+use Rattle.split_http.specs.Places.{IsRouted}
+use Rattle.serving_laws.specs.Accepting.{Makes}
+
+-- the HTTP status of a success, 201 where an instance was made (RFC 9110, section 15.3)
+abbrev pub IsSuccess : ℕ → Type 0
+IsSuccess status = (status ≡ 200) ⊎ (status ≡ 201)
+
+-- the request leads to a command whose event at this state is the Close, at the moment of the step, of the instance that it asks, which is
+-- open past its deadline
+abbrev pub MakesLateClose : {W : Type 0} → Exchange W → State → EventView → Type 0
+MakesLateClose x s event =
+    (route : Route) × IsRouted x.head.verb x.head.path (Ok route) × ((step (host_in s) x.moment (command_of route.place route.id x.head.key x.body)).event ≡ Some event)
+    × IsLateClose (host_in s) x.moment (command_of route.place route.id x.head.key x.body) (Some event)
+
+-- The state is the one at which the request was answered. Or behind its events the Close of a passed deadline was kept; or the disk failed in
+-- the append of the request's own event, which waits, and this is told.
+pub record StaysBut {D : Type 0} (settles : State → State → Type 0) (x : Exchange (D × State)) : Type 0 where
+  pub settled : State
+  pub from : settles x.before.1 settled
+  pub stays :
+      (x.after.1 ≡ settled)
+      ⊎ ((event : EventView)
+      × ((MakesLateClose x settled event × (x.after.1 ≡ ready_with settled.secret (settled.kept ++ event ∷ [])))
+      ⊎ (Makes x settled.secret settled.kept event × (x.after.1 ≡ waits_with settled event) × (x.due.said ≡ refused_said service.StoreFault))))

@@ -1,0 +1,8 @@
+use Rattle.std.proofs.Common.{refl}
+use Rattle.split_top.proofs.program.execute.Goals as goal
+
+pub returns-in-Serve : goal.returns-in-Serve
+returns-in-Serve g c = rw (c.in-Serve.is) (λ output. (record { dialer = refl; input = (refl, refl) }, c.serve_port.ensures.serves))
+
+pub returns-in-Dump : goal.returns-in-Dump
+returns-in-Dump g c = rw (c.in-Dump.is) (λ output. (record { port = refl; clock = refl; dialer = refl; input = (refl, refl) }, c.dump.ensures.dumps))

@@ -1,0 +1,5 @@
+use Rattle.std.proofs.lemmas.Result.{on_ok_weaker}
+use Rattle.trial_runs.proofs.summary.push_fare.Goals as goal
+
+pub returns : goal.returns
+returns c = on_ok_weaker c.push_line.result (λ line. (c.in_ok-division.division, c.in_ok-check_division.ensures, line)) c.push_line.ensures

@@ -1,0 +1,5 @@
+use Rattle.std.proofs.lemmas.Result.{on_ok_weaker}
+use Rattle.trial_runs.proofs.summary.push_goods.Goals as goal
+
+pub returns : goal.returns
+returns g c = on_ok_weaker c.push_line.result (λ line. (c.divide_goods-division.result, c.in_ok-check_division.ensures, line)) c.push_line.ensures

@@ -1,0 +1,38 @@
+// A division that is checked by its certificate.
+ghost use Rattle.std.specs.Prelude.{OnOk};
+ghost use Rattle.bid_rules.specs.Facts.{IsValidCase};
+ghost use Rattle.divisions.specs.Division.{IsDivisionOf};
+ghost use Rattle.trial_runs.specs.Texts.{IsChecked};
+
+use crate::reading::TextSource;
+use bid_rules::Case;
+use cert_checker::{certificate_verdict_law, judge};
+use certificates::write_certificate;
+use divisions::{Division, division_law};
+use split_base::NoMemory;
+use std::alloc::Global;
+use verdicts::Verdict;
+
+/// Writes the certificate of a division in memory, reads it back and judges it. The verdict is yes: certificate text gets one verdict, and
+/// all rules hold for a canonical certificate.
+///
+/// `NoMemory` comes for want of memory alone.
+pub(crate) fn check_division(
+    alloc: Global,
+    case: &Case,
+    division: &Division,
+) -> Result<(), NoMemory>
+    requires case { IsValidCase case.now }
+    requires division { IsDivisionOf case.now division.now }
+    ensures { OnOk result (IsChecked case.now division.now) }
+{
+    certificate_verdict_law();
+    division_law();
+    let certificate = write_certificate(alloc, case, division)?;
+    let mut source = TextSource::new(certificate.as_slice());
+    match judge(&mut source) {
+        Ok(Verdict::Yes) => Ok(()),
+        Ok(Verdict::No { .. }) => unreachable!(),
+        Err(_) => unreachable!(),
+    }
+}

@@ -1,0 +1,16 @@
+// What holds of the texts of trials, for all numbers: the law is the contract of a function that does nothing.
+ghost use Rattle.std.specs.Prelude.{◌≡◌, ℕ, List};
+ghost use Rattle.trial_runs.specs.Texts.{IsTrialText};
+
+use nash_search::step_count_law;
+use rent_maximin::one_rent_division_law;
+use trials::trial_law;
+
+/// A number has one text of its trial. So it is the same for every number of workers.
+pub fn trial_text_law()
+    ensures one { (number : ℕ) (text other : List ℕ) → IsTrialText number text → IsTrialText number other → text ≡ other }
+{
+    one_rent_division_law();
+    step_count_law();
+    trial_law();
+}

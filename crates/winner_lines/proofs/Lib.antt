@@ -1,0 +1,5 @@
+pub mod FewParts
+pub mod Passes
+pub mod Fits
+pub mod Texts
+pub mod Sizes

@@ -1,0 +1,26 @@
+-- What the text of adjusted winner says: the case, player 1's share of each good, the weights, and what each player has.
+use Rattle.std.specs.Prelude.{pos, map}
+use Rattle.adjusted_winner.specs.declared.winner.Winner.{Winner}
+use Rattle.bid_rules.specs.declared.goods.GoodsCase.{GoodsCase}
+use Rattle.bid_rules.specs.declared.limits.TheConstants.{MOST_MEMBERS, MOST_STEPS}
+use Rattle.cert_reader.specs.Pairs.{PairView}
+use Rattle.split_frac.specs.Frac.{fraction_of}
+
+-- the lines for the solver's division
+abbrev pub winner_view : GoodsCase → Winner → PairView
+winner_view case winner = record {
+  goods = case.facts.goods;
+  who = map pos case.who.items;
+  values = map (λ row. map pos row.items) case.values.items;
+  shares = map fraction_of winner.shares.items;
+  weights = map pos winner.weights;
+  total = fraction_of winner.total;
+}
+
+-- the case of as many members and steps as there may be, of which the text says nothing
+abbrev pub with_most : GoodsCase → GoodsCase
+with_most case = record {
+  facts = record { members = MOST_MEMBERS; goods = case.facts.goods; limit = MOST_STEPS };
+  who = case.who;
+  values = case.values;
+}
