@@ -107,11 +107,7 @@ IsFaultOfSpreading items whole (bid.Values values) other = IsFaultOfSpread items
 IsFaultOfSpreading items whole (bid.Place place) fault.Count = ⊤
 IsFaultOfSpreading items whole (bid.Place place) other = ⊥
 
--- there is a value for each room, and the values sum to the rent
-abbrev pub AreValues : Rent → List ℕ → Type 0
-AreValues rent values = IsSpread rent.members rent.rent values
-
--- a bid gives such values
+-- a bid gives a value for each room, and the values sum to the rent
 abbrev pub AreValuesOf : Rent → Bid → Type 0
 AreValuesOf rent given = Spreads rent.members rent.rent given
 

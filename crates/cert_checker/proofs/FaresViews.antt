@@ -6,7 +6,8 @@ use Rattle.cert_reader.specs.declared.forms.Word.TheVariants as word
 use Rattle.cert_reader.specs.Forms.{AreCounts, fares_forms, fares_tail, fractions_of, led_by, numbers_of, rider_forms, set_form}
 use Rattle.cert_reader.specs.Sets.{sets_of}
 use Rattle.cert_reader.specs.Text.{CanSay, CanSayAll, Numbers, Said}
-use Rattle.cert_reader.specs.Views.{FaresView, fares_said, says}
+use Rattle.cert_reader.specs.Layout.{FaresView}
+use Rattle.cert_reader.specs.Views.{fares_said, says}
 use Rattle.cert_checker.specs.FaresLines.{AreWritten, IsWhole, front_said, head_said, sets_said}
 use Rattle.cert_checker.proofs.SaidLists.{can_cut, can_first, can_rows, can_sets, empty_said, fractions_in, no_line_said, one_said, only, row_of}
 

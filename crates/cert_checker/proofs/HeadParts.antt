@@ -7,7 +7,8 @@ use Rattle.split_frac.specs.Frac.{fraction_of}
 use Rattle.cert_reader.specs.Gathered.{Gathered, line_said, numbers_at}
 use Rattle.cert_reader.specs.Numbers.{IsNumber}
 use Rattle.cert_reader.specs.Text.{Marks, Said, wholes}
-use Rattle.cert_reader.specs.Views.{FaresView, says}
+use Rattle.cert_reader.specs.Layout.{FaresView}
+use Rattle.cert_reader.specs.Views.{says}
 use Rattle.fare_rules.specs.Head.{head_of}
 use Rattle.fare_rules.specs.Rules.{HasCase}
 use Rattle.fare_rules.specs.State.{StandsFor}

@@ -7,16 +7,17 @@ use Rattle.bid_rules.specs.Goods.{GoodsBest, IsValidGoodsCase, owners_by_good}
 use Rattle.bid_rules.specs.Rent.{IsValidRentCase, RentBest}
 use Rattle.cert_reader.specs.GoodsViews.{GoodsView}
 use Rattle.cert_reader.specs.Shapes.{HasRows}
-use Rattle.cert_reader.specs.Views.{FaresView, OfFares, OfGoods, OfRent, RentView, View}
+use Rattle.cert_reader.specs.Layout.{FaresView, RentView}
+use Rattle.cert_reader.specs.Views.{OfFares, OfGoods, OfRent, View}
 use Rattle.fare_rules.specs.Printed as fares
-use Rattle.fare_rules.specs.Rules.{fares_rule}
+use Rattle.fare_rules.specs.Rules.{rules_of_fares}
 use Rattle.goods_rules.specs.Printed as goods
-use Rattle.goods_rules.specs.Rules.{goods_rule}
+use Rattle.goods_rules.specs.Rules.{rules_of_goods}
 use Rattle.rent_rules.specs.Printed as rent
-use Rattle.rent_rules.specs.Rules.{rent_rule}
+use Rattle.rent_rules.specs.Rules.{rules_of_rent}
 use Rattle.verdicts.specs.declared.verdict.Verdict.{Verdict}
 use Rattle.verdicts.specs.declared.verdict.Verdict.TheVariants.{Yes}
-use Rattle.verdicts.specs.Verdicts.{IsVerdict}
+use Rattle.verdicts.specs.Verdicts.{IsVerdictOf}
 use Rattle.verdicts.proofs.Order.{one_verdict}
 use Rattle.cert_checker.specs.Judged.{GivesVerdict, IsBest, rule_count, rule_of}
 
@@ -33,13 +34,13 @@ rows_kept (OfGoods view) h =
 rows_kept (OfFares view) h = sym (length-map view.legs (λ row. record { items = map unsigned_abs row })) ∙ (h 1 (omega arith) (omega arith)).valid.facts.shape.table.rows
 
 -- and its division is best, as the laws of the kinds say
-pub best_kept : ((view : RentView) → IsVerdict (rent_rule view) 7 Yes → IsValidRentCase (rent.printed_case view))
-    → ((view : RentView) → IsVerdict (rent_rule view) 7 Yes → RentBest (rent.printed_case view) (rent.printed_rooms view) view.prices)
-    → ((view : GoodsView) → IsVerdict (goods_rule view) 6 Yes → IsValidGoodsCase (goods.printed_case view))
-    → ((view : GoodsView) → IsVerdict (goods_rule view) 6 Yes → GoodsBest (goods.printed_case view) (goods.printed_answer view))
-    → ((view : GoodsView) → IsVerdict (goods_rule view) 6 Yes → owners_by_good (goods.printed_case view) (goods.printed_answer view) ≡ goods.printed_owners view)
-    → ((view : FaresView) → IsVerdict (fares_rule view) 5 Yes → IsValidFareCase (fares.printed_case view))
-    → ((view : FaresView) → IsVerdict (fares_rule view) 5 Yes → FareBest (fares.printed_case view) view.fares (fares.printed_route view))
+pub best_kept : ((view : RentView) → IsVerdictOf (rules_of_rent view) Yes → IsValidRentCase (rent.printed_case view))
+    → ((view : RentView) → IsVerdictOf (rules_of_rent view) Yes → RentBest (rent.printed_case view) (rent.printed_rooms view) view.prices)
+    → ((view : GoodsView) → IsVerdictOf (rules_of_goods view) Yes → IsValidGoodsCase (goods.printed_case view))
+    → ((view : GoodsView) → IsVerdictOf (rules_of_goods view) Yes → GoodsBest (goods.printed_case view) (goods.printed_answer view))
+    → ((view : GoodsView) → IsVerdictOf (rules_of_goods view) Yes → owners_by_good (goods.printed_case view) (goods.printed_answer view) ≡ goods.printed_owners view)
+    → ((view : FaresView) → IsVerdictOf (rules_of_fares view) Yes → IsValidFareCase (fares.printed_case view))
+    → ((view : FaresView) → IsVerdictOf (rules_of_fares view) Yes → FareBest (fares.printed_case view) view.fares (fares.printed_route view))
     → (view : View) → GivesVerdict view Yes → IsBest view
 best_kept a b c d e f g (OfRent view) h = (a view h, b view h)
 best_kept a b c d e f g (OfGoods view) h = (c view h, d view h, e view h)

@@ -11,11 +11,12 @@ use Rattle.cert_reader.specs.Kinds.{kind_of}
 use Rattle.cert_reader.specs.Order.{AgreeUpTo}
 use Rattle.cert_reader.specs.Reading.{IsOpen, IsRead, Reading, with_mark}
 use Rattle.cert_reader.specs.Text.{CanSayAll, IsText, Marks, Numbers, Said}
-use Rattle.cert_reader.specs.Views.{FaresView, OfFares, OfGoods, fares_said, goods_said, said_of, says}
-use Rattle.fare_rules.specs.Rules.{fares_rule}
-use Rattle.goods_rules.specs.Rules.{goods_rule}
+use Rattle.cert_reader.specs.Layout.{FaresView}
+use Rattle.cert_reader.specs.Views.{OfFares, OfGoods, fares_said, goods_said, said_of, says}
+use Rattle.fare_rules.specs.Rules.{rules_of_fares}
+use Rattle.goods_rules.specs.Rules.{rules_of_goods}
 use Rattle.verdicts.specs.declared.verdict.Verdict.{Verdict}
-use Rattle.verdicts.specs.Verdicts.{IsVerdict}
+use Rattle.verdicts.specs.Verdicts.{IsVerdictOf}
 use Rattle.cert_checker.specs.FaresLines.{IsWhole, front_said}
 use Rattle.cert_checker.specs.GoodsLines.{IsWholeGoods}
 use Rattle.cert_checker.specs.declared.lines.Lines.{Lines}
@@ -72,7 +73,7 @@ fares_is (count.Fares n places) said are kind fits =
     record { view = v.view; is = v.is; counted = ap (λ k. count.Fares k v.view.places) v.riders ∙ ap (λ p. count.Fares n p) v.places_are; whole = v.whole }
 
 -- what fares give
-pub fares_give : (counts : Counts) (said : List Said) (verdict : Verdict) (f : IsFares counts said) → IsVerdict (fares_rule f.view) 5 verdict → GivesOf counts said verdict
+pub fares_give : (counts : Counts) (said : List Said) (verdict : Verdict) (f : IsFares counts said) → IsVerdictOf (rules_of_fares f.view) verdict → GivesOf counts said verdict
 fares_give counts said verdict f gives = record { view = OfFares f.view; counted = f.counted; is_said = f.is; rows = f.whole.rows; gives = gives }
 
 -- the view that a text of goods says
@@ -92,7 +93,7 @@ goods_is (count.Goods n goods) said are kind fits =
     record { view = v.view; is = v.is; counted = ap (λ k. count.Goods k v.view.goods) v.players ∙ ap (λ g. count.Goods n g) v.goods_are; whole = v.whole }
 
 -- what goods give
-pub goods_give : (counts : Counts) (said : List Said) (verdict : Verdict) (g : IsGoods counts said) → IsVerdict (goods_rule g.view) 6 verdict → GivesOf counts said verdict
+pub goods_give : (counts : Counts) (said : List Said) (verdict : Verdict) (g : IsGoods counts said) → IsVerdictOf (rules_of_goods g.view) verdict → GivesOf counts said verdict
 goods_give counts said verdict g gives = record { view = OfGoods g.view; counted = g.counted; is_said = g.is; rows = g.whole.rows; gives = gives }
 
 -- no text of a rent says a mark

@@ -3,7 +3,8 @@ use Rattle.std.proofs.Common.{◌≡◌, ℕ, pos, List, [], ◌∷◌, ◌++◌
 use Rattle.cert_reader.specs.declared.forms.Word.TheVariants as word
 use Rattle.cert_reader.specs.Forms.{fractions_of, led_by, numbers_of, rent_forms, rent_tail}
 use Rattle.cert_reader.specs.Text.{CanSayAll, Numbers, Said}
-use Rattle.cert_reader.specs.Views.{RentView, rent_said, says}
+use Rattle.cert_reader.specs.Layout.{RentView}
+use Rattle.cert_reader.specs.Views.{rent_said, says}
 use Rattle.cert_checker.proofs.SaidLists.{can_cut, can_first, can_rows, empty_said, fractions_in, no_line_said, one_said, only, row_of}
 
 -- lines that are those of a view

@@ -11,7 +11,8 @@ use Rattle.split_frac.specs.Frac.{fraction_of}
 use Rattle.cert_reader.specs.Gathered.{Gathered, line_said, numbers_at}
 use Rattle.cert_reader.specs.Numbers.{AreShort, IsNumber}
 use Rattle.cert_reader.specs.Text.{Marks, Numbers, Said, wholes}
-use Rattle.cert_reader.specs.Views.{FaresView, fares_said, says}
+use Rattle.cert_reader.specs.Layout.{FaresView}
+use Rattle.cert_reader.specs.Views.{fares_said, says}
 use Rattle.fare_rules.specs.State.{IsState, StandsFor}
 use Rattle.cert_checker.specs.declared.fares.TableLines.{TableLines}
 use Rattle.cert_checker.specs.FaresLines.{AreWritten, IsBehindHead, IsNext, IsWhole, front_said, head_said, sets_said}

@@ -6,7 +6,8 @@ use Rattle.bid_rules.specs.Fractions.{Fraction}
 use Rattle.cert_reader.specs.Gathered.{Gathered, line_said}
 use Rattle.cert_reader.specs.Numbers.{IsNumber}
 use Rattle.cert_reader.specs.Text.{Numbers, Said, wholes}
-use Rattle.cert_reader.specs.Views.{FaresView, fares_said, says}
+use Rattle.cert_reader.specs.Layout.{FaresView}
+use Rattle.cert_reader.specs.Views.{fares_said, says}
 use Rattle.fare_rules.specs.State.{IsState, StandsFor}
 use Rattle.cert_checker.specs.declared.fares.FaresLines.{FaresLines}
 use Rattle.cert_checker.specs.declared.fares.FaresLines.TheVariants.{Head, Table}

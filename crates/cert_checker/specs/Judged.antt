@@ -6,36 +6,39 @@ use Rattle.bid_rules.specs.Fares.{FareBest}
 use Rattle.bid_rules.specs.Goods.{GoodsBest, IsValidGoodsCase, owners_by_good}
 use Rattle.bid_rules.specs.Rent.{IsValidRentCase, RentBest}
 use Rattle.cert_reader.specs.declared.ends.ReadEnd.{ReadEnd}
+use Rattle.cert_reader.specs.declared.forms.Counts.{Counts}
 use Rattle.cert_reader.specs.declared.limits.TheConstants.{MOST_BYTES}
 use Rattle.cert_reader.specs.Reading.{IsEnd}
 use Rattle.cert_reader.specs.Shapes.{HasRows}
-use Rattle.cert_reader.specs.Text.{IsText}
+use Rattle.cert_reader.specs.Text.{IsText, Said}
 use Rattle.cert_reader.specs.Views.{OfFares, OfGoods, OfRent, View, counts_of, said_of}
 use Rattle.fare_rules.specs.Printed as fares
-use Rattle.fare_rules.specs.Rules.{fares_rule}
+use Rattle.fare_rules.specs.Rules.{rules_of_fares}
 use Rattle.goods_rules.specs.Printed as goods
-use Rattle.goods_rules.specs.Rules.{goods_rule}
+use Rattle.goods_rules.specs.Rules.{rules_of_goods}
 use Rattle.rent_rules.specs.Printed as rent
-use Rattle.rent_rules.specs.Rules.{rent_rule}
+use Rattle.rent_rules.specs.Rules.{rules_of_rent}
 use Rattle.verdicts.specs.declared.verdict.Verdict.{Verdict}
 use Rattle.verdicts.specs.declared.verdict.Verdict.TheVariants.{Yes, No}
-use Rattle.verdicts.specs.Verdicts.{IsVerdict}
+use Rattle.verdicts.specs.Verdicts.{IsVerdictOf, rule_at}
 
--- the rules of the view's kind, by number from 1
+-- the rules of the view's kind, in their order
+abbrev pub rules_of : View → List (Type 0)
+rules_of (OfRent view) = rules_of_rent view
+rules_of (OfGoods view) = rules_of_goods view
+rules_of (OfFares view) = rules_of_fares view
+
+-- the rule of a number, from 1
 abbrev pub rule_of : View → ℕ → Type 0
-rule_of (OfRent view) number = rent_rule view number
-rule_of (OfGoods view) number = goods_rule view number
-rule_of (OfFares view) number = fares_rule view number
+rule_of view number = rule_at (rules_of view) number
 
 -- how many rules its kind has
 abbrev pub rule_count : View → ℕ
-rule_count (OfRent view) = 7
-rule_count (OfGoods view) = 6
-rule_count (OfFares view) = 5
+rule_count view = length (rules_of view)
 
 -- the verdict of the rules of its kind
 abbrev pub GivesVerdict : View → Verdict → Type 0
-GivesVerdict view verdict = IsVerdict (rule_of view) (rule_count view) verdict
+GivesVerdict view verdict = IsVerdictOf (rules_of view) verdict
 
 -- the bytes are certificate text, and the view is what it says
 pub record SaysView (bytes : List ℕ) (view : View) : Type 0 where
@@ -61,6 +64,14 @@ pub record BreaksRule (bytes : List ℕ) (number : ℕ) : Type 0 where
 abbrev pub IsJudged : List ℕ → Verdict → Type 0
 IsJudged bytes Yes = IsCertificate bytes
 IsJudged bytes (No number) = BreaksRule bytes number
+
+-- no verdict is that on the bytes
+abbrev pub HasNoVerdict : List ℕ → Type 0
+HasNoVerdict bytes = (verdict : Verdict) → IsJudged bytes verdict → ⊥
+
+-- the bytes are no certificate text
+abbrev pub IsNoText : List ℕ → Type 0
+IsNoText bytes = (counts : Counts) (said : List Said) → IsText bytes counts said → ⊥
 
 -- the printed case is valid, and the printed division is the one that its rule gives for the case; owners are printed by good number
 abbrev pub IsBest : View → Type 0

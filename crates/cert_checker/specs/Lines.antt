@@ -8,7 +8,8 @@ use Rattle.cert_reader.specs.Kinds.{kind_of}
 use Rattle.cert_reader.specs.Reading.{IsEnd, IsOpen, IsRead, Reading, with_mark}
 use Rattle.cert_reader.specs.Shapes.{HasRows}
 use Rattle.cert_reader.specs.Text.{CanSayAll, Said}
-use Rattle.cert_reader.specs.Views.{FaresView, View, counts_of, fares_said, said_of}
+use Rattle.cert_reader.specs.Layout.{FaresView}
+use Rattle.cert_reader.specs.Views.{View, counts_of, fares_said, said_of}
 use Rattle.verdicts.specs.declared.verdict.Verdict.{Verdict}
 use Rattle.cert_checker.specs.FaresLines.{IsAt, IsWhole, front_said}
 use Rattle.cert_checker.specs.GoodsLines.{IsAtGoods}

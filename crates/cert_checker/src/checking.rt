@@ -3,9 +3,9 @@ ghost use Rattle.std.specs.Prelude.{◌≡◌, ℕ, List};
 ghost use Rattle.cert_checker.specs.Judged.{GivesVerdict, IsBest, IsJudged};
 ghost use Rattle.cert_reader.specs.Text.{IsText};
 ghost use Rattle.cert_reader.specs.Views.{counts_of, fares_view, goods_view, said_of, view_of};
-ghost use Rattle.fare_rules.specs.Rules.{fares_rule};
-ghost use Rattle.goods_rules.specs.Rules.{goods_rule};
-ghost use Rattle.verdicts.specs.Verdicts.{IsVerdict};
+ghost use Rattle.fare_rules.specs.Rules.{rules_of_fares};
+ghost use Rattle.goods_rules.specs.Rules.{rules_of_goods};
+ghost use Rattle.verdicts.specs.Verdicts.{IsVerdictOf};
 
 use cert_reader::{Certificate, FaresText, GoodsText, set_count, start_count};
 use fare_rules::{end_fares, fares_certificate_law, start_fares, take_set};
@@ -32,7 +32,7 @@ pub fn check(certificate: &Certificate) -> Verdict
 
 /// Whether the certificate keeps the rules of goods, or the first that it breaks.
 fn check_goods(text: &GoodsText) -> Verdict
-    ensures { IsVerdict (goods_rule (goods_view text.now)) 6 result }
+    ensures { IsVerdictOf (rules_of_goods (goods_view text.now)) result }
 {
     let mut state = start_goods(
         text.goods,
@@ -50,7 +50,7 @@ fn check_goods(text: &GoodsText) -> Verdict
 
 /// Whether the certificate keeps the rules of fares, or the first that it breaks.
 fn check_fares(text: &FaresText) -> Verdict
-    ensures { IsVerdict (fares_rule (fares_view text.now)) 5 result }
+    ensures { IsVerdictOf (rules_of_fares (fares_view text.now)) result }
 {
     let riders = text.who.len() as u8;
     let numbers = text.table.numbers();

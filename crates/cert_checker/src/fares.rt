@@ -3,9 +3,10 @@ ghost use Rattle.std.specs.Prelude.{◌≡◌, ◌+◌, ◌<◌, ◌++◌, ◌�
 ghost use Rattle.split_frac.specs.Frac.{fraction_of};
 ghost use Rattle.cert_reader.specs.Gathered.{Gathered, line_said};
 ghost use Rattle.cert_reader.specs.Text.{Numbers, Said};
-ghost use Rattle.cert_reader.specs.Views.{FaresView, fares_said, says};
-ghost use Rattle.fare_rules.specs.Rules.{fares_rule};
-ghost use Rattle.verdicts.specs.Verdicts.{IsVerdict};
+ghost use Rattle.cert_reader.specs.Layout.{FaresView};
+ghost use Rattle.cert_reader.specs.Views.{fares_said, says};
+ghost use Rattle.fare_rules.specs.Rules.{rules_of_fares};
+ghost use Rattle.verdicts.specs.Verdicts.{IsVerdictOf};
 ghost use Rattle.cert_checker.specs.FaresLines.{HasNoTable, IsAt, IsBehindHead, IsNext, IsWhole, front_said, head_said};
 
 use arrayvec::ArrayVec;
@@ -94,7 +95,7 @@ impl FaresLines {
     /// The verdict, where all lines have come but `end`.
     pub(crate) fn verdict(&self) -> Verdict
         requires { (view : FaresView) × (said : List Said) × IsWhole view × (fares_said view ≡ said ++ says [] ∷ []) × IsAt view said self.now }
-        ensures { (view : FaresView) (said : List Said) → IsWhole view → fares_said view ≡ said ++ says [] ∷ [] → IsAt view said self.now → IsVerdict (fares_rule view) 5 result }
+        ensures { (view : FaresView) (said : List Said) → IsWhole view → fares_said view ≡ said ++ says [] ∷ [] → IsAt view said self.now → IsVerdictOf (rules_of_fares view) result }
     {
         match self {
             FaresLines::Head(_) => unreachable!(),
@@ -163,7 +164,7 @@ impl TableLines {
     /// The verdict, where all lines have come but `end`.
     fn verdict(&self) -> Verdict
         requires { (view : FaresView) × (said : List Said) × IsWhole view × (fares_said view ≡ said ++ says [] ∷ []) × IsBehindHead view said self.now }
-        ensures { (view : FaresView) (said : List Said) → IsWhole view → fares_said view ≡ said ++ says [] ∷ [] → IsBehindHead view said self.now → IsVerdict (fares_rule view) 5 result }
+        ensures { (view : FaresView) (said : List Said) → IsWhole view → fares_said view ≡ said ++ says [] ∷ [] → IsBehindHead view said self.now → IsVerdictOf (rules_of_fares view) result }
     {
         let route: ArrayVec<i128, RIDER_ROOM> = row_at(self.last.as_slice(), 0);
         end_fares(&self.state, route.as_slice(), self.last[1].as_slice())

@@ -7,10 +7,10 @@ ghost use Rattle.cert_reader.specs.GoodsViews.{GoodsView};
 ghost use Rattle.cert_reader.specs.Reading.{with_mark};
 ghost use Rattle.cert_reader.specs.Text.{Numbers, Said};
 ghost use Rattle.cert_reader.specs.Views.{says};
-ghost use Rattle.goods_rules.specs.Rules.{goods_rule};
+ghost use Rattle.goods_rules.specs.Rules.{rules_of_goods};
 ghost use Rattle.goods_rules.specs.State.{IsState, StandsFor};
 ghost use Rattle.split_frac.specs.Frac.{fraction_of};
-ghost use Rattle.verdicts.specs.Verdicts.{IsVerdict};
+ghost use Rattle.verdicts.specs.Verdicts.{IsVerdictOf};
 
 use arrayvec::ArrayVec;
 use bid_rules::limits::{ITEM_ROOM, MEMBER_ROOM};
@@ -96,7 +96,7 @@ impl GoodsLines {
     /// The verdict, where all lines have come but `end`.
     pub(crate) fn verdict(&self) -> Verdict
         requires { (said : List Said) × GoodsGoOn said (says [] ∷ []) × IsAtGoods said self.now }
-        ensures { (said : List Said) (goes : GoodsGoOn said (says [] ∷ [])) → IsAtGoods said self.now → IsVerdict (goods_rule goes.view) 6 result }
+        ensures { (said : List Said) (goes : GoodsGoOn said (says [] ∷ [])) → IsAtGoods said self.now → IsVerdictOf (rules_of_goods goes.view) result }
     {
         match self {
             GoodsLines::Head(_) => unreachable!(),

@@ -3,7 +3,7 @@ ghost use Rattle.std.specs.Prelude.{◌≡◌, ◌↔◌, ℕ, List, length, tru
 ghost use Rattle.bid_rules.specs.declared.goods.GoodsCase.{GoodsCase};
 ghost use Rattle.bid_rules.specs.Goods.{IsValidGoodsCase, pair_of};
 ghost use Rattle.cert_checker.specs.GoodsLeaves.{HasLeaves, IsBeyond, MayStand, StandsAbove, StandsAtLeaf};
-ghost use Rattle.cert_checker.specs.Judged.{GivesVerdict, IsCertificate, IsJudged, PrintsBest, SaysView};
+ghost use Rattle.cert_checker.specs.Judged.{GivesVerdict, HasNoVerdict, IsCertificate, IsJudged, IsNoText, PrintsBest, SaysView};
 ghost use Rattle.cert_reader.specs.declared.certificate.Certificate.{Certificate};
 ghost use Rattle.cert_reader.specs.declared.forms.Counts.{Counts};
 ghost use Rattle.cert_reader.specs.GoodsViews.{GoodsView};
@@ -21,15 +21,15 @@ use goods_rules::goods_certificate_law;
 use nash_bounds::{bound_law, open_prefixes_law, whole_list_law};
 use rent_rules::rent_certificate_law;
 
-/// Bytes have at most one verdict, and none where they have a broken line. Text says a view, has the verdict of the rules on it, yes or no, and is never
-/// without one. So has the text of a certificate that was read: what `check` says of the certificate. Text whose rules all hold is a certificate, and
+/// Bytes have at most one verdict, and none where they have a broken line. Text says a view, and has the verdict of the rules on it, yes or no:
+/// bytes without a verdict are no text. So has the text of a certificate that was read: what `check` says of the certificate. Text whose rules all hold is a certificate, and
 /// certificates print a valid case and the division that its rule gives: best rooms and prices, owners, or fares and a route.
 pub fn certificate_verdict_law()
     ensures one { (bytes : List ℕ) (verdict other : Verdict) → IsJudged bytes verdict → IsJudged bytes other → other ≡ verdict }
     ensures whole { (bytes : List ℕ) (verdict : Verdict) (line : ℕ) → IsJudged bytes verdict → IsBrokenText bytes line → ⊥ }
     ensures said { (bytes : List ℕ) (counts : Counts) (said : List Said) → IsText bytes counts said → (view : View) × SaysView bytes view }
     ensures verdict { (bytes : List ℕ) (view : View) (verdict : Verdict) → SaysView bytes view → IsJudged bytes verdict ↔ GivesVerdict view verdict }
-    ensures some { (bytes : List ℕ) (counts : Counts) (said : List Said) → IsText bytes counts said → ((verdict : Verdict) → IsJudged bytes verdict → ⊥) → ⊥ }
+    ensures some { (bytes : List ℕ) → HasNoVerdict bytes → IsNoText bytes }
     ensures checked { (bytes : List ℕ) (certificate : Certificate) (verdict : Verdict) → IsText bytes (counts_of (view_of certificate)) (said_of (view_of certificate))
         → IsJudged bytes verdict ↔ GivesVerdict (view_of certificate) verdict }
     ensures best { (bytes : List ℕ) → IsCertificate bytes → PrintsBest bytes }

@@ -10,7 +10,8 @@ use Rattle.cert_reader.specs.Gathered.{AreWhole, Gathered, line_said, numbers_at
 use Rattle.cert_reader.specs.Numbers.{IsNumber}
 use Rattle.cert_reader.specs.Sets.{set_sizes}
 use Rattle.cert_reader.specs.Text.{CanSay, CanSayAll, Numbers, Said, wholes}
-use Rattle.cert_reader.specs.Views.{FaresView, fares_said, says}
+use Rattle.cert_reader.specs.Layout.{FaresView}
+use Rattle.cert_reader.specs.Views.{fares_said, says}
 use Rattle.cert_reader.proofs.FormPlaces.{fares_at_at, fares_at_who, fares_in_head, fares_in_legs, fares_in_sets, fares_in_tail, length_fares}
 use Rattle.cert_reader.proofs.GatheredLines.{fractions_said, line_can, line_then, lines_end, lines_many, lines_then, no_line, part_rows, whole_said}
 use Rattle.cert_reader.proofs.HeadAndEnd.{one_said}

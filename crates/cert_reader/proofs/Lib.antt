@@ -27,3 +27,4 @@ pub mod GatheredMarks
 pub mod Gathering
 pub mod PairParts
 pub mod PairSteps
+pub mod TextSizes

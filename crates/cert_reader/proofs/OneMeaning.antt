@@ -10,10 +10,11 @@ use Rattle.cert_reader.specs.declared.forms.Counts.TheVariants.{Fares, Goods, Pa
 use Rattle.cert_reader.specs.Forms.{AreCounts, Series, fares_forms, forms_of, goods_forms, led_by, rent_forms}
 use Rattle.cert_reader.specs.Reading.{IsReadOf, Reading}
 use Rattle.cert_reader.specs.GoodsViews.{GoodsView}
-use Rattle.cert_reader.specs.Pairs.{IsPairText, PairView, pair_said}
+use Rattle.cert_reader.specs.Layout.{FaresView, PairView, RentView}
+use Rattle.cert_reader.specs.Pairs.{IsPairText, pair_said}
 use Rattle.cert_reader.specs.Shapes.{HasRows}
 use Rattle.cert_reader.specs.Text.{CanSay, CanSayAll, IsBrokenTextOf, IsText, IsTextOf, Marks, Numbers, Said, said_text, text_of, wholes}
-use Rattle.cert_reader.specs.Views.{FaresView, OfFares, OfGoods, OfRent, RentView, View, counts_of, said_of, says}
+use Rattle.cert_reader.specs.Views.{OfFares, OfGoods, OfRent, View, counts_of, said_of, says}
 use Rattle.cert_reader.proofs.Agreeing.{agree_whole, begins_once, in_range}
 use Rattle.cert_reader.proofs.Beginnings.{begins_less, text_begins}
 use Rattle.cert_reader.proofs.FormPlaces.{lines_some}

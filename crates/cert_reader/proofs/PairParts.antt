@@ -13,7 +13,8 @@ use Rattle.cert_reader.specs.Forms.{numbers_of, pair_forms}
 use Rattle.cert_reader.specs.Gathered.{AreWhole, Gathered, line_said, numbers_at}
 use Rattle.cert_reader.specs.Numbers.{IsNumber, IsSmall}
 use Rattle.cert_reader.specs.Order.{form_in}
-use Rattle.cert_reader.specs.Pairs.{PairView, pair_said}
+use Rattle.cert_reader.specs.Layout.{PairView}
+use Rattle.cert_reader.specs.Pairs.{pair_said}
 use Rattle.cert_reader.specs.Text.{CanSay, CanSayAll, Marks, Numbers, Said, wholes}
 use Rattle.cert_reader.specs.Views.{says}
 use Rattle.cert_reader.proofs.Fronts.{can_at, can_many}

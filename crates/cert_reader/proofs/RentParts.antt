@@ -8,7 +8,8 @@ use Rattle.cert_reader.specs.Forms.{Tree, rent_forms}
 use Rattle.cert_reader.specs.Gathered.{AreWhole, Gathered, line_said, numbers_at, text_said}
 use Rattle.cert_reader.specs.Numbers.{IsNumber}
 use Rattle.cert_reader.specs.Text.{CanSay, CanSayAll, Numbers, Said, wholes}
-use Rattle.cert_reader.specs.Views.{RentView, rent_said, says}
+use Rattle.cert_reader.specs.Layout.{RentView}
+use Rattle.cert_reader.specs.Views.{rent_said, says}
 use Rattle.cert_reader.proofs.FormPlaces.{length_rent, rent_in_head, rent_in_tail, rent_in_values}
 use Rattle.cert_reader.proofs.GatheredLines.{fractions_said, line_can, line_then, lines_end, lines_many, lines_then, no_line, part_rows, whole_said}
 use Rattle.cert_reader.proofs.HeadAndEnd.{one_said}

@@ -31,7 +31,7 @@ pub record Usual (form : Form) : Type 0 where
   pub can : CanSay form said
 
 -- so are forms one after another
-pub AreUsual : List Form → Type 0
+unfoldable pub AreUsual : List Form → Type 0
 AreUsual [] = Unit {0}
 AreUsual (form ∷ forms) = Usual form × AreUsual forms
 

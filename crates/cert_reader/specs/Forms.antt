@@ -1,11 +1,12 @@
--- Which lines follow one another in a certificate text, and in the text of a pair.
-use Rattle.std.specs.Prelude.{ℕ, ◌+◌, ◌≤◌, List, [], ◌∷◌, ◌++◌, length, map, replicate, true, false, Some, None}
+-- The forms of lines, one after another in a certificate text and in the text of a pair.
+use Rattle.std.specs.Prelude.{ℕ, ◌+◌, ◌≤◌, List, [], ◌∷◌, ◌++◌, length, map, take, drop, replicate, true, false, Some, None}
 use Rattle.bid_rules.specs.declared.limits.TheConstants.{MOST_GOODS, MOST_MEMBERS, MOST_PLACES, MOST_RIDERS}
 use Rattle.cert_reader.specs.declared.forms.Counts.{Counts}
 use Rattle.cert_reader.specs.declared.forms.Counts.TheVariants as count
 use Rattle.cert_reader.specs.declared.forms.LineForm.{LineForm}
 use Rattle.cert_reader.specs.declared.forms.Word.{Word}
 use Rattle.cert_reader.specs.declared.forms.Word.TheVariants as word
+use Rattle.cert_reader.specs.Layout.{Bare, Fixed, Fractions, Marked, Part, Rows, Sets, Whole, fares_layout, goods_layout, pair_layout, rent_layout}
 use Rattle.cert_reader.specs.Sets.{sets_of, starts}
 
 -- what may stand at a place of a text: a line of numbers, or the line of a tree, which has characters in their place
@@ -24,48 +25,54 @@ fractions_of word many = Line (record { word = word; lead = None; count = many; 
 abbrev pub led_by : Word → ℕ → ℕ → Form
 led_by word lead many = Line (record { word = word; lead = Some lead; count = many; whole = true })
 
--- the lines of a rent for n members: the head, a line of values a member, and the rest
-abbrev pub rent_head : ℕ → List Form
-rent_head n = led_by word.Fairsplit 1 1 ∷ numbers_of word.KindRent 0 ∷ led_by word.Members n 1 ∷ numbers_of word.Rent 1 ∷ []
-
-abbrev pub rent_tail : ℕ → List Form
-rent_tail n = numbers_of word.Rooms n ∷ numbers_of word.Left n ∷ numbers_of word.Right n ∷ numbers_of word.Walks n ∷ numbers_of word.Ranks n
-    ∷ fractions_of word.Prices n ∷ numbers_of word.End 0 ∷ []
-
-unfoldable pub rent_forms : ℕ → List Form
-rent_forms n = rent_head n ++ (replicate n (numbers_of word.Values n) ++ rent_tail n)
-
--- the lines of goods for n players and so many goods: the head, a line of values a player, and the rest, where the tree stands
-abbrev pub goods_head : ℕ → ℕ → List Form
-goods_head n goods = led_by word.Fairsplit 1 1 ∷ numbers_of word.KindGoods 0 ∷ led_by word.Players n 1 ∷ led_by word.Goods goods 1 ∷ numbers_of word.Limit 1 ∷ numbers_of word.Who n ∷ []
-
-abbrev pub goods_tail : ℕ → List Form
-goods_tail goods = numbers_of word.Owners goods ∷ numbers_of word.Steps 1 ∷ Tree ∷ numbers_of word.End 0 ∷ []
-
-unfoldable pub goods_forms : ℕ → ℕ → List Form
-goods_forms n goods = goods_head n goods ++ (replicate n (numbers_of word.Values goods) ++ goods_tail goods)
-
--- the lines of fares for n riders and so many places: the head, the legs from the origin and from each place, who gets off where, a line a set, and the rest
-abbrev pub fares_head : ℕ → ℕ → List Form
-fares_head n places = led_by word.Fairsplit 1 1 ∷ numbers_of word.KindFares 0 ∷ led_by word.Riders n 1 ∷ led_by word.Places places 1 ∷ numbers_of word.Flag 1 ∷ []
-
-abbrev pub rider_forms : ℕ → List Form
-rider_forms n = numbers_of word.Who n ∷ numbers_of word.At n ∷ []
-
 -- the line of a set of n riders: its number, and a number for each of its starts
 abbrev pub set_form : ℕ → ℕ → Form
 set_form n set = led_by word.Set set (length (starts n set) + 1)
 
-abbrev pub fares_tail : ℕ → List Form
-fares_tail n = numbers_of word.Route n ∷ fractions_of word.Fares n ∷ numbers_of word.End 0 ∷ []
+-- the lines of the parts of a text
+abbrev pub forms_in : {V : Type 0} → List (Part V) → List Form
+forms_in [] = []
+forms_in (Bare word ∷ parts) = numbers_of word 0 ∷ forms_in parts
+forms_in (Fixed word number ∷ parts) = led_by word number 1 ∷ forms_in parts
+forms_in (Whole word count numbers ∷ parts) = numbers_of word count ∷ forms_in parts
+forms_in (Fractions word count numbers ∷ parts) = fractions_of word count ∷ forms_in parts
+forms_in (Rows many word count rows ∷ parts) = replicate many (numbers_of word count) ++ forms_in parts
+forms_in (Sets n rows ∷ parts) = map (set_form n) (sets_of n) ++ forms_in parts
+forms_in (Marked marks ∷ parts) = Tree ∷ forms_in parts
+
+unfoldable pub rent_forms : ℕ → List Form
+rent_forms n = forms_in (rent_layout n)
+
+unfoldable pub goods_forms : ℕ → ℕ → List Form
+goods_forms n goods = forms_in (goods_layout n goods)
 
 unfoldable pub fares_forms : ℕ → ℕ → List Form
-fares_forms n places = fares_head n places ++ (replicate (places + 1) (numbers_of word.Legs places) ++ (rider_forms n ++ (map (set_form n) (sets_of n) ++ fares_tail n)))
+fares_forms n places = forms_in (fares_layout n places)
 
--- the lines of a pair with so many goods: the head, who they are, the values of each, player 1's share of each good, the weights and the total
 abbrev pub pair_forms : ℕ → List Form
-pair_forms goods = led_by word.FairsplitPair 1 1 ∷ led_by word.Goods goods 1 ∷ numbers_of word.Who 2 ∷ numbers_of word.Values goods ∷ numbers_of word.Values goods
-    ∷ fractions_of word.Shares goods ∷ numbers_of word.Weights 2 ∷ fractions_of word.Total 1 ∷ numbers_of word.End 0 ∷ []
+pair_forms goods = forms_in (pair_layout goods)
+
+-- the lines before and behind the rows of values or legs, between these and the sets, and behind the sets
+abbrev pub rent_head : ℕ → List Form
+rent_head n = forms_in (take 4 (rent_layout n))
+
+abbrev pub rent_tail : ℕ → List Form
+rent_tail n = forms_in (drop 5 (rent_layout n))
+
+abbrev pub goods_head : ℕ → ℕ → List Form
+goods_head n goods = forms_in (take 6 (goods_layout n goods))
+
+abbrev pub goods_tail : ℕ → List Form
+goods_tail goods = forms_in (drop 7 (goods_layout 0 goods))
+
+abbrev pub fares_head : ℕ → ℕ → List Form
+fares_head n places = forms_in (take 5 (fares_layout n places))
+
+abbrev pub rider_forms : ℕ → List Form
+rider_forms n = forms_in (take 2 (drop 6 (fares_layout n 0)))
+
+abbrev pub fares_tail : ℕ → List Form
+fares_tail n = forms_in (drop 9 (fares_layout n 0))
 
 -- all lines of a text for these counts
 abbrev pub forms_of : Counts → List Form

@@ -43,7 +43,3 @@ numbers_at lines index = map fraction_of (slice_index_or lines index (record { i
 -- so many whole numbers that a text can hold
 abbrev pub AreWhole : ℕ → List Fraction → Type 0
 AreWhole count numbers = (length numbers ≡ count) × All (IsNumber true) numbers
-
--- the lines say whole numbers, so many each
-abbrev pub AreWholeRows : ℕ → List Gathered → Type 0
-AreWholeRows count lines = All (λ line. AreWhole count (map fraction_of line.items)) lines

@@ -2,6 +2,7 @@ pub mod Sets
 pub mod Numbers
 pub mod Words
 pub mod Kinds
+pub mod Layout
 pub mod Forms
 pub mod Text
 pub mod Views

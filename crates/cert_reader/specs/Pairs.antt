@@ -1,31 +1,20 @@
 -- What the text of a pair says, as lists, and what reading one answers.
-use Rattle.std.specs.Prelude.{ℕ, ℤ, pos, ◌≤◌, List, [], ◌∷◌, ◌++◌, length, map, Option, Result, Ok, Err}
+use Rattle.std.specs.Prelude.{ℕ, ◌≤◌, List, length, map, Option, Result, Ok, Err}
 use Rattle.std.specs.Io.KnownBytes.{IsAtEnd}
-use Rattle.bid_rules.specs.Fractions.{Fraction}
 use Rattle.split_frac.specs.Frac.{fraction_of}
 use Rattle.cert_reader.specs.declared.ends.ReadEnd.{ReadEnd}
 use Rattle.cert_reader.specs.declared.forms.Counts.TheVariants as count
 use Rattle.cert_reader.specs.declared.limits.TheConstants.{MOST_BYTES}
 use Rattle.cert_reader.specs.declared.pair.PairText.{PairText}
 use Rattle.cert_reader.specs.Forms.{Pairs}
+use Rattle.cert_reader.specs.Layout.{PairView, pair_layout}
 use Rattle.cert_reader.specs.Reading.{IsEndOf}
-use Rattle.cert_reader.specs.Text.{IsTextOf, Numbers, Said}
-use Rattle.cert_reader.specs.Views.{says}
-
--- what adjusted winner gives two players: how many goods, their member numbers, points by player and good, player 1's share of each good, the two weights, and
--- the points that each gets
-pub record PairView : Type 0 where
-  pub goods : ℕ
-  pub who : List ℤ
-  pub values : List (List ℤ)
-  pub shares : List Fraction
-  pub weights : List ℤ
-  pub total : Fraction
+use Rattle.cert_reader.specs.Text.{IsTextOf, Said}
+use Rattle.cert_reader.specs.Views.{said_in}
 
 -- what the lines say, from the first to `end`
 abbrev pub pair_said : PairView → List Said
-pair_said view = says (pos 1 ∷ []) ∷ says (pos view.goods ∷ []) ∷ says view.who
-    ∷ (map says view.values ++ (Numbers view.shares ∷ says view.weights ∷ Numbers (view.total ∷ []) ∷ says [] ∷ []))
+pair_said view = said_in view (pair_layout view.goods)
 
 -- the bytes are the text of a pair that says this
 abbrev pub IsPairText : List ℕ → PairView → Type 0

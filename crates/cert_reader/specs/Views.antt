@@ -1,7 +1,6 @@
 -- What certificates say, as lists: the words in which their rules are stated, and the lines that say it.
 use Rattle.std.specs.Prelude.{ℕ, ℤ, pos, List, [], ◌∷◌, ◌++◌, length, map, take, drop}
 use Rattle.std.specs.List.{enumerate_from}
-use Rattle.bid_rules.specs.Fractions.{Fraction}
 use Rattle.split_frac.specs.Frac.{fraction_of}
 use Rattle.cert_reader.specs.declared.certificate.Certificate.{Certificate}
 use Rattle.cert_reader.specs.declared.certificate.Certificate.TheVariants as certificate
@@ -11,31 +10,9 @@ use Rattle.cert_reader.specs.declared.certificate.RentText.{RentText}
 use Rattle.cert_reader.specs.declared.forms.Counts.{Counts}
 use Rattle.cert_reader.specs.declared.forms.Counts.TheVariants as count
 use Rattle.cert_reader.specs.GoodsViews.{GoodsView}
+use Rattle.cert_reader.specs.Layout.{Bare, FaresView, Fixed, Fractions, Marked, Part, RentView, Rows, Sets, Whole, fares_layout, goods_layout, rent_layout}
 use Rattle.cert_reader.specs.Sets.{set_sizes}
 use Rattle.cert_reader.specs.Text.{Marks, Numbers, Said, wholes}
-
--- a certificate of a rent: the values by member and room, rooms by member, dual numbers by member and by room, walks, ranks by member, prices by room
-pub record RentView : Type 0 where
-  pub rent : ℤ
-  pub values : List (List ℤ)
-  pub rooms : List ℤ
-  pub left : List ℤ
-  pub right : List ℤ
-  pub walks : List ℤ
-  pub ranks : List ℤ
-  pub prices : List Fraction
-
--- a certificate of fares: the legs from the origin and from each place, members and places by rider, the lines of the sets in order with the set's own
--- number left out, the route, fares by rider
-pub record FaresView : Type 0 where
-  pub places : ℕ
-  pub flag : ℤ
-  pub legs : List (List ℤ)
-  pub who : List ℤ
-  pub at : List ℤ
-  pub sets : List (List ℤ)
-  pub route : List ℤ
-  pub fares : List Fraction
 
 -- a certificate of some kind
 pub data View : Type 0 where
@@ -47,24 +24,37 @@ pub data View : Type 0 where
 abbrev pub says : List ℤ → Said
 says numbers = Numbers (wholes numbers)
 
+-- what the lines of the parts say
+abbrev pub said_in : {V : Type 0} → V → List (Part V) → List Said
+said_in view [] = []
+said_in view (Bare word ∷ parts) = says [] ∷ said_in view parts
+said_in view (Fixed word number ∷ parts) = says (pos number ∷ []) ∷ said_in view parts
+said_in view (Whole word count numbers ∷ parts) = says (numbers view) ∷ said_in view parts
+said_in view (Fractions word count numbers ∷ parts) = Numbers (numbers view) ∷ said_in view parts
+said_in view (Rows many word count rows ∷ parts) = map says (rows view) ++ said_in view parts
+said_in view (Sets n rows ∷ parts) = map (λ row. says (pos row.0 ∷ row.1)) (enumerate_from 1 (rows view)) ++ said_in view parts
+said_in view (Marked marks ∷ parts) = Marks (marks view) ∷ said_in view parts
+
 -- what the lines say, from the first to `end`
 abbrev pub rent_said : RentView → List Said
-rent_said view = says (pos 1 ∷ []) ∷ says [] ∷ says (pos (length view.rooms) ∷ []) ∷ says (view.rent ∷ [])
-    ∷ (map says view.values ++ (says view.rooms ∷ says view.left ∷ says view.right ∷ says view.walks ∷ says view.ranks ∷ Numbers view.prices ∷ says [] ∷ []))
+rent_said view = said_in view (rent_layout (length view.rooms))
 
 abbrev pub goods_said : GoodsView → List Said
-goods_said view = says (pos 1 ∷ []) ∷ says [] ∷ says (pos (length view.who) ∷ []) ∷ says (pos view.goods ∷ []) ∷ says (view.limit ∷ []) ∷ says view.who
-    ∷ (map says view.values ++ (says view.owners ∷ says (view.steps ∷ []) ∷ Marks view.marks ∷ says [] ∷ []))
+goods_said view = said_in view (goods_layout (length view.who) view.goods)
 
 abbrev pub fares_said : FaresView → List Said
-fares_said view = says (pos 1 ∷ []) ∷ says [] ∷ says (pos (length view.who) ∷ []) ∷ says (pos view.places ∷ []) ∷ says (view.flag ∷ [])
-    ∷ (map says view.legs ++ (says view.who ∷ says view.at
-    ∷ (map (λ row. says (pos row.0 ∷ row.1)) (enumerate_from 1 view.sets) ++ (says view.route ∷ Numbers view.fares ∷ says [] ∷ []))))
+fares_said view = said_in view (fares_layout (length view.who) view.places)
 
 abbrev pub said_of : View → List Said
 said_of (OfRent view) = rent_said view
 said_of (OfGoods view) = goods_said view
 said_of (OfFares view) = fares_said view
+
+-- the marks of the tree, where there is one
+abbrev pub marks_of : View → List ℕ
+marks_of (OfRent view) = []
+marks_of (OfGoods view) = view.marks
+marks_of (OfFares view) = []
 
 -- what the head of the text counts
 abbrev pub counts_of : View → Counts

@@ -46,7 +46,7 @@ pub fn rent_text(members: u8, lines: &[LineNumbers]) -> RentText
 }
 
 /// The certificate of goods whose lines, between the head of two and the tree, and whose tree were read. It takes no memory.
-pub fn goods_text(players: u8, goods: u8, lines: &[LineNumbers], marks: Vec<u8>) -> GoodsText
+pub(crate) fn goods_text(players: u8, goods: u8, lines: &[LineNumbers], marks: Vec<u8>) -> GoodsText
     requires counts { AreCounts (count.Goods players goods) }
     requires lines { CanSayAll (goods_forms players goods) (tree_said lines.now marks.items) }
     ensures said { goods_said (goods_view result) ≡ tree_said lines.now marks.items }
@@ -71,7 +71,7 @@ pub fn goods_text(players: u8, goods: u8, lines: &[LineNumbers], marks: Vec<u8>)
 }
 
 /// The certificate of fares whose lines, between the head of two and `end`, were read. It takes memory for the table alone.
-pub fn fares_text(
+pub(crate) fn fares_text(
     alloc: Global,
     riders: u8,
     places: u8,

@@ -1,16 +1,18 @@
 // What callers may rest on: the statements of a function whose body does nothing.
-ghost use Rattle.std.specs.Prelude.{◌≡◌, ℕ, List, ◌++◌};
+ghost use Rattle.std.specs.Prelude.{◌≡◌, ◌≤◌, ℕ, List, ◌+◌, ◌++◌, length};
 ghost use Rattle.cert_reader.specs.declared.certificate.Certificate.{Certificate};
 ghost use Rattle.cert_reader.specs.declared.forms.Counts.{Counts};
+ghost use Rattle.cert_reader.specs.declared.limits.TheConstants.{MOST_BESIDE_MARKS};
 ghost use Rattle.cert_reader.specs.Forms.{Pairs, forms_of};
-ghost use Rattle.cert_reader.specs.Pairs.{IsPairText, PairView};
+ghost use Rattle.cert_reader.specs.Layout.{PairView};
+ghost use Rattle.cert_reader.specs.Pairs.{IsPairText};
 ghost use Rattle.cert_reader.specs.Reading.{IsRead, Reading};
 ghost use Rattle.cert_reader.specs.Shapes.{HasRows};
 ghost use Rattle.cert_reader.specs.Text.{CanSayAll, IsBrokenText, IsBrokenTextOf, IsText, Said};
-ghost use Rattle.cert_reader.specs.Views.{View, counts_of, said_of, view_of};
+ghost use Rattle.cert_reader.specs.Views.{View, counts_of, marks_of, said_of, view_of};
 
 /// One text has one meaning: its counts and what its lines say are one, and two certificates, or views with all rows, that say it are the same. No text has a
-/// broken line, other bytes have one first broken line, and what was read of a text so far has lines that would complete it.
+/// broken line, other bytes have one first broken line, and what was read of a text so far has lines that would complete it. But for the marks of a tree a text is short.
 pub fn text_law()
     ensures once { (bytes : List ℕ) (counts other : Counts) (said more : List Said) → IsText bytes counts said → IsText bytes other more → (other ≡ counts) × (more ≡ said) }
     ensures fields { (bytes : List ℕ) (certificate other : Certificate) → IsText bytes (counts_of (view_of certificate)) (said_of (view_of certificate))
@@ -19,14 +21,16 @@ pub fn text_law()
         → other ≡ view }
     ensures whole { (bytes : List ℕ) (counts : Counts) (said : List Said) (line : ℕ) → IsText bytes counts said → IsBrokenText bytes line → ⊥ }
     ensures broken { (bytes : List ℕ) (line other : ℕ) → IsBrokenText bytes line → IsBrokenText bytes other → other ≡ line }
+    ensures short { (bytes : List ℕ) (view : View) → IsText bytes (counts_of view) (said_of view) → length bytes ≤ MOST_BESIDE_MARKS + length (marks_of view) }
     ensures completed { (reading : Reading) (taken : List ℕ) (said : List Said) → IsRead reading taken said → (rest : List Said) × CanSayAll (forms_of reading.counts) (said ++ rest) }
 {}
 
-/// The text of a pair has one meaning: two views that it says are the same. No such text has a broken line, and other bytes have one first broken line. It is no
-/// certificate text.
+/// The text of a pair has one meaning: two views that it says are the same. No such text has a broken line, and other bytes have one first broken line. It is short,
+/// and no certificate text.
 pub fn pair_law()
     ensures once { (bytes : List ℕ) (view other : PairView) → IsPairText bytes view → IsPairText bytes other → other ≡ view }
     ensures whole { (bytes : List ℕ) (view : PairView) (line : ℕ) → IsPairText bytes view → IsBrokenTextOf Pairs bytes line → ⊥ }
     ensures broken { (bytes : List ℕ) (line other : ℕ) → IsBrokenTextOf Pairs bytes line → IsBrokenTextOf Pairs bytes other → other ≡ line }
+    ensures short { (bytes : List ℕ) (view : PairView) → IsPairText bytes view → length bytes ≤ MOST_BESIDE_MARKS }
     ensures apart { (bytes : List ℕ) (view : PairView) (counts : Counts) (said : List Said) → IsPairText bytes view → IsText bytes counts said → ⊥ }
 {}

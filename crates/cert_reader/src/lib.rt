@@ -23,7 +23,7 @@ mod table;
 mod tree;
 mod tree_line;
 
-pub use building::{fares_text, goods_text, rent_text};
+pub use building::rent_text;
 pub use certificate::{Certificate, FaresText, GoodsText, RentText};
 pub use ends::ReadEnd;
 pub use forms::{Counts, LineForm, Word};

@@ -19,6 +19,8 @@ pub(crate) const PIECE_BYTES: usize = 4096;
 pub(crate) const MOST_LINES: u32 = 11 + MOST_PLACES as u32 + (1 << MOST_RIDERS) - 1;
 /// The most counts that a line leaves open: those of goods.
 pub(crate) const MOST_CHOICES: u8 = MOST_GOODS;
+/// The most bytes of a text but for the marks of a tree: of so many lines of the longest, each with its LF.
+pub const MOST_BESIDE_MARKS: usize = (LONGEST_LINE + 1) * MOST_LINES as usize;
 /// How many players a pair is.
 pub const PAIR: u8 = 2;
 /// As many as the length of a list.

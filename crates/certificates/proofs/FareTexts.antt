@@ -1,15 +1,15 @@
 -- The canonical certificate of fares is certificate text.
-use Rattle.std.proofs.Common.{◌≡◌, ℕ, ℤ, zero, suc, pos, ◌+◌, ◌-◌, ◌*◌, ◌^◌, ◌<◌, ◌≤◌, not, List, [], ◌∷◌, ◌++◌, length, map, flat_map, replicate, All, Bool, true, false, cond, get_or, unsigned_abs, refl, sym, ◌∙◌, subst, arith}
-use Rattle.std.specs.List.{AllZip, enumerate_from, filter, range_with_len}
+use Rattle.std.proofs.Common.{◌≡◌, ℕ, ℤ, zero, suc, pos, ◌+◌, ◌-◌, ◌*◌, ◌^◌, ◌<◌, ◌≤◌, List, [], ◌∷◌, ◌++◌, length, map, flat_map, replicate, All, get_or, unsigned_abs, refl, sym, ◌∙◌, subst, arith}
+use Rattle.std.specs.List.{AllZip, enumerate_from, range_with_len}
 use Rattle.std.specs.List.Sorted.{IsPermutation}
 use Rattle.std.proofs.Math.Nat.{pow-le-pow_right}
 use Rattle.std.proofs.lemmas.Int.{ints}
-use Rattle.std.proofs.lemmas.List.{length-append, length-map, length-replicate}
+use Rattle.std.proofs.lemmas.List.{length-map}
 use Rattle.std.proofs.lemmas.List.Elements.{All-cons, All-from_get_or, All-head, All-map, All-nil, All-tail}
 use Rattle.std.proofs.lemmas.List.FromFn.{length-range_with_len}
 use Rattle.arrayvec.specs.declared.array_vec.ArrayVec.{ArrayVec}
 use Rattle.bid_rules.specs.declared.cases.FareCase.{FareCase}
-use Rattle.bid_rules.specs.Coalitions.{has_rider, riders_in, start_of}
+use Rattle.bid_rules.specs.Coalitions.{riders_in, start_of}
 use Rattle.bid_rules.specs.Facts.{IsValidFareCase}
 use Rattle.bid_rules.specs.Fares.{riders_of, route_cost}
 use Rattle.cert_reader.specs.declared.forms.Word.TheVariants as word
@@ -20,7 +20,6 @@ use Rattle.cert_reader.specs.Text.{CanSay, CanSayAll, IsText, Numbers, Said}
 use Rattle.cert_reader.specs.Views.{OfFares, counts_of, fares_said, said_of, says}
 use Rattle.certificates.specs.Canonical.{text_saying}
 use Rattle.certificates.proofs.Fits.{can-append, fractions_fit, lead_fits, led_fits, none_fits, numbers_fit, one_fits, rows_fit, small_again}
-use Rattle.certificates.proofs.Sizes.{AreBrief, brief-append, brief-replicate, text_short}
 use Rattle.fare_laws.specs.Entries.{costs_from}
 use Rattle.fare_lines.specs.Lines.{canonical_fares, cost_line}
 use Rattle.shapley_core.specs.Division.{IsFareDivision, IsFareInRange}
@@ -41,19 +40,6 @@ parts_hold P f (x ∷ xs) h = All-cons (λ y. All P (f y)) x xs (front (f x) (fl
     back : (ys zs : List ℕ) → All P (ys ++ zs) → All P zs
     back [] zs g = g
     back (y ∷ ys) zs g = back ys zs (All-tail P y (ys ++ zs) g)
-
--- what is let through is no more than what was there
-filter_few : (p : ℕ → Bool) (xs : List ℕ) → length (filter p xs) ≤ length xs
-filter_few p [] = omega arith
-filter_few p (x ∷ xs) = by (p x) (filter_few p xs)
-  where
-    by : (b : Bool) → length (filter p xs) ≤ length xs → length (cond b (x ∷ filter p xs) (filter p xs)) ≤ suc (length xs)
-    by true h = omega (arith, h)
-    by false h = omega (arith, h)
-
--- a set has at most n + 1 starts
-starts_few : (n set : ℕ) → length (starts n set) ≤ n + 1
-starts_few n set = let few = filter_few (λ rider. not (has_rider set rider)) (range_with_len 1 n) in let count = length-range_with_len 1 n in omega (arith, few, count)
 
 -- as many fares as riders
 zip_length : {X Y : Type 0} (P : X → Y → Type 0) (xs : List X) (ys : List Y) → AllZip P xs ys → length xs ≡ length ys
@@ -152,47 +138,6 @@ fits n case division facts valid is order same =
       ),
     )
 
--- lines of sets have at most 24 numbers each
-sets_brief : (n : ℕ) → n ≤ 10 → (sets : List ℕ) → AreBrief (map (set_form n) sets)
-sets_brief n few [] = tt
-sets_brief n few (set ∷ sets) = (let most = starts_few n set in omega (arith, most, few), sets_brief n few sets)
-
--- and so have all lines of fares
-brief : (n places : ℕ) → n ≤ 10 → places ≤ 12 → AreBrief (fares_forms n places)
-unfolding fares_forms
-brief n places few high =
-    let most : n ≤ 24 = omega (arith, few) in
-    let wide : places ≤ 24 = omega (arith, high) in (
-      omega arith,
-      (
-        omega arith,
-        (
-          omega arith,
-          (
-            omega arith,
-            (
-              omega arith,
-              brief-append (replicate (places + 1) (numbers_of word.Legs places)) (numbers_of word.Who n ∷ numbers_of word.At n ∷ (map (set_form n) (sets_of n) ++ fares_tail n)) (brief-replicate (places + 1) _ wide)
-                  (most, (most, brief-append (map (set_form n) (sets_of n)) (fares_tail n) (sets_brief n few (sets_of n)) (most, (most, (omega arith, tt))))),
-            ),
-          ),
-        ),
-      ),
-    )
-
--- there are at most 1046 of them
-lines : (n places : ℕ) → length (fares_forms n places) ≡ (places + 1) + (2 ^ n - 1) + 10
-unfolding fares_forms
-lines n places =
-    let table = map (set_form n) (sets_of n) in
-    let legs = replicate (places + 1) (numbers_of word.Legs places) in
-    let sets : length table ≡ 2 ^ n - 1 = length-map (sets_of n) (set_form n) ∙ length-range_with_len 1 (2 ^ n - 1) in
-    let behind : length (table ++ fares_tail n) ≡ length table + 3 = length-append table (fares_tail n) in
-    let all : length (legs ++ (numbers_of word.Who n ∷ numbers_of word.At n ∷ (table ++ fares_tail n))) ≡ length legs + length (numbers_of word.Who n ∷ numbers_of word.At n ∷ (table ++ fares_tail n)) =
-    length-append legs (numbers_of word.Who n ∷ numbers_of word.At n ∷ (table ++ fares_tail n)) in
-    let rows : length legs ≡ places + 1 = length-replicate (places + 1) (numbers_of word.Legs places) in
-    omega (arith, sets, behind, all, rows)
-
 -- the canonical text is certificate text
 pub fares_is_text : (case : FareCase) (division : FareDivision) → CostFacts case → IsValidFareCase case → IsFareDivision case division → IsPermutation (range_with_len 1 (length case.at.items)) division.route.items
     → IsText (text_saying (OfFares (canonical_fares case division))) (counts_of (OfFares (canonical_fares case division))) (said_of (OfFares (canonical_fares case division)))
@@ -207,15 +152,3 @@ fares_is_text case division facts valid is order =
       fits = fits (length (map pos case.who.items)) case division facts valid is order (sym count);
       text = refl;
     }
-
--- and short
-pub fares_text_short : (case : FareCase) (division : FareDivision) → CostFacts case → IsValidFareCase case → IsFareDivision case division → IsPermutation (range_with_len 1 (length case.at.items)) division.route.items
-    → length (text_saying (OfFares (canonical_fares case division))) ≤ 4000000
-fares_text_short case division facts valid is order =
-    let text = fares_is_text case division facts valid is order in
-    let n : ℕ = length (map pos case.who.items) in
-    let few : n ≤ 10 = text.are_counts.1 in
-    let high : case.facts.places ≤ 12 = text.are_counts.3 in
-    let power : 2 ^ n ≤ 1024 = pow-le-pow_right (omega arith) few in
-    let short = text_short (fares_forms n case.facts.places) (fares_said (canonical_fares case division)) text.fits (brief n case.facts.places few high) in
-    omega (arith, short, lines n case.facts.places, power, high)

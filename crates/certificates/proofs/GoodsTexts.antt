@@ -1,6 +1,6 @@
 -- The canonical certificate of goods is certificate text.
 use Rattle.std.proofs.Common.{◌≡◌, ℕ, pos, ◌+◌, ◌*◌, ◌≤◌, List, [], ◌∷◌, ◌++◌, length, map, replicate, All, get_or, refl, sym, ap, ◌∙◌, subst, append_assoc, arith}
-use Rattle.std.proofs.lemmas.List.{length-append, length-map, length-replicate}
+use Rattle.std.proofs.lemmas.List.{length-map}
 use Rattle.arrayvec.specs.declared.array_vec.ArrayVec.{ArrayVec}
 use Rattle.bid_rules.specs.declared.goods.GoodsCase.{GoodsCase}
 use Rattle.bid_rules.specs.declared.limits.TheConstants.{MOST_MEMBERS, MOST_STEPS}
@@ -8,19 +8,15 @@ use Rattle.bid_rules.specs.Goods.{IsValidGoodsCase, player_count}
 use Rattle.cert_reader.specs.declared.forms.Word.TheVariants as word
 use Rattle.cert_reader.specs.Forms.{Form, Tree, goods_forms, goods_head, led_by, numbers_of}
 use Rattle.cert_reader.specs.GoodsViews.{GoodsView}
-use Rattle.cert_reader.specs.Text.{CanSay, CanSayAll, IsMark, IsText, Marks, Said, text_of}
+use Rattle.cert_reader.specs.Text.{CanSay, CanSayAll, IsMark, IsText, Marks, Said}
 use Rattle.cert_reader.specs.Views.{OfGoods, counts_of, goods_said, said_of, says}
-use Rattle.cert_reader.specs.Words.{word_text}
 use Rattle.certificates.specs.Canonical.{text_saying}
 use Rattle.certificates.proofs.Fits.{can-append, lead_fits, none_fits, numbers_fit, one_fits, rows_fit, small_again}
 use Rattle.certificates.proofs.RentTexts.{row_small}
-use Rattle.certificates.proofs.Rows.{text-append}
-use Rattle.certificates.proofs.Sizes.{AreBrief, brief-append, brief-replicate, text_short}
 use Rattle.goods_lines.specs.Lines.{canonical_goods, canonical_tree}
 use Rattle.nash_bounds.specs.declared.limits.TheConstants.{MOST_SHORTER}
 use Rattle.nash_search.specs.Division.{IsGoodsDivision}
 use Rattle.nash_search.specs.declared.division.GoodsDivision.{GoodsDivision}
-use Rattle.split_text.specs.Texts.{line}
 
 -- what is known of players and trees
 pub record TreeFacts (case : GoodsCase) (division : GoodsDivision) : Type 0 where
@@ -106,58 +102,6 @@ fits n case division facts valid is same =
     (subst (λ (said : List Said). CanSayAll (front_forms n case.facts.goods ++ end_forms) said) (said_are view)
     (can-append (front_forms n case.facts.goods) end_forms (front_said view) (end_said view) (front_fits n case division facts valid is same) (facts.marks, (none_fits word.End, tt))))
 
--- lines before the tree have at most 24 numbers each
-brief : (n goods : ℕ) → n ≤ 12 → goods ≤ 24 → AreBrief (front_forms n goods)
-brief n goods few high =
-    let most : n ≤ 24 = omega (arith, few) in (
-      omega arith,
-      (
-        omega arith,
-        (
-          omega arith,
-          (
-            omega arith,
-            (
-              omega arith,
-              (
-                most,
-                brief-append (replicate n (numbers_of word.Values goods)) (numbers_of word.Owners goods ∷ numbers_of word.Steps 1 ∷ [])
-                    (brief-replicate n _ high) (high, (omega arith, tt)),
-              ),
-            ),
-          ),
-        ),
-      ),
-    )
-
--- there are n + 8 of them
-lines : (n goods : ℕ) → length (front_forms n goods) ≡ n + 8
-lines n goods =
-    let count : length (replicate n (numbers_of word.Values goods) ++ (numbers_of word.Owners goods ∷ numbers_of word.Steps 1 ∷ [])) ≡ length (replicate n (numbers_of word.Values goods)) + 2 =
-    length-append (replicate n (numbers_of word.Values goods)) (numbers_of word.Owners goods ∷ numbers_of word.Steps 1 ∷ []) in
-    let rows : length (replicate n (numbers_of word.Values goods)) ≡ n = length-replicate n (numbers_of word.Values goods) in
-    omega (arith, count, rows)
-
--- the line of a tree has 6 characters beside the marks, and the last line 4
-ends : (view : GoodsView) → length (text_of end_forms (end_said view)) ≡ length view.marks + 10
-unfolding line
-ends view =
-    let tree : List ℕ = (word_text word.Tree ++ 32 ∷ view.marks) ++ 10 ∷ [] in
-    let one : length ((word_text word.Tree ++ 32 ∷ view.marks) ++ 10 ∷ []) ≡ length (word_text word.Tree ++ 32 ∷ view.marks) + 1 = length-append (word_text word.Tree ++ 32 ∷ view.marks) (10 ∷ []) in
-    let last : List ℕ = ((word_text word.End ++ []) ++ 10 ∷ []) ++ [] in
-    let two : length (tree ++ last) ≡ length tree + length last = length-append tree last in
-    let four : length last ≡ 4 = refl in
-    omega (arith, one, two, four)
-
--- as many lines as are said
-as_many : (n : ℕ) (case : GoodsCase) (division : GoodsDivision) → player_count case ≡ n → length (front_forms n case.facts.goods) ≡ length (front_said (canonical_goods case division))
-as_many n case division same =
-    let view = canonical_goods case division in
-    let count : length (map says view.values ++ (says view.owners ∷ says (view.steps ∷ []) ∷ [])) ≡ length (map says view.values) + 2 = length-append (map says view.values) (says view.owners ∷ says (view.steps ∷ []) ∷ []) in
-    let rows : length (map says view.values) ≡ player_count case = length-map view.values says ∙ length-map case.values.items (λ (row : ArrayVec ℕ 24 (Unit {0})). map pos row.items) in
-    let all = lines n case.facts.goods in
-    omega (arith, count, rows, all, same)
-
 -- the canonical text is certificate text
 pub goods_is_text : (case : GoodsCase) (division : GoodsDivision) → TreeFacts case division → IsValidGoodsCase case → IsGoodsDivision case division
     → IsText (text_saying (OfGoods (canonical_goods case division))) (counts_of (OfGoods (canonical_goods case division))) (said_of (OfGoods (canonical_goods case division)))
@@ -171,23 +115,3 @@ goods_is_text case division facts valid is =
       fits = fits (length (map pos case.who.items)) case division facts valid is (sym count);
       text = refl;
     }
-
--- and short
-pub goods_text_short : (case : GoodsCase) (division : GoodsDivision) → TreeFacts case division → IsValidGoodsCase case → IsGoodsDivision case division
-    → length (text_saying (OfGoods (canonical_goods case division))) ≤ 4000000
-goods_text_short case division facts valid is =
-    let view = canonical_goods case division in
-    let goods : ℕ = case.facts.goods in
-    let n : ℕ = length (map pos case.who.items) in
-    let same : player_count case ≡ n = sym (length-map case.who.items pos ∙ sym valid.each) in
-    let most = facts.players in
-    let few : n ≤ 12 = omega (arith, most, same) in
-    let front = text_short (front_forms n goods) (front_said view) (front_fits n case division facts valid is same) (brief n goods few valid.facts.counts.3) in
-    let parts : text_of (goods_forms n goods) (goods_said view) ≡ text_of (front_forms n goods) (front_said view) ++ text_of end_forms (end_said view) =
-    ap (λ (forms : List Form). text_of forms (goods_said view)) (sym (forms_are n goods)) ∙ ap (text_of (front_forms n goods ++ end_forms)) (sym (said_are view))
-    ∙ text-append (front_forms n goods) end_forms (front_said view) (end_said view) (as_many n case division same) in
-    let whole : length (text_of (front_forms n goods) (front_said view) ++ text_of end_forms (end_said view)) ≡ length (text_of (front_forms n goods) (front_said view)) + length (text_of end_forms (end_said view)) =
-    length-append (text_of (front_forms n goods) (front_said view)) (text_of end_forms (end_said view)) in
-    let long = ap length parts in
-    let marks = facts.few in
-    omega (arith, front, lines n goods, few, whole, long, ends view, marks)

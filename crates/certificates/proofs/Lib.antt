@@ -2,7 +2,6 @@ pub mod Rows
 pub mod SetLists
 pub mod Tables
 pub mod Fits
-pub mod Sizes
 pub mod RentTexts
 pub mod GoodsTexts
 pub mod FareTexts

@@ -1,6 +1,6 @@
 -- The canonical certificate of a rent is certificate text.
-use Rattle.std.proofs.Common.{◌≡◌, ℕ, pos, ◌+◌, ◌^◌, ◌<◌, ◌≤◌, List, [], ◌∷◌, ◌++◌, length, map, replicate, get_or, sum, refl, sym, ◌∙◌, subst, arith}
-use Rattle.std.proofs.lemmas.List.{length-append, length-map, length-replicate}
+use Rattle.std.proofs.Common.{◌≡◌, ℕ, pos, ◌^◌, ◌<◌, ◌≤◌, List, [], ◌∷◌, length, map, replicate, get_or, sum, refl, sym, ◌∙◌, subst, arith}
+use Rattle.std.proofs.lemmas.List.{length-map}
 use Rattle.std.proofs.lemmas.List.Elements.{All-from_get_or}
 use Rattle.arrayvec.specs.declared.array_vec.ArrayVec.{ArrayVec}
 use Rattle.bid_rules.specs.declared.rents.RentCase.{RentCase}
@@ -12,7 +12,6 @@ use Rattle.cert_reader.specs.Text.{CanSay, CanSayAll, IsText, Numbers}
 use Rattle.cert_reader.specs.Views.{OfRent, counts_of, rent_said, said_of, says}
 use Rattle.certificates.specs.Canonical.{text_saying}
 use Rattle.certificates.proofs.Fits.{can-append, fractions_fit, lead_fits, none_fits, numbers_fit, one_fits, rows_fit, small_again}
-use Rattle.certificates.proofs.Sizes.{AreBrief, brief-append, brief-replicate, text_short}
 use Rattle.rent_lines.specs.Lines.{canonical_rent}
 use Rattle.rent_maximin.specs.Division.{IsRentDivision}
 use Rattle.rent_maximin.specs.declared.division.RentDivision.{RentDivision}
@@ -72,32 +71,6 @@ fits n case division valid is prices same =
       ),
     )
 
--- a rent's lines have at most 24 numbers each, and there are at most 23 of them
-brief : (n : ℕ) → n ≤ 12 → AreBrief (rent_forms n)
-unfolding rent_forms
-brief n few =
-    let most : n ≤ 24 = omega (arith, few) in (
-      omega arith,
-      (
-        omega arith,
-        (
-          omega arith,
-          (
-            omega arith,
-            brief-append (replicate n (numbers_of word.Values n)) (rent_tail n) (brief-replicate n _ most) (most, (most, (most, (most, (most, (most, (omega arith, tt))))))),
-          ),
-        ),
-      ),
-    )
-
--- a rent has eleven lines, and one a member
-lines : (n : ℕ) → length (rent_forms n) ≡ n + 11
-unfolding rent_forms
-lines n =
-    let count : length (replicate n (numbers_of word.Values n) ++ rent_tail n) ≡ length (replicate n (numbers_of word.Values n)) + 7 = length-append (replicate n (numbers_of word.Values n)) (rent_tail n) in
-    let rows : length (replicate n (numbers_of word.Values n)) ≡ n = length-replicate n (numbers_of word.Values n) in
-    omega (arith, count, rows)
-
 -- the canonical text is certificate text
 pub rent_is_text : (case : RentCase) (division : RentDivision) → IsValidRentCase case → IsRentDivision case division → AreShort division.prices.items
     → IsText (text_saying (OfRent (canonical_rent case division))) (counts_of (OfRent (canonical_rent case division))) (said_of (OfRent (canonical_rent case division)))
@@ -111,13 +84,3 @@ rent_is_text case division valid is prices =
       fits = fits (length (map pos rooms)) case division valid is prices (sym count);
       text = refl;
     }
-
--- and short
-pub rent_text_short : (case : RentCase) (division : RentDivision) → IsValidRentCase case → IsRentDivision case division → AreShort division.prices.items
-    → length (text_saying (OfRent (canonical_rent case division))) ≤ 4000000
-rent_text_short case division valid is prices =
-    let text = rent_is_text case division valid is prices in
-    let n : ℕ = length (map pos division.best.rooms.items) in
-    let few : n ≤ 12 = text.are_counts.1 in
-    let short = text_short (rent_forms n) (rent_said (canonical_rent case division)) text.fits (brief n few) in
-    omega (arith, short, lines n, few)

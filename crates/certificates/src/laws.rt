@@ -7,6 +7,7 @@ ghost use Rattle.cert_reader.specs.declared.limits.TheConstants.{MOST_BYTES};
 ghost use Rattle.certificates.specs.Canonical.{IsCanonical};
 
 use cert_checker::certificate_verdict_law;
+use cert_reader::text_law;
 use fare_laws::{coalition_law, orders_law, route_cost_law};
 use fare_lines::fare_lines_law;
 use goods_laws::players_law;
@@ -35,4 +36,5 @@ pub fn certificate_law()
     rent_lines_law();
     route_cost_law();
     step_count_law();
+    text_law();
 }

@@ -19,7 +19,7 @@ pub enum Stop {
     BrokenRule { rule: u8 },
     /// The words are no row of the command table.
     BadWords,
-    /// The input has more bytes than the command's may have.
+    /// The input, or the certificate that a host replied with, has more bytes than it may have.
     TooLong,
     /// The input is no case.
     BadCase { fault: BodyFault },

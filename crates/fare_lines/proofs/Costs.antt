@@ -1,7 +1,8 @@
 -- Lines of route costs keep the rule on lines, and hold the costs.
-use Rattle.std.proofs.Common.{◌≡◌, ℕ, ℤ, zero, suc, pos, ◌+◌, ◌-◌, ◌^◌, ◌<◌, ◌≤◌, ◌==◌, ◌↔◌, List, [], ◌∷◌, length, map, get_or, unsigned_abs, All, Contains, arith, refl, sym, ap, ◌∙◌, subst}
+use Rattle.std.proofs.Common.{◌≡◌, ℕ, ℤ, zero, suc, pos, ◌+◌, ◌-◌, ◌^◌, ◌<◌, ◌≤◌, ◌==◌, ◌↔◌, List, [], length, map, get_or, unsigned_abs, All, Contains, arith, refl, sym, ap, ◌∙◌, subst}
 use Rattle.std.specs.List.{position_or_len}
 use Rattle.std.proofs.lemmas.List.{get_or-map}
+use Rattle.std.proofs.lemmas.List.Elements.{Contains-get_or}
 use Rattle.std.proofs.lemmas.List.FromFn.{get_or-map-range_with_len}
 use Rattle.std.proofs.lemmas.Nat.{pow_pos}
 use Rattle.bid_rules.specs.declared.cases.FareCase.{FareCase}
@@ -12,8 +13,9 @@ use Rattle.fare_laws.specs.Entries.{AreEntries, IsDeparture, cost_by, costs_from
 use Rattle.cert_reader.specs.Sets.{starts}
 use Rattle.fare_rules.specs.Entries.{HasLines, entry_of}
 use Rattle.split_lemmas.proofs.FilteredLists.{placed}
+use Rattle.split_lemmas.proofs.MappedLists.{map_same, map_same_on}
+use Rattle.split_lemmas.proofs.RiderPlaces.{start_place}
 use Rattle.fare_lines.specs.Lines.{cost_line, cost_lines}
-use Rattle.fare_lines.proofs.Members.{map_same}
 
 -- what is known of sets of riders and of what their routes cost
 pub record SetFacts : Type 0 where
@@ -41,11 +43,6 @@ entry_is facts case at (suc before) start =
     let own : get_or (cost_line case set) k (pos 0) ≡ f (get_or (starts n set) k 0) = get_or-map f (starts n set) k 0 (pos 0) there.0 in
     ap (λ (row : List ℤ). unsigned_abs (get_or row k (pos 0))) line ∙ ap unsigned_abs (own ∙ ap f there.1)
 
--- from a rider's place on it is the rider's
-start_place : (case : FareCase) (rider : ℕ) → 1 ≤ rider → start_of case rider ≡ place_of case rider
-start_place case zero low = absurd (omega arith)
-start_place case (suc rider) low = refl
-
 -- the entry behind a rider of a set
 entry_next : SetFacts → (case : FareCase) (set rider : ℕ) → set < 2 ^ length case.at.items → Contains (riders_in set) rider
     → entry_of (length case.at.items) (cost_lines case) rider (without set rider) ≡ route_cost case (place_of case rider) (riders_in (without set rider))
@@ -65,19 +62,13 @@ entry_next facts case set rider within here = by_set (without set rider) refl
         } in
         entry_is facts case rider (suc rest) start ∙ ap (λ (from : ℕ). route_cost case from (riders_in (suc rest))) (start_place case rider range.0)
 
--- functions that agree on the elements give equal lists
-map_within : (f g : ℕ → ℕ) (xs : List ℕ) → ((x : ℕ) → Contains xs x → f x ≡ g x) → map f xs ≡ map g xs
-map_within f g [] h = refl
-map_within f g (x ∷ xs) h =
-    ap (λ y. y ∷ map f xs) (h x (0, omega arith, refl))
-    ∙ ap (λ ys. g x ∷ ys) (map_within f g xs (λ y c. h y (suc c.0, (let l = c.1 in omega arith), c.2)))
-
 -- each cost is the least over the riders
 entry_least : SetFacts → (case : FareCase) (set at : ℕ) → 0 < set → set < 2 ^ length case.at.items
     → costs_from case at set ≡ least (map (entry_by case (entry_of (length case.at.items) (cost_lines case)) at set) (riders_in set))
 entry_least facts case set at some within =
     facts.recurrence case (start_of case at) set some
-    ∙ ap least (map_within (cost_by case (start_of case at) set) (entry_by case (entry_of (length case.at.items) (cost_lines case)) at set) (riders_in set)
+    ∙ ap least (map_same_on (Contains (riders_in set)) (cost_by case (start_of case at) set) (entry_by case (entry_of (length case.at.items) (cost_lines case)) at set) (riders_in set)
+    (λ k d l. Contains-get_or (riders_in set) k d l)
     (λ rider here. ap (λ c. leg case.facts (start_of case at) (place_of case rider) + c) (sym (entry_next facts case set rider within here))))
 
 -- each set has its line

@@ -1,5 +1,5 @@
 -- The case with the most members: it stays valid, and its lines are the same.
-use Rattle.std.proofs.Common.{◌≡◌, ◌^◌, ℕ, zero, suc, pos, ◌-◌, List, [], ◌∷◌, length, map, refl, ap, ◌∙◌, arith}
+use Rattle.std.proofs.Common.{◌≡◌, ◌^◌, ℕ, zero, suc, pos, ◌-◌, List, length, refl, ap, ◌∙◌, arith}
 use Rattle.std.specs.List.{range_with_len}
 use Rattle.bid_rules.specs.declared.cases.FareCase.{FareCase}
 use Rattle.bid_rules.specs.Coalitions.{riders_in, start_of}
@@ -9,12 +9,8 @@ use Rattle.bid_rules.specs.declared.limits.TheConstants.{MOST_RIDERS}
 use Rattle.fare_laws.specs.Entries.{costs_from}
 use Rattle.cert_reader.specs.Sets.{starts}
 use Rattle.shapley_core.specs.Members.{with_members}
+use Rattle.split_lemmas.proofs.MappedLists.{map_same}
 use Rattle.fare_lines.specs.Lines.{cost_line, cost_lines}
-
--- functions that agree everywhere give equal lists
-pub map_same : {X Y : Type 0} (f g : X → Y) (xs : List X) → ((x : X) → f x ≡ g x) → map f xs ≡ map g xs
-map_same f g [] h = refl
-map_same f g (x ∷ xs) h = ap (λ y. y ∷ map f xs) (h x) ∙ ap (λ ys. g x ∷ ys) (map_same f g xs h)
 
 -- a valid case stays one with the most members
 pub still_valid : (case : FareCase) → IsValidFareCase case → IsValidFareCase (with_members case MOST_RIDERS)

@@ -21,7 +21,7 @@ use Rattle.fare_lines.proofs.Costs.{SetFacts, are_entries, has_lines}
 use Rattle.fare_lines.proofs.Members.{SameRoutes, lines_same, still_valid}
 use Rattle.fare_rules.specs.Entries.{HasLines, entry_of}
 use Rattle.fare_rules.specs.Rules.{fares_rule}
-use Rattle.cert_reader.specs.Views.{FaresView}
+use Rattle.cert_reader.specs.Layout.{FaresView}
 use Rattle.fare_rules.specs.Printed.{printed_case, printed_route}
 use Rattle.shapley_core.specs.declared.division.FareDivision.{FareDivision}
 use Rattle.shapley_core.specs.Division.{IsFareDivision}
@@ -116,5 +116,6 @@ fares_pass sets routes apart case division valid is = rule
     }
     rule (suc (suc (suc (suc zero)))) low high = shown (λ c k xs rows. IsLowestRoute c (entry_of k rows) 0 (2 ^ k - 1) xs)
         (routes.only most (entry_of n (cost_lines most)) route (are_entries sets most) least)
-    rule (suc (suc (suc (suc (suc number))))) low high = shown (λ c k xs rows. AllZip (λ rider fare. IsQuotient fare (sum_of_marginal_costs c rider) (factorial k)) (riders_of c) view.fares)
+    rule (suc (suc (suc (suc (suc zero))))) low high = shown (λ c k xs rows. AllZip (λ rider fare. IsQuotient fare (sum_of_marginal_costs c rider) (factorial k)) (riders_of c) view.fares)
         best.mean
+    rule (suc (suc (suc (suc (suc (suc number)))))) low high = absurd (omega arith)

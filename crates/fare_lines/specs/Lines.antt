@@ -3,7 +3,7 @@ use Rattle.std.specs.Prelude.{ℕ, ℤ, pos, List, length, map}
 use Rattle.bid_rules.specs.declared.cases.FareCase.{FareCase}
 use Rattle.fare_laws.specs.Entries.{costs_from}
 use Rattle.cert_reader.specs.Sets.{sets_of, starts}
-use Rattle.cert_reader.specs.Views.{FaresView}
+use Rattle.cert_reader.specs.Layout.{FaresView}
 use Rattle.shapley_core.specs.declared.division.FareDivision.{FareDivision}
 use Rattle.split_frac.specs.Frac.{fraction_of}
 

@@ -4,13 +4,13 @@ ghost use Rattle.bid_rules.specs.declared.cases.FareCase.{FareCase};
 ghost use Rattle.bid_rules.specs.declared.limits.TheConstants.{MOST_RIDERS};
 ghost use Rattle.bid_rules.specs.Facts.{IsValidFareCase};
 ghost use Rattle.fare_lines.specs.Lines.{canonical_fares};
-ghost use Rattle.fare_rules.specs.Rules.{fares_rule};
+ghost use Rattle.fare_rules.specs.Rules.{rules_of_fares};
 ghost use Rattle.fare_rules.specs.Printed.{printed_case};
 ghost use Rattle.shapley_core.specs.Division.{IsFareDivision};
 ghost use Rattle.shapley_core.specs.Members.{with_members};
 ghost use Rattle.shapley_core.specs.declared.division.FareDivision.{FareDivision};
 ghost use Rattle.verdicts.specs.declared.verdict.Verdict.TheVariants.{Yes};
-ghost use Rattle.verdicts.specs.Verdicts.{IsVerdict};
+ghost use Rattle.verdicts.specs.Verdicts.{IsVerdictOf};
 
 use fare_laws::{coalition_law, lowest_route_law, orders_law, route_set_law, without_rider_law};
 use fare_rules::starts_law;
@@ -20,7 +20,7 @@ use shapley_core::members_law;
 pub fn fare_lines_law()
     ensures case { (case : FareCase) (division : FareDivision) → printed_case (canonical_fares case division) ≡ with_members case MOST_RIDERS }
     ensures passes { (case : FareCase) (division : FareDivision) → IsValidFareCase case → IsFareDivision case division
-        → IsVerdict (fares_rule (canonical_fares case division)) 5 Yes }
+        → IsVerdictOf (rules_of_fares (canonical_fares case division)) Yes }
 {
     coalition_law();
     lowest_route_law();

@@ -9,15 +9,15 @@ use Rattle.bid_rules.specs.Fares.{IsLeastRoute, riders_of, sum_of_marginal_costs
 use Rattle.bid_rules.specs.Fractions.{Fraction, IsQuotient}
 use Rattle.bid_rules.specs.Orders.{factorial}
 use Rattle.fare_laws.specs.Entries.{AreEntries, IsLowestRoute, without}
-use Rattle.cert_reader.specs.Views.{FaresView}
+use Rattle.cert_reader.specs.Layout.{FaresView}
 use Rattle.fare_rules.specs.Entries.{HasLines, entry_of}
 use Rattle.fare_rules.specs.Head.{cost_line}
 use Rattle.fare_rules.specs.State.{StandsFor}
 use Rattle.fare_rules.specs.declared.state.FaresState.TheVariants.{Broken}
 use Rattle.fare_rules.specs.Printed.{printed_case, printed_route}
-use Rattle.fare_rules.specs.Rules.{AreMeans, HasCase, HasRoute, fares_rule}
+use Rattle.fare_rules.specs.Rules.{AreMeans, HasCase, HasRoute, fares_rule, rules_of_fares}
 use Rattle.verdicts.specs.declared.verdict.Verdict.TheVariants.{Yes, No}
-use Rattle.verdicts.specs.Verdicts.{AreKept, IsVerdict}
+use Rattle.verdicts.specs.Verdicts.{AreKept, IsVerdictOf}
 use Rattle.verdicts.proofs.Order.{none_asked, one_asked}
 
 -- the lowest riders go one way
@@ -42,7 +42,7 @@ pub two_kept : (view : FaresView) → HasCase view → HasLines (printed_case vi
 two_kept view has lines = one_asked (fares_rule view) 2 (one_asked (fares_rule view) 1 (none_asked (fares_rule view)) has) lines
 
 -- no order of the riders
-pub no_order : (view : FaresView) → AreKept (fares_rule view) 3 → (HasRoute view → ⊥) → IsVerdict (fares_rule view) 5 (No 3)
+pub no_order : (view : FaresView) → AreKept (fares_rule view) 3 → (HasRoute view → ⊥) → IsVerdictOf (rules_of_fares view) (No 3)
 no_order view kept none = (omega arith, omega arith, kept, none)
 
 -- and an order of them keeps the third rule
@@ -71,7 +71,7 @@ module _
 
     -- or another one
     pub route_broken : (view : FaresView) (route : List ℕ) → AreEntries (printed_case view) (length view.at) (entry_of (length view.at) view.sets) → IsLeastRoute (printed_case view) route
-        → (printed_route view ≡ route → ⊥) → AreKept (fares_rule view) 4 → IsVerdict (fares_rule view) 5 (No 4)
+        → (printed_route view ≡ route → ⊥) → AreKept (fares_rule view) 4 → IsVerdictOf (rules_of_fares view) (No 4)
     route_broken view route entries is other kept = (
       omega arith,
       omega arith,
@@ -80,7 +80,7 @@ module _
     )
 
 -- the fares last
-pub fares_broken : (view : FaresView) → AreKept (fares_rule view) 5 → (AreMeans view → ⊥) → IsVerdict (fares_rule view) 5 (No 5)
+pub fares_broken : (view : FaresView) → AreKept (fares_rule view) 5 → (AreMeans view → ⊥) → IsVerdictOf (rules_of_fares view) (No 5)
 fares_broken view kept none = (omega arith, omega arith, kept, none)
 
 -- with the least route the fourth rule is kept
@@ -88,7 +88,7 @@ pub four_kept : (view : FaresView) → AreKept (fares_rule view) 4 → fares_rul
 four_kept view kept holds = one_asked (fares_rule view) 4 kept holds
 
 -- with the fares all are
-pub all_kept : (view : FaresView) → AreKept (fares_rule view) 5 → AreMeans view → IsVerdict (fares_rule view) 5 Yes
+pub all_kept : (view : FaresView) → AreKept (fares_rule view) 5 → AreMeans view → IsVerdictOf (rules_of_fares view) Yes
 all_kept view kept means = one_asked (fares_rule view) 5 kept means
 
 -- the rule of the route, in the words of the list that was tested
@@ -122,17 +122,17 @@ tested_means view case count fares is same listed means =
     subst (λ k. AreMeansOf k count fares) (sym is) (subst (λ n. AreMeansOf (printed_case view) n fares) (sym same) (subst (AreMeansOf (printed_case view) (length view.at)) listed means))
 
 -- the head prints no case
-pub head_broken : (view : FaresView) → (HasCase view → ⊥) → IsVerdict (fares_rule view) 5 (No 1)
+pub head_broken : (view : FaresView) → (HasCase view → ⊥) → IsVerdictOf (rules_of_fares view) (No 1)
 head_broken view none = (omega arith, omega arith, none_asked (fares_rule view), none)
 
 -- some line is not as it is to be
-pub lines_broken : (view : FaresView) → HasCase view → (HasLines (printed_case view) (length view.at) view.sets → ⊥) → IsVerdict (fares_rule view) 5 (No 2)
+pub lines_broken : (view : FaresView) → HasCase view → (HasLines (printed_case view) (length view.at) view.sets → ⊥) → IsVerdictOf (rules_of_fares view) (No 2)
 lines_broken view has none = (omega arith, omega arith, one_asked (fares_rule view) 1 (none_asked (fares_rule view)) has, none)
 
 -- what was found broken before
 pub broken : (view : FaresView) (rule : ℕ)
     → (costs : HasLines (printed_case view) (length view.at) view.sets → (set : ℕ) → 0 < set → set < 2 ^ length view.at → slice_index_or view.sets (set - 1) [] ≡ cost_line (printed_case view) (length view.at) set)
-    → length view.sets + 1 ≡ 2 ^ length view.at → StandsFor view view.sets (Broken rule) → IsVerdict (fares_rule view) 5 (No rule)
-broken view rule costs full (inl none) = subst (λ r. IsVerdict (fares_rule view) 5 (No r)) (sym none.0) (head_broken view none.1)
-broken view rule costs full (inr other) = subst (λ r. IsVerdict (fares_rule view) 5 (No r)) (sym other.0)
+    → length view.sets + 1 ≡ 2 ^ length view.at → StandsFor view view.sets (Broken rule) → IsVerdictOf (rules_of_fares view) (No rule)
+broken view rule costs full (inl none) = subst (λ r. IsVerdictOf (rules_of_fares view) (No r)) (sym none.0) (head_broken view none.1)
+broken view rule costs full (inr other) = subst (λ r. IsVerdictOf (rules_of_fares view) (No r)) (sym other.0)
     (lines_broken view other.1 (λ lines. let found = other.2 in found.3 (costs lines found.0 found.1 (let l = found.2 in omega (arith, l, full)))))

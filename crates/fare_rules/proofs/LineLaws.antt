@@ -1,9 +1,9 @@
 -- Lines of sets that keep the recurrence say what routes cost, and lines that say what routes cost keep it.
-use Rattle.std.proofs.Common.{◌≡◌, ℕ, zero, suc, ℤ, pos, ◌+◌, ◌-◌, ◌^◌, ◌<◌, ◌≤◌, ◌==◌, ◌↔◌, List, [], ◌∷◌, length, map, get_or, All, Contains, arith, refl, sym, ap, ◌∙◌, unsigned_abs}
+use Rattle.std.proofs.Common.{◌≡◌, ℕ, zero, suc, ℤ, pos, ◌+◌, ◌-◌, ◌^◌, ◌<◌, ◌≤◌, ◌==◌, ◌↔◌, List, [], length, map, get_or, All, Contains, arith, refl, sym, ap, ◌∙◌, unsigned_abs}
 use Rattle.std.specs.Int.{bit_at}
 use Rattle.std.specs.List.{position_or_len}
 use Rattle.std.proofs.lemmas.List.{get_or-map}
-use Rattle.std.proofs.lemmas.List.Elements.{All-contains, All-head, All-tail, Contains-get_or}
+use Rattle.std.proofs.lemmas.List.Elements.{All-contains, Contains-get_or}
 use Rattle.bid_rules.specs.declared.cases.FareCase.{FareCase}
 use Rattle.bid_rules.specs.Coalitions.{riders_in, start_of}
 use Rattle.bid_rules.specs.Facts.{leg}
@@ -13,12 +13,8 @@ use Rattle.fare_laws.specs.Entries.{AreEntries, IsDeparture, cost_by, costs_from
 use Rattle.fare_rules.specs.Entries.{HasLines, entry_of, line_of}
 use Rattle.fare_rules.specs.Head.{AreCostLines, cost_line}
 use Rattle.split_lemmas.proofs.FilteredLists.{placed}
+use Rattle.split_lemmas.proofs.MappedLists.{map_same_on}
 use Rattle.fare_rules.proofs.StartLists.{listed, starts_apart, starts_within}
-
--- functions that agree on the elements of a list
-same_on : {Y : Type 0} (P : ℕ → Type 0) (f g : ℕ → Y) (xs : List ℕ) → All P xs → ((x : ℕ) → P x → f x ≡ g x) → map f xs ≡ map g xs
-same_on P f g [] each same = refl
-same_on P f g (x ∷ xs) each same = ap (λ y. y ∷ map f xs) (same x (All-head P x xs each)) ∙ ap (λ ys. g x ∷ ys) (same_on P f g xs (All-tail P x xs each) same)
 
 module _
     (bits : (set rider : ℕ) → Contains (riders_in set) rider ↔ (1 ≤ rider) × (bit_at set (rider - 1) ≡ 1))
@@ -52,7 +48,7 @@ module _
     pub are_costs : (case : FareCase) (n : ℕ) (lines : List (List ℤ)) → HasLines case n lines → (set : ℕ) → 0 < set → set < 2 ^ n → get_or lines (set - 1) [] ≡ cost_line case n set
     are_costs case n lines h set some small =
         let table = are_entries case n lines h in
-        h set some small ∙ same_on (λ at. IsDeparture n at set) (λ at. pos (least (map (entry_by case (entry_of n lines) at set) (riders_in set)))) (λ at. pos (costs_from case at set)) (starts n set)
+        h set some small ∙ map_same_on (λ at. IsDeparture n at set) (λ at. pos (least (map (entry_by case (entry_of n lines) at set) (riders_in set)))) (λ at. pos (costs_from case at set)) (starts n set)
         (departures n set some small)
         (λ at start. ap pos (sym (table.each at set start) ∙ entries case n (entry_of n lines) table at set start))
 
@@ -86,8 +82,8 @@ module _
     pub has_lines : (case : FareCase) (n : ℕ) (lines : List (List ℤ)) → AreCostLines case n lines → 2 ^ n ≤ length lines + 1 → HasLines case n lines
     has_lines case n lines are full set some small =
         are set some (omega (arith, full, small))
-        ∙ same_on (λ at. IsDeparture n at set) (λ at. pos (costs_from case at set)) (λ at. pos (least (map (entry_by case (entry_of n lines) at set) (riders_in set)))) (starts n set)
+        ∙ map_same_on (λ at. IsDeparture n at set) (λ at. pos (costs_from case at set)) (λ at. pos (least (map (entry_by case (entry_of n lines) at set) (riders_in set)))) (starts n set)
         (departures n set some small)
-        (λ at start. ap pos (recurrence case (start_of case at) set some ∙ ap least (same_on (Contains (riders_in set)) (cost_by case (start_of case at) set) (entry_by case (entry_of n lines) at set) (riders_in set)
+        (λ at start. ap pos (recurrence case (start_of case at) set some ∙ ap least (map_same_on (Contains (riders_in set)) (cost_by case (start_of case at) set) (entry_by case (entry_of n lines) at set) (riders_in set)
         (λ k d l. Contains-get_or (riders_in set) k d l)
         (λ rider there. first_cost case n lines are full at set rider small there))))

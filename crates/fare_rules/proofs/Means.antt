@@ -1,10 +1,8 @@
 -- The fares of all riders, one after another.
-use Rattle.std.proofs.Common.{arith, ◌≡◌, ◌≤◌, ◌<◌, ◌+◌, ℕ, suc, ℤ, pos, List, [], ◌∷◌, length, map, get_or, sym, subst, unsigned_abs, to_z, of_z}
-use Rattle.std.specs.Int.{w128}
+use Rattle.std.proofs.Common.{arith, ◌≡◌, ◌<◌, ◌+◌, ℕ, suc, pos, List, [], ◌∷◌, length, map, get_or, sym, subst}
 use Rattle.std.specs.List.{AllZip}
 use Rattle.std.proofs.lemmas.List.{length-map}
 use Rattle.std.proofs.lemmas.List.FromFn.{get_or-range_with_len, length-range_with_len}
-use Rattle.std.proofs.lemmas.Int.{ints}
 use Rattle.bid_rules.specs.declared.cases.FareCase.{FareCase}
 use Rattle.bid_rules.specs.Fares.{riders_of, sum_of_marginal_costs}
 use Rattle.bid_rules.specs.Fractions.{Fraction, IsQuotient}
@@ -12,10 +10,6 @@ use Rattle.bid_rules.specs.Orders.{factorial}
 use Rattle.split_frac.specs.Frac.{fraction_of}
 use Rattle.split_frac.specs.declared.frac.Frac.{Frac}
 use Rattle.split_lemmas.proofs.Zipped.{AllZip-get_or}
-
--- a sum within its range is kept whole
-pub kept_sum : (z : ℤ) → unsigned_abs z ≤ 39916800000000 → to_z w128 (of_z w128 z) ≡ z
-kept_sum z small = omega (arith, ints)
 
 -- the fare is the mean of the rider's marginal costs
 abbrev pub IsMean : FareCase → ℕ → ℕ → Fraction → Type 0

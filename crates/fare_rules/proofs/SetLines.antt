@@ -11,7 +11,7 @@ use Rattle.bid_rules.specs.Fares.{route_cost}
 use Rattle.cert_reader.specs.Sets.{starts}
 use Rattle.set_costs.specs.Table.{ListsCosts, route_costs}
 use Rattle.fare_rules.specs.Head.{AreCostLines, HasOtherLine, cost_line}
-use Rattle.cert_reader.specs.Views.{FaresView}
+use Rattle.cert_reader.specs.Layout.{FaresView}
 use Rattle.fare_rules.specs.Printed.{printed_case}
 use Rattle.fare_rules.specs.State.{StandsFor}
 use Rattle.fare_rules.specs.declared.state.FaresState.TheVariants.{Broken, Filling}

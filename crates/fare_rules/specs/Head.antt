@@ -2,7 +2,7 @@
 use Rattle.std.specs.Prelude.{◌≡◌, ◌≢◌, ℕ, ℤ, pos, ◌-◌, ◌<◌, ◌≤◌, List, [], length, map, slice_index_or}
 use Rattle.bid_rules.specs.declared.cases.FareCase.{FareCase}
 use Rattle.cert_reader.specs.Sets.{starts}
-use Rattle.cert_reader.specs.Views.{FaresView}
+use Rattle.cert_reader.specs.Layout.{FaresView}
 use Rattle.fare_laws.specs.Entries.{costs_from}
 
 -- the numbers of the head, of a text whose further lines are not looked at

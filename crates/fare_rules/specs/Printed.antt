@@ -2,7 +2,7 @@
 use Rattle.std.specs.Prelude.{ℕ, List, map, unsigned_abs}
 use Rattle.bid_rules.specs.declared.cases.FareCase.{FareCase}
 use Rattle.bid_rules.specs.declared.limits.TheConstants.{MOST_RIDERS}
-use Rattle.cert_reader.specs.Views.{FaresView}
+use Rattle.cert_reader.specs.Layout.{FaresView}
 
 -- the case with the numbers without a sign. A text counts no members, so they are as many as there may be
 abbrev pub printed_case : FaresView → FareCase

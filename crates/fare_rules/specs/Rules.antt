@@ -1,5 +1,5 @@
 -- The five rules that a certificate of fares keeps: they show its fares and route best (Shapley 1953).
-use Rattle.std.specs.Prelude.{ℕ, zero, suc, pos, ◌-◌, ◌^◌, ◌≤ℤ◌, length, All}
+use Rattle.std.specs.Prelude.{ℕ, pos, ◌-◌, ◌^◌, ◌≤ℤ◌, List, [], ◌∷◌, length, All}
 use Rattle.std.specs.List.{AllZip, range_with_len}
 use Rattle.std.specs.List.Sorted.{IsPermutation}
 use Rattle.bid_rules.specs.Facts.{IsValidFareCase}
@@ -8,8 +8,9 @@ use Rattle.bid_rules.specs.Fractions.{IsQuotient}
 use Rattle.bid_rules.specs.Orders.{factorial}
 use Rattle.fare_laws.specs.Entries.{IsLowestRoute}
 use Rattle.fare_rules.specs.Entries.{HasLines, entry_of}
-use Rattle.cert_reader.specs.Views.{FaresView}
+use Rattle.cert_reader.specs.Layout.{FaresView}
 use Rattle.fare_rules.specs.Printed.{printed_case, printed_route}
+use Rattle.verdicts.specs.Verdicts.{rule_at}
 
 -- the numbers are 0 or more, and a case: flag and legs in range, a place to itself 0, rising members up to 10, each with a place
 pub record HasCase (view : FaresView) : Type 0 where
@@ -28,11 +29,11 @@ pub record HasRoute (view : FaresView) : Type 0 where
 abbrev pub AreMeans : FaresView → Type 0
 AreMeans view = AllZip (λ rider fare. IsQuotient fare (sum_of_marginal_costs (printed_case view) rider) (factorial (length view.at))) (riders_of (printed_case view)) view.fares
 
--- the rule of a number, from 1 to 5
+-- the five rules, in their order
+abbrev pub rules_of_fares : FaresView → List (Type 0)
+rules_of_fares view = HasCase view ∷ HasLines (printed_case view) (length view.at) view.sets ∷ HasRoute view
+    ∷ IsLowestRoute (printed_case view) (entry_of (length view.at) view.sets) 0 (2 ^ length view.at - 1) (printed_route view) ∷ AreMeans view ∷ []
+
+-- the rule of a number, from 1
 abbrev pub fares_rule : FaresView → ℕ → Type 0
-fares_rule view zero = Unit {0}
-fares_rule view (suc zero) = HasCase view
-fares_rule view (suc (suc zero)) = HasLines (printed_case view) (length view.at) view.sets
-fares_rule view (suc (suc (suc zero))) = HasRoute view
-fares_rule view (suc (suc (suc (suc zero)))) = IsLowestRoute (printed_case view) (entry_of (length view.at) view.sets) 0 (2 ^ length view.at - 1) (printed_route view)
-fares_rule view (suc (suc (suc (suc (suc number))))) = AreMeans view
+fares_rule view number = rule_at (rules_of_fares view) number

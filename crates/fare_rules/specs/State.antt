@@ -1,7 +1,7 @@
 -- What a state stands for, after the head and some lines of sets.
 use Rattle.std.specs.Prelude.{◌≡◌, ◌⊎◌, ℤ, ◌+◌, List, length, map}
 use Rattle.set_costs.specs.Table.{ListsCosts}
-use Rattle.cert_reader.specs.Views.{FaresView}
+use Rattle.cert_reader.specs.Layout.{FaresView}
 use Rattle.fare_rules.specs.Head.{AreCostLines, HasOtherLine}
 use Rattle.fare_rules.specs.Rules.{HasCase}
 use Rattle.fare_rules.specs.Printed.{printed_case}

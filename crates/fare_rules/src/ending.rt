@@ -1,13 +1,13 @@
 // The rules of the route and of the fares, where the lines of all sets are as they are to be.
 ghost use Rattle.std.specs.Prelude.{◌≡◌, ◌≤◌, ◌↔◌, length, map, IsTrue};
 ghost use Rattle.cert_reader.specs.Numbers.{AreShort};
-ghost use Rattle.cert_reader.specs.Views.{FaresView};
+ghost use Rattle.cert_reader.specs.Layout.{FaresView};
 ghost use Rattle.fare_rules.specs.Entries.{HasLines};
 ghost use Rattle.fare_rules.specs.Printed.{printed_case};
-ghost use Rattle.fare_rules.specs.Rules.{HasCase, fares_rule};
+ghost use Rattle.fare_rules.specs.Rules.{HasCase, rules_of_fares};
 ghost use Rattle.set_costs.specs.Table.{HoldsCosts};
 ghost use Rattle.split_frac.specs.Frac.{fraction_of};
-ghost use Rattle.verdicts.specs.Verdicts.{IsVerdict};
+ghost use Rattle.verdicts.specs.Verdicts.{IsVerdictOf};
 
 use crate::fares::are_means;
 use crate::route::order_of;
@@ -31,7 +31,7 @@ pub(crate) fn verdict_of(case: &FareCase, rows: &[Row], route: &[i128], fares: &
     requires fares { length fares.now ≡ length case.now.at.items }
     requires short { AreShort fares.now }
     ensures { (view : FaresView) → HasCase view → case.now ≡ printed_case view → HasLines (printed_case view) (length view.at) view.sets → view.route ≡ route.now
-        → view.fares ≡ map fraction_of fares.now → IsVerdict (fares_rule view) 5 result }
+        → view.fares ≡ map fraction_of fares.now → IsVerdictOf (rules_of_fares view) result }
 {
     rows_law();
     coalition_law();

@@ -4,21 +4,21 @@ ghost use Rattle.bid_rules.specs.Coalitions.{riders_in};
 ghost use Rattle.bid_rules.specs.Facts.{IsValidFareCase};
 ghost use Rattle.bid_rules.specs.Fares.{FareBest};
 ghost use Rattle.cert_reader.specs.Sets.{starts};
-ghost use Rattle.cert_reader.specs.Views.{FaresView};
+ghost use Rattle.cert_reader.specs.Layout.{FaresView};
 ghost use Rattle.fare_laws.specs.Entries.{IsDeparture};
 ghost use Rattle.fare_rules.specs.Printed.{printed_case, printed_route};
-ghost use Rattle.fare_rules.specs.Rules.{fares_rule};
+ghost use Rattle.fare_rules.specs.Rules.{rules_of_fares};
 ghost use Rattle.verdicts.specs.declared.verdict.Verdict.{Verdict};
 ghost use Rattle.verdicts.specs.declared.verdict.Verdict.TheVariants.{Yes};
-ghost use Rattle.verdicts.specs.Verdicts.{IsVerdict};
+ghost use Rattle.verdicts.specs.Verdicts.{IsVerdictOf};
 
 use fare_laws::{coalition_law, lowest_route_law, route_set_law, without_rider_law};
 
 /// Where all rules hold, the printed case is one, and the printed fares and route are best for it (Shapley 1953). A text has one verdict.
 pub fn fares_certificate_law()
-    ensures valid { (view : FaresView) → IsVerdict (fares_rule view) 5 Yes → IsValidFareCase (printed_case view) }
-    ensures best { (view : FaresView) → IsVerdict (fares_rule view) 5 Yes → FareBest (printed_case view) view.fares (printed_route view) }
-    ensures one { (view : FaresView) (verdict other : Verdict) → IsVerdict (fares_rule view) 5 verdict → IsVerdict (fares_rule view) 5 other → verdict ≡ other }
+    ensures valid { (view : FaresView) → IsVerdictOf (rules_of_fares view) Yes → IsValidFareCase (printed_case view) }
+    ensures best { (view : FaresView) → IsVerdictOf (rules_of_fares view) Yes → FareBest (printed_case view) view.fares (printed_route view) }
+    ensures one { (view : FaresView) (verdict other : Verdict) → IsVerdictOf (rules_of_fares view) verdict → IsVerdictOf (rules_of_fares view) other → verdict ≡ other }
 {
     coalition_law();
     without_rider_law();

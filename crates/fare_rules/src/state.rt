@@ -2,15 +2,15 @@
 ghost use Rattle.std.specs.Prelude.{◌≡◌, ℕ, ℤ, ◌+◌, ◌^◌, ◌<◌, ◌≤◌, List, [], ◌∷◌, ◌++◌, length, map, IsTrue, ◌↔◌};
 ghost use Rattle.bid_rules.specs.declared.cases.FareCase.{FareCase};
 ghost use Rattle.cert_reader.specs.Numbers.{AreShort};
-ghost use Rattle.cert_reader.specs.Views.{FaresView};
+ghost use Rattle.cert_reader.specs.Layout.{FaresView};
 ghost use Rattle.fare_rules.specs.Head.{AreCostLines, HasHead, cost_line, head_of};
 ghost use Rattle.fare_rules.specs.Entries.{HasLines};
-ghost use Rattle.fare_rules.specs.Rules.{HasCase, fares_rule};
+ghost use Rattle.fare_rules.specs.Rules.{HasCase, rules_of_fares};
 ghost use Rattle.fare_rules.specs.State.{IsState, StandsFor};
 ghost use Rattle.fare_rules.specs.Printed.{printed_case};
 ghost use Rattle.set_costs.specs.Table.{HoldsCosts, ListsCosts};
 ghost use Rattle.split_frac.specs.Frac.{fraction_of};
-ghost use Rattle.verdicts.specs.Verdicts.{IsVerdict};
+ghost use Rattle.verdicts.specs.Verdicts.{IsVerdictOf};
 
 use crate::case::{PrintedRow, case_of};
 use crate::ending::verdict_of;
@@ -120,7 +120,7 @@ pub fn end_fares(state: &FaresState, route: &[i128], fares: &[Frac]) -> Verdict
     requires state { IsState state.now }
     requires short { AreShort fares.now }
     ensures { (view : FaresView) → StandsFor view view.sets state.now → length view.sets + 1 ≡ 2 ^ length view.at → view.route ≡ route.now → view.fares ≡ map fraction_of fares.now
-        → length view.route ≡ length view.at → length view.fares ≡ length view.at → IsVerdict (fares_rule view) 5 result }
+        → length view.route ≡ length view.at → length view.fares ≡ length view.at → IsVerdictOf (rules_of_fares view) result }
 {
     without_rider_law();
     coalition_law();
@@ -137,7 +137,7 @@ fn end_filling(case: &FareCase, rows: &[Row], route: &[i128], fares: &[Frac]) ->
     requires short { AreShort fares.now }
     ensures { length rows.now ≡ 2 ^ length case.now.at.items → length route.now ≡ length case.now.at.items → length fares.now ≡ length case.now.at.items
         → (view : FaresView) → HasCase view → case.now ≡ printed_case view → HasLines (printed_case view) (length view.at) view.sets → view.route ≡ route.now
-        → view.fares ≡ map fraction_of fares.now → IsVerdict (fares_rule view) 5 result }
+        → view.fares ≡ map fraction_of fares.now → IsVerdictOf (rules_of_fares view) result }
 {
     coalition_law();
     let count = case.at.len();

@@ -1,13 +1,15 @@
--- A division of goods has one audit.
-use Rattle.std.proofs.Common.{◌≡◌, ◌⊎◌, ⊎_elim, ℕ, zero, suc, ◌+◌, ◌-◌, ◌<◌, ◌≤◌, ◌==◌, ◌++◌, List, [], ◌∷◌, Contains, cond, codes, flat_map, get_or, length, map, None, arith, refl, sym, ap, ◌∙◌}
+-- Owners of goods have one audit.
+use Rattle.std.proofs.Common.{◌≡◌, ◌⊎◌, ⊎_elim, ℕ, zero, suc, ◌+◌, ◌-◌, ◌<◌, ◌≤◌, ◌==◌, ◌++◌, List, [], ◌∷◌, cond, codes, flat_map, get_or, length, None, Some, arith, refl, sym, ap, ◌∙◌, subst}
+use Rattle.std.specs.Prelude.{Option}
 use Rattle.std.specs.List.{range_with_len}
+use Rattle.std.specs.Option.{option_map}
 use Rattle.std.specs.Fmt.{decimal}
 use Rattle.std.proofs.lemmas.List.{get_or-map}
 use Rattle.std.proofs.lemmas.List.Elements.{All-contains}
 use Rattle.arrayvec.specs.declared.array_vec.ArrayVec.{ArrayVec}
 use Rattle.bid_rules.specs.declared.goods.GoodsCase.{GoodsCase}
 use Rattle.bid_rules.specs.declared.limits.TheConstants.{MEMBER_ROOM}
-use Rattle.bid_rules.specs.Goods.{in_search_order, pair_of, player_count, points}
+use Rattle.bid_rules.specs.Goods.{in_search_order, owners_by_good, pair_of, player_count, points}
 use Rattle.envy_check.specs.declared.goods.Ef1.{Ef1}
 use Rattle.envy_check.specs.declared.goods.Ef1.TheVariants.{Content, Without, Fails}
 use Rattle.envy_check.specs.Goods.{IsEf1, IsEf1Table, IsMostValued, goods_of}
@@ -15,7 +17,9 @@ use Rattle.player_lines.specs.Lines.{lines_to}
 use Rattle.player_lines.specs.Names.{NamesData}
 use Rattle.player_lines.specs.Players.{player_line, player_member}
 use Rattle.split_text.specs.Texts.{line_of}
-use Rattle.goods_audit.specs.Texts.{IsAuditText, answer_at, answers, audit_lines, audit_title, better_line, ef1_text, envy_line, envy_lines, welfare_line}
+use Rattle.split_lemmas.proofs.ListOrder.{same_from_neither}
+use Rattle.goods_audit.specs.Domination.{IsBetterDivision, OwnersByGood}
+use Rattle.goods_audit.specs.Texts.{IsAuditText, answer_at, answers, audit_title, better_line, ef1_text, envy_line, envy_lines, welfare_line}
 
 -- a table of answers by player and by other player
 abbrev Table : Type 0
@@ -91,11 +95,29 @@ same_envies case table others same =
     (λ player low high. same_lines (player_count case) (envy_line case table player) (envy_line case others player)
     (λ other first last. ap (λ (answer : Ef1). line_with case player other answer) (same player other low high first last)))
 
--- so the texts of owners beside which nothing is told, or one allocation, are the same
-pub one_text : (given : NamesData) (case : GoodsCase) (owners text other : List ℕ) → IsAuditText given case owners None text → IsAuditText given case owners None other → text ≡ other
-one_text given case owners text other is was =
+-- so the texts of owners beside which the same is told are the same
+pub one_text : (given : NamesData) (case : GoodsCase) (owners : List ℕ) (better : Option (List ℕ)) (text other : List ℕ) → IsAuditText given case owners better text → IsAuditText given case owners better other → text ≡ other
+one_text given case owners better text other is was =
     let lines = same_envies case (answers is.0) (answers was.0) (same_answers case owners is.0 was.0 is.1 was.1) in
     let pair = pair_of case (in_search_order case owners) in
     is.2
-    ∙ ap (λ (xs : List ℕ). audit_title given ++ lines_to (player_count case) (player_line given case owners) ++ welfare_line pair ++ xs ++ better_line case None) lines
+    ∙ ap (λ (xs : List ℕ). audit_title given ++ lines_to (player_count case) (player_line given case owners) ++ welfare_line pair ++ xs ++ better_line case better) lines
     ∙ sym was.2
+
+-- there is one least division that dominates the owners, or none
+same_better : (case : GoodsCase) (owners : List ℕ) (a b : Option OwnersByGood) → IsBetterDivision case owners a → IsBetterDivision case owners b
+    → option_map (λ others. others.items) a ≡ option_map (λ others. others.items) b
+same_better case owners None None is was = refl
+same_better case owners None (Some b) is was = absurd (is was.0 was.1.allocation was.1.dominates)
+same_better case owners (Some a) None is was = absurd (was is.0 is.1.allocation is.1.dominates)
+same_better case owners (Some a) (Some b) is was =
+    let same : is.0 ≡ was.0 = same_from_neither is.0 was.0 (was.1.least is.0 is.1.allocation is.1.dominates) (is.1.least was.0 was.1.allocation was.1.dominates) in
+    ap Some (is.2 ∙ ap (owners_by_good case) same ∙ sym was.2)
+
+-- and so are those that tell the least division that dominates the owners
+pub one_audit : (given : NamesData) (case : GoodsCase) (owners : List ℕ) (better another : Option OwnersByGood) (text other : List ℕ)
+    → IsBetterDivision case (in_search_order case owners) better → IsBetterDivision case (in_search_order case owners) another
+    → IsAuditText given case owners (option_map (λ others. others.items) better) text → IsAuditText given case owners (option_map (λ others. others.items) another) other → text ≡ other
+one_audit given case owners better another text other least too is was =
+    let same = same_better case (in_search_order case owners) better another least too in
+    one_text given case owners (option_map (λ others. others.items) another) text other (subst (λ (o : Option (List ℕ)). IsAuditText given case owners o text) same is) was

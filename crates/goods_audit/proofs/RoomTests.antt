@@ -1,21 +1,19 @@
 -- What the lanes say of room.
-use Rattle.std.proofs.Common.{◌≡◌, ℕ, ◌+◌, ◌-◌, ◌<◌, ◌≤◌, ◌&&◌, Bool, true, false, nat_le, nat_lt, List, length, get_or, sum, arith, refl, sym, ap, ◌∙◌}
-use Rattle.std.specs.List.{list_all, range_with_len}
-use Rattle.std.proofs.lemmas.Bool.Decides.{nat_tests}
+use Rattle.std.proofs.Common.{◌≡◌, ℕ, ◌-◌, ◌<◌, ◌≤◌, Bool, true, false, List, length, get_or, arith, refl, sym, ap, ◌∙◌}
 use Rattle.std.proofs.lemmas.List.FromFn.{get_or-map-range_with_len}
 use Rattle.bid_rules.specs.declared.goods.GoodsCase.{GoodsCase}
 use Rattle.bid_rules.specs.declared.limits.TheConstants.{MEMBER_ROOM}
-use Rattle.bid_rules.specs.Goods.{player_count, utilities}
+use Rattle.nash_bounds.specs.declared.limits.TheConstants.{LANES}
+use Rattle.bid_rules.specs.Goods.{player_count}
 use Rattle.nash_bounds.specs.declared.lanes.Lanes.{Lanes}
 use Rattle.nash_bounds.specs.Lanes.{IsLanes, by_lane, has, may_have}
-use Rattle.nash_bounds.specs.Prefixes.{top_of}
 use Rattle.goods_audit.specs.Domination.{is_open}
 use Rattle.goods_audit.proofs.WholeDivisions.{OrderLong, open_from, open_to, whole_top}
 
 -- a player's entry in the lanes
-lane_entry : (f : ℕ → ℕ) (lanes : List ℕ) (player : ℕ) → lanes ≡ by_lane f → 1 ≤ player → player ≤ MEMBER_ROOM → get_or lanes (player - 1) 0 ≡ f player
+lane_entry : (f : ℕ → ℕ) (lanes : List ℕ) (player : ℕ) → lanes ≡ by_lane f → 1 ≤ player → player ≤ LANES → get_or lanes (player - 1) 0 ≡ f player
 lane_entry f lanes player is low high =
-    ap (λ xs. get_or xs (player - 1) 0) is ∙ get_or-map-range_with_len f 1 MEMBER_ROOM (player - 1) player 0 (omega (arith, low, high)) (omega (arith, low))
+    ap (λ xs. get_or xs (player - 1) 0) is ∙ get_or-map-range_with_len f 1 LANES (player - 1) player 0 (omega (arith, low, high)) (omega (arith, low))
 
 -- where all together may have no more, there is no room
 pub no_room_top : OrderLong → (case : GoodsCase) (owners prefix : List ℕ) (whole lanes : Lanes) → length owners ≡ case.facts.goods → IsLanes case owners whole → IsLanes case prefix lanes → lanes.top ≤ whole.top

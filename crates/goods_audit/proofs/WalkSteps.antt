@@ -1,12 +1,12 @@
 -- What seeing one prefix does to the count and to what is found first.
-use Rattle.std.proofs.Common.{◌≡◌, ℕ, suc, zero, ◌+◌, ◌-◌, ◌<◌, ◌≤◌, Bool, true, false, List, [], ◌∷◌, ◌++◌, All, length, count_by, Option, Some, None, arith, refl, sym, ap, ◌∙◌, subst}
+use Rattle.std.proofs.Common.{◌≡◌, ℕ, ◌+◌, ◌-◌, ◌<◌, ◌≤◌, true, false, List, ◌∷◌, ◌++◌, length, count_by, Option, Some, None, arith, refl, sym, ap, ◌∙◌, subst}
 use Rattle.bid_rules.specs.declared.goods.GoodsCase.{GoodsCase}
 use Rattle.bid_rules.specs.Goods.{player_count}
 use Rattle.nash_bounds.specs.OwnerLists.{below}
 use Rattle.goods_audit.specs.Domination.{OwnersByGood, is_open}
 use Rattle.goods_audit.specs.Paths.{IsFirst, found_in, later_ones, to_come}
 use Rattle.goods_audit.proofs.OpenPrefixes.{PointsFall, TopFalls, count_parts, found_parts, none_counted, none_found, one_counted, short_not_found, shut_below, whole_found}
-use Rattle.goods_audit.proofs.PathLists.{come_down, come_of}
+use Rattle.goods_audit.proofs.PathLists.{come_of}
 
 -- where the same is found in what is to come, the first that is found is the same
 same_first : (case : GoodsCase) (owners : List ℕ) (all rest next : List (List ℕ)) (first : Option OwnersByGood) → found_in case owners rest ≡ found_in case owners next → IsFirst case owners all rest first → IsFirst case owners all next first

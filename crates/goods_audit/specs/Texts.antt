@@ -1,6 +1,5 @@
 -- The text of an audit of goods.
-use Rattle.std.specs.Prelude.{◌≡◌, ℕ, ◌-◌, ◌==◌, List, [], ◌∷◌, ◌++◌, codes, cond, flat_map, map, slice_index_or, Option, Some, None}
-use Rattle.std.specs.List.{range_with_len}
+use Rattle.std.specs.Prelude.{◌≡◌, ℕ, ◌-◌, ◌==◌, List, [], ◌∷◌, ◌++◌, codes, cond, map, slice_index_or, Option, Some, None}
 use Rattle.std.specs.Fmt.{decimal}
 use Rattle.arrayvec.specs.declared.array_vec.ArrayVec.{ArrayVec}
 use Rattle.bid_rules.specs.declared.goods.GoodsCase.{GoodsCase}

@@ -1,11 +1,13 @@
 // What holds of audits, for all cases: each law is the contract of a function that does nothing.
 ghost use Rattle.std.specs.Prelude.{◌≡◌, ℕ, List, Option, None};
+ghost use Rattle.std.specs.Option.{option_map};
 ghost use Rattle.bid_rules.specs.declared.goods.GoodsCase.{GoodsCase};
 ghost use Rattle.bid_rules.specs.Goods.{Dominates, IsAllocation, in_search_order};
 ghost use Rattle.envy_check.specs.Fairness.{AreBestOwners};
 ghost use Rattle.nash_search.specs.declared.division.GoodsDivision.{GoodsDivision};
 ghost use Rattle.nash_search.specs.Division.{IsGoodsDivision};
 ghost use Rattle.player_lines.specs.Names.{NamesData};
+ghost use Rattle.goods_audit.specs.Domination.{IsBetterDivision, OwnersByGood};
 ghost use Rattle.goods_audit.specs.Texts.{IsAuditText, IsDivisionAudit, SaysFair};
 
 use envy_check::one_good_law;
@@ -25,10 +27,13 @@ pub fn fair_audit_law()
 }
 
 /// Since a case has one division by the solver, it has one audit under the names of its members and goods: there is one answer on each two
-/// players.
+/// players. And so have any owners, where it tells the least division that dominates theirs, or that none does.
 pub fn one_goods_audit_law()
-    ensures { (given : NamesData) (case : GoodsCase) (division others : GoodsDivision) (text other : List ℕ) → IsGoodsDivision case division → IsGoodsDivision case others
+    ensures division { (given : NamesData) (case : GoodsCase) (division others : GoodsDivision) (text other : List ℕ) → IsGoodsDivision case division → IsGoodsDivision case others
         → IsDivisionAudit given case division text → IsDivisionAudit given case others other → text ≡ other }
+    ensures owners { (given : NamesData) (case : GoodsCase) (owners : List ℕ) (better another : Option OwnersByGood) (text other : List ℕ)
+        → IsBetterDivision case (in_search_order case owners) better → IsBetterDivision case (in_search_order case owners) another
+        → IsAuditText given case owners (option_map (λ others. others.items) better) text → IsAuditText given case owners (option_map (λ others. others.items) another) other → text ≡ other }
 {
     step_count_law();
 }

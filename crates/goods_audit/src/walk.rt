@@ -18,8 +18,10 @@ fn may_all_have(case: &GoodsCase, whole: &Lanes, lanes: &Lanes) -> bool
     ensures each { result ≡ true → (player : ℕ) → 1 ≤ player → player ≤ player_count case.now → slice_index whole.now.low (player - 1) ≤ slice_index lanes.now.high (player - 1) }
     ensures some { result ≡ false → (player : ℕ) × (1 ≤ player) × (player ≤ player_count case.now) × (slice_index lanes.now.high (player - 1) < slice_index whole.now.low (player - 1)) }
 {
+    let had = whole.low.as_array();
+    let may_have = lanes.high.as_array();
     for k in 0..players(case) as usize {
-        if lanes.high[k] < whole.low[k] {
+        if may_have[k] < had[k] {
             return false;
         }
     }

@@ -1,8 +1,9 @@
 -- The answer of a division, and the node at which its tree begins.
-use Rattle.std.proofs.Common.{◌≡◌, ℕ, List, [], length, take, Bool, true, false, ◌⊎◌, ⊎_elim, refl, sym, ap, ◌∙◌, subst}
+use Rattle.std.proofs.Common.{◌≡◌, ℕ, List, [], length, take, true, false, ◌⊎◌, ⊎_elim, sym, ap, ◌∙◌, subst}
 use Rattle.std.specs.Cmp.Lexicographic.{slice_cmp}
 use Rattle.std.specs.Ordering.{nat_cmp}
 use Rattle.std.specs.declared.cmp.Ordering.TheVariants.{Greater}
+use Rattle.std.proofs.lemmas.Bool.{false_from_ne_true}
 use Rattle.bid_rules.specs.declared.goods.GoodsCase.{GoodsCase}
 use Rattle.bid_rules.specs.Goods.{GoodsBest, in_search_order, owners_by_good, pair_of}
 use Rattle.bid_rules.specs.Pairs.{IsAtMost, IsLess}
@@ -33,11 +34,6 @@ best_answer again case division (owners, best, by_good, pair) =
       pair = pair ∙ ap (pair_of case) (sym same);
     }
 
--- what is not true is false
-not_true : (b : Bool) → (b ≡ true → ⊥) → b ≡ false
-not_true true h = absurd (h refl)
-not_true false h = refl
-
 -- no owners are not after those of an answer
 no_owners : (answer : List ℕ) → slice_cmp nat_cmp [] (take 0 answer) ≡ Greater → ⊥
 no_owners answer e = absurd (cc)
@@ -47,6 +43,6 @@ pub root_open : (case : GoodsCase) (answer : List ℕ) → IsAtMost (pair_of cas
     → (may_be_left case answer [] ≡ true → IsLess (prefix_bound case []) (pair_of case answer)
     ⊎ ((prefix_bound case [] ≡ pair_of case answer) × (slice_cmp nat_cmp [] (take 0 answer) ≡ Greater)))
     → may_be_left case answer [] ≡ false
-root_open case answer most left = not_true (may_be_left case answer [])
+root_open case answer most left = false_from_ne_true (may_be_left case answer [])
     (λ h. ⊎_elim (λ (less : IsLess (prefix_bound case []) (pair_of case answer)). less_not _ _ less most)
     (λ (both : (prefix_bound case [] ≡ pair_of case answer) × (slice_cmp nat_cmp [] (take 0 answer) ≡ Greater)). no_owners answer both.1) (left h))

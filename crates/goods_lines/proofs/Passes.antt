@@ -92,4 +92,8 @@ goods_pass facts same again case division valid is whole = rule
       valid = subst IsValidGoodsCase (sym printed) (still_valid case valid);
     }
     rule (suc (suc zero)) low high = owners
-    rule (suc (suc (suc number))) low high = tree (suc (suc (suc number)))
+    rule (suc (suc (suc zero))) low high = tree 3
+    rule (suc (suc (suc (suc zero)))) low high = tree 4
+    rule (suc (suc (suc (suc (suc zero))))) low high = tree 5
+    rule (suc (suc (suc (suc (suc (suc zero)))))) low high = tree 6
+    rule (suc (suc (suc (suc (suc (suc (suc number))))))) low high = absurd (omega arith)

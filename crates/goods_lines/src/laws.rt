@@ -6,12 +6,12 @@ ghost use Rattle.bid_rules.specs.Goods.{GoodsBest, IsValidGoodsCase, player_coun
 ghost use Rattle.cert_reader.specs.Text.{IsMark};
 ghost use Rattle.goods_lines.specs.Lines.{answer_of, canonical_goods, canonical_tree};
 ghost use Rattle.goods_rules.specs.Printed.{printed_case};
-ghost use Rattle.goods_rules.specs.Rules.{goods_rule};
+ghost use Rattle.goods_rules.specs.Rules.{rules_of_goods};
 ghost use Rattle.nash_bounds.specs.declared.limits.TheConstants.{MOST_SHORTER};
 ghost use Rattle.nash_search.specs.Division.{IsGoodsDivision};
 ghost use Rattle.nash_search.specs.declared.division.GoodsDivision.{GoodsDivision};
 ghost use Rattle.verdicts.specs.declared.verdict.Verdict.TheVariants.{Yes};
-ghost use Rattle.verdicts.specs.Verdicts.{IsVerdict};
+ghost use Rattle.verdicts.specs.Verdicts.{IsVerdictOf};
 
 use goods_laws::players_law;
 use nash_bounds::{bound_law, open_prefixes_law, owners_by_good_law, whole_list_law};
@@ -23,7 +23,7 @@ pub fn goods_lines_law()
     ensures case { (case : GoodsCase) (division : GoodsDivision) → printed_case (canonical_goods case division) ≡ with_members case MOST_MEMBERS }
     ensures answer { (case : GoodsCase) (division : GoodsDivision) → IsGoodsDivision case division → GoodsBest case (answer_of case division) }
     ensures passes { (case : GoodsCase) (division : GoodsDivision) → IsValidGoodsCase case → IsGoodsDivision case division
-        → IsVerdict (goods_rule (canonical_goods case division)) 6 Yes }
+        → IsVerdictOf (rules_of_goods (canonical_goods case division)) Yes }
     ensures marks { (case : GoodsCase) (division : GoodsDivision) → (1 ≤ length (canonical_tree case division)) × All IsMark (canonical_tree case division) }
     ensures few { (case : GoodsCase) (division : GoodsDivision) → IsValidGoodsCase case → IsGoodsDivision case division
         → length (canonical_tree case division) ≤ player_count case * (division.steps + MOST_SHORTER) + 1 }

@@ -31,11 +31,15 @@ tree_same view taken answer walk number h =
     (subst (λ (case : GoodsCase). IsTrue (holds_so_far walk.kept number) × IsTrue walk.whole ↔ IsRuledTree case answer.owners.items number taken) h.is_case both)
 
 -- each rule holds where the walk says so
-pub rules_same : (view : GoodsView) (answer : Answer) (walk : Walk) → IsWalked view view.marks answer walk → (number : ℕ) → 1 ≤ number → walk_rule walk number ↔ goods_rule view number
-rules_same view answer walk h zero low = absurd (omega arith)
-rules_same view answer walk h (suc zero) low = (λ _. h.case, λ _. tt)
-rules_same view answer walk h (suc (suc zero)) low = (λ _. h.owners, λ _. tt)
-rules_same view answer walk h (suc (suc (suc number))) low = tree_same view view.marks answer walk (suc (suc (suc number))) h
+pub rules_same : (view : GoodsView) (answer : Answer) (walk : Walk) → IsWalked view view.marks answer walk → (number : ℕ) → 1 ≤ number → number ≤ 6 → walk_rule walk number ↔ goods_rule view number
+rules_same view answer walk h zero low high = absurd (omega arith)
+rules_same view answer walk h (suc zero) low high = (λ _. h.case, λ _. tt)
+rules_same view answer walk h (suc (suc zero)) low high = (λ _. h.owners, λ _. tt)
+rules_same view answer walk h (suc (suc (suc zero))) low high = tree_same view view.marks answer walk 3 h
+rules_same view answer walk h (suc (suc (suc (suc zero)))) low high = tree_same view view.marks answer walk 4 h
+rules_same view answer walk h (suc (suc (suc (suc (suc zero))))) low high = tree_same view view.marks answer walk 5 h
+rules_same view answer walk h (suc (suc (suc (suc (suc (suc zero)))))) low high = tree_same view view.marks answer walk 6 h
+rules_same view answer walk h (suc (suc (suc (suc (suc (suc (suc number))))))) low high = absurd (omega arith)
 
 -- one mark more was taken
 pub one_taken : (view : GoodsView) (taken : List ℕ) (answer : Answer) (walk new : Walk) (mark : ℕ)

@@ -1,5 +1,5 @@
 -- The six rules that a certificate of goods keeps: they show its owners best (Caragiannis and others 2016).
-use Rattle.std.specs.Prelude.{◌≡◌, ℕ, zero, suc, pos, ◌<◌, ◌≤◌, ◌≤ℤ◌, List, length, All, true}
+use Rattle.std.specs.Prelude.{◌≡◌, ℕ, zero, suc, pos, ◌<◌, ◌≤◌, ◌≤ℤ◌, List, [], ◌∷◌, length, All, true}
 use Rattle.bid_rules.specs.declared.goods.GoodsCase.{GoodsCase}
 use Rattle.bid_rules.specs.Goods.{IsValidGoodsCase, player_count}
 use Rattle.cert_reader.specs.GoodsViews.{GoodsView}
@@ -7,6 +7,7 @@ use Rattle.cert_reader.specs.declared.marks.TheConstants.{ANSWER_LEAF, LEFT_OUT}
 use Rattle.nash_bounds.specs.LeftOut.{may_be_left}
 use Rattle.goods_rules.specs.Printed.{printed_answer, printed_case}
 use Rattle.goods_rules.specs.Tree.{IsTree}
+use Rattle.verdicts.specs.Verdicts.{rule_at}
 
 -- the numbers are 0 or more, and a case: the limit in range, rising members up to 12, and points that sum to 1000
 pub record HasCase (view : GoodsView) : Type 0 where
@@ -35,9 +36,14 @@ leaf_rule case answer (suc (suc (suc (suc (suc (suc number)))))) prefix mark = m
 abbrev pub IsRuledTree : GoodsCase → List ℕ → ℕ → List ℕ → Type 0
 IsRuledTree case answer number marks = IsTree (leaf_rule case answer number) (player_count case) case.facts.goods marks
 
--- the rule of a number, from 1 to 6. The number of steps is not judged
+-- the printed marks are one tree, of whose leaves the rule of the number holds
+abbrev pub HasTree : GoodsView → ℕ → Type 0
+HasTree view number = IsRuledTree (printed_case view) (printed_answer view) number view.marks
+
+-- the six rules, in their order. The number of steps is not judged
+abbrev pub rules_of_goods : GoodsView → List (Type 0)
+rules_of_goods view = HasCase view ∷ HasOwners view ∷ HasTree view 3 ∷ HasTree view 4 ∷ HasTree view 5 ∷ HasTree view 6 ∷ []
+
+-- the rule of a number, from 1
 abbrev pub goods_rule : GoodsView → ℕ → Type 0
-goods_rule view zero = Unit {0}
-goods_rule view (suc zero) = HasCase view
-goods_rule view (suc (suc zero)) = HasOwners view
-goods_rule view (suc (suc (suc number))) = IsRuledTree (printed_case view) (printed_answer view) (suc (suc (suc number))) view.marks
+goods_rule view number = rule_at (rules_of_goods view) number

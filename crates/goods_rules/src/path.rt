@@ -16,6 +16,7 @@ use nash_bounds::{
     Flat, Lanes, bound, empty_prefix, flat_of, fork, give, lanes_of, may_reach, next_bound,
     open_prefixes_law, whole_list_law,
 };
+use std::simd::prelude::*;
 
 /// What the children of an inner node are judged by.
 #[derive(Clone, Copy)]
@@ -31,13 +32,13 @@ impl Default for Parent {
     fn default() -> Parent {
         Parent {
             lanes: Lanes {
-                low: [0; MEMBER_ROOM],
-                high: [0; MEMBER_ROOM],
+                low: u16x16::splat(0),
+                high: u16x16::splat(0),
                 top: 0,
             },
             flat: Flat {
                 level: 1,
-                entries: [0; MEMBER_ROOM],
+                entries: u16x16::splat(0),
                 total: 0,
                 open_lanes: 0,
                 units: 1,

@@ -2,9 +2,9 @@
 ghost use Rattle.std.specs.Prelude.{◌≡◌, ℕ, ℤ, ◌≤◌, List, [], ◌∷◌, ◌++◌, length, map};
 ghost use Rattle.bid_rules.specs.declared.limits.TheConstants.{ITEM_ROOM, MEMBER_ROOM};
 ghost use Rattle.cert_reader.specs.GoodsViews.{GoodsView};
-ghost use Rattle.goods_rules.specs.Rules.{goods_rule};
+ghost use Rattle.goods_rules.specs.Rules.{rules_of_goods};
 ghost use Rattle.goods_rules.specs.State.{IsState, StandsFor, walk_rule};
-ghost use Rattle.verdicts.specs.Verdicts.{IsVerdict};
+ghost use Rattle.verdicts.specs.Verdicts.{IsVerdict, IsVerdictOf};
 
 use crate::answer::{Answer, answer_of};
 use crate::case::{PrintedRow, case_of, owners_of};
@@ -92,7 +92,7 @@ fn verdict_of(walk: &Walk) -> Verdict
 
 /// The verdict, where all marks were taken.
 pub fn end_goods(state: &GoodsState) -> Verdict
-    ensures { (view : GoodsView) → StandsFor view view.marks state.now → IsVerdict (goods_rule view) 6 result }
+    ensures { (view : GoodsView) → StandsFor view view.marks state.now → IsVerdictOf (rules_of_goods view) result }
 {
     match state {
         GoodsState::Broken { rule } => Verdict::No { rule: *rule },

@@ -4,11 +4,11 @@ use Rattle.endings.specs.declared.stop.Stop.{Stop}
 use Rattle.host_journal.specs.Journal.{HasEvents}
 use Rattle.host_keeper.specs.declared.serving.Serving.{Serving}
 use Rattle.host_keeper.specs.Leading.{files_of}
-use Rattle.host_keeper.specs.States.{IsFile, Passes, State, host_in, lists_of}
+use Rattle.host_keeper.specs.States.{IsFile, Passes, State, lists_of}
 use Rattle.link_runs.specs.Exchanges.{Answered, Exchange, IsExchange}
 use Rattle.link_runs.specs.Served.{LinkTells}
 use Rattle.sealed_core.specs.declared.commands.What.{What}
-use Rattle.sealed_core.specs.Host.{AreCheckedInstances, EventView}
+use Rattle.sealed_core.specs.Host.{EventView}
 use Rattle.serving.specs.Serving.{host_service}
 use Rattle.serving_laws.specs.Accepting.{Accepts}
 use Rattle.serving_laws.specs.Answering.{HasAnswer}
@@ -25,7 +25,7 @@ use Rattle.host_commands.specs.Publishing.{AsksFor, Publishes}
 use Rattle.host_commands.specs.Serves.{HasNoLink, RunEnds, Runs, Serves, ServesOpened, served_line}
 use Rattle.host_commands.proofs.Links.{every_step, links_answered, one_machine}
 use Rattle.host_commands.proofs.Published.{CaseLaws, publishes}
-use Rattle.host_commands.proofs.Sound.{sound_file}
+use Rattle.host_commands.proofs.Sound.{IsSound, sound_response, sound_state}
 
 -- the laws of runs
 pub record RunLaws {D : Type 0} (d : Ghosts D) : Type 0 where
@@ -54,13 +54,6 @@ before_run {D} d w (x ∷ later) new (at, step, rest) honest t early file left =
     first_of s (y ∷ others) file is = inl is
 
 module _ {D P L C : Type 0} (d : Ghosts D) (p : PortSide P L) (tells : LinkTells L) (c : ClockSide C) (laws : RunLaws d) (case_laws : CaseLaws) (disk after : D) (port port_after : P) (clock clock_after : C) where
-  -- the host after a request of a trusted one is sound
-  sound_after : (x : Exchange (D × State)) → IsExchange (host_service d) x → d.is_honest x.before.0 → AreCheckedInstances (host_in x.after.1).instances
-  sound_after x step honest =
-      let passes = step.responds.1 in
-      let still = passes.honest.0 honest in
-      sound_file x.after.1 (d.seen x.after.0) (passes.left still (d.seen x.after.0) (laws.seen x.after.0 still))
-
   module _ (serving : Serving) (between : D) (opens : Opens d disk between (Ok serving)) (number : ℕ) (runs : Runs d p tells c (between, state_of opens.opened) after port port_after clock clock_after number) where
     -- the events with which the machine begins
     begins : d.is_honest disk → (s : State) → Each (d.images disk) (IsFile s) → (opens.opened.secret ≡ s.secret) × Contains (lists_of s.kept s.waiting) opens.opened.kept
@@ -95,11 +88,11 @@ module _ {D P L C : Type 0} (d : Ghosts D) (p : PortSide P L) (tells : LinkTells
               (λ (x : Exchange (D × State)). (HasRisen (d.faults x.before.0) (d.faults x.after.0) → ⊥) → HasAnswer x)
               (λ x step honest. step.responds.1.honest.0 honest) (λ x step honest. laws.answered x step honest) (between, state_of opens.opened) run served.new machine (opens.honest.0 h);
           accepted = λ h. laws.accepted (between, state_of opens.opened) run served.new machine (opens.honest.0 h);
-          published = every_step (host_service d) (λ (w : D × State). d.is_honest disk → d.is_honest w.0)
-              (λ (x : Exchange (D × State)). (asked : What) → AsksFor x asked → x.due.said.status ≡ 200 → Publishes (d.is_honest disk) x asked)
-              (λ x step honest h. step.responds.1.honest.0 (honest h))
-              (λ x step honest asked asks success. publishes case_laws (d.is_honest disk) d x (λ h. sound_after x step (honest h)) asked success asks step.responds.0)
-              (between, state_of opens.opened) run served.new machine opens.honest.0;
+          published = every_step (host_service d) (λ (w : D × State). IsSound w.1)
+              (λ (x : Exchange (D × State)). (asked : What) → AsksFor x asked → x.due.said.status ≡ 200 → Publishes x asked)
+              (λ x step sound. sound_response d x step.responds.0 sound)
+              (λ x step sound asked asks success. publishes case_laws d x (sound_state x.after.1 (sound_response d x step.responds.0 sound)) asked success asks step.responds.0)
+              (between, state_of opens.opened) run served.new machine opens.opened.stands.host.may_apply;
           crash = λ h. laws.crash (between, state_of opens.opened) run served.new machine (opens.honest.0 h) (files_of d serving between (state_of opens.opened) opens.opened.stands (opens.honest.0 h));
           any_moment = λ h s each file left.
               let leaves = opens.any_moment h s each in

@@ -1,5 +1,5 @@
 -- What is published in a reply with status 200.
-use Rattle.std.proofs.Common.{◌≡◌, ◌⊎◌, ℕ, ◌==◌, max, Bool, true, false, List, [], ◌∷◌, ◌++◌, length, All, IfSome, is_some, if◌then◌else◌, Option, None, Some, option_map, Result, Ok, Err, refl, sym, ap, ◌∙◌, subst, inl, inr, true≢false}
+use Rattle.std.proofs.Common.{◌≡◌, ◌⊎◌, ℕ, ◌==◌, max, Bool, true, false, List, [], ◌∷◌, ◌++◌, length, All, IfSome, IsTrue, is_some, if◌then◌else◌, Option, None, Some, option_map, Result, Ok, Err, refl, sym, ap, ◌∙◌, subst, inl, inr, true≢false}
 use Rattle.bid_rules.specs.declared.bids.Bid.{Bid}
 use Rattle.bid_rules.specs.declared.bids.Facts.{Facts}
 use Rattle.bid_rules.specs.declared.cases.Case.{Case}
@@ -17,7 +17,7 @@ use Rattle.publications.specs.Contents.{ContentView}
 use Rattle.publications.specs.Publications.{IsPublication, TellsBest, TellsEnd, case_data, refusal_of}
 use Rattle.reply_texts.specs.declared.refusals.ServiceRefusal.{ServiceRefusal}
 use Rattle.reply_texts.specs.declared.refusals.ServiceRefusal.TheVariants as service
-use Rattle.reply_texts.specs.Refusals.{refusal_row, service_row}
+use Rattle.reply_texts.specs.Refusals.{is_refusal_status, refusal_row, service_row}
 use Rattle.reply_texts.specs.Replies.{status_of, text_of}
 use Rattle.requests.specs.Cases.{Responds, Settles, Steps}
 use Rattle.requests.specs.Commands.{command_of}
@@ -47,49 +47,18 @@ use Rattle.split_solve.specs.Solving.{IsSolved}
 use Rattle.host_commands.specs.Publishing.{AsksFor, IsBestDivision, IsOfDivision, Publishes, TellsBestOf}
 use Rattle.host_commands.proofs.Sound.{sound_found}
 
--- no refusal has the status 200
-service_other : (r : ServiceRefusal) → ((service_row r).status == 200) ≡ false
-service_other service.BadHead = refl
-service_other service.ClockFault = refl
-service_other service.BadHost = refl
-service_other service.Framing = refl
-service_other service.BadLength = refl
-service_other service.LengthMissing = refl
-service_other service.BodyTooLarge = refl
-service_other service.NoRoute = refl
-service_other service.Method = refl
-service_other service.StoreFault = refl
-service_other (service.StoreDamaged place) = refl
-service_other service.NoAudit = refl
-service_other (service.Void missing) = refl
-service_other (service.StepLimit limit) = refl
-service_other service.NotTwo = refl
-service_other service.Memory = refl
+-- a refusal has another status than 200
+abbrev pub AreRefusals : Type 0
+AreRefusals = (r : Refusal) → IsTrue (is_refusal_status (refusal_row r).0)
 
-refusal_other : (r : Refusal) → ((refusal_row r).0 == 200) ≡ false
-refusal_other refusal.NoInstance = refl
-refusal_other refusal.NoKey = refl
-refusal_other refusal.WrongKey = refl
-refusal_other refusal.Role = refl
-refusal_other refusal.BadJson = refl
-refusal_other (refusal.BadField name) = refl
-refusal_other refusal.TagTaken = refl
-refusal_other refusal.HostFull = refl
-refusal_other refusal.Closed = refl
-refusal_other (refusal.Turn kept) = refl
-refusal_other refusal.TurnsUsed = refl
-refusal_other refusal.NotAll = refl
-refusal_other refusal.NotClosed = refl
-refusal_other refusal.NoBid = refl
+not_row : AreRefusals → (status : ℕ) (r : Refusal) → status ≡ (refusal_row r).0 → status ≡ 200 → ⊥
+not_row refusals status r is success = true≢false (sym (subst (λ (n : ℕ). IsTrue (is_refusal_status n)) (sym is ∙ success) (refusals r)))
 
-not_refused : (status : ℕ) (r : ServiceRefusal) → status ≡ (service_row r).status → status ≡ 200 → ⊥
-not_refused status r is success = true≢false (sym (ap (λ (n : ℕ). n == 200) (sym is ∙ success)) ∙ service_other r)
+not_refused : (status : ℕ) (r : ServiceRefusal) → ((service_row r).status == 200) ≡ false → status ≡ (service_row r).status → status ≡ 200 → ⊥
+not_refused status r other is success = true≢false (sym (ap (λ (n : ℕ). n == 200) (sym is ∙ success)) ∙ other)
 
-not_row : (status : ℕ) (r : Refusal) → status ≡ (refusal_row r).0 → status ≡ 200 → ⊥
-not_row status r is success = true≢false (sym (ap (λ (n : ℕ). n == 200) (sym is ∙ success)) ∙ refusal_other r)
-
-said_other : (said : SaidView) (r : ServiceRefusal) → said ≡ refused_said r → said.status ≡ 200 → ⊥
-said_other said r is success = not_refused said.status r (ap (λ (s : SaidView). s.status) is) success
+said_other : (said : SaidView) (r : ServiceRefusal) → ((service_row r).status == 200) ≡ false → said ≡ refused_said r → said.status ≡ 200 → ⊥
+said_other said r other is success = not_refused said.status r other (ap (λ (s : SaidView). s.status) is) success
 
 -- who asks for what is published is told it or refused
 abbrev ToldOrRefused : ℕ → What → Reply → Type 0
@@ -108,18 +77,18 @@ told_or_refused now id asked (Ok caller) =
     (either_answer caller.0.closed (says (reply.Publish id asked)) (refused refusal.NotClosed) (ToldOrRefused id asked) (inl refl) (inr (refusal.NotClosed, refl)))
 
 -- what is shown with status 200 is published
-shows_published : (h : HostView) (r : Reply) (told : ContentView) (id : ℕ) (asked : What) → ToldOrRefused id asked r → told.status ≡ 200 → Shows h r told
+shows_published : AreRefusals → (h : HostView) (r : Reply) (told : ContentView) (id : ℕ) (asked : What) → ToldOrRefused id asked r → told.status ≡ 200 → Shows h r told
     → (i : InstanceView) × (r ≡ reply.Publish id asked) × (instance_at h id ≡ Some i) × IsPublication (case_data i) asked told
-shows_published h r told id asked (inl is) success (Shows.own bytes text shown) =
+shows_published refusals h r told id asked (inl is) success (Shows.own bytes text shown) =
     let none : None ≡ Some bytes = sym (ap (text_of h) is) ∙ text in absurd (true≢false (sym (ap is_some none)))
-shows_published h r told id asked (inr (why, is)) success (Shows.own bytes text shown) =
-    absurd (not_row told.status why (ap (λ (x : ContentView). x.status) shown ∙ ap status_of is) success)
-shows_published h r told id asked (inl is) success (Shows.published other another i same found so) =
+shows_published refusals h r told id asked (inr (why, is)) success (Shows.own bytes text shown) =
+    absurd (not_row refusals told.status why (ap (λ (x : ContentView). x.status) shown ∙ ap status_of is) success)
+shows_published refusals h r told id asked (inl is) success (Shows.published other another i same found so) =
     let one : reply.Publish other another ≡ reply.Publish id asked = sym same ∙ is in
     let id_is : other ≡ id = cc in
     let asked_is : another ≡ asked = cc in
     (i, is, subst (λ (n : ℕ). instance_at h n ≡ Some i) id_is found, subst (λ (a : What). IsPublication (case_data i) a told) asked_is so)
-shows_published h r told id asked (inr (why, is)) success (Shows.published other another i same found so) =
+shows_published refusals h r told id asked (inr (why, is)) success (Shows.published other another i same found so) =
     let one : reply.Publish other another ≡ reply.Refused why = sym same ∙ is in absurd (cc)
 
 -- a step that has such a reply leaves the host of which it tells
@@ -127,35 +96,35 @@ abbrev TellsOf : State → ℕ → What → SaidView → Type 0
 TellsOf new id asked said =
     (told : ContentView) × (i : InstanceView) × (instance_at (host_in new) id ≡ Some i) × (i.closed ≡ true) × (said ≡ content_said told) × (told.status ≡ 200) × IsPublication (case_data i) asked told
 
-module _ (one_more : (secret : List ℕ) (events : List EventView) (e : EventView) → host_of secret (events ++ e ∷ []) ≡ apply (host_of secret events) e)
+module _ (refusals : AreRefusals) (one_more : (secret : List ℕ) (events : List EventView) (e : EventView) → host_of secret (events ++ e ∷ []) ≡ apply (host_of secret events) e)
     (shut : (h : HostView) (t id : ℕ) (command : CommandView) (asked : What) → (step h t command).reply ≡ reply.Publish id asked → is_closed (host_after h t command) id ≡ true) where
   step_tells : (h : HostView) (moment : ℕ) (command : CommandView) (new : State) (said : SaidView) (told : ContentView) (id : ℕ) (key : Option (List ℕ)) (asked : What)
       → command ≡ To id key (asks.Publish asked) → said.status ≡ 200 → said ≡ content_said told → host_after h moment command ≡ host_in new → Replies h moment command told → TellsOf new id asked said
   step_tells h moment command new said told id key asked is success so leaves replies =
       let told_200 : told.status ≡ 200 = sym (ap (λ (x : SaidView). x.status) so) ∙ success in
       let either = subst (λ (c : CommandView). ToldOrRefused id asked (step h moment c).reply) (sym is) (told_or_refused (max moment h.moment) id asked (caller_of h id key)) in
-      let (i, published, found, publication) = shows_published (host_after h moment command) (step h moment command).reply told id asked either told_200 replies in
+      let (i, published, found, publication) = shows_published refusals (host_after h moment command) (step h moment command).reply told id asked either told_200 replies in
       (told, i, subst (λ (g : HostView). instance_at g id ≡ Some i) leaves found, sym (ap is_shut found) ∙ shut h moment id command asked published, so, told_200, publication)
 
   steps_tell : {D : Type 0} (d : Ghosts D) (disk after : D) (moment : ℕ) (command : CommandView) (s new : State) (said : SaidView) (id : ℕ) (key : Option (List ℕ)) (asked : What)
       → command ≡ To id key (asks.Publish asked) → said.status ≡ 200 → Steps d disk after moment command s new said → TellsOf new id asked said
   steps_tell d disk after moment command s new said id key asked is success (Steps.no_event told none still replies same so) =
       step_tells (host_in s) moment command new said told id key asked is success so (ap (applied (host_in s)) none ∙ ap host_in (sym same)) replies
-  steps_tell d disk after moment command s new said id key asked is success (Steps.kept told e event faults appended replies same so) =
+  steps_tell d disk after moment command s new said id key asked is success (Steps.kept told e event can faults appended replies same so) =
       step_tells (host_in s) moment command new said told id key asked is success so (ap (applied (host_in s)) event ∙ sym (one_more s.secret s.kept e) ∙ ap host_in (sym same)) replies
-  steps_tell d disk after moment command s new said id key asked is success (Steps.failed e event faults same so) = absurd (said_other said service.StoreFault so success)
+  steps_tell d disk after moment command s new said id key asked is success (Steps.failed e event faults same so) = absurd (said_other said service.StoreFault refl so success)
   steps_tell d disk after moment command s new said id key asked is success (Steps.memory still same so) =
-      absurd (not_refused said.status service.Memory (ap (λ (x : SaidView). x.status) so) success)
+      absurd (not_refused said.status service.Memory refl (ap (λ (x : SaidView). x.status) so) success)
 
 -- a request that goes no further has another status
 settles_other : {D : Type 0} (d : Ghosts D) (disk after : D) (s new : State) (said : SaidView) → said.status ≡ 200 → Settles d disk after s new (Some said) → ⊥
 settles_other d disk after s new said success (Settles.ready none still same is) = absurd (cc)
-settles_other d disk after s new said success (Settles.store_fault e waits faults torn same is) = let one : said ≡ refused_said service.StoreFault = cc in said_other said service.StoreFault one success
+settles_other d disk after s new said success (Settles.store_fault e waits faults torn same is) = let one : said ≡ refused_said service.StoreFault = cc in said_other said service.StoreFault refl one success
 settles_other d disk after s new said success (Settles.damaged e place waits faults never same is) =
-    let one : said ≡ refused_said (service.StoreDamaged place) = cc in said_other said (service.StoreDamaged place) one success
-settles_other d disk after s new said success (Settles.opened e secret kept waits faults settled same is) = absurd (cc)
+    let one : said ≡ refused_said (service.StoreDamaged place) = cc in said_other said (service.StoreDamaged place) refl one success
+settles_other d disk after s new said success (Settles.opened e secret kept waits faults settled can same is) = absurd (cc)
 settles_other d disk after s new said success (Settles.memory e waits faults rests same is) =
-    let one : said.status ≡ (service_row service.Memory).status = ap (λ (o : Option SaidView). status_in o) is in not_refused said.status service.Memory one success
+    let one : said.status ≡ (service_row service.Memory).status = ap (λ (o : Option SaidView). status_in o) is in not_refused said.status service.Memory refl one success
   where
     status_in : Option SaidView → ℕ
     status_in None = 0
@@ -196,6 +165,7 @@ best_division (case.Fares one) (divided.Fares division) is = is.best
 
 -- the laws of cases and certificates
 pub record CaseLaws : Type 0 where
+  pub refusals : AreRefusals
   pub valid : (facts : Facts) (bids : List (Option Bid)) (one : Case) → IsCheckedFacts facts → length bids ≡ member_count facts → All (λ bid. IfSome bid (IsCheckedBid facts)) bids
       → case_of facts bids ≡ Ok one → IsValidCase one
   pub certificate : (one : Case) (text : List ℕ) → IsValidCase one → IsCanonical one text → IsCertificate text
@@ -205,14 +175,12 @@ pub record CaseLaws : Type 0 where
   pub one_more : (secret : List ℕ) (events : List EventView) (e : EventView) → host_of secret (events ++ e ∷ []) ≡ apply (host_of secret events) e
   pub shut : (h : HostView) (t id : ℕ) (command : CommandView) (asked : What) → (step h t command).reply ≡ reply.Publish id asked → is_closed (host_after h t command) id ≡ true
 
-module _ (laws : CaseLaws) (trusted : Type 0) where
-  module _ (i : InstanceView) (sound : trusted → IsCheckedInstance i) (told : ContentView) (success : told.status ≡ 200) where
-    valid_one : (one : Case) → case_of i.creation.facts i.bids ≡ Ok one → trusted → IsValidCase one
-    valid_one one is t =
-        let checked = sound t in
-        laws.valid i.creation.facts i.bids one checked.creation.facts (checked.bids ∙ checked.creation.member_names) checked.checked is
+module _ (laws : CaseLaws) where
+  module _ (i : InstanceView) (sound : IsCheckedInstance i) (told : ContentView) (success : told.status ≡ 200) where
+    valid_one : (one : Case) → case_of i.creation.facts i.bids ≡ Ok one → IsValidCase one
+    valid_one one is = laws.valid i.creation.facts i.bids one sound.creation.facts (sound.bids ∙ sound.creation.member_names) sound.checked is
 
-    end_tells : (asked : What) (end : Result (Case × Division) SolveFault) → IsSolved i.creation.facts i.bids end → TellsEnd asked (case_data i) end told → TellsBestOf trusted i asked told
+    end_tells : (asked : What) (end : Result (Case × Division) SolveFault) → IsSolved i.creation.facts i.bids end → TellsEnd asked (case_data i) end told → TellsBestOf i asked told
     end_tells asked (Ok (one, division)) (of_bids, solver) text = record {
       one = one;
       division = division;
@@ -221,28 +189,28 @@ module _ (laws : CaseLaws) (trusted : Type 0) where
       best = best_division one division solver;
       solver = solver;
       text = text;
-      certificate = λ t bytes canonical. let is = laws.certificate one bytes (valid_one one of_bids t) canonical in (is, laws.prints bytes is);
+      certificate = λ bytes canonical. let is = laws.certificate one bytes (valid_one one of_bids) canonical in (is, laws.prints bytes is);
     }
     end_tells asked (Err (fault.Void missing)) solved text =
-        absurd (not_refused told.status (refusal_of (fault.Void missing)) (ap (λ (x : ContentView). x.status) text) success)
+        absurd (not_refused told.status (refusal_of (fault.Void missing)) refl (ap (λ (x : ContentView). x.status) text) success)
     end_tells asked (Err (fault.OverLimit limit)) solved text =
-        absurd (not_refused told.status (refusal_of (fault.OverLimit limit)) (ap (λ (x : ContentView). x.status) text) success)
+        absurd (not_refused told.status (refusal_of (fault.OverLimit limit)) refl (ap (λ (x : ContentView). x.status) text) success)
     end_tells asked (Err fault.NoMemory) solved text = absurd text
 
-    best_tells : (asked : What) → TellsBest asked (case_data i) told → TellsBestOf trusted i asked told
+    best_tells : (asked : What) → TellsBest asked (case_data i) told → TellsBestOf i asked told
     best_tells asked (end, solved, text) = end_tells asked end solved text
 
-    tells_best : (asked : What) → IsPublication (case_data i) asked told → IsOfDivision asked → TellsBestOf trusted i asked told
+    tells_best : (asked : What) → IsPublication (case_data i) asked told → IsOfDivision asked → TellsBestOf i asked told
     tells_best what.Division is of_division = best_tells what.Division is
     tells_best what.Certificate is of_division = best_tells what.Certificate is
     tells_best what.Report is of_division = best_tells what.Report is
     tells_best what.Audit is of_division = absurd of_division
     tells_best what.Winner is of_division = absurd of_division
 
-  module _ {D : Type 0} (d : Ghosts D) (x : Exchange (D × State)) (sound : trusted → AreCheckedInstances (host_in x.after.1).instances) (asked : What) (success : x.due.said.status ≡ 200) where
-    told_publishes : (route : Route) → IsRouted x.head.verb x.head.path (Ok route) → TellsOf x.after.1 route.id asked x.due.said → Publishes trusted x asked
+  module _ {D : Type 0} (d : Ghosts D) (x : Exchange (D × State)) (sound : AreCheckedInstances (host_in x.after.1).instances) (asked : What) (success : x.due.said.status ≡ 200) where
+    told_publishes : (route : Route) → IsRouted x.head.verb x.head.path (Ok route) → TellsOf x.after.1 route.id asked x.due.said → Publishes x asked
     told_publishes route routed (told, i, found, closed, said, told_200, publication) =
-        let own : trusted → IsCheckedInstance i = λ t. sound_found (host_in x.after.1) route.id i (sound t) found in
+        let own = sound_found (host_in x.after.1) route.id i sound found in
         record {
           route = route;
           i = i;
@@ -253,12 +221,12 @@ module _ (laws : CaseLaws) (trusted : Type 0) where
           said = said;
           published = publication;
           best = tells_best i own told told_200 asked publication;
-          one = λ t other also. laws.one_told (case_data i) asked other told (laws.ready i (own t)) also publication;
+          one = λ other also. laws.one_told (case_data i) asked other told (laws.ready i own) also publication;
         }
 
-    pub publishes : AsksFor x asked → Responds d x.before.0 x.after.0 x.head x.body x.moment x.before.1 x.after.1 x.due.said → Publishes trusted x asked
-    publishes asks (Responds.no_route routed still same so) = absurd (said_other x.due.said service.NoRoute so success)
-    publishes asks (Responds.method allow routed still same so) = absurd (not_refused x.due.said.status service.Method (ap (λ (s : SaidView). s.status) so) success)
+    pub publishes : AsksFor x asked → Responds d x.before.0 x.after.0 x.head x.body x.moment x.before.1 x.after.1 x.due.said → Publishes x asked
+    publishes asks (Responds.no_route routed still same so) = absurd (said_other x.due.said service.NoRoute refl so success)
+    publishes asks (Responds.method allow routed still same so) = absurd (not_refused x.due.said.status service.Method refl (ap (λ (s : SaidView). s.status) so) success)
     publishes asks (Responds.at_once route routed settles) = absurd (settles_other d x.before.0 x.after.0 x.before.1 x.after.1 x.due.said success settles)
     publishes (route, routed, command) (Responds.stepped other between settled led settles one steps two) =
         let place_is = one_place x.head.verb x.head.path route other routed led in
@@ -266,5 +234,5 @@ module _ (laws : CaseLaws) (trusted : Type 0) where
         subst (λ (p : Place). command_of p other.id x.head.key x.body ≡ To other.id x.head.key (asks.Publish asked)) place_is
         (asks_at route.place route.id other.id x.head.key x.body asked command) in
         told_publishes other led
-        (steps_tell laws.one_more laws.shut d between x.after.0 x.moment (command_of other.place other.id x.head.key x.body) settled x.after.1 x.due.said other.id x.head.key asked asked_there success steps)
-    publishes asks (Responds.memory still same so) = absurd (not_refused x.due.said.status service.Memory (ap (λ (s : SaidView). s.status) so) success)
+        (steps_tell laws.refusals laws.one_more laws.shut d between x.after.0 x.moment (command_of other.place other.id x.head.key x.body) settled x.after.1 x.due.said other.id x.head.key asked asked_there success steps)
+    publishes asks (Responds.memory still same so) = absurd (not_refused x.due.said.status service.Memory refl (ap (λ (s : SaidView). s.status) so) success)

@@ -1,15 +1,21 @@
--- The host of events that may be applied one after another is sound, and so is the one of a file.
-use Rattle.std.proofs.Common.{◌≡◌, ℕ, zero, suc, ◌-◌, ◌≤◌, ◌==◌, Bool, true, false, List, [], ◌∷◌, ◌++◌, length, if◌then◌else◌, is_some, Option, None, Some, IfSome, IsSomeAnd, All, Contains, slice_get, refl, ap, sym, subst, ◌∙◌, arith, true≢false, ⊎_elim, append-nil, not-suc-le-zero}
+-- The host of events that may be applied one after another is sound, and whatever the disk each request leaves it so.
+use Rattle.std.proofs.Common.{◌≡◌, ℕ, zero, suc, ◌-◌, ◌≤◌, ◌==◌, Bool, true, false, List, [], ◌∷◌, ◌++◌, length, if◌then◌else◌, is_some, Option, None, Some, IfSome, IsSomeAnd, All, slice_get, refl, ap, sym, subst, ◌∙◌, arith, true≢false}
 use Rattle.std.proofs.lemmas.List.{length-set, length-replicate, length_push}
-use Rattle.std.proofs.lemmas.List.Elements.{All-push, All-replicate, All-set, Contains-push_cases}
+use Rattle.std.proofs.lemmas.List.Elements.{All-push, All-replicate, All-set}
 use Rattle.std.proofs.lemmas.Option.{slice_get_within, get_or_from_slice_get}
 use Rattle.bid_rules.specs.declared.bids.Bid.{Bid}
 use Rattle.bid_rules.specs.Facts.{IsCheckedBid}
-use Rattle.host_keeper.specs.States.{IsFile, State, host_in, lists_of}
+use Rattle.host_keeper.specs.States.{State, host_in}
+use Rattle.link_runs.specs.Dues.{SaidView}
+use Rattle.link_runs.specs.Exchanges.{Exchange}
+use Rattle.requests.specs.Cases.{Responds, Settles, Steps}
+use Rattle.requests.specs.Commands.{command_of}
+use Rattle.split_base.specs.declared.disk.Disk.{Ghosts}
 use Rattle.sealed_core.specs.declared.limits.TheConstants.{MOST_TURNS}
 use Rattle.sealed_core.specs.Host.{AreCheckedInstances, BidKept, CanApply, Closed, Created, CreationView, EventView, HostView, InstanceView, IsCheckedCreation, IsCheckedInstance, IsNextTurn, Withdrawn, apply, as_closed, changed, fresh, instance_at, with_turn}
 use Rattle.sealed_core.specs.Runs.{CanApplyAll, apply_all}
 use Rattle.sealed_core.specs.Sealed.{empty}
+use Rattle.sealed_core.specs.Step.{CommandView}
 
 sound_fresh : (c : CreationView) → IsCheckedCreation c → IsCheckedInstance (fresh c)
 sound_fresh c right = record {
@@ -73,26 +79,48 @@ sound_all : (h : HostView) (events : List EventView) → AreCheckedInstances h.i
 sound_all h [] sound can = sound
 sound_all h (e ∷ events) sound (first, rest) = sound_all (apply h e) events (sound_apply h e sound first) rest
 
-can_first : (h : HostView) (a b : List EventView) → CanApplyAll h (a ++ b) → CanApplyAll h a
-can_first h [] b can = tt
-can_first h (e ∷ a) b (first, rest) = (first, can_first (apply h e) a b rest)
+can_push : (h : HostView) (events : List EventView) (e : EventView) → CanApplyAll h events → CanApply (apply_all h events) e → CanApplyAll h (events ++ e ∷ [])
+can_push h [] e can one = (one, tt)
+can_push h (x ∷ events) e (first, rest) one = (first, can_push (apply h x) events e rest one)
 
 no_instances : AreCheckedInstances []
 no_instances = record { each = λ k d there. absurd (omega (arith, there)); few = omega arith }
 
-only_one : {A : Type 0} (x y : A) → Contains (x ∷ []) y → y ≡ x
-only_one x y among = ⊎_elim (λ none. absurd (not-suc-le-zero none.1)) (λ is. sym is) (Contains-push_cases [] x y among)
+-- the events of the state may be applied in turn
+abbrev pub IsSound : State → Type 0
+IsSound s = CanApplyAll (empty s.secret) s.kept
 
-one_of : (kept : List EventView) (waiting : Option EventView) (events : List EventView) → Contains (lists_of kept waiting) events → (more : List EventView) × (events ≡ kept ++ more)
-one_of kept None events among = ([], only_one kept events among ∙ sym (append-nil kept))
-one_of kept (Some e) events among =
-    ⊎_elim (λ first. ([], only_one kept events first ∙ sym (append-nil kept))) (λ is. (e ∷ [], sym is)) (Contains-push_cases (kept ∷ []) (kept ++ e ∷ []) events among)
+-- so its host is sound
+pub sound_state : (s : State) → IsSound s → AreCheckedInstances (host_in s).instances
+sound_state s sound = sound_all (empty s.secret) s.kept no_instances sound
 
--- the host of a state of which there is a file
-pub sound_file : (s : State) (file : List ℕ) → IsFile s file → AreCheckedInstances (host_in s).instances
-sound_file s file (events, among, (version, has)) =
-    let (more, same) = one_of s.kept s.waiting events among in
-    sound_all (empty s.secret) s.kept no_instances (can_first (empty s.secret) s.kept more (subst (λ (l : List EventView). CanApplyAll (empty s.secret) l) same has.kept.may_apply))
+-- a state that is as before
+still_sound : (s new : State) → new ≡ s → IsSound s → IsSound new
+still_sound s new same sound = subst IsSound (sym same) sound
+
+module _ {D : Type 0} (d : Ghosts D) where
+  sound_settled : (disk after : D) (s new : State) (result : Option SaidView) → Settles d disk after s new result → IsSound s → IsSound new
+  sound_settled disk after s new result (Settles.ready none still same is) sound = still_sound s new same sound
+  sound_settled disk after s new result (Settles.store_fault e waits faults torn same is) sound = still_sound s new same sound
+  sound_settled disk after s new result (Settles.damaged e place waits faults never same is) sound = still_sound s new same sound
+  sound_settled disk after s new result (Settles.opened e secret kept waits faults settled can same is) sound = subst IsSound (sym same) can
+  sound_settled disk after s new result (Settles.memory e waits faults rests same is) sound = still_sound s new same sound
+
+  sound_step : (disk after : D) (moment : ℕ) (command : CommandView) (s new : State) (said : SaidView) → Steps d disk after moment command s new said → IsSound s → IsSound new
+  sound_step disk after moment command s new said (Steps.no_event told none still replies same so) sound = still_sound s new same sound
+  sound_step disk after moment command s new said (Steps.kept told e event can faults appended replies same so) sound = subst IsSound (sym same) (can_push (empty s.secret) s.kept e sound can)
+  sound_step disk after moment command s new said (Steps.failed e event faults same so) sound = subst IsSound (sym same) sound
+  sound_step disk after moment command s new said (Steps.memory still same so) sound = still_sound s new same sound
+
+  -- whatever the disk, a request leaves a sound state so
+  pub sound_response : (x : Exchange (D × State)) → Responds d x.before.0 x.after.0 x.head x.body x.moment x.before.1 x.after.1 x.due.said → IsSound x.before.1 → IsSound x.after.1
+  sound_response x (Responds.no_route routed still same so) sound = still_sound x.before.1 x.after.1 same sound
+  sound_response x (Responds.method allow routed still same so) sound = still_sound x.before.1 x.after.1 same sound
+  sound_response x (Responds.at_once route routed settles) sound = sound_settled x.before.0 x.after.0 x.before.1 x.after.1 (Some x.due.said) settles sound
+  sound_response x (Responds.stepped route between settled routed settles one steps two) sound =
+      sound_step between x.after.0 x.moment (command_of route.place route.id x.head.key x.body) settled x.after.1 x.due.said steps
+      (sound_settled x.before.0 between x.before.1 settled None settles sound)
+  sound_response x (Responds.memory still same so) sound = still_sound x.before.1 x.after.1 same sound
 
 found_if : (none : Bool) (instances : List InstanceView) (p : ℕ) (i : InstanceView) → (if none then None else slice_get instances p) ≡ Some i → AreCheckedInstances instances → IsCheckedInstance i
 found_if true instances p i is sound = absurd (true≢false (sym (ap is_some is)))

@@ -26,8 +26,8 @@ use Rattle.host_commands.specs.Serves.{HasNoLink}
 -- is best for its rule among all divisions of the bids kept, least among equals and the same for every number of workers, its printed certificate
 -- passes the checker, and a crash at any moment leaves a prefix of the commands holding each acknowledged one.
 --
--- `disk` is the file before it was opened, `begun` the file as it was opened with the state for which it stands. A file is trusted where its disk is
--- honest; what is said without that premise holds of every disk.
+-- `disk` is the file before it was opened, `begun` the file as it was opened with the state for which it stands. What is said without the premise that
+-- the disk is honest holds of every disk.
 pub record Headline {D P L C : Type 0} (d : Ghosts D) (p : PortSide P L) (tells : LinkTells L) (c : ClockSide C) (disk : D) (begun : D × State) (after : D)
     (port port_after : P) (clock clock_after : C) (number : ℕ) : Type 0 where
   -- for every list of connections, bytes and clock moments: so many links, the first that were to come, each as it was handed out and as it was
@@ -57,8 +57,8 @@ pub record Headline {D P L C : Type 0} (d : Ghosts D) (p : PortSide P L) (tells 
   -- of accepted commands: each event that is kept was made by a command of this run, in one step
   pub accepted : d.is_honest disk → Accepts run begun.1 ended.1
   -- each published division is best for its rule among all divisions of the bids kept, least among equals and the same for every number of workers,
-  -- and its printed certificate passes the checker: so of each request for what is published that has a reply with status 200
-  pub published : Every (λ x. (asked : What) → AsksFor x asked → x.due.said.status ≡ 200 → Publishes (d.is_honest disk) x asked) run
+  -- and its printed certificate passes the checker: so of each request for what is published that has a reply with status 200, whatever the disk
+  pub published : Every (λ x. (asked : What) → AsksFor x asked → x.due.said.status ≡ 200 → Publishes x asked) run
   -- a crash at any moment leaves a prefix of the commands: since each request a file of the state that it left or of a later one, with or without the
   -- event that is being appended; and since before the opening, of a file of a state, a file of that one or of one of these
   pub crash : d.is_honest disk → Since d ended.0 begun run

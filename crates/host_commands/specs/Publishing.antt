@@ -48,21 +48,20 @@ IsBestDivision (case.Fares fares) (divided.Fares division) = FareBest fares (map
 IsBestDivision one division = ⊥
 
 -- What is told is the best division of the case that the instance's facts and kept bids make, by the text of what is asked; `solver` has the numbers
--- that show it best. Where the host is trusted the case is valid, and the checker says yes to its canonical certificate, which prints a valid case and its
--- best division.
-pub record TellsBestOf (trusted : Type 0) (i : InstanceView) (asked : What) (told : ContentView) : Type 0 where
+-- that show it best. The case is valid, and the checker says yes to its canonical certificate, which prints a valid case and its best division.
+pub record TellsBestOf (i : InstanceView) (asked : What) (told : ContentView) : Type 0 where
   pub one : Case
   pub division : Division
   pub of_bids : case_of i.creation.facts i.bids ≡ Ok one
-  pub valid : trusted → IsValidCase one
+  pub valid : IsValidCase one
   pub best : IsBestDivision one division
   pub solver : IsDivisionOf one division
   pub text : IsPublished asked (case_data i) one division told
-  pub certificate : trusted → (text : List ℕ) → IsCanonical one text → IsJudged text Yes × PrintsBest text
+  pub certificate : (text : List ℕ) → IsCanonical one text → IsJudged text Yes × PrintsBest text
 
 -- What the reply tells is published of the instance that the request names, as it stands after the request: closed, so that its bids are the last ones.
--- Where the host is trusted it is the one thing that may be told of it: so neither the number of workers nor their order takes part in it.
-pub record Publishes {D : Type 0} (trusted : Type 0) (x : Exchange (D × State)) (asked : What) : Type 0 where
+-- It is the one thing that may be told of it: so neither the number of workers nor their order takes part in it.
+pub record Publishes {D : Type 0} (x : Exchange (D × State)) (asked : What) : Type 0 where
   pub route : Route
   pub i : InstanceView
   pub told : ContentView
@@ -71,5 +70,5 @@ pub record Publishes {D : Type 0} (trusted : Type 0) (x : Exchange (D × State))
   pub closed : i.closed ≡ true
   pub said : x.due.said ≡ content_said told
   pub published : IsPublication (case_data i) asked told
-  pub best : IsOfDivision asked → TellsBestOf trusted i asked told
-  pub one : trusted → (other : ContentView) → IsPublication (case_data i) asked other → other ≡ told
+  pub best : IsOfDivision asked → TellsBestOf i asked told
+  pub one : (other : ContentView) → IsPublication (case_data i) asked other → other ≡ told

@@ -10,6 +10,7 @@ use cert_checker::certificate_verdict_law;
 use certificates::certificate_law;
 use host_journal::events_law;
 use publications::{instance_law, one_publication_law};
+use reply_texts::refusal_status_law;
 use sealed_core::{machine_law, publication_law};
 use serving_laws::{accepted_law, acknowledged_law, answered_law, crash_law, moved_law};
 use split_base::{Clock, Disk, Port};
@@ -42,4 +43,5 @@ pub fn headline_law<D: Disk, P: Port, C: Clock>()
     moved_law::<D>();
     one_publication_law();
     publication_law();
+    refusal_status_law();
 }

@@ -18,7 +18,7 @@ use std::alloc::Global;
 ///
 /// - `Disk` comes only where the disk's count of faults has risen, by one.
 /// - `NotALog` comes exactly where the file is no journal, with the place of its first fault: never on
-///   an honest disk.
+///   an honest disk with a file of the host's.
 /// - `NoMemory` comes for want of memory alone.
 ///
 /// After each of these the host waits as before, and with any other answer than `Disk` the count stays.
@@ -29,6 +29,7 @@ pub fn reopen<D: Disk>(alloc: Global, serving: &mut Serving, disk: &mut D) -> Re
     ensures ready { OnOk result (serving.new.waiting ≡ None) }
 
     // Whatever the serving stands for.
+    ensures place { D.is_honest disk.old → (place : ℕ) → result ≡ Err (LogFault.NotALog place) → IsFirstFault place (D.seen disk.old) }
     ensures count { D.faults disk.old ≤ D.faults disk.new }
     ensures honest { D.is_honest disk.old ↔ D.is_honest disk.new }
 {

@@ -1,7 +1,6 @@
 mod Bidders
 mod KnownBytes
 mod OneAnswer
-mod OneAudit
 mod OneEnding
 mod ProposedOwners
 mod Solved

@@ -1,10 +1,12 @@
 -- A body, and what it holds, calls for one ending.
 use Rattle.std.proofs.Common.{◌≡◌, ◌≢◌, ◌⊎◌, ℕ, List, Result, Ok, Err, arith, inl, inr, refl, sym, ap, ◌∙◌, ⊎_elim, subst}
+use Rattle.std.specs.Prelude.{Option}
+use Rattle.std.specs.Option.{option_map}
 use Rattle.bid_rules.specs.declared.cases.Case.{Case}
 use Rattle.bid_rules.specs.declared.cases.Case.TheVariants as case
 use Rattle.bid_rules.specs.declared.goods.GoodsCase.{GoodsCase}
 use Rattle.bid_rules.specs.Facts.{case_of}
-use Rattle.bid_rules.specs.Goods.{player_count}
+use Rattle.bid_rules.specs.Goods.{in_search_order, player_count}
 use Rattle.adjusted_winner.specs.Texts.{IsWinnerText}
 use Rattle.case_fields.specs.declared.fields.BodyFault.{BodyFault}
 use Rattle.divisions.specs.Division.{IsDivisionOf}
@@ -13,15 +15,16 @@ use Rattle.divisions.specs.declared.division.Division.TheVariants as division
 use Rattle.endings.specs.declared.stop.Stop.{Stop}
 use Rattle.endings.specs.declared.stop.Stop.TheVariants.{Void, OverLimit, NotTwo, BrokenRule, BadCase, BrokenLine}
 use Rattle.endings.specs.Endings.{yes_line}
+use Rattle.goods_audit.specs.Domination.{IsBetterDivision, OwnersByGood}
+use Rattle.goods_audit.specs.Texts.{IsAuditText}
 use Rattle.nash_search.specs.Division.{HasSteps}
-use Rattle.player_lines.specs.Names.{names_of}
+use Rattle.player_lines.specs.Names.{NamesData, names_of}
 use Rattle.split_json.specs.Reading.{CaseData}
 use Rattle.split_solve.specs.Solving.{IsAboveLimit}
 use Rattle.verdicts.specs.declared.verdict.Verdict.{Verdict}
 use Rattle.verdicts.specs.declared.verdict.Verdict.TheVariants.{No, Yes}
 use Rattle.input_commands.specs.Answers.{OfBody, OfCase, OfOwners, OfPair, OfProposal, OfVerdict}
 use Rattle.input_commands.specs.Players.{players_of}
-use Rattle.input_commands.proofs.OneAudit.{one_audit}
 
 -- the ending by what was found: why there is nothing, or what the found value calls for
 abbrev Leads : {A E : Type 0} → (E → Stop) → Result A E → (A → Result (List ℕ) Stop → Type 0) → Result (List ℕ) Stop → Type 0
@@ -119,23 +122,29 @@ of_owners given case owners (Ok text) h = inr (text, h, refl)
 of_owners given case owners (Err (OverLimit limit)) h = inl (limit, h, refl)
 of_owners given case owners (Err other) h = absurd h
 
-one_weighed : (given : CaseData) (case : GoodsCase) (owners : List ℕ) (x y : Result (List ℕ) Stop) → Weighed given case owners x → Weighed given case owners y → x ≡ y
-one_weighed given case owners x y (inl a) (inl b) = a.2 ∙ ap over_limit (a.1.0 ∙ sym b.1.0) ∙ sym b.2
-one_weighed given case owners x y (inl a) (inr b) = let is = a.1.0 in let above = a.1.1 in let within = b.1.0 in absurd (omega (arith, is, above, within))
-one_weighed given case owners x y (inr a) (inl b) = let is = b.1.0 in let above = b.1.1 in let within = a.1.0 in absurd (omega (arith, is, above, within))
-one_weighed given case owners x y (inr a) (inr b) =
+-- owners have one audit, which tells the least division that dominates theirs
+abbrev pub HaveOneAudit : Type 0
+HaveOneAudit = (given : NamesData) (case : GoodsCase) (owners : List ℕ) (better another : Option OwnersByGood) (text other : List ℕ)
+    → IsBetterDivision case (in_search_order case owners) better → IsBetterDivision case (in_search_order case owners) another
+    → IsAuditText given case owners (option_map (λ others. others.items) better) text → IsAuditText given case owners (option_map (λ others. others.items) another) other → text ≡ other
+
+one_weighed : HaveOneAudit → (given : CaseData) (case : GoodsCase) (owners : List ℕ) (x y : Result (List ℕ) Stop) → Weighed given case owners x → Weighed given case owners y → x ≡ y
+one_weighed one given case owners x y (inl a) (inl b) = a.2 ∙ ap over_limit (a.1.0 ∙ sym b.1.0) ∙ sym b.2
+one_weighed one given case owners x y (inl a) (inr b) = let is = a.1.0 in let above = a.1.1 in let within = b.1.0 in absurd (omega (arith, is, above, within))
+one_weighed one given case owners x y (inr a) (inl b) = let is = b.1.0 in let above = b.1.1 in let within = a.1.0 in absurd (omega (arith, is, above, within))
+one_weighed one given case owners x y (inr a) (inr b) =
     let p = a.1.1 in
     let q = b.1.1 in
-    a.2 ∙ ap Ok (one_audit (names_of given) case owners p.0 q.0 a.0 b.0 p.1 q.1 p.2 q.2) ∙ sym b.2
+    a.2 ∙ ap Ok (one (names_of given) case owners p.0 q.0 a.0 b.0 p.1 q.1 p.2 q.2) ∙ sym b.2
 
 -- a proposal calls for one ending
-pub one_proposal : (proposal : CaseData × List ℕ) (x y : Result (List ℕ) Stop) → OfProposal proposal x → OfProposal proposal y → x ≡ y
-one_proposal proposal x y a b =
+pub one_proposal : HaveOneAudit → (proposal : CaseData × List ℕ) (x y : Result (List ℕ) Stop) → OfProposal proposal x → OfProposal proposal y → x ≡ y
+one_proposal one proposal x y a b =
     let p = a.1 in
     let q = b.1 in
     let same : a.0 ≡ b.0 = cc (p, q) in
     let owners = players_of a.0 proposal.1 in
-    one_weighed proposal.0 a.0 owners x y (of_owners proposal.0 a.0 owners x a.2)
+    one_weighed one proposal.0 a.0 owners x y (of_owners proposal.0 a.0 owners x a.2)
     (of_owners proposal.0 a.0 owners y (subst (λ c. OfOwners proposal.0 c (players_of c proposal.1) y) (sym same) b.2))
 
 -- a case of goods ends by how many players it has

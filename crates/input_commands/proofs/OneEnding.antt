@@ -25,7 +25,7 @@ use Rattle.input_commands.specs.declared.command.InputCommand.TheVariants.{Solve
 use Rattle.input_commands.specs.Answers.{Answers, OfCase, OfPair, OfProposal}
 use Rattle.input_commands.specs.Commands.{AreAlike, at_one}
 use Rattle.input_commands.specs.Ends.{CallsFor}
-use Rattle.input_commands.proofs.OneAnswer.{one_body, one_case, one_pair, one_proposal, one_verdict}
+use Rattle.input_commands.proofs.OneAnswer.{HaveOneAudit, one_body, one_case, one_pair, one_proposal, one_verdict}
 
 -- bytes call for the same of the command with one worker
 with_one : (command : InputCommand) (bytes : List ℕ) (ending : Result (List ℕ) Stop) → CallsFor command bytes ending → CallsFor (at_one command) bytes ending
@@ -43,6 +43,7 @@ module _
     (is_ready : (body : List ℕ) (case : CaseData) → case_in body ≡ Ok case → IsReady case)
     (one_report : (given : CaseData) (case : Case) (division others : Division) (text other : List ℕ) → IsReady given → case_of given.facts given.bids ≡ Ok case
     → IsDivisionOf case division → IsDivisionOf case others → IsReport given case division text → IsReport given case others other → text ≡ other)
+    (one_audit : HaveOneAudit)
     (one_count : (case : GoodsCase) (steps other : ℕ) → HasSteps case steps → HasSteps case other → steps ≡ other)
     (one_judged : (bytes : List ℕ) (verdict other : Verdict) → IsJudged bytes verdict → IsJudged bytes other → other ≡ verdict)
     (whole_text : (bytes : List ℕ) (verdict : Verdict) (line : ℕ) → IsJudged bytes verdict → IsBrokenText bytes line → ⊥)
@@ -72,7 +73,7 @@ module _
         one_body case_in (OfCase (λ g case division text. IsCanonical case text)) bytes x y (λ given held. certificates bytes given held x y) a b
     one_answer (Report workers) bytes x y a b = one_body case_in (OfCase IsReport) bytes x y (λ given held. reports bytes given held x y) a b
     one_answer Check bytes x y a b = one_verdict IsJudged IsBrokenText one_judged whole_text one_line bytes x y a b
-    one_answer Weigh bytes x y a b = one_body proposal_in OfProposal bytes x y (λ proposal held. one_proposal proposal x y) a b
+    one_answer Weigh bytes x y a b = one_body proposal_in OfProposal bytes x y (λ proposal held. one_proposal one_audit proposal x y) a b
     one_answer Winner bytes x y a b = one_body goods_case_in OfPair bytes x y (λ given held. one_pair one_winner given x y) a b
     one_answer CheckWinner bytes x y a b = one_verdict IsPairJudged (IsBrokenTextOf Pairs) one_pair_judged whole_pair one_pair_line bytes x y a b
 

@@ -17,6 +17,7 @@ use bid_rules::case_law;
 use cert_checker::certificate_verdict_law;
 use cert_reader::{pair_law, text_law};
 use certificates::certificate_law;
+use goods_audit::one_goods_audit_law;
 use nash_search::step_count_law;
 use split_json::case_in_law;
 use split_reports::report_law;
@@ -36,6 +37,7 @@ pub fn input_answer_law()
     case_in_law();
     certificate_law();
     report_law();
+    one_goods_audit_law();
     step_count_law();
     certificate_verdict_law();
     text_law();

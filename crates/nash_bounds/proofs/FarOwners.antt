@@ -2,7 +2,7 @@
 use Rattle.std.proofs.Common.{◌≡◌, ℕ, suc, zero, ◌+◌, ◌*◌, ◌-◌, ◌/◌, ◌<◌, ◌≤◌, min, max, List, [], ◌∷◌, ◌++◌, length, get_or, set, sum, All, arith, sym, ap, ◌∙◌, subst, inl, inr}
 use Rattle.std.specs.List.{AllZip}
 use Rattle.std.proofs.lemmas.Bool.{cases_lt}
-use Rattle.std.proofs.lemmas.List.Elements.{AllZip-get_or, All-from_get_or}
+use Rattle.std.proofs.lemmas.List.Elements.{AllZip-get_or}
 use Rattle.std.proofs.Math.Nat.{mul-le-mul_right, le_of_mul-le-mul_right}
 use Rattle.bid_rules.specs.declared.goods.GoodsCase.{GoodsCase}
 use Rattle.bid_rules.specs.declared.pair.Pair.{Pair}
@@ -19,11 +19,12 @@ use Rattle.nash_bounds.specs.declared.reach.Flat.{Flat}
 use Rattle.nash_bounds.proofs.OneBound.{bound_of-is}
 use Rattle.nash_bounds.proofs.NextEntries.{sum_within}
 use Rattle.nash_bounds.proofs.LaneEntries.{filled_zero, entries_length, entries_get, entries_positive, positives_le, entries_set, sum_set, positives_set, product_set}
+use Rattle.nash_bounds.proofs.LaneVectors.{entries_most}
 use Rattle.nash_bounds.proofs.LevelReach.{slack}
 use Rattle.split_lemmas.proofs.ListPlaces.{get_le_sum}
 use Rattle.nash_bounds.proofs.LaneNumbers.{give_is, span_of_lanes, lanes_bound}
 use Rattle.bid_rules.specs.declared.limits.TheConstants.{MEMBER_ROOM, WHOLE_POINTS}
-use Rattle.nash_bounds.specs.declared.limits.TheConstants.{MOST_SUM, UNIT}
+use Rattle.nash_bounds.specs.declared.limits.TheConstants.{LANES, MOST_LANES_SUM, UNIT}
 
 -- there are at most as many positive entries as entries
 pub few_positive : (xs : List ℕ) → positives xs ≤ length xs
@@ -31,17 +32,17 @@ few_positive [] = omega arith
 few_positive (x ∷ xs) = let rest = few_positive xs in omega arith
 
 -- a lane's entry is the one at the level
-pub flat_before : (lanes : Lanes) (flat : Flat) (i : ℕ) → IsSpan lanes → IsFlat lanes flat → i < MEMBER_ROOM → get_or flat.entries i 0 ≡ entry_at flat.level (get_or lanes.low i 0) (get_or lanes.high i 0)
+pub flat_before : (lanes : Lanes) (flat : Flat) (i : ℕ) → IsSpan lanes → IsFlat lanes flat → i < LANES → get_or flat.entries i 0 ≡ entry_at flat.level (get_or lanes.low i 0) (get_or lanes.high i 0)
 flat_before lanes flat i span is l =
     let a = span.lows in let b = span.highs in
     ap (λ xs. get_or xs i 0) is.is_entries ∙ entries_get flat.level lanes.low lanes.high i (omega arith) (omega arith)
 
 -- a lane's low is at most its high
-pub lane_order : (lanes : Lanes) (i : ℕ) → IsSpan lanes → i < MEMBER_ROOM → get_or lanes.low i 0 ≤ get_or lanes.high i 0
+pub lane_order : (lanes : Lanes) (i : ℕ) → IsSpan lanes → i < LANES → get_or lanes.low i 0 ≤ get_or lanes.high i 0
 lane_order lanes i span l = let a = span.lows in AllZip-get_or ◌≤◌ lanes.low lanes.high i 0 0 span.in_order (omega arith)
 
 -- a lane's entry is at most all points of a player, and within the sum
-pub flat_small : (lanes : Lanes) (flat : Flat) (i : ℕ) → IsSpan lanes → IsFlat lanes flat → i < MEMBER_ROOM → (get_or flat.entries i 0 ≤ WHOLE_POINTS) × (get_or flat.entries i 0 ≤ flat.total)
+pub flat_small : (lanes : Lanes) (flat : Flat) (i : ℕ) → IsSpan lanes → IsFlat lanes flat → i < LANES → (get_or flat.entries i 0 ≤ WHOLE_POINTS) × (get_or flat.entries i 0 ≤ flat.total)
 flat_small lanes flat i span is l =
     let b = span.highs in
     let e = flat_before lanes flat i span is l in
@@ -54,17 +55,10 @@ flat_small lanes flat i span is l =
 
 -- no entry of a span is above all points of a player
 pub entries_within : (level : ℕ) (lanes : Lanes) → IsSpan lanes → All (λ v. v ≤ WHOLE_POINTS) (entries_at level lanes.low lanes.high)
-entries_within level lanes span =
-    let a = span.lows in let b = span.highs in
-    let n = entries_length level lanes.low lanes.high (omega arith) in
-    All-from_get_or (λ v. v ≤ WHOLE_POINTS) (entries_at level lanes.low lanes.high) 0 (λ i l.
-    let e = entries_get level lanes.low lanes.high i (omega arith) (omega arith) in
-    let o = lane_order lanes i span (omega arith) in
-    let s : get_or lanes.high i 0 ≤ WHOLE_POINTS = span.small i 0 (omega arith) in
-    omega arith)
+entries_within level lanes span = entries_most level lanes.low lanes.high span.in_order span.small
 
 -- the entries at a level sum to at most the most points that the players have in sum
-pub entries_total : (level : ℕ) (lanes : Lanes) → IsSpan lanes → sum (entries_at level lanes.low lanes.high) ≤ MOST_SUM
+pub entries_total : (level : ℕ) (lanes : Lanes) → IsSpan lanes → sum (entries_at level lanes.low lanes.high) ≤ MOST_LANES_SUM
 entries_total level lanes span =
     let a = span.lows in let b = span.highs in
     let n = entries_length level lanes.low lanes.high (omega arith) in
@@ -98,7 +92,7 @@ slack_at zero s lows highs us one order above below same fits few = absurd (omeg
 slack_at (suc m) s lows highs us one order above below same fits few = slack m s lows highs us order above below same fits few
 
 -- where a lane is far by its product, a list with as many positive utilities has a smaller product
-far_by_product : (lanes : Lanes) (flat : Flat) (i points : ℕ) (pair : Pair) (us : List ℕ) → IsSpan lanes → IsFlat lanes flat → i < MEMBER_ROOM
+far_by_product : (lanes : Lanes) (flat : Flat) (i points : ℕ) (pair : Pair) (us : List ℕ) → IsSpan lanes → IsFlat lanes flat → i < LANES
     → AllZip ◌≤◌ (set lanes.low i (get_or lanes.low i 0 + points)) (set lanes.high i (get_or lanes.high i 0 + points))
     → IsBetween (set lanes.low i (get_or lanes.low i 0 + points)) (set lanes.high i (get_or lanes.high i 0 + points)) (lanes.top + points) us
     → positives us ≡ positives (set lanes.high i (get_or lanes.high i 0 + points))
@@ -136,7 +130,7 @@ far_by_product lanes flat i points pair us span is l order within same few test 
     (omega arith) units near ratio is.above test
 
 -- where a lane is far, each list allowed has a smaller pair
-far_less : (lanes : Lanes) (flat : Flat) (i points : ℕ) (pair : Pair) (us : List ℕ) → IsSpan lanes → IsFlat lanes flat → i < MEMBER_ROOM
+far_less : (lanes : Lanes) (flat : Flat) (i points : ℕ) (pair : Pair) (us : List ℕ) → IsSpan lanes → IsFlat lanes flat → i < LANES
     → AllZip ◌≤◌ (set lanes.low i (get_or lanes.low i 0 + points)) (set lanes.high i (get_or lanes.high i 0 + points))
     → IsBetween (set lanes.low i (get_or lanes.low i 0 + points)) (set lanes.high i (get_or lanes.high i 0 + points)) (lanes.top + points) us
     → IsFar (get_or lanes.low i 0) (get_or lanes.high i 0) lanes.top points flat (get_or flat.entries i 0) pair → IsLess (nash_welfare us) pair

@@ -1,13 +1,13 @@
 -- Entries at a level, lane by lane, and lists filled up with zeros.
-use Rattle.std.proofs.Common.{◌≡◌, ℕ, suc, zero, ◌+◌, ◌*◌, ◌-◌, ◌<◌, ◌≤◌, min, max, List, [], ◌∷◌, ◌++◌, length, map, get_or, set, sum, cond, nat_le, arith, refl, sym, ap, ◌∙◌, subst}
+use Rattle.std.proofs.Common.{◌≡◌, ℕ, suc, zero, ◌+◌, ◌*◌, ◌-◌, ◌<◌, ◌≤◌, min, max, List, [], ◌∷◌, ◌++◌, length, map, get_or, set, sum, cond, nat_le, arith, refl, ap, ◌∙◌, subst}
 use Rattle.std.specs.List.{AllZip, range_with_len}
-use Rattle.std.proofs.lemmas.List.{same_lists, get_or_default}
 use Rattle.std.proofs.lemmas.List.Sums.{sum_by-cons}
 use Rattle.bid_rules.specs.declared.pair.Pair.{Pair}
 use Rattle.bid_rules.specs.Pairs.{positives, product, nash_welfare}
 use Rattle.nash_bounds.specs.Levels.{entry_at, level_sum, level_under, filled, bound_of}
 use Rattle.nash_bounds.specs.Reach.{entries_at}
-use Rattle.bid_rules.specs.declared.limits.TheConstants.{MEMBER_ROOM, WHOLE_POINTS}
+use Rattle.bid_rules.specs.declared.limits.TheConstants.{WHOLE_POINTS}
+use Rattle.nash_bounds.specs.declared.limits.TheConstants.{LANES}
 
 -- with nothing left over the raised entries are those at the level
 pub filled_zero : (level : ℕ) (lows highs : List ℕ) → filled level 0 lows highs ≡ entries_at level lows highs
@@ -30,16 +30,6 @@ entries_get level [] highs k a b = absurd (omega arith)
 entries_get level (low ∷ lows) [] k a b = absurd (omega arith)
 entries_get level (low ∷ lows) (high ∷ highs) zero a b = refl
 entries_get level (low ∷ lows) (high ∷ highs) (suc k) a b = entries_get level lows highs k (omega arith) (omega arith)
-
--- a list with each lane's entry at a level is the entries
-pub entries_are : (level : ℕ) (xs lows highs : List ℕ) → length xs ≡ MEMBER_ROOM → length lows ≡ MEMBER_ROOM → length highs ≡ MEMBER_ROOM → ((k : ℕ) → k < MEMBER_ROOM → get_or xs k 0 ≡ entry_at level (get_or lows k 0) (get_or highs k 0))
-    → xs ≡ entries_at level lows highs
-entries_are level xs lows highs a b c each =
-    let long = entries_length level lows highs (omega arith) in
-    same_lists xs (entries_at level lows highs) (omega arith) (λ k d l.
-    let e1 : get_or xs k d ≡ get_or xs k 0 = get_or_default xs k d 0 l in
-    let e2 : get_or (entries_at level lows highs) k d ≡ get_or (entries_at level lows highs) k 0 = get_or_default (entries_at level lows highs) k d 0 (omega arith) in
-    e1 ∙ each k (omega arith) ∙ sym (entries_get level lows highs k (omega arith) (omega arith)) ∙ sym e2)
 
 -- no entry is above its high
 pub entries_small : (level : ℕ) (lows highs : List ℕ) → AllZip ◌≤◌ lows highs → AllZip ◌≤◌ (entries_at level lows highs) highs
@@ -105,6 +95,31 @@ product_set (x ∷ xs) (suc i) v l = step (max x 1) (product (set xs i v)) (max 
 unfoldable pub zeros : ℕ → List ℕ
 zeros zero = []
 zeros (suc k) = 0 ∷ zeros k
+
+-- there are as many zeros as wanted
+pub zeros_length : (k : ℕ) → length (zeros k) ≡ k
+unfolding zeros
+zeros_length zero = refl
+zeros_length (suc k) = ap suc (zeros_length k)
+
+-- zeros are in order
+pub zeros_order : (k : ℕ) → AllZip ◌≤◌ (zeros k) (zeros k)
+unfolding zeros
+zeros_order zero = tt
+zeros_order (suc k) = (omega arith, zeros_order k)
+
+-- a zero is what stands past the end of a list
+zeros_get : (k i : ℕ) → get_or (zeros k) i 0 ≡ 0
+unfolding zeros
+zeros_get zero i = refl
+zeros_get (suc k) zero = refl
+zeros_get (suc k) (suc i) = zeros_get k i
+
+-- filling up changes no number by place
+pub zeros_past : (xs : List ℕ) (k i : ℕ) → get_or (xs ++ zeros k) i 0 ≡ get_or xs i 0
+zeros_past [] k i = zeros_get k i
+zeros_past (x ∷ xs) k zero = refl
+zeros_past (x ∷ xs) k (suc i) = zeros_past xs k i
 
 -- zeros sum to nothing at any level
 level_zeros : (level k : ℕ) → level_sum level (zeros k) (zeros k) ≡ 0
@@ -210,7 +225,7 @@ map_filled_up f a (suc n) k h =
     rw e (ap (λ xs. f a ∷ xs) (map_filled_up f (a + 1) n k (λ p l. h p (omega arith))))
 
 -- one number a lane is one a player, filled up with zeros
-pub by_room : (f : ℕ → ℕ) (n : ℕ) → n ≤ MEMBER_ROOM → ((p : ℕ) → n < p → f p ≡ 0) → map f (range_with_len 1 MEMBER_ROOM) ≡ map f (range_with_len 1 n) ++ zeros (MEMBER_ROOM - n)
+pub by_room : (f : ℕ → ℕ) (n : ℕ) → n ≤ LANES → ((p : ℕ) → n < p → f p ≡ 0) → map f (range_with_len 1 LANES) ≡ map f (range_with_len 1 n) ++ zeros (LANES - n)
 by_room f n l h =
-    let e : n + (MEMBER_ROOM - n) ≡ MEMBER_ROOM = omega arith in
-    subst (λ m. map f (range_with_len 1 m) ≡ map f (range_with_len 1 n) ++ zeros (MEMBER_ROOM - n)) e (map_filled_up f 1 n (MEMBER_ROOM - n) (λ p g. h p (omega arith)))
+    let e : n + (LANES - n) ≡ LANES = omega arith in
+    subst (λ m. map f (range_with_len 1 m) ≡ map f (range_with_len 1 n) ++ zeros (LANES - n)) e (map_filled_up f 1 n (LANES - n) (λ p g. h p (omega arith)))

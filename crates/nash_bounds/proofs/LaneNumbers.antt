@@ -1,5 +1,5 @@
 -- What is known of lanes.
-use Rattle.std.proofs.Common.{◌≡◌, ◌≢◌, ℕ, suc, zero, ◌+◌, ◌*◌, ◌-◌, ◌<◌, ◌≤◌, cond, eqb, true, false, List, [], ◌∷◌, ◌++◌, length, map, fold, max, sum, All, length-drop, slice_index, get_or, set, arith, refl, sym, ap, ◌∙◌, subst, inl, inr}
+use Rattle.std.proofs.Common.{◌≡◌, ◌≢◌, ℕ, ◌+◌, ◌*◌, ◌-◌, ◌<◌, ◌≤◌, cond, eqb, true, false, List, [], ◌∷◌, ◌++◌, length, map, fold, max, sum, All, length-drop, slice_index, get_or, set, arith, refl, sym, ap, ◌∙◌, subst, inl, inr}
 use Rattle.std.specs.List.{range_with_len, sum_by, AllZip}
 use Rattle.std.proofs.Math.ListN.{length-set}
 use Rattle.std.proofs.lemmas.List.{get_or-set_same, get_or-set_other, get_or_past, get_or_append_left}
@@ -21,34 +21,34 @@ use Rattle.nash_bounds.specs.declared.lanes.LaneRow.{LaneRow}
 use Rattle.nash_bounds.specs.declared.lanes.LaneTable.{LaneTable}
 use Rattle.nash_bounds.specs.Prefixes.{free_goods, top_of, highest, prefix_bound, IsPrefix}
 use Rattle.nash_bounds.specs.Lanes.{by_lane, has, may_have, next_good, IsLanes, IsFork, IsLaneRow, IsLaneTable, HasFreeGood}
-use Rattle.nash_bounds.proofs.PlayerPoints.{map_is, length_mapped, AllZip_map, Row}
+use Rattle.nash_bounds.proofs.PlayerPoints.{points_le, map_is, length_mapped, AllZip_map, Row}
 use Rattle.nash_bounds.proofs.LongerPrefixes.{utility_within, within_whole, free_next, low_next, top_next, each_player}
 use Rattle.nash_bounds.proofs.NextEntries.{sum_within}
 use Rattle.nash_bounds.proofs.SortedGoods.{order_length, range_all}
 use Rattle.split_lemmas.proofs.ListPlaces.{get_le_sum}
 use Rattle.std.proofs.lemmas.List.Elements.{All-head, All-tail, All-map, All-weaker}
 use Rattle.bid_rules.specs.declared.limits.TheConstants.{MEMBER_ROOM, WHOLE_POINTS}
-use Rattle.nash_bounds.specs.declared.limits.TheConstants.{MOST_TOP}
+use Rattle.nash_bounds.specs.declared.limits.TheConstants.{LANES, MOST_TOP}
 
 -- the number of a lane, by its place from 0
-pub lane_at : (f : ℕ → ℕ) (xs : List ℕ) (k : ℕ) → xs ≡ by_lane f → k < MEMBER_ROOM → get_or xs k 0 ≡ f (k + 1)
-lane_at f xs k is l = ap (λ ys. get_or ys k 0) is ∙ get_or-map-range_with_len f 1 MEMBER_ROOM k (k + 1) 0 l (omega arith)
+pub lane_at : (f : ℕ → ℕ) (xs : List ℕ) (k : ℕ) → xs ≡ by_lane f → k < LANES → get_or xs k 0 ≡ f (k + 1)
+lane_at f xs k is l = ap (λ ys. get_or ys k 0) is ∙ get_or-map-range_with_len f 1 LANES k (k + 1) 0 l (omega arith)
 
 -- the number of a lane, by its player from 1
-pub lane_of : (f : ℕ → ℕ) (xs : List ℕ) (owner : ℕ) → xs ≡ by_lane f → 1 ≤ owner → owner ≤ MEMBER_ROOM → get_or xs (owner - 1) 0 ≡ f owner
+pub lane_of : (f : ℕ → ℕ) (xs : List ℕ) (owner : ℕ) → xs ≡ by_lane f → 1 ≤ owner → owner ≤ LANES → get_or xs (owner - 1) 0 ≡ f owner
 lane_of f xs owner is a b = let e : owner - 1 + 1 ≡ owner = omega arith in subst (λ p. get_or xs (owner - 1) 0 ≡ f p) e (lane_at f xs (owner - 1) is (omega arith))
 
 -- there is one number a lane
-pub lane_length : (f : ℕ → ℕ) (xs : List ℕ) → xs ≡ by_lane f → length xs ≡ MEMBER_ROOM
+pub lane_length : (f : ℕ → ℕ) (xs : List ℕ) → xs ≡ by_lane f → length xs ≡ LANES
 lane_length f xs is = ap length is
 
 -- numbers that are those of each lane are the lanes
-pub by_each : (f : ℕ → ℕ) (xs : List ℕ) → length xs ≡ MEMBER_ROOM → ((k : ℕ) → k < MEMBER_ROOM → get_or xs k 0 ≡ f (k + 1)) → xs ≡ by_lane f
+pub by_each : (f : ℕ → ℕ) (xs : List ℕ) → length xs ≡ LANES → ((k : ℕ) → k < LANES → get_or xs k 0 ≡ f (k + 1)) → xs ≡ by_lane f
 by_each f xs long each =
     sym (subst (λ n. map f (range_with_len 1 n) ≡ xs) long (map_is f xs 1 (λ k l. let e : 1 + k ≡ k + 1 = omega arith in ap f e ∙ sym (each k (omega arith)))))
 
 -- one lane is written
-pub one_lane : (f g : ℕ → ℕ) (xs : List ℕ) (owner v : ℕ) → xs ≡ by_lane f → 1 ≤ owner → owner ≤ MEMBER_ROOM → v ≡ g owner → ((p : ℕ) → p ≢ owner → g p ≡ f p) → set xs (owner - 1) v ≡ by_lane g
+pub one_lane : (f g : ℕ → ℕ) (xs : List ℕ) (owner v : ℕ) → xs ≡ by_lane f → 1 ≤ owner → owner ≤ LANES → v ≡ g owner → ((p : ℕ) → p ≢ owner → g p ≡ f p) → set xs (owner - 1) v ≡ by_lane g
 one_lane f g xs owner v is a b own others =
     let long = lane_length f xs is in
     by_each g (set xs (owner - 1) v) (length-set xs (owner - 1) v ∙ long) (λ k l.
@@ -175,17 +175,17 @@ row_of case table owners rows other is free same =
     subst (λ (xs : List LaneRow). IsLaneRow case (next_good case owners) (get_or xs (length owners) other)) (sym same) (is.each (length owners) other free.short)
 
 -- a row gives the points of each lane for the next good
-pub row_points : (case : GoodsCase) (owners : List ℕ) (row : LaneRow) (k : ℕ) → IsLaneRow case (next_good case owners) row → k < MEMBER_ROOM → get_or row.points k 0 ≡ points case (k + 1) (next_good case owners)
+pub row_points : (case : GoodsCase) (owners : List ℕ) (row : LaneRow) (k : ℕ) → IsLaneRow case (next_good case owners) row → k < LANES → get_or row.points k 0 ≡ points case (k + 1) (next_good case owners)
 row_points case owners row k is l = lane_at (λ player. points case player (next_good case owners)) row.points k is.is_points l
 
 -- a row gives the owner's points for the next good
-pub row_owner : (case : GoodsCase) (owners : List ℕ) (row : LaneRow) (owner : ℕ) → IsLaneRow case (next_good case owners) row → 1 ≤ owner → owner ≤ MEMBER_ROOM
+pub row_owner : (case : GoodsCase) (owners : List ℕ) (row : LaneRow) (owner : ℕ) → IsLaneRow case (next_good case owners) row → 1 ≤ owner → owner ≤ LANES
     → get_or row.points (owner - 1) 0 ≡ points case owner (next_good case owners)
 row_owner case owners row owner is a b = lane_of (λ player. points case player (next_good case owners)) row.points owner is.is_points a b
 
 -- the lanes without the next good
-pub fork_is : (case : GoodsCase) (owners : List ℕ) (row : LaneRow) (lanes : Lanes) (high : List ℕ) → IsLaneRow case (next_good case owners) row → IsLanes case owners lanes → length high ≡ MEMBER_ROOM
-    → ((k : ℕ) → k < MEMBER_ROOM → get_or high k 0 ≡ get_or lanes.high k 0 - get_or row.points k 0)
+pub fork_is : (case : GoodsCase) (owners : List ℕ) (row : LaneRow) (lanes : Lanes) (high : List ℕ) → IsLaneRow case (next_good case owners) row → IsLanes case owners lanes → length high ≡ LANES
+    → ((k : ℕ) → k < LANES → get_or high k 0 ≡ get_or lanes.high k 0 - get_or row.points k 0)
     → IsFork case owners record { low = lanes.low; high = high; top = lanes.top - row.greatest }
 fork_is case owners row lanes high is lanes_are long each = record {
   is_low = lanes_are.is_low;
@@ -194,8 +194,8 @@ fork_is case owners row lanes high is lanes_are long each = record {
 }
 
 -- and with it again
-pub join_is : (case : GoodsCase) (owners : List ℕ) (row : LaneRow) (lanes : Lanes) (high : List ℕ) → IsLaneRow case (next_good case owners) row → HasFreeGood case owners → IsFork case owners lanes → length high ≡ MEMBER_ROOM
-    → ((k : ℕ) → k < MEMBER_ROOM → get_or high k 0 ≡ get_or lanes.high k 0 + get_or row.points k 0)
+pub join_is : (case : GoodsCase) (owners : List ℕ) (row : LaneRow) (lanes : Lanes) (high : List ℕ) → IsLaneRow case (next_good case owners) row → HasFreeGood case owners → IsFork case owners lanes → length high ≡ LANES
+    → ((k : ℕ) → k < LANES → get_or high k 0 ≡ get_or lanes.high k 0 + get_or row.points k 0)
     → IsLanes case owners record { low = lanes.low; high = high; top = lanes.top + row.greatest }
 join_is case owners row lanes high is free lanes_are long each = record {
   is_low = lanes_are.is_low;
@@ -205,7 +205,7 @@ join_is case owners row lanes high is free lanes_are long each = record {
 }
 
 -- lanes to which the next good is given are those of the longer prefix
-pub give_is : (case : GoodsCase) (owners : List ℕ) (owner given : ℕ) (lanes : Lanes) → HasFreeGood case owners → 1 ≤ owner → owner ≤ player_count case → owner ≤ MEMBER_ROOM → given ≡ points case owner (next_good case owners)
+pub give_is : (case : GoodsCase) (owners : List ℕ) (owner given : ℕ) (lanes : Lanes) → HasFreeGood case owners → 1 ≤ owner → owner ≤ player_count case → owner ≤ LANES → given ≡ points case owner (next_good case owners)
     → IsFork case owners lanes
     → IsLanes case (owners ++ owner ∷ []) record { low = set lanes.low (owner - 1) (get_or lanes.low (owner - 1) 0 + given); high = set lanes.high (owner - 1) (get_or lanes.high (owner - 1) 0 + given); top = lanes.top + given }
 give_is case owners owner given lanes free a few b is lanes_are = record {
@@ -217,7 +217,7 @@ give_is case owners owner given lanes free a few b is lanes_are = record {
 }
 
 -- lanes from which it is taken are those without it
-pub take_is : (case : GoodsCase) (owners : List ℕ) (owner given : ℕ) (lanes : Lanes) → HasFreeGood case owners → 1 ≤ owner → owner ≤ player_count case → owner ≤ MEMBER_ROOM → given ≡ points case owner (next_good case owners)
+pub take_is : (case : GoodsCase) (owners : List ℕ) (owner given : ℕ) (lanes : Lanes) → HasFreeGood case owners → 1 ≤ owner → owner ≤ player_count case → owner ≤ LANES → given ≡ points case owner (next_good case owners)
     → IsLanes case (owners ++ owner ∷ []) lanes
     → IsFork case owners record { low = set lanes.low (owner - 1) (get_or lanes.low (owner - 1) 0 - given); high = set lanes.high (owner - 1) (get_or lanes.high (owner - 1) 0 - given); top = lanes.top - given }
 take_is case owners owner given lanes free a few b is lanes_are = record {
@@ -229,7 +229,7 @@ take_is case owners owner given lanes free a few b is lanes_are = record {
 }
 
 -- no lane's points for the next good are above what the lane may have
-pub fork_fits : (case : GoodsCase) (owners : List ℕ) (row : LaneRow) (lanes : Lanes) (k : ℕ) → IsLaneRow case (next_good case owners) row → HasFreeGood case owners → IsLanes case owners lanes → k < MEMBER_ROOM
+pub fork_fits : (case : GoodsCase) (owners : List ℕ) (row : LaneRow) (lanes : Lanes) (k : ℕ) → IsLaneRow case (next_good case owners) row → HasFreeGood case owners → IsLanes case owners lanes → k < LANES
     → get_or row.points k 0 ≤ get_or lanes.high k 0
 fork_fits case owners row lanes k is free lanes_are l =
     let a = row_points case owners row k is l in
@@ -246,8 +246,8 @@ fork_top case owners row lanes is free lanes_are =
     omega arith
 
 -- what a lane may have with the next good fits its type
-pub join_fits : (case : GoodsCase) (owners : List ℕ) (row : LaneRow) (lanes : Lanes) (k : ℕ) → IsLaneRow case (next_good case owners) row → HasFreeGood case owners → IsFork case owners lanes → k < MEMBER_ROOM
-    → get_or lanes.high k 0 + get_or row.points k 0 < 4294967296
+pub join_fits : (case : GoodsCase) (owners : List ℕ) (row : LaneRow) (lanes : Lanes) (k : ℕ) → IsLaneRow case (next_good case owners) row → HasFreeGood case owners → IsFork case owners lanes → k < LANES
+    → get_or lanes.high k 0 + get_or row.points k 0 < 65536
 join_fits case owners row lanes k is free lanes_are l =
     let a = row_points case owners row k is l in
     let b = lane_at (forked case owners) lanes.high k lanes_are.is_high l in
@@ -274,42 +274,46 @@ pub none_has : (case : GoodsCase) (owners : List ℕ) (p : ℕ) → player_count
 none_has case owners p l = let n = none_may case owners p l in omega arith
 
 -- the lanes' lows are the utilities, filled up with zeros
-low_filled_up : (case : GoodsCase) (owners xs : List ℕ) → player_count case ≤ MEMBER_ROOM → xs ≡ by_lane (has case owners) → xs ≡ utilities case owners ++ zeros (MEMBER_ROOM - player_count case)
-low_filled_up case owners xs few is = is ∙ by_room (has case owners) (player_count case) few (λ p l. none_has case owners p l)
+low_filled_up : (case : GoodsCase) (owners xs : List ℕ) → player_count case ≤ MEMBER_ROOM → xs ≡ by_lane (has case owners) → xs ≡ utilities case owners ++ zeros (LANES - player_count case)
+low_filled_up case owners xs few is = is ∙ by_room (has case owners) (player_count case) (omega arith) (λ p l. none_has case owners p l)
 
 -- the lanes' highs are what the players may have, filled up with zeros
-high_filled_up : (case : GoodsCase) (owners xs : List ℕ) → player_count case ≤ MEMBER_ROOM → xs ≡ by_lane (may_have case owners) → xs ≡ highest case owners ++ zeros (MEMBER_ROOM - player_count case)
-high_filled_up case owners xs few is = is ∙ by_room (may_have case owners) (player_count case) few (λ p l. none_may case owners p l)
+high_filled_up : (case : GoodsCase) (owners xs : List ℕ) → player_count case ≤ MEMBER_ROOM → xs ≡ by_lane (may_have case owners) → xs ≡ highest case owners ++ zeros (LANES - player_count case)
+high_filled_up case owners xs few is = is ∙ by_room (may_have case owners) (player_count case) (omega arith) (λ p l. none_may case owners p l)
 
 -- the lanes' lows sum to the utilities
 low_sum : (case : GoodsCase) (owners xs : List ℕ) → player_count case ≤ MEMBER_ROOM → xs ≡ by_lane (has case owners) → sum xs ≡ sum (utilities case owners)
-low_sum case owners xs few is = ap sum (low_filled_up case owners xs few is) ∙ sum_filled_up (MEMBER_ROOM - player_count case) (utilities case owners)
+low_sum case owners xs few is = ap sum (low_filled_up case owners xs few is) ∙ sum_filled_up (LANES - player_count case) (utilities case owners)
 
 -- what holds of each number from 1 holds of each lane
-each_lane : (P : ℕ → Type 0) → ((p : ℕ) → 1 ≤ p → P p) → All P (range_with_len 1 MEMBER_ROOM)
-each_lane P h = All-weaker (λ k. (1 ≤ k) × (k < 1 + MEMBER_ROOM)) P (λ k r. h k r.0) (range_with_len 1 MEMBER_ROOM) (range_all 1 MEMBER_ROOM)
+each_lane : (P : ℕ → Type 0) → ((p : ℕ) → 1 ≤ p → P p) → All P (range_with_len 1 LANES)
+each_lane P h = All-weaker (λ k. (1 ≤ k) × (k < 1 + LANES)) P (λ k r. h k r.0) (range_with_len 1 LANES) (range_all 1 LANES)
 
 -- lanes by two functions in order, with highs of at most all points of a player and lows within top, are a span
-span : (f g : ℕ → ℕ) (lanes : Lanes) → lanes.low ≡ by_lane f → lanes.high ≡ by_lane g → ((p : ℕ) → 1 ≤ p → f p ≤ g p) → ((p : ℕ) → 1 ≤ p → g p ≤ WHOLE_POINTS) → sum lanes.low ≤ lanes.top → IsSpan lanes
-span f g lanes low high le small within = record {
+span : (f g : ℕ → ℕ) (lanes : Lanes) → lanes.low ≡ by_lane f → lanes.high ≡ by_lane g → ((p : ℕ) → 1 ≤ p → f p ≤ g p) → ((p : ℕ) → 1 ≤ p → g p ≤ WHOLE_POINTS) → ((p : ℕ) → MEMBER_ROOM < p → g p ≡ 0) → sum lanes.low ≤ lanes.top → IsSpan lanes
+span f g lanes low high le small none within = record {
   lows = lane_length f lanes.low low;
   highs = lane_length g lanes.high high;
-  in_order = subst (λ xs. AllZip ◌≤◌ xs lanes.high) (sym low) (subst (λ ys. AllZip ◌≤◌ (by_lane f) ys) (sym high) (AllZip_map f g (range_with_len 1 MEMBER_ROOM) (each_lane (λ p. f p ≤ g p) le)));
-  small = subst (All (λ most. most ≤ WHOLE_POINTS)) (sym high) (All-map (λ most. most ≤ WHOLE_POINTS) g (range_with_len 1 MEMBER_ROOM) (each_lane (λ p. g p ≤ WHOLE_POINTS) small));
+  in_order = subst (λ xs. AllZip ◌≤◌ xs lanes.high) (sym low) (subst (λ ys. AllZip ◌≤◌ (by_lane f) ys) (sym high) (AllZip_map f g (range_with_len 1 LANES) (each_lane (λ p. f p ≤ g p) le)));
+  small = subst (All (λ most. most ≤ WHOLE_POINTS)) (sym high) (All-map (λ most. most ≤ WHOLE_POINTS) g (range_with_len 1 LANES) (each_lane (λ p. g p ≤ WHOLE_POINTS) small));
+  rest = (λ k l. elim (cases_lt k LANES) [
+    | inl h ↦ lane_at g lanes.high k high h ∙ none (k + 1) (omega arith)
+    | inr h ↦ get_or_past lanes.high k 0 (let e = lane_length g lanes.high high in omega arith)
+  ]);
   within = within;
 }
 
 -- the lanes of a prefix are a span
 pub span_of_lanes : (case : GoodsCase) (owners : List ℕ) (lanes : Lanes) → IsValidGoodsCase case → player_count case ≤ MEMBER_ROOM → IsLanes case owners lanes → IsSpan lanes
 span_of_lanes case owners lanes valid few is =
-    span (has case owners) (may_have case owners) lanes is.is_low is.is_high (λ p _. omega arith) (λ p a. may_small case owners p valid a)
+    span (has case owners) (may_have case owners) lanes is.is_low is.is_high (λ p _. omega arith) (λ p a. may_small case owners p valid a) (λ p l. none_may case owners p (omega arith))
     (let s = low_sum case owners lanes.low few is.is_low in let t = is.is_top in omega arith)
 
 -- the lanes without the next good are a span
 pub span_of_fork : (case : GoodsCase) (owners : List ℕ) (lanes : Lanes) → HasFreeGood case owners → player_count case ≤ MEMBER_ROOM → IsFork case owners lanes → IsSpan lanes
 span_of_fork case owners lanes free few is =
     span (has case owners) (forked case owners) lanes is.is_low is.is_high (λ p _. let e = free_next (points case p) case owners 1 free.short in omega arith)
-    (λ p a. let s = may_small case owners p free.valid a in omega arith)
+    (λ p a. let s = may_small case owners p free.valid a in omega arith) (λ p l. let n = none_may case owners p (omega arith) in omega arith)
     (let s = low_sum case owners lanes.low few is.is_low in let t = is.is_top in let e = free_next (greatest_points case) case owners 1 free.short in omega arith)
 
 -- the bound by lanes is the bound
@@ -317,12 +321,12 @@ pub lanes_bound : (case : GoodsCase) (owners : List ℕ) (lanes : Lanes) → pla
 lanes_bound case owners lanes few is =
     let long : length (utilities case owners) ≡ length (highest case owners) = length_mapped (has case owners) (range_with_len 1 (player_count case)) ∙ sym (length_mapped (may_have case owners) (range_with_len 1 (player_count case))) in
     ap (λ xs. bound_of xs lanes.high lanes.top) (low_filled_up case owners lanes.low few is.is_low)
-    ∙ ap (λ xs. bound_of (utilities case owners ++ zeros (MEMBER_ROOM - player_count case)) xs lanes.top) (high_filled_up case owners lanes.high few is.is_high)
-    ∙ ap (bound_of (utilities case owners ++ zeros (MEMBER_ROOM - player_count case)) (highest case owners ++ zeros (MEMBER_ROOM - player_count case))) is.is_top
-    ∙ bound_filled_up (MEMBER_ROOM - player_count case) (utilities case owners) (highest case owners) (top_of case owners) long
+    ∙ ap (λ xs. bound_of (utilities case owners ++ zeros (LANES - player_count case)) xs lanes.top) (high_filled_up case owners lanes.high few is.is_high)
+    ∙ ap (bound_of (utilities case owners ++ zeros (LANES - player_count case)) (highest case owners ++ zeros (LANES - player_count case))) is.is_top
+    ∙ bound_filled_up (LANES - player_count case) (utilities case owners) (highest case owners) (top_of case owners) long
 
 -- a list by players, one a lane
-pub laned_is : (f : ℕ → ℕ) (n : ℕ) (xs ys : List ℕ) → n ≤ MEMBER_ROOM → ((p : ℕ) → n < p → f p ≡ 0) → xs ≡ map f (range_with_len 1 n) → length ys ≡ MEMBER_ROOM → ((k : ℕ) → k < MEMBER_ROOM → get_or ys k 0 ≡ get_or xs k 0) → ys ≡ by_lane f
+pub laned_is : (f : ℕ → ℕ) (n : ℕ) (xs ys : List ℕ) → n ≤ MEMBER_ROOM → ((p : ℕ) → n < p → f p ≡ 0) → xs ≡ map f (range_with_len 1 n) → length ys ≡ LANES → ((k : ℕ) → k < LANES → get_or ys k 0 ≡ get_or xs k 0) → ys ≡ by_lane f
 laned_is f n xs ys few none is long each =
     by_each f ys long (λ k l. each k l ∙ ap (λ zs. get_or zs k 0) is ∙ at k)
   where
@@ -333,9 +337,27 @@ laned_is f n xs ys few none is long each =
           past ∙ sym (none (k + 1) (omega arith)))
     ]
 
+-- no points for a good are above all points of a player
+pub row_small : (case : GoodsCase) (good : ℕ) (row : PointRow) (given : List ℕ) → IsValidGoodsCase case → IsPointRow case good row → given ≡ row.points.items → All (λ number. number ≤ WHOLE_POINTS) given
+row_small case good row given valid is same =
+    subst (All (λ number. number ≤ WHOLE_POINTS)) (sym (same ∙ is.is_points)) (All-map (λ number. number ≤ WHOLE_POINTS) (λ p. points case p good) (range_with_len 1 (player_count case))
+    (each_player (λ p. points case p good ≤ WHOLE_POINTS) case (λ p l h. let a = points_le case p good l h in let g = greatest_small case good valid in omega arith)))
+
+-- nor is what a player has
+pub low_small : (case : GoodsCase) (prefix : Prefix) (given : List ℕ) → IsValidGoodsCase case → IsPrefix case prefix → given ≡ prefix.low.items → All (λ number. number ≤ WHOLE_POINTS) given
+low_small case prefix given valid is same =
+    subst (All (λ number. number ≤ WHOLE_POINTS)) (sym (same ∙ is.is_low)) (All-map (λ number. number ≤ WHOLE_POINTS) (has case prefix.owners.items) (range_with_len 1 (player_count case))
+    (each_player (λ p. has case prefix.owners.items p ≤ WHOLE_POINTS) case (λ p l h. let w = may_small case prefix.owners.items p valid l in omega arith)))
+
+-- nor what a player may have
+pub high_small : (case : GoodsCase) (prefix : Prefix) (given : List ℕ) → IsValidGoodsCase case → IsPrefix case prefix → given ≡ prefix.high.items → All (λ number. number ≤ WHOLE_POINTS) given
+high_small case prefix given valid is same =
+    subst (All (λ number. number ≤ WHOLE_POINTS)) (sym (same ∙ is.is_high)) (All-map (λ number. number ≤ WHOLE_POINTS) (may_have case prefix.owners.items) (range_with_len 1 (player_count case))
+    (each_player (λ p. may_have case prefix.owners.items p ≤ WHOLE_POINTS) case (λ p l h. may_small case prefix.owners.items p valid l)))
+
 -- a row of points in lanes is the row by lane
-pub lane_row_is : (case : GoodsCase) (good : ℕ) (row : PointRow) (given ys : List ℕ) → player_count case ≤ MEMBER_ROOM → IsPointRow case good row → given ≡ row.points.items → length ys ≡ MEMBER_ROOM
-    → ((k : ℕ) → k < MEMBER_ROOM → get_or ys k 0 ≡ get_or given k 0) → IsLaneRow case good record { points = ys; greatest = row.greatest }
+pub lane_row_is : (case : GoodsCase) (good : ℕ) (row : PointRow) (given ys : List ℕ) → player_count case ≤ MEMBER_ROOM → IsPointRow case good row → given ≡ row.points.items → length ys ≡ LANES
+    → ((k : ℕ) → k < LANES → get_or ys k 0 ≡ get_or given k 0) → IsLaneRow case good record { points = ys; greatest = row.greatest }
 lane_row_is case good row given ys few is same long each = record {
   is_points = laned_is (λ p. points case p good) (player_count case) given ys few (λ p l. none_points case p good l) (same ∙ is.is_points) long each;
   is_greatest = is.is_greatest;
@@ -343,7 +365,7 @@ lane_row_is case good row given ys few is same long each = record {
 
 -- a prefix's numbers in lanes are its lanes
 pub lanes_are : (case : GoodsCase) (prefix : Prefix) (lows highs xs ys : List ℕ) → player_count case ≤ MEMBER_ROOM → IsPrefix case prefix → lows ≡ prefix.low.items → highs ≡ prefix.high.items
-    → length xs ≡ MEMBER_ROOM → ((k : ℕ) → k < MEMBER_ROOM → get_or xs k 0 ≡ get_or lows k 0) → length ys ≡ MEMBER_ROOM → ((k : ℕ) → k < MEMBER_ROOM → get_or ys k 0 ≡ get_or highs k 0)
+    → length xs ≡ LANES → ((k : ℕ) → k < LANES → get_or xs k 0 ≡ get_or lows k 0) → length ys ≡ LANES → ((k : ℕ) → k < LANES → get_or ys k 0 ≡ get_or highs k 0)
     → IsLanes case prefix.owners.items record { low = xs; high = ys; top = prefix.top }
 lanes_are case prefix lows highs xs ys few is low high lx ex ly ey = record {
   is_low = laned_is (has case prefix.owners.items) (player_count case) lows xs few (λ p l. none_has case prefix.owners.items p l) (low ∙ is.is_low) lx ex;

@@ -3,6 +3,7 @@ pub mod GreatestPair
 pub mod LaneNumbers
 pub mod FarOwners
 pub mod LaneEntries
+pub mod LaneVectors
 pub mod LevelReach
 pub mod RaisedEntries
 pub mod NextEntries

@@ -4,19 +4,18 @@ use Rattle.std.proofs.Math.Nat.{mul-le-mul, pow-suc, pow-le-pow_right}
 use Rattle.bid_rules.specs.Pairs.{positives, product}
 use Rattle.std.proofs.lemmas.List.Sums.{sum_by-cons}
 use Rattle.std.proofs.lemmas.List.Elements.{All-head, All-tail}
-use Rattle.nash_bounds.specs.Levels.{entry_at, level_sum, filled}
+use Rattle.nash_bounds.specs.Levels.{lifted}
 use Rattle.bid_rules.specs.declared.limits.TheConstants.{MEMBER_ROOM, WHOLE_POINTS}
 
--- the raised list from one place on: its first entry, and the rest
-pub filled_next : (level extra : ℕ) (low high : List ℕ) (i step : ℕ) → i < length low → i < length high
-    → entry_at (suc level) (get_or low i 0) (get_or high i 0) ≡ entry_at level (get_or low i 0) (get_or high i 0) + step
-    → filled level extra (drop i low) (drop i high) ≡ (entry_at level (get_or low i 0) (get_or high i 0) + min extra step) ∷ filled level (extra - min extra step) (drop (i + 1) low) (drop (i + 1) high)
-filled_next level extra low high i step a b is =
-    let one : drop i low ≡ get_or low i 0 ∷ drop (suc i) low = drop-cons low i 0 a in
-    let two : drop i high ≡ get_or high i 0 ∷ drop (suc i) high = drop-cons high i 0 b in
+-- the lifted entries from one place on: the first, and the rest
+pub lifted_next : (extra : ℕ) (entries above : List ℕ) (i step : ℕ) → i < length entries → i < length above → step ≡ min (get_or above i 0 - get_or entries i 0) extra
+    → lifted extra (drop i entries) (drop i above) ≡ (get_or entries i 0 + step) ∷ lifted (extra - step) (drop (i + 1) entries) (drop (i + 1) above)
+lifted_next extra entries above i step a b is =
+    let one : drop i entries ≡ get_or entries i 0 ∷ drop (suc i) entries = drop-cons entries i 0 a in
+    let two : drop i above ≡ get_or above i 0 ∷ drop (suc i) above = drop-cons above i 0 b in
     let next : i + 1 ≡ suc i = omega arith in
-    let d : entry_at (suc level) (get_or low i 0) (get_or high i 0) - entry_at level (get_or low i 0) (get_or high i 0) ≡ step = omega arith in
-    let e : extra - min extra step ≡ extra - step = omega arith in
+    let d : min extra (get_or above i 0 - get_or entries i 0) ≡ step = omega arith in
+    let e : extra - (get_or above i 0 - get_or entries i 0) ≡ extra - step = omega arith in
     rw (one, two, next, d, e) refl
 
 -- one more utility is counted where it is positive
@@ -43,29 +42,6 @@ pub power_fits : (p i : ℕ) → p ≤ WHOLE_POINTS ^ i → i ≤ MEMBER_ROOM �
 power_fits p i a b =
     let e : WHOLE_POINTS ^ i ≤ WHOLE_POINTS ^ MEMBER_ROOM = pow-le-pow_right (omega arith) b in
     omega arith
-
--- an entry that is raised is at most all points of a player, and so is the factor that it gives
-pub entry_small : (level extra low high entry rise step : ℕ) → low ≤ high → high ≤ WHOLE_POINTS → entry_at (suc level) low high ≡ entry_at level low high + rise
-    → entry ≡ entry_at level low high → step ≡ min rise extra → max (entry + step) 1 ≤ WHOLE_POINTS
-entry_small level extra low high entry rise step a b e f g = omega arith
-
--- the raised list from one place on, by an entry and a step that are computed
-pub filled_is : (level extra : ℕ) (low high : List ℕ) (i rise step entry : ℕ) → i < length low → i < length high
-    → entry_at (suc level) (get_or low i 0) (get_or high i 0) ≡ entry_at level (get_or low i 0) (get_or high i 0) + rise
-    → entry ≡ entry_at level (get_or low i 0) (get_or high i 0) → step ≡ min rise extra
-    → filled level extra (drop i low) (drop i high) ≡ (entry + step) ∷ filled level (extra - step) (drop (i + 1) low) (drop (i + 1) high)
-filled_is level extra low high i rise step entry a b is e s =
-    let f : step ≡ min extra rise = omega arith in
-    rw (e, f) (filled_next level extra low high i rise a b is)
-
--- the sum at a level from one place on: its first entry, and the rest
-pub level_next : (level : ℕ) (low high : List ℕ) (i : ℕ) → i < length low → i < length high
-    → level_sum level (drop i low) (drop i high) ≡ entry_at level (get_or low i 0) (get_or high i 0) + level_sum level (drop (i + 1) low) (drop (i + 1) high)
-level_next level low high i a b =
-    let one : drop i low ≡ get_or low i 0 ∷ drop (suc i) low = drop-cons low i 0 a in
-    let two : drop i high ≡ get_or high i 0 ∷ drop (suc i) high = drop-cons high i 0 b in
-    let next : i + 1 ≡ suc i = omega arith in
-    rw (one, two, next) refl
 
 -- entries of at most all points of a player sum to at most so many times these
 pub sum_within : (xs : List ℕ) → All (λ x. x ≤ WHOLE_POINTS) xs → sum xs ≤ WHOLE_POINTS * length xs

@@ -8,10 +8,11 @@ use Rattle.nash_bounds.specs.declared.lanes.LaneTable.{LaneTable}
 use Rattle.nash_bounds.specs.declared.lanes.Lanes.{Lanes}
 use Rattle.nash_bounds.specs.Prefixes.{free_goods, top_of}
 use Rattle.bid_rules.specs.declared.limits.TheConstants.{MEMBER_ROOM}
+use Rattle.nash_bounds.specs.declared.limits.TheConstants.{LANES}
 
 -- one number for each lane
 abbrev pub by_lane : (ℕ → ℕ) → List ℕ
-by_lane f = map f (range_with_len 1 MEMBER_ROOM)
+by_lane f = map f (range_with_len 1 LANES)
 
 -- each lane's points for the good, and the greatest of these
 pub record IsLaneRow (case : GoodsCase) (good : ℕ) (row : LaneRow) : Type 0 where

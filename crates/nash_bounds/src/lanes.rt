@@ -1,22 +1,24 @@
-ghost use Rattle.std.specs.Prelude.{◌≡◌, ℕ, List, ◌+◌, ◌-◌, ◌<◌, ◌≤◌, ◌^◌, [], ◌∷◌, ◌++◌, length, slice_index, slice_set};
+ghost use Rattle.std.specs.Prelude.{◌≡◌, ℕ, List, ◌+◌, ◌-◌, ◌<◌, ◌≤◌, ◌^◌, [], ◌∷◌, ◌++◌, length, All, slice_index, slice_set};
 ghost use Rattle.bid_rules.specs.declared.goods.GoodsCase.{GoodsCase};
 ghost use Rattle.bid_rules.specs.Goods.{IsValidGoodsCase, player_count, points, order_of};
 ghost use Rattle.nash_bounds.specs.Lanes.{IsLaneRow, IsLaneTable, IsLanes, IsFork, HasFreeGood, next_good};
 ghost use Rattle.nash_bounds.specs.Prefixes.{IsPrefix};
 ghost use Rattle.nash_bounds.specs.Tables.{IsPointRow, IsTable};
 
-use crate::limits::MOST_TOP;
+use crate::limits::{LANES, MOST_TOP};
 use crate::prefix::Prefix;
 use crate::table::{PointRow, PointTable};
+use crate::vectors::lane_of;
 use arrayvec::ArrayVec;
 use bid_rules::GoodsCase;
-use bid_rules::limits::{ITEM_ROOM, MEMBER_ROOM};
+use bid_rules::limits::{ITEM_ROOM, MEMBER_ROOM, WHOLE_POINTS};
+use std::simd::prelude::*;
 
 /// What the players give one good, by lane.
 #[derive(Clone, Copy, Default)]
 pub struct LaneRow {
     /// By lane the player's points for the good.
-    pub points: [u32; MEMBER_ROOM],
+    pub points: u16x16,
     /// The greatest of these.
     pub greatest: u32,
 }
@@ -32,33 +34,33 @@ pub struct LaneTable {
 #[derive(Clone, Copy)]
 pub struct Lanes {
     /// By lane the points that the player has so far.
-    pub low: [u32; MEMBER_ROOM],
+    pub low: u16x16,
     /// By lane the points that the player would have with all free goods.
-    pub high: [u32; MEMBER_ROOM],
+    pub high: u16x16,
     /// The sum of `low` and, for each free good, the greatest points that any player gives it.
     pub top: u32,
 }
 
-/// Takes the points from the numbers, lane by lane.
-fn take_off(numbers: &mut [u32; MEMBER_ROOM], points: &[u32; MEMBER_ROOM])
-    requires { (k : ℕ) → k < MEMBER_ROOM → slice_index points.now k ≤ slice_index numbers.old k }
-    ensures each { (k : ℕ) → k < MEMBER_ROOM → slice_index numbers.new k ≡ slice_index numbers.old k - slice_index points.now k }
-    ensures long { length numbers.new ≡ MEMBER_ROOM }
+/// The numbers less the points, lane by lane.
+fn less(numbers: u16x16, points: u16x16) -> u16x16
+    requires long { length numbers ≡ LANES }
+    requires points { length points ≡ LANES }
+    requires each { (k : ℕ) → k < LANES → slice_index points k ≤ slice_index numbers k }
+    ensures each { (k : ℕ) → k < LANES → slice_index result k ≡ slice_index numbers k - slice_index points k }
+    ensures long { length result ≡ LANES }
 {
-    for k in 0..MEMBER_ROOM {
-        numbers[k] -= points[k];
-    }
+    numbers.strict_sub(points)
 }
 
-/// Adds the points to the numbers, lane by lane.
-fn put_back(numbers: &mut [u32; MEMBER_ROOM], points: &[u32; MEMBER_ROOM])
-    requires { (k : ℕ) → k < MEMBER_ROOM → slice_index numbers.old k + slice_index points.now k < 2 ^ 32 }
-    ensures each { (k : ℕ) → k < MEMBER_ROOM → slice_index numbers.new k ≡ slice_index numbers.old k + slice_index points.now k }
-    ensures long { length numbers.new ≡ MEMBER_ROOM }
+/// The numbers and the points, lane by lane.
+fn more(numbers: u16x16, points: u16x16) -> u16x16
+    requires long { length numbers ≡ LANES }
+    requires points { length points ≡ LANES }
+    requires each { (k : ℕ) → k < LANES → slice_index numbers k + slice_index points k < 2 ^ 16 }
+    ensures each { (k : ℕ) → k < LANES → slice_index result k ≡ slice_index numbers k + slice_index points k }
+    ensures long { length result ≡ LANES }
 {
-    for k in 0..MEMBER_ROOM {
-        numbers[k] += points[k];
-    }
+    numbers.strict_add(points)
 }
 
 /// Takes the next good from what the players may have.
@@ -69,7 +71,7 @@ pub fn fork(case: &GoodsCase, table: &LaneTable, owners: &[u8], lanes: &mut Lane
     ensures { IsFork case.now owners.now lanes.new }
 {
     let row = &table.rows[owners.len()];
-    take_off(&mut lanes.high, &row.points);
+    lanes.high = less(lanes.high, row.points);
     lanes.top -= row.greatest;
 }
 
@@ -81,7 +83,7 @@ pub fn join(case: &GoodsCase, table: &LaneTable, owners: &[u8], lanes: &mut Lane
     ensures { IsLanes case.now owners.now lanes.new }
 {
     let row = &table.rows[owners.len()];
-    put_back(&mut lanes.high, &row.points);
+    lanes.high = more(lanes.high, row.points);
     lanes.top = raised(lanes.top, row.greatest);
 }
 
@@ -100,27 +102,32 @@ pub(crate) fn points_of(case: &GoodsCase, table: &LaneTable, owners: &[u8], owne
     requires owner_high { owner ≤ player_count case.now }
     ensures value { result ≡ points case.now owner (next_good case.now owners.now) }
 {
-    table.rows[owners.len()].points[owner as usize - 1]
+    lane_of(&table.rows[owners.len()].points, owner)
 }
 
-/// Adds the points to one lane.
-fn raise_lane(numbers: &mut [u32; MEMBER_ROOM], owner: u8, points: u32)
+/// The numbers with the points more in one lane.
+fn raised_lane(numbers: u16x16, owner: u8, points: u32) -> u16x16
     requires owner_low { 1 ≤ owner }
-    requires owner_high { owner ≤ MEMBER_ROOM }
-    requires fits { slice_index numbers.old (owner - 1) + points < 2 ^ 32 }
-    ensures { numbers.new ≡ slice_set numbers.old (owner - 1) (slice_index numbers.old (owner - 1) + points) }
+    requires owner_high { owner ≤ LANES }
+    requires fits { slice_index numbers (owner - 1) + points < 2 ^ 16 }
+    ensures { result ≡ slice_set numbers (owner - 1) (slice_index numbers (owner - 1) + points) }
 {
-    numbers[owner as usize - 1] += points;
+    let mut lanes = numbers.to_array();
+    lanes[owner as usize - 1] += points as u16;
+    u16x16::from_array(lanes)
 }
 
-/// Takes the points from one lane.
-fn lower_lane(numbers: &mut [u32; MEMBER_ROOM], owner: u8, points: u32)
+/// The numbers with the points less in one lane.
+fn lowered_lane(numbers: u16x16, owner: u8, points: u32) -> u16x16
     requires owner_low { 1 ≤ owner }
-    requires owner_high { owner ≤ MEMBER_ROOM }
-    requires fits { points ≤ slice_index numbers.old (owner - 1) }
-    ensures { numbers.new ≡ slice_set numbers.old (owner - 1) (slice_index numbers.old (owner - 1) - points) }
+    requires owner_high { owner ≤ LANES }
+    requires small { points < 2 ^ 16 }
+    requires fits { points ≤ slice_index numbers (owner - 1) }
+    ensures { result ≡ slice_set numbers (owner - 1) (slice_index numbers (owner - 1) - points) }
 {
-    numbers[owner as usize - 1] -= points;
+    let mut lanes = numbers.to_array();
+    lanes[owner as usize - 1] -= points as u16;
+    u16x16::from_array(lanes)
 }
 
 /// Gives the next good to the owner.
@@ -133,8 +140,8 @@ pub fn give(case: &GoodsCase, table: &LaneTable, owners: &[u8], owner: u8, lanes
     ensures { IsLanes case.now (owners.now ++ owner ∷ []) lanes.new }
 {
     let points = points_of(case, table, owners, owner);
-    raise_lane(&mut lanes.low, owner, points);
-    raise_lane(&mut lanes.high, owner, points);
+    lanes.low = raised_lane(lanes.low, owner, points);
+    lanes.high = raised_lane(lanes.high, owner, points);
     lanes.top += points;
 }
 
@@ -148,22 +155,23 @@ pub fn take(case: &GoodsCase, table: &LaneTable, owners: &[u8], owner: u8, lanes
     ensures { IsFork case.now owners.now lanes.new }
 {
     let points = points_of(case, table, owners, owner);
-    lower_lane(&mut lanes.low, owner, points);
-    lower_lane(&mut lanes.high, owner, points);
+    lanes.low = lowered_lane(lanes.low, owner, points);
+    lanes.high = lowered_lane(lanes.high, owner, points);
     lanes.top -= points;
 }
 
 /// The numbers, one a lane, and 0 in the other lanes.
-fn laned(numbers: &[u32]) -> [u32; MEMBER_ROOM]
-    requires { length numbers.now ≤ MEMBER_ROOM }
-    ensures each { (k : ℕ) → k < MEMBER_ROOM → slice_index result k ≡ slice_index numbers.now k }
-    ensures long { length result ≡ MEMBER_ROOM }
+pub(crate) fn laned(numbers: &[u32]) -> u16x16
+    requires short { length numbers.now ≤ LANES }
+    requires small { All (λ number. number ≤ WHOLE_POINTS) numbers.now }
+    ensures each { (k : ℕ) → k < LANES → slice_index result k ≡ slice_index numbers.now k }
+    ensures long { length result ≡ LANES }
 {
-    let mut lanes = [0; MEMBER_ROOM];
+    let mut lanes = [0; LANES];
     for k in 0..numbers.len() {
-        lanes[k] = numbers[k];
+        lanes[k] = numbers[k] as u16;
     }
-    lanes
+    u16x16::from_array(lanes)
 }
 
 /// The prefix by lanes.
@@ -181,6 +189,7 @@ pub fn lanes_of(case: &GoodsCase, prefix: &Prefix) -> Lanes
 }
 
 fn lane_row(case: &GoodsCase, row: &PointRow, good: u8) -> LaneRow
+    requires case { IsValidGoodsCase case.now }
     requires few { player_count case.now ≤ MEMBER_ROOM }
     requires row { IsPointRow case.now good row.now }
     ensures { IsLaneRow case.now good result }

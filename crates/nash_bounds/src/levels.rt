@@ -1,13 +1,15 @@
-ghost use Rattle.std.specs.Prelude.{◌≡◌, ℕ, suc, ◌+◌, ◌-◌, ◌*◌, ◌^◌, ◌<◌, ◌≤◌, ◌⊎◌, length, All, sum};
+ghost use Rattle.std.specs.Prelude.{◌≡◌, ℕ, suc, ◌+◌, ◌-◌, ◌*◌, ◌^◌, ◌<◌, ◌≤◌, ◌⊎◌, length, slice_index, All, sum};
 ghost use Rattle.std.specs.List.{AllZip};
 ghost use Rattle.bid_rules.specs.Pairs.{nash_welfare};
 ghost use Rattle.nash_bounds.specs.Bound.{IsBound};
-ghost use Rattle.nash_bounds.specs.Levels.{entry_at, level_sum, filled};
+ghost use Rattle.nash_bounds.specs.Levels.{level_sum, filled, lifted};
 ghost use Rattle.nash_bounds.specs.Raised.{Reaches};
 
-use crate::limits::MOST_SUM;
+use crate::limits::{LANES, MOST_LANES_SUM};
+use crate::vectors::{entries_of, total};
 use bid_rules::Pair;
 use bid_rules::limits::{MEMBER_ROOM, WHOLE_POINTS};
+use std::simd::prelude::*;
 
 /// All entries at one level, each within its low and high, and the first few of those that can rise one above it.
 #[derive(Clone, Copy)]
@@ -23,46 +25,30 @@ struct AtLevel {
     rising: u32,
 }
 
-/// An entry at a level.
-pub(crate) fn entry(low: u32, high: u32, level: u32) -> u32
-    ensures { result ≡ entry_at level low high }
-{
-    level.min(high).max(low)
-}
-
-/// 1 where an entry rises with the level there, else 0.
-fn rise(low: u32, high: u32, level: u32) -> u32
-    requires { low ≤ high }
-    ensures value { entry_at (suc level) low high ≡ entry_at level low high + result }
-    ensures few { result ≤ 1 }
-{
-    u32::from(low <= level && level < high)
-}
-
 /// The entries' sum at a level, and how many of them rise from there.
-fn at_level(low: &[u32], high: &[u32], level: u32) -> AtLevel
-    requires lengths { length low.now ≡ length high.now }
-    requires short { length low.now ≤ MEMBER_ROOM }
-    requires order { AllZip ◌≤◌ low.now high.now }
-    requires small { All (λ h. h ≤ WHOLE_POINTS) high.now }
-    ensures sum { result.sum ≡ level_sum level low.now high.now }
-    ensures next { level_sum (suc level) low.now high.now ≡ result.sum + result.rising }
-    ensures most { result.sum ≤ MOST_SUM }
-    ensures few { result.rising ≤ MEMBER_ROOM }
+fn at_level(low: u16x16, high: u16x16, level: u32) -> AtLevel
+    requires lows { length low ≡ LANES }
+    requires highs { length high ≡ LANES }
+    requires order { AllZip ◌≤◌ low high }
+    requires small { All (λ h. h ≤ WHOLE_POINTS) high }
+    requires level { level ≤ WHOLE_POINTS }
+    ensures sum { result.sum ≡ level_sum level low high }
+    ensures next { level_sum (suc level) low high ≡ result.sum + result.rising }
+    ensures most { result.sum ≤ MOST_LANES_SUM }
+    ensures few { result.rising ≤ LANES }
 {
-    let mut sum = 0;
-    let mut rising = 0;
-    for i in 0..low.len() {
-        sum += entry(low[i], high[i], level);
-        rising += rise(low[i], high[i], level);
+    let sum = total(entries_of(low, high, level));
+    let next = total(entries_of(low, high, level + 1));
+    AtLevel {
+        sum,
+        rising: next - sum,
     }
-    AtLevel { sum, rising }
 }
 
 /// The level at which the sum would be `top`, if as many entries rose all the way; `middle` where none does.
 fn aim(at: AtLevel, level: u32, top: u32, middle: u32) -> u32
-    requires sum { at.sum ≤ MOST_SUM }
-    requires rising { at.rising ≤ MEMBER_ROOM }
+    requires sum { at.sum ≤ MOST_LANES_SUM }
+    requires rising { at.rising ≤ LANES }
 {
     if at.rising == 0 {
         middle
@@ -77,14 +63,14 @@ fn aim(at: AtLevel, level: u32, top: u32, middle: u32) -> u32
 ///
 /// It lies between a level that fits and one that doesn't. The first guess is `start`, any number. Each further one takes the number of rising entries as constant, and so meets
 /// it as soon as no entry's ends lie between.
-pub(crate) fn last_level(low: &[u32], high: &[u32], top: u32, start: u32) -> Height
-    requires lengths { length low.now ≡ length high.now }
-    requires short { length low.now ≤ MEMBER_ROOM }
-    requires order { AllZip ◌≤◌ low.now high.now }
-    requires small { All (λ h. h ≤ WHOLE_POINTS) high.now }
-    requires low { sum low.now ≤ top }
-    requires high { top < sum high.now }
-    ensures { Reaches low.now high.now top result.level result.extra }
+pub(crate) fn last_level(low: u16x16, high: u16x16, top: u32, start: u32) -> Height
+    requires lows { length low ≡ LANES }
+    requires highs { length high ≡ LANES }
+    requires order { AllZip ◌≤◌ low high }
+    requires small { All (λ h. h ≤ WHOLE_POINTS) high }
+    requires low { sum low ≤ top }
+    requires high { top < sum high }
+    ensures { Reaches low high top result.level result.extra }
 {
     let mut fits = 0;
     let mut above = WHOLE_POINTS;
@@ -113,13 +99,13 @@ pub(crate) fn last_level(low: &[u32], high: &[u32], top: u32, start: u32) -> Hei
 /// How high the entries rise together from low, until they sum to `top` or are all high.
 ///
 /// No whole list allowed has a greater pair: one more point multiplies the smallest utility by the most.
-pub(crate) fn raise(low: &[u32], high: &[u32], top: u32, start: u32) -> Height
-    requires lengths { length low.now ≡ length high.now }
-    requires short { length low.now ≤ MEMBER_ROOM }
-    requires order { AllZip ◌≤◌ low.now high.now }
-    requires small { All (λ h. h ≤ WHOLE_POINTS) high.now }
-    requires top { sum low.now ≤ top }
-    ensures { Reaches low.now high.now top result.level result.extra }
+pub(crate) fn raise(low: u16x16, high: u16x16, top: u32, start: u32) -> Height
+    requires lows { length low ≡ LANES }
+    requires highs { length high ≡ LANES }
+    requires order { AllZip ◌≤◌ low high }
+    requires small { All (λ h. h ≤ WHOLE_POINTS) high }
+    requires top { sum low ≤ top }
+    ensures { Reaches low high top result.level result.extra }
 {
     let most = total(high);
     if most <= top {
@@ -131,43 +117,55 @@ pub(crate) fn raise(low: &[u32], high: &[u32], top: u32, start: u32) -> Height
     last_level(low, high, top, start)
 }
 
-pub(crate) fn total(numbers: &[u32]) -> u32
-    requires { sum numbers.now < 2 ^ 32 }
-    ensures { result ≡ sum numbers.now }
-{
-    numbers.iter().sum()
-}
-
-/// The pair of the entries at the level.
-fn pair_at(low: &[u32], high: &[u32], at: Height) -> Pair
-    requires lengths { length low.now ≡ length high.now }
-    requires short { length low.now ≤ MEMBER_ROOM }
-    requires order { AllZip ◌≤◌ low.now high.now }
-    requires small { All (λ h. h ≤ WHOLE_POINTS) high.now }
-    requires level { at.level ≤ WHOLE_POINTS }
-    ensures { result ≡ nash_welfare (filled at.level at.extra low.now high.now) }
+/// The pair of the entries, of which the first few are raised, each at most as high as above.
+fn pair_of(entries: &[u16], above: &[u16], extra: u32) -> Pair
+    requires lengths { length entries.now ≡ length above.now }
+    requires short { length entries.now ≤ MEMBER_ROOM }
+    requires order { AllZip ◌≤◌ entries.now above.now }
+    requires small { All (λ h. h ≤ WHOLE_POINTS) above.now }
+    ensures { result ≡ nash_welfare (lifted extra entries.now above.now) }
 {
     let mut count = 0;
     let mut product: u128 = 1;
-    let mut extra = at.extra;
-    for i in 0..low.len() {
-        let step = rise(low[i], high[i], at.level).min(extra);
-        let entry = entry(low[i], high[i], at.level) + step;
-        extra -= step;
+    let mut left = extra;
+    for i in 0..entries.len() {
+        let step = u32::from(above[i] - entries[i]).min(left);
+        let entry = u32::from(entries[i]) + step;
+        left -= step;
         count += entry.min(1) as u8;
         product *= u128::from(entry.max(1));
     }
     Pair { count, product }
 }
 
+/// The pair of the entries at the level.
+fn pair_at(low: u16x16, high: u16x16, at: Height) -> Pair
+    requires lows { length low ≡ LANES }
+    requires highs { length high ≡ LANES }
+    requires order { AllZip ◌≤◌ low high }
+    requires small { All (λ h. h ≤ WHOLE_POINTS) high }
+    requires rest { (k : ℕ) → MEMBER_ROOM ≤ k → slice_index high k ≡ 0 }
+    requires level { at.level ≤ WHOLE_POINTS }
+    ensures { result ≡ nash_welfare (filled at.level at.extra low high) }
+{
+    let entries = entries_of(low, high, at.level);
+    let above = entries_of(low, high, at.level + 1);
+    pair_of(
+        &entries.as_array()[..MEMBER_ROOM],
+        &above.as_array()[..MEMBER_ROOM],
+        at.extra,
+    )
+}
+
 /// The greatest pair of a whole list between low and high with a sum of at most `top`.
-pub(crate) fn bound_between(low: &[u32], high: &[u32], top: u32, start: u32) -> Pair
-    requires lengths { length low.now ≡ length high.now }
-    requires short { length low.now ≤ MEMBER_ROOM }
-    requires order { AllZip ◌≤◌ low.now high.now }
-    requires small { All (λ h. h ≤ WHOLE_POINTS) high.now }
-    requires top { sum low.now ≤ top }
-    ensures { IsBound low.now high.now top result }
+pub(crate) fn bound_between(low: u16x16, high: u16x16, top: u32, start: u32) -> Pair
+    requires lows { length low ≡ LANES }
+    requires highs { length high ≡ LANES }
+    requires order { AllZip ◌≤◌ low high }
+    requires small { All (λ h. h ≤ WHOLE_POINTS) high }
+    requires rest { (k : ℕ) → MEMBER_ROOM ≤ k → slice_index high k ≡ 0 }
+    requires top { sum low ≤ top }
+    ensures { IsBound low high top result }
 {
     pair_at(low, high, raise(low, high, top, start))
 }

@@ -13,6 +13,7 @@ mod prefix;
 mod reach;
 mod step_laws;
 mod table;
+mod vectors;
 
 pub use bid_rules::Pair;
 pub use lanes::{LaneRow, LaneTable, Lanes, fork, give, join, lane_table, lanes_of, players, take};

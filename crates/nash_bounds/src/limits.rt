@@ -5,6 +5,10 @@ use bid_rules::limits::{MOST_GOODS, MOST_MEMBERS, WHOLE_POINTS};
 pub const MOST_SUM: u32 = MOST_MEMBERS as u32 * WHOLE_POINTS;
 /// The most that the `top` of a prefix may be: the points that the players have, and those of a greatest one for each good.
 pub const MOST_TOP: u32 = MOST_SUM + MOST_GOODS as u32 * WHOLE_POINTS;
+/// How many lanes a vector has: one a player, and some to spare.
+pub const LANES: usize = 16;
+/// The most that the entries of all lanes may sum to.
+pub const MOST_LANES_SUM: u32 = LANES as u32 * WHOLE_POINTS;
 /// The unit in which products are compared, so that they still fit after a factor.
 pub const UNIT: u128 = 1 << 24;
 

@@ -9,6 +9,7 @@ ghost use Rattle.nash_bounds.specs.Prefixes.{IsPrefix, HasBound, highest, top_of
 ghost use Rattle.nash_bounds.specs.NextOwner.{IsNext};
 ghost use Rattle.nash_bounds.specs.Tables.{IsPointRow, IsTable};
 
+use crate::lanes::laned;
 use crate::levels::bound_between;
 use crate::order::greatest;
 use crate::table::{PointRow, PointTable, point_row};
@@ -50,8 +51,8 @@ pub fn bound(prefix: &Prefix) -> Pair
 {
     let players = (prefix.low.len() as u32).max(1);
     bound_between(
-        prefix.low.as_slice(),
-        prefix.high.as_slice(),
+        laned(prefix.low.as_slice()),
+        laned(prefix.high.as_slice()),
         prefix.top,
         prefix.top / players,
     )

@@ -1,16 +1,18 @@
 ghost use Rattle.std.specs.Prelude.{◌≡◌, ℕ, List, ◌+◌, ◌-◌, ◌*◌, ◌/◌, ◌^◌, ◌<◌, ◌≤◌, [], ◌∷◌, ◌++◌, length, All, false, slice_index};
 ghost use Rattle.bid_rules.specs.Goods.{IsValidGoodsCase, player_count};
-ghost use Rattle.bid_rules.specs.Pairs.{positives, product, IsLess};
+ghost use Rattle.bid_rules.specs.Pairs.{product, IsLess};
 ghost use Rattle.nash_bounds.specs.Prefixes.{prefix_bound};
 ghost use Rattle.nash_bounds.specs.Lanes.{IsLaneTable, IsLanes, IsFork, HasFreeGood};
-ghost use Rattle.nash_bounds.specs.Reach.{IsFlat, entries_at};
+ghost use Rattle.nash_bounds.specs.Reach.{IsFlat};
 ghost use Rattle.nash_bounds.specs.FarLanes.{IsSpan, IsFar};
 
 use crate::lanes::{LaneTable, Lanes, give, points_of};
-use crate::levels::{bound_between, entry, raise, total};
-use crate::limits::{MOST_SUM, MOST_TOP, UNIT};
+use crate::levels::{bound_between, raise};
+use crate::limits::{LANES, MOST_LANES_SUM, MOST_TOP, UNIT};
+use crate::vectors::{count_positive, entries_of, entry, lane_of, total};
 use bid_rules::limits::{MEMBER_ROOM, WHOLE_POINTS};
 use bid_rules::{GoodsCase, Pair};
+use std::simd::prelude::*;
 
 /// The lanes raised to one level.
 #[derive(Clone, Copy)]
@@ -18,7 +20,7 @@ pub struct Flat {
     /// The level, from 1 to `WHOLE_POINTS`.
     pub level: u32,
     /// By lane the entry at the level.
-    pub entries: [u32; MEMBER_ROOM],
+    pub entries: u16x16,
     /// The sum of the entries.
     pub total: u32,
     /// How many lanes may have points.
@@ -34,7 +36,7 @@ pub fn lane_bound(case: &GoodsCase, owners: &[u8], lanes: &Lanes, start: u32) ->
     requires lanes { IsLanes case.now owners.now lanes.now }
     ensures { result ≡ prefix_bound case.now owners.now }
 {
-    bound_between(&lanes.low, &lanes.high, lanes.top, start)
+    bound_between(lanes.low, lanes.high, lanes.top, start)
 }
 
 /// The bound of the owners with the next good given to this owner. It is found soonest where `start` is near the bound's level.
@@ -55,37 +57,11 @@ pub fn next_bound(
 {
     let mut child = *lanes;
     give(case, table, owners, owner, &mut child);
-    bound_between(&child.low, &child.high, child.top, start)
-}
-
-/// The entries at a level.
-fn entries_of(low: &[u32; MEMBER_ROOM], high: &[u32; MEMBER_ROOM], level: u32) -> [u32; MEMBER_ROOM]
-    requires lows { length low.now ≡ MEMBER_ROOM }
-    requires highs { length high.now ≡ MEMBER_ROOM }
-    ensures { result ≡ entries_at level low.now high.now }
-{
-    let mut entries = [0; MEMBER_ROOM];
-    for k in 0..MEMBER_ROOM {
-        entries[k] = entry(low[k], high[k], level);
-    }
-    entries
-}
-
-/// How many of the numbers are positive.
-fn count_positive(numbers: &[u32]) -> u8
-    requires { length numbers.now ≤ MEMBER_ROOM }
-    ensures value { result ≡ positives numbers.now }
-    ensures few { result ≤ MEMBER_ROOM }
-{
-    let mut count = 0;
-    for number in numbers {
-        count += (*number).min(1) as u8;
-    }
-    count
+    bound_between(child.low, child.high, child.top, start)
 }
 
 /// The product of the positive numbers.
-fn product_of(numbers: &[u32]) -> u128
+fn product_of(numbers: &[u16]) -> u128
     requires short { length numbers.now ≤ MEMBER_ROOM }
     requires small { All (λ number. number ≤ WHOLE_POINTS) numbers.now }
     ensures value { result ≡ product numbers.now }
@@ -118,16 +94,14 @@ fn flat_at(lanes: &Lanes, start: u32) -> Flat
     requires { IsSpan lanes.now }
     ensures { IsFlat lanes.now result }
 {
-    let level = raise(&lanes.low, &lanes.high, lanes.top, start)
-        .level
-        .max(1);
-    let entries = entries_of(&lanes.low, &lanes.high, level);
+    let level = raise(lanes.low, lanes.high, lanes.top, start).level.max(1);
+    let entries = entries_of(lanes.low, lanes.high, level);
     Flat {
         level,
         entries,
-        total: total(&entries),
-        open_lanes: count_positive(&lanes.high),
-        units: product_of(&entries) / UNIT + 1,
+        total: total(entries),
+        open_lanes: count_positive(lanes.high),
+        units: product_of(&entries.as_array()[..MEMBER_ROOM]) / UNIT + 1,
     }
 }
 
@@ -147,8 +121,8 @@ fn is_near(low: u32, high: u32, top: u32, points: u32, flat: &Flat, before: u32,
     requires most { flat.now.level ≤ WHOLE_POINTS }
     requires before { before ≤ WHOLE_POINTS }
     requires total { before ≤ flat.now.total }
-    requires sums { flat.now.total ≤ MOST_SUM }
-    requires open { flat.now.open_lanes ≤ MEMBER_ROOM }
+    requires sums { flat.now.total ≤ MOST_LANES_SUM }
+    requires open { flat.now.open_lanes ≤ LANES }
     requires units { flat.now.units ≤ 2 ^ 97 }
     ensures { result ≡ false → IsFar low high top points flat.now before pair }
 {
@@ -186,14 +160,13 @@ pub fn may_reach(
     ensures { result ≡ false → IsLess (prefix_bound case.now (owners.now ++ owner ∷ [])) pair }
 {
     let points = points_of(case, table, owners, owner);
-    let lane = owner as usize - 1;
     is_near(
-        lanes.low[lane],
-        lanes.high[lane],
+        lane_of(&lanes.low, owner),
+        lane_of(&lanes.high, owner),
         lanes.top,
         points,
         flat,
-        flat.entries[lane],
+        lane_of(&flat.entries, owner),
         pair,
     )
 }

@@ -1,7 +1,9 @@
 // The commands over sources and sinks in memory: what fails, what is too small, and pieces of one byte.
+use crate::running;
+use crate::running::{AMPLE, Outside, made};
 use printed_certificates::{FLAT, TAXI};
-use split_base::{MemClock, MemDial, MemDisk, MemPort, MemSink, MemSource, Quiet};
-use split_top::{Stop, run};
+use split_base::MemDisk;
+use split_top::Stop;
 use std::alloc::Global;
 use std::process::Abort;
 use std::test::Fail;
@@ -44,72 +46,16 @@ const COMMANDS: [(&[&str], &str, &str); 4] = [
     (&["check"], FLAT, "yes\n"),
 ];
 
-/// How the source and the sink of a command behave.
-#[derive(Clone, Copy)]
-struct Outside<'a> {
-    /// The most bytes that each read gives, and then whole buffers.
-    pieces: &'a [usize],
-    /// The numbers of the reads that fail, from 1.
-    bad_reads: &'a [u64],
-    /// The numbers of the writes that fail, from 1.
-    bad_writes: &'a [u64],
-    /// How many bytes the sink takes.
-    room: usize,
-}
-
-/// No call fails.
-const AMPLE: Outside<'static> = Outside {
-    pieces: &[],
-    bad_reads: &[],
-    bad_writes: &[],
-    room: 1024,
-};
-
-/// Stops unless the command of these words ends with this status and text.
+/// Stops unless the command of these words, which uses no disk, ends with this status and text.
 fn ends(
     rt: &(impl Abort + Threads + Sync),
     alloc: Global,
     words: &[&str],
-    input: &str,
     outside: Outside<'_>,
-    (code, text): (u8, &str),
+    due: (u8, &str),
 ) -> Result<(), Fail> {
-    let mut given = Vec::new(alloc);
-    for word in words {
-        given.push(String::from_str(alloc, word)?)?;
-    }
-    let pieces = outside.pieces.to_vec(alloc)?;
-    assert!(rt; pieces.iter().all(|size| *size > 0));
-    let bytes = input.as_bytes().to_vec(alloc)?;
-    let mut source = MemSource::new(bytes, pieces, outside.bad_reads.to_vec(alloc)?);
-    let Ok(mut sink) = MemSink::new(alloc, outside.room, outside.bad_writes.to_vec(alloc)?) else {
-        return Err(Fail::from("no memory"));
-    };
-    let Ok(mut disk) = MemDisk::new(alloc, Vec::new(alloc), 0, Vec::new(alloc), None) else {
-        return Err(Fail::from("no memory"));
-    };
-    let Ok(mut port) = MemPort::new(alloc, Vec::new(alloc), Vec::new(alloc)) else {
-        return Err(Fail::from("no memory"));
-    };
-    let Ok(mut dialer) = MemDial::new(alloc, Vec::new(alloc), Vec::new(alloc)) else {
-        return Err(Fail::from("no memory"));
-    };
-    let mut clock = MemClock::new([0].to_vec(alloc)?, Vec::new(alloc));
-    let status = run(
-        alloc,
-        rt,
-        &given,
-        &mut disk,
-        &mut port,
-        &mut clock,
-        &mut source,
-        &mut sink,
-        &Quiet,
-        &mut dialer,
-    );
-    assert!(rt; sink.bytes() == text.as_bytes(), "{text}");
-    assert_eq!(rt; status.code, code, "{text}");
-    Ok(())
+    let mut disk = made(MemDisk::new(alloc, Vec::new(alloc), 0, Vec::new(alloc), None))?;
+    running::ends(rt, alloc, &mut disk, words, outside, due)
 }
 
 #[test]
@@ -119,6 +65,7 @@ fn ends_at_a_failed_read(rt: HostRuntime) -> Result<(), Fail> {
         let calls = input.len() as u64 + 1;
         for call in 1..calls + 2 {
             let outside = Outside {
+                input,
                 pieces: &[1; 300],
                 bad_reads: &[call],
                 ..AMPLE
@@ -128,7 +75,7 @@ fn ends_at_a_failed_read(rt: HostRuntime) -> Result<(), Fail> {
             } else {
                 (0, text)
             };
-            ends(&rt, alloc, words, input, outside, due)?;
+            ends(&rt, alloc, words, outside, due)?;
         }
     }
     Ok(())
@@ -146,11 +93,12 @@ fn ends_at_a_failed_write(rt: HostRuntime) -> Result<(), Fail> {
         ];
         for (bad_writes, room, due) in rows {
             let outside = Outside {
+                input,
                 bad_writes,
                 room,
                 ..AMPLE
             };
-            ends(&rt, alloc, words, input, outside, due)?;
+            ends(&rt, alloc, words, outside, due)?;
         }
     }
     Ok(())
@@ -168,12 +116,13 @@ fn ends_at_the_first_of_several_faults(rt: HostRuntime) -> Result<(), Fail> {
     ];
     for (words, bad_reads, bad_writes, room, due) in rows {
         let outside = Outside {
+            input: TAXI_CASE,
             bad_reads,
             bad_writes,
             room,
             ..AMPLE
         };
-        ends(&rt, alloc, words, TAXI_CASE, outside, due)?;
+        ends(&rt, alloc, words, outside, due)?;
     }
     assert_eq!(rt; Stop::BadWords.status(), 2);
     Ok(())
@@ -184,7 +133,11 @@ fn ends_alike_by_any_number_of_workers(rt: HostRuntime) -> Result<(), Fail> {
     let alloc = rt.alloc();
     for workers in ["1", "2", "8", "16"] {
         let due = (0, EIGHT_CERTIFICATE);
-        ends(&rt, alloc, &["solve", workers], EIGHT_CASE, AMPLE, due)?;
+        let outside = Outside {
+            input: EIGHT_CASE,
+            ..AMPLE
+        };
+        ends(&rt, alloc, &["solve", workers], outside, due)?;
     }
     Ok(())
 }

@@ -7,3 +7,5 @@ mod commands;
 mod hosts;
 #[cfg(test)]
 mod outside;
+#[cfg(test)]
+mod running;

@@ -21,12 +21,12 @@ SaysOfReplies so =
     (case : Case) (due : DueView) (bytes rest text : List ℕ) → IsValidCase case → IsCanonical case text → IsToBring due text → AreBytes due bytes
     → so (bytes ++ rest)
 
-module _ {D : Type 0} (so : List ℕ → Type 0) (trusted : Type 0) (service : Service (D × State)) where
-  one_certificate : SaysOfReplies so → trusted → (x : Exchange (D × State)) → Publishes trusted x what.Certificate → IsExchange service x → x.head.verb ≡ verb.Get
+module _ {D : Type 0} (so : List ℕ → Type 0) (service : Service (D × State)) where
+  one_certificate : SaysOfReplies so → (x : Exchange (D × State)) → Publishes x what.Certificate → IsExchange service x → x.head.verb ≡ verb.Get
       → (rest : List ℕ) → so (x.bytes ++ rest)
-  one_certificate law trust x published is get rest =
+  one_certificate law x published is get rest =
       let best = published.best tt in
-      law best.one x.due x.bytes rest published.told.text (best.valid trust) best.text.2
+      law best.one x.due x.bytes rest published.told.text best.valid best.text.2
       (record {
         status = ap (λ (said : SaidView). said.status) published.said ∙ best.text.0;
         allow = ap (λ (said : SaidView). said.allow) published.said;
@@ -36,10 +36,10 @@ module _ {D : Type 0} (so : List ℕ → Type 0) (trusted : Type 0) (service : S
       is.are_bytes
 
   -- so of each request of a run
-  pub every_certificate : SaysOfReplies so → trusted → (w : D × State) (run : List (Exchange (D × State))) (new : D × State) → Answered service w run new
-      → Every (λ x. (asked : What) → AsksFor x asked → x.due.said.status ≡ 200 → Publishes trusted x asked) run → Every (IsOfCertificates so) run
-  every_certificate law trust w [] new answered published = tt
-  every_certificate law trust w (x ∷ run) new answered published = (
-    λ asks done get rest. one_certificate law trust x (published.0 what.Certificate asks done) answered.1 get rest,
-    every_certificate law trust x.after run new answered.2 published.1,
+  pub every_certificate : SaysOfReplies so → (w : D × State) (run : List (Exchange (D × State))) (new : D × State) → Answered service w run new
+      → Every (λ x. (asked : What) → AsksFor x asked → x.due.said.status ≡ 200 → Publishes x asked) run → Every (IsOfCertificates so) run
+  every_certificate law w [] new answered published = tt
+  every_certificate law w (x ∷ run) new answered published = (
+    λ asks done get rest. one_certificate law x (published.0 what.Certificate asks done) answered.1 get rest,
+    every_certificate law x.after run new answered.2 published.1,
   )

@@ -81,4 +81,5 @@ rent_passes case division valid is weights ranks = rule
     rule (suc (suc (suc (suc (suc zero))))) low high = shown (λ c xs. AreSettled c xs division.walks.weights.items) (record { low = weights.low; steps = weights.steps })
     rule (suc (suc (suc (suc (suc (suc zero)))))) low high = shown (λ c xs. AreRanked c xs division.walks.weights.items (map pos division.walks.ranks.items))
         (are_ranked case rooms division.walks.weights.items division.walks.ranks.items is.ranks.count is.rank_range ranks)
-    rule (suc (suc (suc (suc (suc (suc (suc number))))))) low high = shown (λ c xs. AreMaximinPrices c xs division.walks.weights.items (canonical_rent case division).prices) is.prices
+    rule (suc (suc (suc (suc (suc (suc (suc zero))))))) low high = shown (λ c xs. AreMaximinPrices c xs division.walks.weights.items (canonical_rent case division).prices) is.prices
+    rule (suc (suc (suc (suc (suc (suc (suc (suc number)))))))) low high = absurd (omega arith)

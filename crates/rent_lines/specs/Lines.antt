@@ -2,7 +2,7 @@
 use Rattle.std.specs.Prelude.{pos, map}
 use Rattle.bid_rules.specs.declared.rents.RentCase.{RentCase}
 use Rattle.rent_maximin.specs.declared.division.RentDivision.{RentDivision}
-use Rattle.cert_reader.specs.Views.{RentView}
+use Rattle.cert_reader.specs.Layout.{RentView}
 use Rattle.split_frac.specs.Frac.{fraction_of}
 
 -- `left` are the longest walks over the keys and `right` goes with them, `walks` are the longest walks over the values and

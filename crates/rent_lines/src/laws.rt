@@ -6,9 +6,9 @@ ghost use Rattle.rent_lines.specs.Lines.{canonical_rent};
 ghost use Rattle.rent_maximin.specs.Division.{IsRentDivision};
 ghost use Rattle.rent_maximin.specs.declared.division.RentDivision.{RentDivision};
 ghost use Rattle.rent_rules.specs.Printed.{printed_case};
-ghost use Rattle.rent_rules.specs.Rules.{rent_rule};
+ghost use Rattle.rent_rules.specs.Rules.{rules_of_rent};
 ghost use Rattle.verdicts.specs.declared.verdict.Verdict.TheVariants.{Yes};
-ghost use Rattle.verdicts.specs.Verdicts.{IsVerdict};
+ghost use Rattle.verdicts.specs.Verdicts.{IsVerdictOf};
 
 use rent_laws::walk_law;
 
@@ -16,7 +16,7 @@ use rent_laws::walk_law;
 pub fn rent_lines_law()
     ensures case { (case : RentCase) (division : RentDivision) → IsRentDivision case division → printed_case (canonical_rent case division) ≡ case }
     ensures passes { (case : RentCase) (division : RentDivision) → IsValidRentCase case → IsRentDivision case division
-        → IsVerdict (rent_rule (canonical_rent case division)) 7 Yes }
+        → IsVerdictOf (rules_of_rent (canonical_rent case division)) Yes }
 {
     walk_law();
 }

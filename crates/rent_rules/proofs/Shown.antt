@@ -1,17 +1,12 @@
 -- The rules of a rent, as what shows the best rooms and prices.
-use Rattle.std.proofs.Common.{◌≡◌, ℕ, zero, suc, refl, [], ◌∷◌, ℤ, pos, List, map, arith, inl, inr, ⊎_elim, ap, ◌∙◌, unsigned_abs, get_or}
+use Rattle.std.proofs.Common.{ℕ, ℤ, List, map, arith, inl, inr, ⊎_elim, ap, ◌∙◌, unsigned_abs}
 use Rattle.std.proofs.lemmas.Int.{ints}
 use Rattle.bid_rules.specs.declared.rents.RentCase.{RentCase}
 use Rattle.bid_rules.specs.Maximin.{value_step}
 use Rattle.bid_rules.specs.Rent.{room_count}
 use Rattle.bid_rules.specs.Walks.{AreShownRanks}
 use Rattle.rent_rules.specs.Rules.{AreRanked}
-
--- the number at a place of a list without signs
-pub unsigned_at : (xs : List ℤ) (i : ℕ) → get_or (map unsigned_abs xs) i 0 ≡ unsigned_abs (get_or xs i (pos 0))
-unsigned_at [] i = refl
-unsigned_at (x ∷ xs) zero = refl
-unsigned_at (x ∷ xs) (suc i) = unsigned_at xs i
+use Rattle.verdicts.proofs.PrintedNumbers.{unsigned_at}
 
 -- ranks that keep the rule show their walks attained, without their signs
 pub are_shown : (case : RentCase) (rooms : List ℕ) (walks ranks : List ℤ) → AreRanked case rooms walks ranks

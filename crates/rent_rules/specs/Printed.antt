@@ -1,7 +1,7 @@
 -- The case and the rooms that a certificate of a rent prints.
 use Rattle.std.specs.Prelude.{ℕ, List, length, map, unsigned_abs}
 use Rattle.bid_rules.specs.declared.rents.RentCase.{RentCase}
-use Rattle.cert_reader.specs.Views.{RentView}
+use Rattle.cert_reader.specs.Layout.{RentView}
 
 -- the rent and the values without a sign, for as many members as rooms
 abbrev pub printed_case : RentView → RentCase

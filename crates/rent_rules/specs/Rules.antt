@@ -1,12 +1,13 @@
 -- The seven rules that a certificate of a rent keeps: they show its rooms and prices best (Gal, Mash, Procaccia and Zick 2016).
-use Rattle.std.specs.Prelude.{◌≡◌, ℕ, zero, suc, ℤ, pos, ◌-◌, ◌<◌, ◌≤◌, ◌≤ℤ◌, ◌+ℤ◌, ◌⊎◌, List, All, slice_index}
+use Rattle.std.specs.Prelude.{◌≡◌, ℕ, ℤ, pos, ◌-◌, ◌<◌, ◌≤◌, ◌≤ℤ◌, ◌+ℤ◌, ◌⊎◌, List, [], ◌∷◌, All, slice_index}
 use Rattle.bid_rules.specs.declared.rents.RentCase.{RentCase}
 use Rattle.bid_rules.specs.Keys.{key}
 use Rattle.bid_rules.specs.Maximin.{AreMaximinPrices, value_step}
 use Rattle.bid_rules.specs.Rent.{IsAssignment, IsValidRentCase, price_of, room_count}
 use Rattle.bid_rules.specs.Walks.{weight_at}
-use Rattle.cert_reader.specs.Views.{RentView}
+use Rattle.cert_reader.specs.Layout.{RentView}
 use Rattle.rent_rules.specs.Printed.{printed_case, printed_rooms}
+use Rattle.verdicts.specs.Verdicts.{rule_at}
 
 -- the rent and the values are 0 or more, and make a case: 2 to 12 members, a rent in range, and values of each member that sum to it
 pub record HasCase (view : RentView) : Type 0 where
@@ -44,13 +45,12 @@ AreRanked case rooms walks ranks = (to : ℕ) → to < room_count case
     → ((weight_at ranks to ≡ pos 0) × (weight_at walks to ≡ pos 0))
     ⊎ ((pos 1 ≤ℤ weight_at ranks to) × (weight_at ranks to ≤ℤ pos (room_count case - 1)) × ((from : ℕ) × (from < room_count case) × IsLed case rooms walks ranks to from))
 
--- the rule of a number, from 1 to 7
+-- the seven rules, in their order
+abbrev pub rules_of_rent : RentView → List (Type 0)
+rules_of_rent view = HasCase view ∷ HasRooms view ∷ AreAbove (printed_case view) view.left view.right ∷ AreReached (printed_case view) (printed_rooms view) view.left view.right
+    ∷ AreSettled (printed_case view) (printed_rooms view) view.walks ∷ AreRanked (printed_case view) (printed_rooms view) view.walks view.ranks
+    ∷ AreMaximinPrices (printed_case view) (printed_rooms view) view.walks view.prices ∷ []
+
+-- the rule of a number, from 1
 abbrev pub rent_rule : RentView → ℕ → Type 0
-rent_rule view zero = Unit {0}
-rent_rule view (suc zero) = HasCase view
-rent_rule view (suc (suc zero)) = HasRooms view
-rent_rule view (suc (suc (suc zero))) = AreAbove (printed_case view) view.left view.right
-rent_rule view (suc (suc (suc (suc zero)))) = AreReached (printed_case view) (printed_rooms view) view.left view.right
-rent_rule view (suc (suc (suc (suc (suc zero))))) = AreSettled (printed_case view) (printed_rooms view) view.walks
-rent_rule view (suc (suc (suc (suc (suc (suc zero)))))) = AreRanked (printed_case view) (printed_rooms view) view.walks view.ranks
-rent_rule view (suc (suc (suc (suc (suc (suc (suc number))))))) = AreMaximinPrices (printed_case view) (printed_rooms view) view.walks view.prices
+rent_rule view number = rule_at (rules_of_rent view) number

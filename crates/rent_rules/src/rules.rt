@@ -1,7 +1,7 @@
 // The rules of a certificate of a rent, asked in order.
 ghost use Rattle.cert_reader.specs.Views.{rent_view};
-ghost use Rattle.rent_rules.specs.Rules.{rent_rule};
-ghost use Rattle.verdicts.specs.Verdicts.{IsVerdict};
+ghost use Rattle.rent_rules.specs.Rules.{rules_of_rent};
+ghost use Rattle.verdicts.specs.Verdicts.{IsVerdictOf};
 
 use crate::keys::{are_above, are_reached};
 use crate::prices::are_prices;
@@ -12,7 +12,7 @@ use verdicts::Verdict;
 
 /// Whether the certificate keeps the seven rules of a rent, or the first that it breaks. It takes no memory.
 pub fn check_rent(text: &RentText) -> Verdict
-    ensures { IsVerdict (rent_rule (rent_view text.now)) 7 result }
+    ensures { IsVerdictOf (rules_of_rent (rent_view text.now)) result }
 {
     let Some(case) = case_of(text) else {
         return Verdict::No { rule: 1 };

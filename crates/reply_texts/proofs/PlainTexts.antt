@@ -1,5 +1,5 @@
--- No reply has a float, so each has a text.
-use Rattle.std.proofs.Common.{◌≡◌, ℕ, ℤ, pos, negsuc, List, [], ◌∷◌, map, false, Option, None, Some, option_map, is_some, refl, ap, sym, ◌∙◌, true≢false}
+-- No reply has a float, so each has a text; and each refusal has a status of refusals.
+use Rattle.std.proofs.Common.{◌≡◌, ℕ, ℤ, IsTrue, pos, negsuc, List, [], ◌∷◌, map, false, Option, None, Some, option_map, is_some, refl, ap, sym, ◌∙◌, true≢false}
 use Rattle.serde_json.specs.Data.{Data}
 use Rattle.serde_json.specs.View.{items_of}
 use Rattle.serde_json.specs.Written.{has_float, items_have_float}
@@ -22,7 +22,7 @@ use Rattle.sealed_core.specs.Sealed.{PublicFacts}
 use Rattle.reply_texts.specs.declared.refusals.ServiceRefusal.{ServiceRefusal}
 use Rattle.reply_texts.specs.declared.refusals.ServiceRefusal.TheVariants as service
 use Rattle.reply_texts.specs.Divisions.{of_fares, of_goods, of_rent}
-use Rattle.reply_texts.specs.Refusals.{of_refusal, of_service_refusal}
+use Rattle.reply_texts.specs.Refusals.{is_refusal_status, of_refusal, of_service_refusal, refusal_row, service_row}
 use Rattle.reply_texts.specs.Replies.{bidders, of_closed, of_created, of_fares_status, of_goods_status, of_own, of_place, of_rent_status, of_reply, of_status, of_status_by, of_turn, of_values}
 use Rattle.reply_texts.specs.Values.{list_by, of_cents, of_frac, of_number, of_text}
 
@@ -74,43 +74,49 @@ plain_closed : has_float of_closed ≡ false
 unfolding of_closed
 plain_closed = refl
 
--- a refusal of the host
-plain_refusal : (r : Refusal) → has_float (of_refusal r) ≡ false
+-- a refusal of the host has a status of refusals, and no float
+pub each_refusal : (r : Refusal) → IsTrue (is_refusal_status (refusal_row r).0) × (has_float (of_refusal r) ≡ false)
 unfolding of_refusal
-plain_refusal refusal.NoInstance = refl
-plain_refusal refusal.NoKey = refl
-plain_refusal refusal.WrongKey = refl
-plain_refusal refusal.Role = refl
-plain_refusal refusal.BadJson = refl
-plain_refusal (refusal.BadField name) = refl
-plain_refusal refusal.TagTaken = refl
-plain_refusal refusal.HostFull = refl
-plain_refusal refusal.Closed = refl
-plain_refusal (refusal.Turn kept) = refl
-plain_refusal refusal.TurnsUsed = refl
-plain_refusal refusal.NotAll = refl
-plain_refusal refusal.NotClosed = refl
-plain_refusal refusal.NoBid = refl
+each_refusal refusal.NoInstance = (refl, refl)
+each_refusal refusal.NoKey = (refl, refl)
+each_refusal refusal.WrongKey = (refl, refl)
+each_refusal refusal.Role = (refl, refl)
+each_refusal refusal.BadJson = (refl, refl)
+each_refusal (refusal.BadField name) = (refl, refl)
+each_refusal refusal.TagTaken = (refl, refl)
+each_refusal refusal.HostFull = (refl, refl)
+each_refusal refusal.Closed = (refl, refl)
+each_refusal (refusal.Turn kept) = (refl, refl)
+each_refusal refusal.TurnsUsed = (refl, refl)
+each_refusal refusal.NotAll = (refl, refl)
+each_refusal refusal.NotClosed = (refl, refl)
+each_refusal refusal.NoBid = (refl, refl)
 
--- a refusal of the service
-pub plain_service : (r : ServiceRefusal) → has_float (of_service_refusal r) ≡ false
+-- so has a refusal of the service
+pub each_service : (r : ServiceRefusal) → IsTrue (is_refusal_status (service_row r).status) × (has_float (of_service_refusal r) ≡ false)
 unfolding of_service_refusal
-plain_service service.BadHead = refl
-plain_service service.ClockFault = refl
-plain_service service.BadHost = refl
-plain_service service.Framing = refl
-plain_service service.BadLength = refl
-plain_service service.LengthMissing = refl
-plain_service service.BodyTooLarge = refl
-plain_service service.NoRoute = refl
-plain_service service.Method = refl
-plain_service service.StoreFault = refl
-plain_service (service.StoreDamaged place) = refl
-plain_service (service.Void missing) = rw (plain_numbers missing.members.items) refl
-plain_service (service.StepLimit limit) = refl
-plain_service service.NoAudit = refl
-plain_service service.NotTwo = refl
-plain_service service.Memory = refl
+each_service service.BadHead = (refl, refl)
+each_service service.ClockFault = (refl, refl)
+each_service service.BadHost = (refl, refl)
+each_service service.Framing = (refl, refl)
+each_service service.BadLength = (refl, refl)
+each_service service.LengthMissing = (refl, refl)
+each_service service.BodyTooLarge = (refl, refl)
+each_service service.NoRoute = (refl, refl)
+each_service service.Method = (refl, refl)
+each_service service.StoreFault = (refl, refl)
+each_service (service.StoreDamaged place) = (refl, refl)
+each_service (service.Void missing) = (refl, rw (plain_numbers missing.members.items) refl)
+each_service (service.StepLimit limit) = (refl, refl)
+each_service service.NoAudit = (refl, refl)
+each_service service.NotTwo = (refl, refl)
+each_service service.Memory = (refl, refl)
+
+plain_refusal : (r : Refusal) → has_float (of_refusal r) ≡ false
+plain_refusal r = (each_refusal r).1
+
+pub plain_service : (r : ServiceRefusal) → has_float (of_service_refusal r) ≡ false
+plain_service r = (each_service r).1
 
 -- a value that was mapped
 plain_mapped : {A : Type 0} (f : A → Data) → ((x : A) → has_float (f x) ≡ false) → (o : Option A) (d : Data) → option_map f o ≡ Some d → has_float d ≡ false

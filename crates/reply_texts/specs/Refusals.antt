@@ -1,6 +1,7 @@
 -- Refusals as replies: the HTTP status (RFC 9110, section 15) and the code of each, and the value that it names, if its row names one;
 -- of those that are not the host's, whether the connection closes, too.
-use Rattle.std.specs.Prelude.{ℕ, Bool, true, false, List, codes}
+use Rattle.std.specs.Prelude.{ℕ, Bool, true, false, List, [], ◌∷◌, ◌==◌, codes}
+use Rattle.std.specs.List.{list_any}
 use Rattle.serde_json.specs.Data.{Data, object, Members, member, no_members}
 use Rattle.serde_json.specs.Written.{compact_text}
 use Rattle.case_fields.specs.Fields.{field_text}
@@ -84,6 +85,10 @@ of_service_refusal r = object (member (codes "code") (of_text (service_row r).co
 -- its text
 abbrev pub service_text : ServiceRefusal → List ℕ
 service_text r = compact_text (of_service_refusal r)
+
+-- the status is one of a refusal (RFC 9110, section 15)
+abbrev pub is_refusal_status : ℕ → Bool
+is_refusal_status status = list_any (λ s. s == status) (400 ∷ 403 ∷ 404 ∷ 405 ∷ 409 ∷ 411 ∷ 413 ∷ 422 ∷ 501 ∷ 503 ∷ [])
 
 -- nothing is named beside the code, so that the text is a constant
 abbrev pub is_code_alone : Members → Bool

@@ -1,18 +1,21 @@
 // What holds of all replies: the contracts of functions that do nothing.
-ghost use Rattle.std.specs.Prelude.{◌≡◌, ℕ, List, Option, IsSome, false};
+ghost use Rattle.std.specs.Prelude.{◌≡◌, ℕ, List, Option, IsSome, IsTrue, false};
 ghost use Rattle.bid_rules.specs.Facts.{IsValidCase};
 ghost use Rattle.bid_rules.specs.declared.cases.Case.{Case};
 ghost use Rattle.divisions.specs.Division.{IsDivisionOf};
 ghost use Rattle.divisions.specs.declared.division.Division.{Division};
 ghost use Rattle.sealed_core.specs.declared.commands.Ask.{Ask};
+ghost use Rattle.sealed_core.specs.declared.replies.Refusal.{Refusal};
 ghost use Rattle.sealed_core.specs.declared.replies.Reply.{Reply};
 ghost use Rattle.sealed_core.specs.Host.{HostView};
 ghost use Rattle.sealed_core.specs.Sealed.{Asked, Caller, RunAlike, caller_number, empty, host_after, is_closed, view};
 ghost use Rattle.sealed_core.specs.Step.{CommandView, To, step};
 ghost use Rattle.reply_texts.specs.Divisions.{IsDivisionText};
+ghost use Rattle.reply_texts.specs.Refusals.{is_refusal_status, refusal_row, service_row};
 ghost use Rattle.reply_texts.specs.Replies.{text_of};
 ghost use Rattle.reply_texts.specs.Sealing.{ShowSame, sealed_told, told, told_all};
 ghost use Rattle.reply_texts.specs.Telling.{Tells, is_publication};
+ghost use Rattle.reply_texts.specs.declared.refusals.ServiceRefusal.{ServiceRefusal};
 
 use divisions::division_law;
 use sealed_core::{publication_law, sealing_law};
@@ -49,6 +52,12 @@ pub fn telling_law()
 {
     publication_law();
 }
+
+/// Each refusal has one of the ten statuses of refusals, none of which is that of a reply that grants what was asked.
+pub fn refusal_status_law()
+    ensures refusal { (refusal : Refusal) → IsTrue (is_refusal_status (refusal_row refusal).0) }
+    ensures service { (refusal : ServiceRefusal) → IsTrue (is_refusal_status (service_row refusal).status) }
+{}
 
 /// A case has one text of its division.
 pub fn division_text_law()

@@ -11,6 +11,6 @@ mod statuses;
 mod values;
 
 pub use division_texts::division_text;
-pub use laws::{division_text_law, shown_law, telling_law, text_sealing_law};
+pub use laws::{division_text_law, refusal_status_law, shown_law, telling_law, text_sealing_law};
 pub use refusals::{ServiceRefusal, constant_text, memory_text, service_refusal_text};
 pub use replies::{is_publication, reply_status, reply_text};

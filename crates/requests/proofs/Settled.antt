@@ -7,16 +7,18 @@ use Rattle.host_keeper.specs.Calls.{Reopens}
 use Rattle.host_keeper.specs.Leading.{opened_files}
 use Rattle.host_keeper.specs.States.{IsFile, State}
 use Rattle.reply_texts.specs.declared.refusals.ServiceRefusal.TheVariants as service
+use Rattle.sealed_core.specs.Runs.{CanApplyAll}
+use Rattle.sealed_core.specs.Sealed.{empty}
 use Rattle.requests.specs.Cases.{Settles}
 use Rattle.requests.specs.Keeping.{FaultSays}
 use Rattle.requests.specs.Said.{SaidView, memory_said, refused_said}
 
 module _ {D T : Type 0} (d : Ghosts D) (disk after : D) (s new : State) where
-  pub settled_ok : (x : T) → Reopens {T = T} d disk after s new (Ok x) → Settles d disk after s new None
-  settled_ok x (Reopens.opened e secret kept waits ok count told is) = Settles.opened e secret kept waits count told is refl
-  settled_ok x (Reopens.failed e waits bad count torn is) = absurd (cc)
-  settled_ok x (Reopens.damaged e place waits bad count never is) = absurd (cc)
-  settled_ok x (Reopens.memory e waits bad count rests is) = absurd (cc)
+  pub settled_ok : (x : T) → CanApplyAll (empty new.secret) new.kept → Reopens {T = T} d disk after s new (Ok x) → Settles d disk after s new None
+  settled_ok x can (Reopens.opened e secret kept waits ok count told is) = Settles.opened e secret kept waits count told (subst (λ (y : State). CanApplyAll (empty y.secret) y.kept) is can) is refl
+  settled_ok x can (Reopens.failed e waits bad count torn is) = absurd (cc)
+  settled_ok x can (Reopens.damaged e place waits bad count never is) = absurd (cc)
+  settled_ok x can (Reopens.memory e waits bad count rests is) = absurd (cc)
 
   settled_fault : (said : SaidView) → said ≡ refused_said service.StoreFault → Reopens {T = T} d disk after s new (Err fault.Disk) → Settles d disk after s new (Some said)
   settled_fault said same (Reopens.opened e secret kept waits ok count told is) = absurd (cc)
@@ -49,6 +51,6 @@ pub settled_files : {D : Type 0} (d : Ghosts D) (disk after : D) (s new : State)
 settled_files d disk after s new (Settles.ready waits same is none) file honest here = subst (λ (x : State). IsFile x file) is here
 settled_files d disk after s new (Settles.store_fault e waits count torn is bad) file honest here = absurd (cc)
 settled_files d disk after s new (Settles.damaged e place waits count never is bad) file honest here = absurd (cc)
-settled_files d disk after s new (Settles.opened e secret kept waits count told is none) file honest here =
+settled_files d disk after s new (Settles.opened e secret kept waits count told can is none) file honest here =
     opened_files s e secret kept waits (told honest).secret_stays (told honest).either file (subst (λ (x : State). IsFile x file) is here)
 settled_files d disk after s new (Settles.memory e waits count rests is bad) file honest here = absurd (cc)

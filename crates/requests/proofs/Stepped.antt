@@ -7,7 +7,7 @@ use Rattle.host_keeper.specs.Calls.{Keeps}
 use Rattle.host_keeper.specs.States.{State, host_in}
 use Rattle.publications.specs.Contents.{ContentView}
 use Rattle.reply_texts.specs.declared.refusals.ServiceRefusal.TheVariants as service
-use Rattle.sealed_core.specs.Host.{EventView, HostView}
+use Rattle.sealed_core.specs.Host.{CanApply, EventView, HostView}
 use Rattle.sealed_core.specs.Sealed.{applied}
 use Rattle.sealed_core.specs.Step.{Answer, CommandView, step}
 use Rattle.requests.specs.Cases.{Steps}
@@ -56,8 +56,8 @@ module _ (h : HostView) (s : State) (is_host : h ≡ host_in s) (moment : ℕ) (
 
 -- the step by what became of its event
 pub stepped : {D : Type 0} (d : Ghosts D) (disk after : D) (event : EventView) (told : ContentView) (due : SaidView) (s new : State) (said : SaidView) (moment : ℕ) (command : CommandView)
-    → (step (host_in s) moment command).event ≡ Some event → Replies (host_in s) moment command told → due ≡ content_said told → KeepsSaid d disk after event due s new said
+    → (step (host_in s) moment command).event ≡ Some event → CanApply (host_in s) event → Replies (host_in s) moment command told → due ≡ content_said told → KeepsSaid d disk after event due s new said
     → Steps d disk after moment command s new said
-stepped d disk after event told due s new said moment command was replies shown (KeepsSaid.kept count appended is says) = Steps.kept told event was count appended replies is (says ∙ shown)
-stepped d disk after event told due s new said moment command was replies shown (KeepsSaid.failed count is says) = Steps.failed event was count is says
-stepped d disk after event told due s new said moment command was replies shown (KeepsSaid.memory same is says) = Steps.memory same is says
+stepped d disk after event told due s new said moment command was can replies shown (KeepsSaid.kept count appended is says) = Steps.kept told event was can count appended replies is (says ∙ shown)
+stepped d disk after event told due s new said moment command was can replies shown (KeepsSaid.failed count is says) = Steps.failed event was count is says
+stepped d disk after event told due s new said moment command was can replies shown (KeepsSaid.memory same is says) = Steps.memory same is says

@@ -9,7 +9,9 @@ use Rattle.host_keeper.specs.Calls.{IsAppended, IsSettled}
 use Rattle.host_keeper.specs.States.{Passes, State, host_in, ready_with, waits_with}
 use Rattle.publications.specs.Contents.{ContentView}
 use Rattle.reply_texts.specs.declared.refusals.ServiceRefusal.TheVariants as service
-use Rattle.sealed_core.specs.Host.{EventView}
+use Rattle.sealed_core.specs.Host.{CanApply, EventView}
+use Rattle.sealed_core.specs.Runs.{CanApplyAll}
+use Rattle.sealed_core.specs.Sealed.{empty}
 use Rattle.sealed_core.specs.Step.{CommandView, step}
 use Rattle.split_http.specs.declared.head.Head.{Head}
 use Rattle.split_http.specs.declared.replies.Allow.{Allow}
@@ -29,9 +31,10 @@ pub data Settles {D : Type 0} (d : Ghosts D) (disk after : D) (s new : State) (r
   -- the file is no journal: never on an honest disk
   damaged : (event : EventView) (place : ℕ) → s.waiting ≡ Some event → d.faults after ≡ d.faults disk → (d.is_honest disk → ⊥)
       → new ≡ s → result ≡ Some (refused_said (service.StoreDamaged place)) → Settles d disk after s new result
-  -- the file was opened, and the state is that of the events for which it stands: on an honest disk those kept, with the one more or without it
+  -- the file was opened, and the state is that of events that may be applied in turn: on an honest disk those for which the file stands, which are
+  -- those kept, with the one more or without it
   opened : (event : EventView) (secret : List ℕ) (kept : List EventView) → s.waiting ≡ Some event → d.faults after ≡ d.faults disk → (d.is_honest disk → IsSettled d disk after s event secret kept)
-      → new ≡ ready_with secret kept → result ≡ None → Settles d disk after s new result
+      → CanApplyAll (empty secret) kept → new ≡ ready_with secret kept → result ≡ None → Settles d disk after s new result
   memory : (event : EventView) → s.waiting ≡ Some event → d.faults after ≡ d.faults disk → (d.is_honest disk → Rests d.seen d.images d.moment d.left_since disk after)
       → new ≡ s → result ≡ Some memory_said → Settles d disk after s new result
 
@@ -39,8 +42,8 @@ pub data Settles {D : Type 0} (d : Ghosts D) (disk after : D) (s new : State) (r
 pub data Steps {D : Type 0} (d : Ghosts D) (disk after : D) (moment : ℕ) (command : CommandView) (s new : State) (said : SaidView) : Type 0 where
   no_event : (told : ContentView) → (step (host_in s) moment command).event ≡ None → after ≡ disk
       → Replies (host_in s) moment command told → new ≡ s → said ≡ content_said told → Steps d disk after moment command s new said
-  -- the event was kept before the reply, by the calls of one append
-  kept : (told : ContentView) (event : EventView) → (step (host_in s) moment command).event ≡ Some event → d.faults after ≡ d.faults disk
+  -- the event, which may be applied, was kept before the reply, by the calls of one append
+  kept : (told : ContentView) (event : EventView) → (step (host_in s) moment command).event ≡ Some event → CanApply (host_in s) event → d.faults after ≡ d.faults disk
       → (d.is_honest disk → IsAppended d disk after s.secret (s.kept ++ event ∷ []))
       → Replies (host_in s) moment command told → new ≡ ready_with s.secret (s.kept ++ event ∷ []) → said ≡ content_said told → Steps d disk after moment command s new said
   -- a call of the disk failed in the append, and the event waits

@@ -9,7 +9,7 @@ ghost use Rattle.split_http.specs.Replies.{is_host_status};
 ghost use Rattle.requests.specs.Replies.{Shows};
 
 use publications::{ContentType, ReplyContent, publication, publication_status_law};
-use reply_texts::{reply_status, reply_text};
+use reply_texts::{refusal_status_law, reply_status, reply_text};
 use sealed_core::{Answered, Host, Reply, instance_at, machine_law, publication_law};
 use split_base::{Gate, NoMemory};
 use std::alloc::Global;
@@ -33,6 +33,7 @@ pub(crate) fn content<R: Threads + Sync, G: Gate + Sync>(
     machine_law();
     publication_law();
     publication_status_law();
+    refusal_status_law();
     match answered.reply {
         Reply::Publish { id, what } => {
             let Some(instance) = instance_at(host, id) else {
@@ -51,6 +52,7 @@ fn own_content(alloc: Global, host: &Host, answered: &Answered) -> Result<ReplyC
     ensures shows { IfOk result (λ told. Shows (applied host.now.content (answer_view answered.now).event) answered.now.reply (content_view told)) }
     ensures known { IfOk result (λ told. IsTrue (is_host_status told.status)) }
 {
+    refusal_status_law();
     let text = reply_text(alloc, host, answered)?;
     Ok(ReplyContent {
         status: reply_status(&answered.reply),

@@ -56,7 +56,7 @@ module _ {W : Type 0} (run : List (Exchange W)) (first : State) where
   settles_come d disk after s new result honest waits (Settles.ready a b is c) = comes_none s new is waits
   settles_come d disk after s new result honest waits (Settles.store_fault e a up torn is c) = comes_none s new is waits
   settles_come d disk after s new result honest waits (Settles.damaged e place a same never is c) = comes_none s new is waits
-  settles_come d disk after s new result honest waits (Settles.opened e secret kept a same told is c) =
+  settles_come d disk after s new result honest waits (Settles.opened e secret kept a same told can is c) =
       let settled = told honest in
       let one : new.secret ≡ s.secret = ap (λ (x : State). x.secret) is ∙ settled.secret_stays in
       let ready : Waits new = subst Waits (sym is) (ready_waits secret kept) in
@@ -70,7 +70,7 @@ module _ {W : Type 0} (run : List (Exchange W)) (first : State) where
     steps_come : {D : Type 0} (d : Ghosts D) (disk after : D) (s new : State) (said : SaidView) → Waits s
         → Steps d disk after x.moment (command_of route.place route.id x.head.key x.body) s new said → Comes s new
     steps_come d disk after s new said waits (Steps.no_event told a b r is c) = comes_none s new is waits
-    steps_come d disk after s new said waits (Steps.kept told e a same appended r is c) = record {
+    steps_come d disk after s new said waits (Steps.kept told e a can same appended r is c) = record {
       secret = ap (λ (y : State). y.secret) is;
       more = e ∷ [];
       kept = ap (λ (y : State). y.kept) is;

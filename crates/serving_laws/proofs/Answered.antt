@@ -28,7 +28,7 @@ pub settled_for : {D : Type 0} (d : Ghosts D) (disk between : D) (s settled : St
 settled_for {D} d disk between s settled honest (Settles.ready a same is c) = (inl is, ap (λ (x : D). d.faults x) same)
 settled_for d disk between s settled honest (Settles.store_fault e a up torn is c) = absurd (cc)
 settled_for d disk between s settled honest (Settles.damaged e place a same never is c) = absurd (never honest)
-settled_for d disk between s settled honest (Settles.opened e secret kept a same told is c) =
+settled_for d disk between s settled honest (Settles.opened e secret kept a same told can is c) =
     let found = told honest in
     let is_ready : settled ≡ ready_with s.secret kept = is ∙ ap (λ (x : List ℕ). ready_with x kept) found.secret_stays in (
       ⊎_elim (λ (still : kept ≡ s.kept). inr (e, a, inl (is_ready ∙ ap (λ (l : List EventView). ready_with s.secret l) still)))
@@ -42,14 +42,14 @@ settled_said : {D : Type 0} (d : Ghosts D) (disk after : D) (s new : State) (sai
 settled_said d disk after s new said honest none (Settles.ready a same is c) = absurd (cc)
 settled_said d disk after s new said honest none (Settles.store_fault e a up torn is c) = absurd (not_counted (d.faults disk) (d.faults after) none up)
 settled_said d disk after s new said honest none (Settles.damaged e place a same never is c) = absurd (never honest)
-settled_said d disk after s new said honest none (Settles.opened e secret kept a same told is c) = absurd (cc)
+settled_said d disk after s new said honest none (Settles.opened e secret kept a same told can is c) = absurd (cc)
 settled_said d disk after s new said honest none (Settles.memory e a same rests is c) = cc
 
 module _ {D : Type 0} (d : Ghosts D) (x : Exchange (D × State)) where
   stepped_has : (route : Route) (between : D) (settled : State) → IsRouted x.head.verb x.head.path (Ok route) → IsReadyFor x.before.1 settled → (HasRisen (d.faults between) (d.faults x.after.0) → ⊥)
       → Steps d between x.after.0 x.moment (command_of route.place route.id x.head.key x.body) settled x.after.1 x.due.said → HasAnswer x
   stepped_has route between settled routed ready none (Steps.no_event told a b r is c) = HasAnswer.answered route settled told routed ready r c
-  stepped_has route between settled routed ready none (Steps.kept told e a same appended r is c) = HasAnswer.answered route settled told routed ready r c
+  stepped_has route between settled routed ready none (Steps.kept told e a can same appended r is c) = HasAnswer.answered route settled told routed ready r c
   stepped_has route between settled routed ready none (Steps.failed e a up is c) = absurd (not_counted (d.faults between) (d.faults x.after.0) none up)
   stepped_has route between settled routed ready none (Steps.memory a is c) = HasAnswer.memory c
 

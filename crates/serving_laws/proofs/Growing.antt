@@ -31,7 +31,7 @@ settles_grows : {D : Type 0} (d : Ghosts D) (disk after : D) (s new : State) (re
 settles_grows d disk after s new result honest (Settles.ready a b is c) = grows_none s new is
 settles_grows d disk after s new result honest (Settles.store_fault e a up torn is c) = grows_none s new is
 settles_grows d disk after s new result honest (Settles.damaged e place a same never is c) = grows_none s new is
-settles_grows d disk after s new result honest (Settles.opened e secret kept a same told is c) =
+settles_grows d disk after s new result honest (Settles.opened e secret kept a same told can is c) =
     let settled = told honest in
     let one : new.secret ≡ s.secret = ap (λ (x : State). x.secret) is ∙ settled.secret_stays in
     ⊎_elim
@@ -42,7 +42,7 @@ settles_grows d disk after s new result honest (Settles.memory e a same rests is
 
 steps_grow : {D : Type 0} (d : Ghosts D) (disk after : D) (moment : ℕ) (command : CommandView) (s new : State) (said : SaidView) → Steps d disk after moment command s new said → Grows s new
 steps_grow d disk after moment command s new said (Steps.no_event told a b r is c) = grows_none s new is
-steps_grow d disk after moment command s new said (Steps.kept told e a same appended r is c) =
+steps_grow d disk after moment command s new said (Steps.kept told e a can same appended r is c) =
     record { secret = ap (λ (x : State). x.secret) is; more = e ∷ []; kept = ap (λ (x : State). x.kept) is }
 steps_grow d disk after moment command s new said (Steps.failed e a up is c) =
     record { secret = ap (λ (x : State). x.secret) is; more = []; kept = ap (λ (x : State). x.kept) is ∙ sym (append-nil s.kept) }

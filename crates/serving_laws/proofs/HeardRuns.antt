@@ -83,14 +83,14 @@ settled_still : {D : Type 0} (d : Ghosts D) (disk between : D) (s settled : Stat
 settled_still d disk between s settled ready (Settles.ready a same is c) = (is, same)
 settled_still d disk between s settled ready (Settles.store_fault e a up torn is c) = absurd (cc)
 settled_still d disk between s settled ready (Settles.damaged e place a same never is c) = absurd (cc)
-settled_still d disk between s settled ready (Settles.opened e secret kept a same told is c) = absurd (never_waits s.waiting e ready a)
+settled_still d disk between s settled ready (Settles.opened e secret kept a same told can is c) = absurd (never_waits s.waiting e ready a)
 settled_still d disk between s settled ready (Settles.memory e a same rests is c) = absurd (cc)
 
 never_at_once : {D : Type 0} (d : Ghosts D) (disk after : D) (s new : State) (said : SaidView) → s.waiting ≡ None → Settles d disk after s new (Some said) → ⊥
 never_at_once d disk after s new said ready (Settles.ready a same is c) = absurd (cc)
 never_at_once d disk after s new said ready (Settles.store_fault e a up torn is c) = never_waits s.waiting e ready a
 never_at_once d disk after s new said ready (Settles.damaged e place a same never is c) = never_waits s.waiting e ready a
-never_at_once d disk after s new said ready (Settles.opened e secret kept a same told is c) = absurd (cc)
+never_at_once d disk after s new said ready (Settles.opened e secret kept a same told can is c) = absurd (cc)
 never_at_once d disk after s new said ready (Settles.memory e a same rests is c) = never_waits s.waiting e ready a
 
 module _ {D : Type 0} (d : Ghosts D) (x : Exchange (D × State)) (none : HasRisen (d.faults x.before.0) (d.faults x.after.0) → ⊥) (plain : x.due.said.memory ≡ false) where
@@ -119,7 +119,7 @@ module _ {D : Type 0} (d : Ghosts D) (x : Exchange (D × State)) (none : HasRise
         → Steps d between x.after.0 x.moment (command_of route.place route.id x.head.key x.body) settled x.after.1 x.due.said → IsStep x asked
     steps_go between settled same still (Steps.no_event content event a r is c) =
         goes settled content None same event r c (ap (λ (y : State). y.secret) is) (ap (λ (y : State). y.kept) is ∙ sym (append-nil settled.kept))
-    steps_go between settled same still (Steps.kept content e event count appended r is c) =
+    steps_go between settled same still (Steps.kept content e event can count appended r is c) =
         goes settled content (Some e) same event r c (ap (λ (y : State). y.secret) is) (ap (λ (y : State). y.kept) is)
     steps_go between settled same still (Steps.failed e event up is c) =
         absurd (not_counted (d.faults x.before.0) (d.faults x.after.0) none (subst (λ (y : D). d.faults x.after.0 ≡ counted (d.faults y)) still up))

@@ -23,12 +23,12 @@ settles_memory : {D : Type 0} (d : Ghosts D) (disk after : D) (s new : State) (s
 settles_memory d disk after s new said says (Settles.ready a b is c) = absurd (cc)
 settles_memory d disk after s new said says (Settles.store_fault e a up torn is c) = never_says said _ says (some_same said _ c) refl
 settles_memory d disk after s new said says (Settles.damaged e place a same never is c) = never_says said _ says (some_same said _ c) refl
-settles_memory d disk after s new said says (Settles.opened e secret kept a same told is c) = absurd (cc)
+settles_memory d disk after s new said says (Settles.opened e secret kept a same told can is c) = absurd (cc)
 settles_memory d disk after s new said says (Settles.memory e a same rests is c) = some_same said _ c
 
 steps_memory : {D : Type 0} (d : Ghosts D) (disk after : D) (moment : ℕ) (command : CommandView) (s new : State) (said : SaidView) → said.memory ≡ true → Steps d disk after moment command s new said → said ≡ memory_said
 steps_memory d disk after moment command s new said says (Steps.no_event told a b r is c) = never_says said _ says c refl
-steps_memory d disk after moment command s new said says (Steps.kept told e a same appended r is c) = never_says said _ says c refl
+steps_memory d disk after moment command s new said says (Steps.kept told e a can same appended r is c) = never_says said _ says c refl
 steps_memory d disk after moment command s new said says (Steps.failed e a up is c) = never_says said _ says c refl
 steps_memory d disk after moment command s new said says (Steps.memory a is c) = c
 

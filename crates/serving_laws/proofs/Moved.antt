@@ -14,7 +14,7 @@ pub settles_reopen : {D : Type 0} (d : Ghosts D) (disk after : D) (s new : State
 settles_reopen d disk after s new result (Settles.ready a b is c) = inl is
 settles_reopen d disk after s new result (Settles.store_fault e a up torn is c) = inl is
 settles_reopen d disk after s new result (Settles.damaged e place a same never is c) = inl is
-settles_reopen d disk after s new result (Settles.opened e secret kept a same told is c) = inr (e, secret, kept, a, is)
+settles_reopen d disk after s new result (Settles.opened e secret kept a same told can is c) = inr (e, secret, kept, a, is)
 settles_reopen d disk after s new result (Settles.memory e a same rests is c) = inl is
 
 module _ {D : Type 0} (d : Ghosts D) (x : Exchange (D × State)) where
@@ -24,7 +24,7 @@ module _ {D : Type 0} (d : Ghosts D) (x : Exchange (D × State)) where
   steps_move : (route : Route) (between : D) (settled : State) → IsRouted x.head.verb x.head.path (Ok route) → IsReopened x.before.1 settled
       → Steps d between x.after.0 x.moment (command_of route.place route.id x.head.key x.body) settled x.after.1 x.due.said → Moves x
   steps_move route between settled routed reopened (Steps.no_event told a b r is c) = record { settled = settled; reopened = reopened; moved = inl is }
-  steps_move route between settled routed reopened (Steps.kept told e a same appended r is c) = record { settled = settled; reopened = reopened; moved = inr (e, (route, routed, a), inl is) }
+  steps_move route between settled routed reopened (Steps.kept told e a can same appended r is c) = record { settled = settled; reopened = reopened; moved = inr (e, (route, routed, a), inl is) }
   steps_move route between settled routed reopened (Steps.failed e a up is c) = record { settled = settled; reopened = reopened; moved = inr (e, (route, routed, a), inr (is, c)) }
   steps_move route between settled routed reopened (Steps.memory a is c) = record { settled = settled; reopened = reopened; moved = inl is }
 

@@ -45,7 +45,7 @@ at_once_stays : {D : Type 0} (d : Ghosts D) (disk after : D) (s new : State) (sa
 at_once_stays d disk after s new said (Settles.ready a b is c) = is
 at_once_stays d disk after s new said (Settles.store_fault e a up torn is c) = is
 at_once_stays d disk after s new said (Settles.damaged e place a same never is c) = is
-at_once_stays d disk after s new said (Settles.opened e secret kept a same told is c) = absurd (cc)
+at_once_stays d disk after s new said (Settles.opened e secret kept a same told can is c) = absurd (cc)
 at_once_stays d disk after s new said (Settles.memory e a same rests is c) = is
 
 module _ {D : Type 0} (d : Ghosts D) (x : Exchange (D × State)) (settles : State → State → Type 0) (same : (s : State) → settles s s) (publishes : PublishesQuietly)
@@ -57,7 +57,7 @@ module _ {D : Type 0} (d : Ghosts D) (x : Exchange (D × State)) (settles : Stat
     steps_stay : (route : Route) (between : D) (settled : State) → IsRouted x.head.verb x.head.path (Ok route) → settles x.before.1 settled
         → Steps d between x.after.0 x.moment (command_of route.place route.id x.head.key x.body) settled x.after.1 x.due.said → StaysBut settles x
     steps_stay route between settled routed from (Steps.no_event told a b r is c) = record { settled = settled; from = from; stays = inl is }
-    steps_stay route between settled routed from (Steps.kept told e a count appended r is c) =
+    steps_stay route between settled routed from (Steps.kept told e a can count appended r is c) =
         let command = command_of route.place route.id x.head.key x.body in
         let failed : IsSuccess told.status → ⊥ = λ success. none (subst IsSuccess (sym (ap (λ (s : SaidView). s.status) c)) success) in
         let late : IsLateClose (host_in settled) x.moment command (Some e) =

@@ -24,10 +24,6 @@ pub record IsSameOutside (place n end : ℕ) (old new : List ℕ) : Type 0 where
   pub before : take place (take end new) ≡ take place (take end old)
   pub after : drop (place + n) (take end new) ≡ drop (place + n) (take end old)
 
--- each image after a step is an image of before, changed by that step
-abbrev pub Follows : (List ℕ → List ℕ → Type 0) → (List ℕ → Type 0) → (List ℕ → Type 0) → Type 0
-Follows step old new = (c : List ℕ) → new c → (d : List ℕ) × old d × step d c
-
 -- each image after is one of before
 abbrev pub AddsNone : (List ℕ → Type 0) → (List ℕ → Type 0) → Type 0
 AddsNone old new = (c : List ℕ) → new c → old c

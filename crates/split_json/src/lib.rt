@@ -16,6 +16,6 @@ mod rules;
 pub use bid_bodies::read_bid;
 pub use cases::read_case;
 pub use creations::read_creation;
-pub use input::{CaseInput, Head};
+pub use input::CaseInput;
 pub use laws::{case_in_law, field_fault_law, field_rules_law, head_law};
 pub use proposals::{read_goods, read_proposal};

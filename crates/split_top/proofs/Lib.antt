@@ -1,5 +1,6 @@
 mod AuditLaws
 mod CauseLaws
 mod Finishing
+mod OneCommand
 mod SameOutput
 mod ServeLaws

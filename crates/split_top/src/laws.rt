@@ -1,4 +1,4 @@
-// What holds of whole runs, for all inputs: the law is the contract of a function that does nothing.
+// What holds of words and of whole runs, for all of them: each law is the contract of a function that does nothing.
 ghost use Rattle.std.specs.Prelude.{◌≡◌, ◌⊎◌, ℕ, List, Result, Some};
 ghost use Rattle.endings.specs.Endings.{owed};
 ghost use Rattle.endings.specs.Told.{Ends, HasWritten, IsSound, Told};
@@ -6,8 +6,15 @@ ghost use Rattle.endings.specs.declared.stop.Stop.{Stop};
 ghost use Rattle.input_commands.specs.Commands.{AreAlike};
 ghost use Rattle.input_commands.specs.Ends.{EndsOn};
 ghost use Rattle.input_commands.specs.declared.command.InputCommand.{InputCommand};
+ghost use Rattle.split_top.specs.Commands.{Names};
+ghost use Rattle.split_top.specs.declared.command.Command.{Command};
 
 use input_commands::input_answer_law;
+
+/// Words name at most one command.
+pub fn command_law()
+    ensures { (words : List (List ℕ)) (command other : Command) → Names words command → Names words other → command ≡ other }
+{}
 
 /// Two commands that differ in the number of workers alone, over the same bytes, have one status and write one text, `void:`, `step limit` and
 /// the refusals included, where no call of theirs fails and neither ends for want of memory. That is said of inputs that tell their bytes.

@@ -12,7 +12,7 @@ pub use command::Command;
 pub use endings::Stop;
 pub use host_keeper::Serving;
 pub use input_commands::InputCommand;
-pub use laws::output_law;
+pub use laws::{command_law, output_law};
 pub use link_runs::LinkEnd;
 pub use program::{Status, run};
 pub use serving::serve_one;

@@ -1,11 +1,12 @@
 // The top call: from words to a status and what is written.
-ghost use Rattle.std.specs.Prelude.{◌≤◌, ℕ, map, string_bytes};
+ghost use Rattle.std.specs.Prelude.{◌≢◌, ◌≤◌, ℕ, map, string_bytes};
 ghost use Rattle.endings.specs.Endings.{ending_of, owed};
 ghost use Rattle.endings.specs.Told.{Ends, Told, told};
 ghost use Rattle.link_runs.specs.Served.{tells_of};
 ghost use Rattle.input_commands.specs.Commands.{AreWorkers};
-ghost use Rattle.split_top.specs.Causes.{HasCauses, IsComplete, IsServed};
+ghost use Rattle.split_top.specs.Causes.{HasCauses, IsComplete, IsServed, TakesMemory};
 ghost use Rattle.split_top.specs.Commands.{IsInRange, Names};
+ghost use Rattle.split_top.specs.declared.command.Command.{Command};
 ghost use Rattle.split_top.specs.declared.command.Command.TheVariants.{Serve};
 ghost use Rattle.split_top.specs.Outside.{outside_of};
 ghost use Rattle.split_top.specs.Runs.{Came, Comes, Ran, Tries, tells_by};
@@ -92,6 +93,9 @@ pub fn run<
     ensures complete { IsComplete (tells_by D.Disk P.Port (tells_of P.Link.Source P.Link.Sink) C.Clock X.Dial (tells_of X.Link.Source X.Link.Sink))
         (outside_of disk.old disk.new port.old port.new clock.old clock.new dialer.old dialer.new (told I.left I.faults input.old input.new) (told O.written O.faults output.old output.new))
         (map string_bytes words.now) result.code }
+
+    // Want of memory ends no command that takes none.
+    ensures memory { (command : Command) → Names (map string_bytes words.now) command → (TakesMemory command → ⊥) → result.code ≢ 9 }
 
     // The headline, of the words of `serve`: for every list of connections, bytes and clock moments the host writes the bytes of one machine of
     // accepted commands; each published division is best for its rule among all, least among equals, and the same for every number of workers;

@@ -30,6 +30,12 @@ one_verdict rule count (No n) (No m) h k = ⊎_elim
     (cases_order n m)
 
 -- rules that hold alike have the same verdict
-pub same_verdict : (rule other : ℕ → Type 0) (count : ℕ) → ((number : ℕ) → 1 ≤ number → rule number ↔ other number) → (verdict : Verdict) → IsVerdict rule count verdict → IsVerdict other count verdict
-same_verdict rule other count same Yes h = λ number low high. (same number low).0 (h number low high)
-same_verdict rule other count same (No number) h = (h.0, h.1, (λ k low high. (same k low).0 (h.2 k low high)), λ holds. h.3 ((same number h.0).1 holds))
+pub same_verdict : (rule other : ℕ → Type 0) (count : ℕ) → ((number : ℕ) → 1 ≤ number → number ≤ count → rule number ↔ other number) → (verdict : Verdict) → IsVerdict rule count verdict
+    → IsVerdict other count verdict
+same_verdict rule other count same Yes h = λ number low high. (same number low (omega arith)).0 (h number low high)
+same_verdict rule other count same (No number) h = (
+  h.0,
+  h.1,
+  (λ k low high. (same k low (let most = h.1 in omega arith)).0 (h.2 k low high)),
+  λ holds. h.3 ((same number h.0 h.1).1 holds),
+)

@@ -2,4 +2,3 @@ pub mod FewParts
 pub mod Passes
 pub mod Fits
 pub mod Texts
-pub mod Sizes

@@ -7,7 +7,7 @@ use Rattle.bid_rules.specs.declared.goods.GoodsCase.{GoodsCase}
 use Rattle.bid_rules.specs.declared.limits.TheConstants.{ITEM_ROOM, MOST_MEMBERS, MOST_STEPS}
 use Rattle.bid_rules.specs.Goods.{IsValidGoodsCase, player_count}
 use Rattle.bid_rules.specs.Fractions.{Fraction}
-use Rattle.cert_reader.specs.Pairs.{PairView}
+use Rattle.cert_reader.specs.Layout.{PairView}
 use Rattle.divided_goods.specs.Printed.{AreProperShares, HaveTotal, SupportShares}
 use Rattle.split_frac.specs.Frac.{fraction_of}
 use Rattle.split_lemmas.proofs.SignedRows.{rows_again, rows_low, signed_again, signed_low}
@@ -61,7 +61,7 @@ winner_passes case answer first second valid two weights proper total support = 
     }
     rule (suc (suc zero)) low high = shown (λ c. AreProperShares c shares) (record { each = proper.each; within = proper.within; one_split = proper.one_split })
     rule (suc (suc (suc zero))) low high = shown (λ c. HaveTotal c shares (fraction_of answer.total)) (record { positive = total.positive; first = total.first; second = total.second })
-    rule (suc (suc (suc (suc number)))) low high = record {
+    rule (suc (suc (suc (suc zero)))) low high = record {
       first = first;
       second = second;
       are = ap (map pos) weights;
@@ -74,3 +74,4 @@ winner_passes case answer first second valid two weights proper total support = 
         left = support.left;
       });
     }
+    rule (suc (suc (suc (suc (suc number))))) low high = absurd (omega arith)

@@ -3,7 +3,7 @@ use Rattle.std.specs.Prelude.{pos, map}
 use Rattle.adjusted_winner.specs.declared.winner.Winner.{Winner}
 use Rattle.bid_rules.specs.declared.goods.GoodsCase.{GoodsCase}
 use Rattle.bid_rules.specs.declared.limits.TheConstants.{MOST_MEMBERS, MOST_STEPS}
-use Rattle.cert_reader.specs.Pairs.{PairView}
+use Rattle.cert_reader.specs.Layout.{PairView}
 use Rattle.split_frac.specs.Frac.{fraction_of}
 
 -- the lines for the solver's division

@@ -11,6 +11,7 @@ ghost use Rattle.winner_rules.specs.Judged.{IsWinnerCertificate};
 ghost use Rattle.winner_rules.specs.Rules.{printed_case};
 
 use adjusted_winner::{answer_law, winner_text_law};
+use cert_reader::pair_law;
 use split_frac::value_law;
 use split_text::number_law;
 use winner_laws::{printed_law, procedure_law, winner_law};
@@ -27,6 +28,7 @@ pub fn winner_lines_law()
 {
     answer_law();
     number_law();
+    pair_law();
     printed_law();
     procedure_law();
     value_law();

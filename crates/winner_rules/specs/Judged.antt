@@ -5,17 +5,18 @@ use Rattle.bid_rules.specs.Goods.{IsValidGoodsCase, player_count}
 use Rattle.cert_reader.specs.declared.ends.ReadEnd.{ReadEnd}
 use Rattle.cert_reader.specs.declared.limits.TheConstants.{MOST_BYTES}
 use Rattle.cert_reader.specs.Forms.{Pairs}
-use Rattle.cert_reader.specs.Pairs.{IsPairText, PairView}
+use Rattle.cert_reader.specs.Layout.{PairView}
+use Rattle.cert_reader.specs.Pairs.{IsPairText}
 use Rattle.cert_reader.specs.Reading.{IsEndOf}
 use Rattle.divided_goods.specs.Printed.{AreFairShares}
 use Rattle.verdicts.specs.declared.verdict.Verdict.{Verdict}
 use Rattle.verdicts.specs.declared.verdict.Verdict.TheVariants.{Yes}
-use Rattle.verdicts.specs.Verdicts.{IsVerdict}
-use Rattle.winner_rules.specs.Rules.{printed_case, winner_rule}
+use Rattle.verdicts.specs.Verdicts.{IsVerdictOf}
+use Rattle.winner_rules.specs.Rules.{printed_case, rules_of_winner}
 
 -- the bytes are the text of a pair, and this is the verdict of the rules on it
 abbrev pub IsPairJudged : List ℕ → Verdict → Type 0
-IsPairJudged bytes verdict = (view : PairView) × IsPairText bytes view × IsVerdict (winner_rule view) 4 verdict
+IsPairJudged bytes verdict = (view : PairView) × IsPairText bytes view × IsVerdictOf (rules_of_winner view) verdict
 
 -- the bytes are the text of a pair whose rules all hold
 abbrev pub IsWinnerCertificate : List ℕ → Type 0

@@ -1,10 +1,11 @@
 -- The four rules that the text of adjusted winner keeps: they show its division equitable, envy-free and efficient (Brams and Taylor 1996).
-use Rattle.std.specs.Prelude.{◌≡◌, ℕ, zero, suc, pos, ◌≤ℤ◌, List, [], ◌∷◌, All, length, map, unsigned_abs}
+use Rattle.std.specs.Prelude.{◌≡◌, ℕ, pos, ◌≤ℤ◌, List, [], ◌∷◌, All, length, map, unsigned_abs}
 use Rattle.bid_rules.specs.declared.goods.GoodsCase.{GoodsCase}
 use Rattle.bid_rules.specs.declared.limits.TheConstants.{MOST_MEMBERS, MOST_STEPS}
 use Rattle.bid_rules.specs.Goods.{IsValidGoodsCase}
 use Rattle.divided_goods.specs.Printed.{AreProperShares, HaveTotal, SupportShares}
-use Rattle.cert_reader.specs.Pairs.{PairView}
+use Rattle.cert_reader.specs.Layout.{PairView}
+use Rattle.verdicts.specs.Verdicts.{rule_at}
 
 -- the case with the numbers without a sign. A text counts no members and has no step limit, so they are as many as there may be
 abbrev pub printed_case : PairView → GoodsCase
@@ -28,10 +29,10 @@ pub record HasWeights (view : PairView) : Type 0 where
   pub are : view.weights ≡ pos first ∷ pos second ∷ []
   pub support : SupportShares (printed_case view) view.shares first second
 
--- the rule of a number, from 1 to 4
+-- the four rules, in their order
+abbrev pub rules_of_winner : PairView → List (Type 0)
+rules_of_winner view = HasCase view ∷ AreProperShares (printed_case view) view.shares ∷ HaveTotal (printed_case view) view.shares view.total ∷ HasWeights view ∷ []
+
+-- the rule of a number, from 1
 abbrev pub winner_rule : PairView → ℕ → Type 0
-winner_rule view zero = Unit {0}
-winner_rule view (suc zero) = HasCase view
-winner_rule view (suc (suc zero)) = AreProperShares (printed_case view) view.shares
-winner_rule view (suc (suc (suc zero))) = HaveTotal (printed_case view) view.shares view.total
-winner_rule view (suc (suc (suc (suc number)))) = HasWeights view
+winner_rule view number = rule_at (rules_of_winner view) number

@@ -4,11 +4,12 @@ ghost use Rattle.bid_rules.specs.Goods.{IsValidGoodsCase, player_count};
 ghost use Rattle.divided_goods.specs.Printed.{AreFairShares};
 ghost use Rattle.verdicts.specs.declared.verdict.Verdict.{Verdict};
 ghost use Rattle.verdicts.specs.declared.verdict.Verdict.TheVariants.{Yes};
-ghost use Rattle.verdicts.specs.Verdicts.{IsVerdict};
+ghost use Rattle.verdicts.specs.Verdicts.{IsVerdictOf};
 ghost use Rattle.winner_rules.specs.Judged.{IsPairJudged, IsWinnerCertificate, PrintsFair};
-ghost use Rattle.winner_rules.specs.Rules.{printed_case, winner_rule};
+ghost use Rattle.winner_rules.specs.Rules.{printed_case, rules_of_winner};
 ghost use Rattle.cert_reader.specs.Forms.{Pairs};
-ghost use Rattle.cert_reader.specs.Pairs.{IsPairText, PairView};
+ghost use Rattle.cert_reader.specs.Layout.{PairView};
+ghost use Rattle.cert_reader.specs.Pairs.{IsPairText};
 ghost use Rattle.cert_reader.specs.Text.{IsBrokenTextOf};
 
 use cert_reader::pair_law;
@@ -17,10 +18,10 @@ use winner_laws::printed_law;
 /// Where all rules hold, a valid case of two players is printed, and the printed shares are those of a division of its goods that is equitable, envy-free
 /// and efficient and splits at most one good, whatever rule made it (Brams and Taylor 1996). A text has one verdict.
 pub fn winner_certificate_law()
-    ensures valid { (view : PairView) → IsVerdict (winner_rule view) 4 Yes → IsValidGoodsCase (printed_case view) }
-    ensures two { (view : PairView) → IsVerdict (winner_rule view) 4 Yes → player_count (printed_case view) ≡ 2 }
-    ensures fair { (view : PairView) → IsVerdict (winner_rule view) 4 Yes → AreFairShares (printed_case view) view.shares }
-    ensures one { (view : PairView) (verdict other : Verdict) → IsVerdict (winner_rule view) 4 verdict → IsVerdict (winner_rule view) 4 other → other ≡ verdict }
+    ensures valid { (view : PairView) → IsVerdictOf (rules_of_winner view) Yes → IsValidGoodsCase (printed_case view) }
+    ensures two { (view : PairView) → IsVerdictOf (rules_of_winner view) Yes → player_count (printed_case view) ≡ 2 }
+    ensures fair { (view : PairView) → IsVerdictOf (rules_of_winner view) Yes → AreFairShares (printed_case view) view.shares }
+    ensures one { (view : PairView) (verdict other : Verdict) → IsVerdictOf (rules_of_winner view) verdict → IsVerdictOf (rules_of_winner view) other → other ≡ verdict }
 {
     printed_law();
 }
@@ -30,7 +31,7 @@ pub fn winner_certificate_law()
 pub fn winner_verdict_law()
     ensures one { (bytes : List ℕ) (verdict other : Verdict) → IsPairJudged bytes verdict → IsPairJudged bytes other → other ≡ verdict }
     ensures whole { (bytes : List ℕ) (verdict : Verdict) (line : ℕ) → IsPairJudged bytes verdict → IsBrokenTextOf Pairs bytes line → ⊥ }
-    ensures said { (bytes : List ℕ) (view : PairView) (verdict : Verdict) → IsPairText bytes view → IsPairJudged bytes verdict → IsVerdict (winner_rule view) 4 verdict }
+    ensures said { (bytes : List ℕ) (view : PairView) (verdict : Verdict) → IsPairText bytes view → IsPairJudged bytes verdict → IsVerdictOf (rules_of_winner view) verdict }
     ensures fair { (bytes : List ℕ) → IsWinnerCertificate bytes → PrintsFair bytes }
 {
     pair_law();

@@ -5,8 +5,8 @@ ghost use Rattle.cert_reader.specs.Numbers.{AreShort, IsSmall};
 ghost use Rattle.cert_reader.specs.Pairs.{pair_view};
 ghost use Rattle.cert_reader.specs.declared.limits.TheConstants.{MOST_PRINTED_DENOMINATOR};
 ghost use Rattle.split_frac.specs.Frac.{fraction_of};
-ghost use Rattle.verdicts.specs.Verdicts.{IsVerdict};
-ghost use Rattle.winner_rules.specs.Rules.{winner_rule};
+ghost use Rattle.verdicts.specs.Verdicts.{IsVerdictOf};
+ghost use Rattle.winner_rules.specs.Rules.{rules_of_winner};
 
 use crate::case::{PrintedRow, case_of};
 use crate::shares::are_proper;
@@ -31,7 +31,7 @@ fn check_lines(
     requires shares { AreShort shares.now }
     requires num { IsSmall total.now.num }
     requires den { total.now.den ≤ MOST_PRINTED_DENOMINATOR }
-    ensures { IsVerdict (winner_rule (record { goods = goods; who = who.now; values = map (λ row. row.items) values.now; shares = map fraction_of shares.now; weights = weights.now; total = fraction_of total.now })) 4 result }
+    ensures { IsVerdictOf (rules_of_winner (record { goods = goods; who = who.now; values = map (λ row. row.items) values.now; shares = map fraction_of shares.now; weights = weights.now; total = fraction_of total.now })) result }
 {
     let Some(case) = case_of(goods, who, values) else {
         return Verdict::No { rule: 1 };
@@ -50,7 +50,7 @@ fn check_lines(
 
 /// Whether all rules hold of a text, or the first that does not.
 pub fn check_pair(text: &PairText) -> Verdict
-    ensures { IsVerdict (winner_rule (pair_view text.now)) 4 result }
+    ensures { IsVerdictOf (rules_of_winner (pair_view text.now)) result }
 {
     check_lines(
         text.goods,

@@ -30,7 +30,7 @@ pub returns-clause-verdict : goal.returns-clause-verdict
 returns-clause-verdict c bytes view verdict says = (gives_on c bytes view verdict says, judged bytes view verdict says)
 
 pub returns-clause-some : goal.returns-clause-some
-returns-clause-some c bytes counts said text none =
+returns-clause-some c bytes none counts said text =
     let v = view_said bytes counts said text in
     some_verdict (rule_of v.0) (rule_count v.0) (λ verdict gives. none verdict (judged bytes v.0 verdict v.1 gives))
 

@@ -5,6 +5,7 @@ use Rattle.cert_reader.specs.Views.{view_of}
 use Rattle.std.proofs.lemmas.List.{length-map}
 use Rattle.std.proofs.Common.{◌∙◌}
 use Rattle.cert_reader.proofs.OneMeaning.{broken_once, read_completed, text_once, view_once}
+use Rattle.cert_reader.proofs.TextSizes.{text_size}
 use Rattle.cert_reader.proofs.laws.text_law.Goals as goal
 
 -- a certificate has its rows
@@ -24,6 +25,9 @@ returns-clause-views c bytes view other rows others h g = view_once bytes view o
 
 pub returns-clause-broken : goal.returns-clause-broken
 returns-clause-broken c bytes line other h g = broken_once bytes line other h g
+
+pub returns-clause-short : goal.returns-clause-short
+returns-clause-short c bytes view h = text_size bytes view h
 
 pub returns-clause-completed : goal.returns-clause-completed
 returns-clause-completed c reading taken said h = read_completed reading taken said h

@@ -16,9 +16,9 @@ use Rattle.cert_reader.specs.Numbers.{AreShort, IsSmall}
 use Rattle.cert_reader.specs.Views.{OfFares, OfGoods, OfRent}
 use Rattle.certificates.specs.Canonical.{IsCanonical, text_saying}
 use Rattle.divisions.specs.declared.division.Division.TheVariants.{Rent, Goods, Fares}
-use Rattle.certificates.proofs.FareTexts.{CostFacts, fares_is_text, fares_text_short}
-use Rattle.certificates.proofs.GoodsTexts.{TreeFacts, goods_is_text, goods_text_short}
-use Rattle.certificates.proofs.RentTexts.{rent_is_text, rent_text_short}
+use Rattle.certificates.proofs.FareTexts.{CostFacts, fares_is_text}
+use Rattle.certificates.proofs.GoodsTexts.{TreeFacts, goods_is_text}
+use Rattle.certificates.proofs.RentTexts.{rent_is_text}
 use Rattle.fare_lines.specs.Lines.{canonical_fares}
 use Rattle.goods_lines.specs.Lines.{canonical_goods}
 use Rattle.nash_search.specs.Division.{IsGoodsDivision}
@@ -32,27 +32,27 @@ use Rattle.split_frac.specs.Frac.{IsWithinLimits}
 use Rattle.certificates.proofs.laws.certificate_law.Goals as goal
 
 -- prices are fractions that a text can hold
-prices_short : (c : goal.After-step_count_law) (rent : RentCase) (division : RentDivision) → IsValidRentCase rent → IsRentDivision rent division → AreShort division.prices.items
+prices_short : (c : goal.After-text_law) (rent : RentCase) (division : RentDivision) → IsValidRentCase rent → IsRentDivision rent division → AreShort division.prices.items
 prices_short c rent division valid is = All-weaker (λ price. IsWithinLimits price × (unsigned_abs price.num ≤ MOST_AMOUNT * price.den)) (λ price. IsSmall price.num × (price.den ≤ 4294967295))
     (λ price h. (let size = h.0.0 in omega (arith, size), let parts = h.0.1 in omega (arith, parts))) division.prices.items (c.division_range_law.ensures.prices rent division valid is)
 
 -- what is known of costs
-cost_facts : (c : goal.After-step_count_law) (fares : FareCase) → IsValidFareCase fares → CostFacts fares
+cost_facts : (c : goal.After-text_law) (fares : FareCase) → IsValidFareCase fares → CostFacts fares
 cost_facts c fares valid = record { low = λ from riders. c.route_cost_law.ensures.route_small fares from riders valid; few = c.coalition_law.ensures.count }
 
 -- a route is an order of the riders
-order : (c : goal.After-step_count_law) (fares : FareCase) (division : FareDivision) → IsFareDivision fares division → IsPermutation (range_with_len 1 (length fares.at.items)) division.route.items
+order : (c : goal.After-text_law) (fares : FareCase) (division : FareDivision) → IsFareDivision fares division → IsPermutation (range_with_len 1 (length fares.at.items)) division.route.items
 order c fares division is = (c.orders_law.ensures.listed (range_with_len 1 (length fares.at.items)) division.route.items).0 is.best.least_route.order
 
 -- what is known of trees
-tree_facts : (c : goal.After-step_count_law) (goods : GoodsCase) (division : GoodsDivision) → IsValidGoodsCase goods → IsGoodsDivision goods division → TreeFacts goods division
+tree_facts : (c : goal.After-text_law) (goods : GoodsCase) (division : GoodsDivision) → IsValidGoodsCase goods → IsGoodsDivision goods division → TreeFacts goods division
 tree_facts c goods division valid is = record {
   players = c.players_law.ensures.twelve goods valid;
   marks = c.goods_lines_law.ensures.marks goods division;
   few = c.goods_lines_law.ensures.short goods division valid is;
 }
 
-is_certificate : (c : goal.After-step_count_law) (given : Case) (text : List ℕ) → IsValidCase given → IsCanonical given text → IsCertificate text
+is_certificate : (c : goal.After-text_law) (given : Case) (text : List ℕ) → IsValidCase given → IsCanonical given text → IsCertificate text
 is_certificate c (case.Rent rent) text valid (Rent division, is, e) =
     let view = OfRent (canonical_rent rent division) in
     let is_text = rent_is_text rent division valid is (prices_short c rent division valid is) in
@@ -72,18 +72,29 @@ is_certificate c (case.Fares fares) text valid (Fares division, is, e) =
 is_certificate c (case.Fares fares) text valid (Rent division, is, e) = absurd is
 is_certificate c (case.Fares fares) text valid (Goods division, is, e) = absurd is
 
-is_short : (c : goal.After-step_count_law) (given : Case) (text : List ℕ) → IsValidCase given → IsCanonical given text → length text ≤ 4000000
-is_short c (case.Rent rent) text valid (Rent division, is, e) = subst (λ (t : List ℕ). length t ≤ 4000000) (sym e) (rent_text_short rent division valid is (prices_short c rent division valid is))
+is_short : (c : goal.After-text_law) (given : Case) (text : List ℕ) → IsValidCase given → IsCanonical given text → length text ≤ 4000000
+is_short c (case.Rent rent) text valid (Rent division, is, e) =
+    let view = OfRent (canonical_rent rent division) in
+    let short = c.text_law.ensures.short (text_saying view) view (rent_is_text rent division valid is (prices_short c rent division valid is)) in
+    subst (λ (t : List ℕ). length t ≤ 4000000) (sym e) (omega (arith, short))
 is_short c (case.Rent rent) text valid (Goods division, is, e) = absurd is
 is_short c (case.Rent rent) text valid (Fares division, is, e) = absurd is
-is_short c (case.Goods goods) text valid (Goods division, is, e) = subst (λ (t : List ℕ). length t ≤ 4000000) (sym e) (goods_text_short goods division (tree_facts c goods division valid is) valid is)
+is_short c (case.Goods goods) text valid (Goods division, is, e) =
+    let view = OfGoods (canonical_goods goods division) in
+    let facts = tree_facts c goods division valid is in
+    let few = facts.few in
+    let short = c.text_law.ensures.short (text_saying view) view (goods_is_text goods division facts valid is) in
+    subst (λ (t : List ℕ). length t ≤ 4000000) (sym e) (omega (arith, few, short))
 is_short c (case.Goods goods) text valid (Rent division, is, e) = absurd is
 is_short c (case.Goods goods) text valid (Fares division, is, e) = absurd is
-is_short c (case.Fares fares) text valid (Fares division, is, e) = subst (λ (t : List ℕ). length t ≤ 4000000) (sym e) (fares_text_short fares division (cost_facts c fares valid) valid is (order c fares division is))
+is_short c (case.Fares fares) text valid (Fares division, is, e) =
+    let view = OfFares (canonical_fares fares division) in
+    let short = c.text_law.ensures.short (text_saying view) view (fares_is_text fares division (cost_facts c fares valid) valid is (order c fares division is)) in
+    subst (λ (t : List ℕ). length t ≤ 4000000) (sym e) (omega (arith, short))
 is_short c (case.Fares fares) text valid (Rent division, is, e) = absurd is
 is_short c (case.Fares fares) text valid (Goods division, is, e) = absurd is
 
-is_one : (c : goal.After-step_count_law) (given : Case) (text other : List ℕ) → IsValidCase given → IsCanonical given text → IsCanonical given other → text ≡ other
+is_one : (c : goal.After-text_law) (given : Case) (text other : List ℕ) → IsValidCase given → IsCanonical given text → IsCanonical given other → text ≡ other
 is_one c (case.Rent rent) text other valid (Rent division, is, e) (Rent second, are, f) =
     e ∙ ap (λ (d : RentDivision). text_saying (OfRent (canonical_rent rent d))) (c.one_rent_division_law.ensures rent division second valid is are) ∙ sym f
 is_one c (case.Rent rent) text other valid (Rent division, is, e) (Goods second, are, f) = absurd are

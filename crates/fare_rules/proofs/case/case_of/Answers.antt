@@ -9,7 +9,8 @@ use Rattle.bid_rules.specs.declared.cases.FareCase.{FareCase}
 use Rattle.bid_rules.specs.Facts.{IsValidFareCase}
 use Rattle.fare_rules.specs.Head.{head_of}
 use Rattle.fare_rules.specs.Printed.{printed_case}
-use Rattle.fare_rules.proofs.PrintedNumbers.{legs_bounded, small_bounded, unsigned_rows}
+use Rattle.fare_rules.proofs.PrintedNumbers.{legs_bounded, unsigned_rows}
+use Rattle.verdicts.proofs.PrintedNumbers.{bounded}
 use Rattle.fare_rules.proofs.case.case_of.Goals as goal
 
 pub returns-in_default : goal.returns-in_default
@@ -22,10 +23,10 @@ returns-in_default c h =
     told (low, omega (arith, ints, flag, low), legs_bounded (map (λ row. row.items) c.args.legs.now) h.legs (All-tail (λ cents. cents ≤ 1000000) (unsigned_abs c.args.flag) legs h.valid.facts.cents))
 
 pub returns-in_default-members_between : goal.returns-in_default-members_between
-returns-in_default-members_between c h = c.in_default-members_between.ensures (small_bounded 10 c.args.who.now (omega arith) h.who h.valid.members)
+returns-in_default-members_between c h = c.in_default-members_between.ensures (bounded 10 12 c.args.who.now (omega arith) h.who h.valid.members)
 
 pub returns-in_default-members_between-2 : goal.returns-in_default-members_between-2
-returns-in_default-members_between-2 c h = c.in_default-members_between-2.ensures (small_bounded c.args.places c.args.at.now h.valid.facts.shape.places_high h.at h.valid.places)
+returns-in_default-members_between-2 c h = c.in_default-members_between-2.ensures (bounded c.args.places 12 c.args.at.now h.valid.facts.shape.places_high h.at h.valid.places)
 
 -- the case that was built is the printed one
 built : (case : FareCase) (places : ℕ) (flag : ℤ) (rows : List (ArrayVec ℤ 12 (Unit {0}))) (who at : List ℤ)

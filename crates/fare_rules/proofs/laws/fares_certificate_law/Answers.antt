@@ -3,7 +3,7 @@ use Rattle.std.proofs.lemmas.List.{length-map}
 use Rattle.fare_laws.specs.Entries.{AreEntries, IsLowestRoute}
 use Rattle.fare_rules.specs.Entries.{entry_of}
 use Rattle.fare_rules.specs.Printed.{printed_case, printed_route}
-use Rattle.fare_rules.specs.Rules.{fares_rule}
+use Rattle.fare_rules.specs.Rules.{fares_rule, rules_of_fares}
 use Rattle.fare_rules.proofs.EndRules.{AreMeansOf}
 use Rattle.fare_rules.proofs.LineLaws.{are_entries}
 use Rattle.verdicts.proofs.Order.{one_verdict}
@@ -28,4 +28,4 @@ returns-clause-best c view kept =
     }
 
 pub returns-clause-one : goal.returns-clause-one
-returns-clause-one c view = one_verdict (fares_rule view) 5
+returns-clause-one c view = one_verdict (fares_rule view) (length (rules_of_fares view))

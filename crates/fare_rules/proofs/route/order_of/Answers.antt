@@ -1,11 +1,11 @@
 use Rattle.std.proofs.Common.{◌≡◌, ◌∙◌, map, unsigned_abs}
 use Rattle.std.proofs.lemmas.List.{length-map}
 use Rattle.split_lemmas.proofs.RangePermutations.{permutation_from_each, permutation_to_each}
-use Rattle.fare_rules.proofs.PrintedNumbers.{route_bounded}
+use Rattle.verdicts.proofs.PrintedNumbers.{order_bounded}
 use Rattle.fare_rules.proofs.route.order_of.Goals as goal
 
 pub returns-in_default : goal.returns-in_default
-returns-in_default c h = c.in_default.ensures (route_bounded c.args.count c.args.route.now h.0 h.1)
+returns-in_default c h = c.in_default.ensures (order_bounded c.args.count c.args.route.now h.0 h.1)
 
 pub returns-then-has_each : goal.returns-then-has_each
 returns-then-has_each c =

@@ -1,5 +1,4 @@
-use Rattle.std.proofs.Common.{◌≡◌, ℕ, ◌+◌, ◌≤◌, List, count_by, arith, sym, ap, ◌∙◌}
-use Rattle.bid_rules.specs.Goods.{player_count}
+use Rattle.std.proofs.Common.{◌≡◌, count_by, arith, sym, ap, ◌∙◌}
 use Rattle.goods_audit.specs.Domination.{is_open, open_count, prefixes}
 use Rattle.goods_audit.specs.Paths.{found_in, to_come}
 use Rattle.goods_audit.proofs.PathLists.{come_first}

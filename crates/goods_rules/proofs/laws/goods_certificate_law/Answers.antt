@@ -1,7 +1,7 @@
 use Rattle.std.proofs.Common.{arith, ◌∙◌, unsigned_abs, length, subst, sym, All, ◌≤◌}
 use Rattle.std.proofs.lemmas.List.{length-map}
 use Rattle.goods_rules.specs.Printed.{printed_answer, printed_case, printed_owners}
-use Rattle.goods_rules.specs.Rules.{goods_rule}
+use Rattle.goods_rules.specs.Rules.{goods_rule, rules_of_goods}
 use Rattle.goods_rules.proofs.BestAnswer.{tree_best}
 use Rattle.goods_rules.proofs.PrintedNumbers.{owners_unsigned, players_same}
 use Rattle.verdicts.proofs.Order.{one_verdict}
@@ -26,4 +26,4 @@ returns-clause-owners c view kept =
     c.owners_by_good_law.ensures.by_good_again (printed_case view) (printed_owners view) (length-map view.owners unsigned_abs ∙ owners.each)
 
 pub returns-clause-one : goal.returns-clause-one
-returns-clause-one c view = one_verdict (goods_rule view) 6
+returns-clause-one c view = one_verdict (goods_rule view) (length (rules_of_goods view))

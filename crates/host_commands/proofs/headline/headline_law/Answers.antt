@@ -15,6 +15,7 @@ returns-clause-told g c =
       moved = c.moved_law.ensures;
     } in
     let cases : CaseLaws = record {
+      refusals = c.refusal_status_law.ensures.refusal;
       valid = c.case_law.ensures.valid;
       certificate = c.certificate_law.ensures.certificate;
       prints = c.certificate_verdict_law.ensures.best;
@@ -37,6 +38,7 @@ returns-clause-any g c =
       moved = c.moved_law.ensures;
     } in
     let cases : CaseLaws = record {
+      refusals = c.refusal_status_law.ensures.refusal;
       valid = c.case_law.ensures.valid;
       certificate = c.certificate_law.ensures.certificate;
       prints = c.certificate_verdict_law.ensures.best;

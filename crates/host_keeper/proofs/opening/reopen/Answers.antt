@@ -1,4 +1,6 @@
-use Rattle.std.proofs.Common.{refl, ap, ◌∙◌, Ok, Err}
+use Rattle.std.proofs.Common.{◌≡◌, refl, sym, ap, ◌∙◌, Ok, Err, subst}
+use Rattle.gate_log.specs.declared.fault.LogFault.TheVariants as fault
+use Rattle.host_journal.specs.Journal.{IsFirstFault}
 use Rattle.host_keeper.proofs.OpenedFiles.{waiting_event, was_faulty, was_opened}
 use Rattle.host_keeper.proofs.opening.reopen.Goals as goal
 
@@ -15,3 +17,9 @@ returns-in-Err-clause-reopened g c s stands =
     c.open_host.ensures.after (g.met.D.Disk.seen_is_image c.args.disk.now) c.events_law.ensures.no_fault c.in-Err.fault refl c.in-Err.ensures.faults c.open_host.ensures.torn
     (λ h place is. c.open_host.ensures.not_a_log h place (c.in-Err.is ∙ ap Err is))
     (λ h. c.in-Err.ensures.kept h)
+
+pub returns-in-Err-clause-place : goal.returns-in-Err-clause-place
+returns-in-Err-clause-place g c h place is =
+    let same : c.in-Err.fault ≡ fault.NotALog place = cc is in
+    let rests = c.in-Err.ensures.kept h (λ e. let bad : fault.Disk ≡ fault.NotALog place = sym e ∙ same in cc bad) in
+    subst (IsFirstFault place) rests.same (c.open_host.ensures.not_a_log h place (c.in-Err.is ∙ ap Err same))

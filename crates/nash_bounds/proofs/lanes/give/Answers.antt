@@ -5,11 +5,11 @@ use Rattle.nash_bounds.proofs.LaneNumbers.{top_small, top_within, lane_of, give_
 use Rattle.nash_bounds.proofs.lanes.give.Goals as goal
 use Rattle.nash_bounds.specs.declared.limits.TheConstants.{MOST_TOP}
 
-pub raise_lane-requires-clause-owner_high : goal.raise_lane-requires-clause-owner_high
-raise_lane-requires-clause-owner_high c = let few = c.requires.table.few in let b = c.requires.owner_high in omega arith
+pub raised_lane-lanes-requires-clause-owner_high : goal.raised_lane-lanes-requires-clause-owner_high
+raised_lane-lanes-requires-clause-owner_high c = let few = c.requires.table.few in let b = c.requires.owner_high in omega arith
 
-pub raise_lane-requires-clause-fits : goal.raise_lane-requires-clause-fits
-raise_lane-requires-clause-fits c =
+pub raised_lane-lanes-requires-clause-fits : goal.raised_lane-lanes-requires-clause-fits
+raised_lane-lanes-requires-clause-fits c =
     let few = c.requires.table.few in let b = c.requires.owner_high in
     let e = lane_of (has c.args.case.now c.args.owners.now) c.args.lanes.now.low c.args.owner c.requires.lanes.is_low c.requires.owner_low (omega arith) in
     let n = has_next c.args.case.now c.args.owners.now c.args.owner c.requires.open.short in
@@ -17,11 +17,11 @@ raise_lane-requires-clause-fits c =
     let s = may_small c.args.case.now (c.args.owners.now ++ c.args.owner ∷ []) c.args.owner c.requires.open.valid c.requires.owner_low in
     omega arith
 
-pub raise_lane-requires-2-clause-owner_high : goal.raise_lane-requires-2-clause-owner_high
-raise_lane-requires-2-clause-owner_high c = let few = c.requires.table.few in let b = c.requires.owner_high in omega arith
+pub raised_lane-lanes-requires-2-clause-owner_high : goal.raised_lane-lanes-requires-2-clause-owner_high
+raised_lane-lanes-requires-2-clause-owner_high c = let few = c.requires.table.few in let b = c.requires.owner_high in omega arith
 
-pub raise_lane-requires-2-clause-fits : goal.raise_lane-requires-2-clause-fits
-raise_lane-requires-2-clause-fits c =
+pub raised_lane-lanes-requires-2-clause-fits : goal.raised_lane-lanes-requires-2-clause-fits
+raised_lane-lanes-requires-2-clause-fits c =
     let few = c.requires.table.few in let b = c.requires.owner_high in
     let e = lane_of (forked c.args.case.now c.args.owners.now) c.args.lanes.now.high c.args.owner c.requires.lanes.is_high c.requires.owner_low (omega arith) in
     let n = may_next c.args.case.now c.args.owners.now c.args.owner c.requires.open.short in
@@ -42,5 +42,5 @@ overflow_add-lanes c =
 pub returns : goal.returns
 returns c =
     let few = c.requires.table.few in let b = c.requires.owner_high in
-    rw (c.raise_lane.ensures, c.raise_lane-2.ensures)
+    rw (c.raised_lane-lanes.ensures, c.raised_lane-lanes-2.ensures)
     (give_is c.args.case.now c.args.owners.now c.args.owner c.points_of-points.result c.args.lanes.now c.requires.open c.requires.owner_low c.requires.owner_high (omega arith) c.points_of-points.ensures.value c.requires.lanes)

@@ -13,6 +13,9 @@ bound_between-requires-clause-small c = (span_of_lanes c.args.case.now c.args.ow
 pub bound_between-requires-clause-top : goal.bound_between-requires-clause-top
 bound_between-requires-clause-top c = (span_of_lanes c.args.case.now c.args.owners.now c.args.lanes.now c.requires.valid c.requires.few c.requires.lanes).within
 
+pub bound_between-requires-clause-rest : goal.bound_between-requires-clause-rest
+bound_between-requires-clause-rest c = (span_of_lanes c.args.case.now c.args.owners.now c.args.lanes.now c.requires.valid c.requires.few c.requires.lanes).rest
+
 pub returns : goal.returns
 returns c =
     let is = span_of_lanes c.args.case.now c.args.owners.now c.args.lanes.now c.requires.valid c.requires.few c.requires.lanes in

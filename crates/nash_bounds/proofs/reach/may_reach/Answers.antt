@@ -17,7 +17,7 @@ is_near-requires-clause-small c =
 pub is_near-requires-clause-low : goal.is_near-requires-clause-low
 is_near-requires-clause-low c =
     let few = c.requires.table.few in let a = c.requires.owner_low in let b = c.requires.owner_high in
-    lane_order c.args.lanes.now (c.args.owner - 1) (span_of_fork c.args.case.now c.args.owners.now c.args.lanes.now c.requires.open c.requires.table.few c.requires.lanes) (omega arith)
+    rw (c.lane_of.ensures, c.lane_of-2.ensures) (lane_order c.args.lanes.now (c.args.owner - 1) (span_of_fork c.args.case.now c.args.owners.now c.args.lanes.now c.requires.open c.requires.table.few c.requires.lanes) (omega arith))
 
 pub is_near-requires-clause-top : goal.is_near-requires-clause-top
 is_near-requires-clause-top c =
@@ -31,12 +31,12 @@ is_near-requires-clause-top c =
 pub is_near-requires-clause-before : goal.is_near-requires-clause-before
 is_near-requires-clause-before c =
     let few = c.requires.table.few in let a = c.requires.owner_low in let b = c.requires.owner_high in
-    (flat_small c.args.lanes.now c.args.flat.now (c.args.owner - 1) (span_of_fork c.args.case.now c.args.owners.now c.args.lanes.now c.requires.open c.requires.table.few c.requires.lanes) c.requires.flat (omega arith)).0
+    rw c.lane_of-3.ensures ((flat_small c.args.lanes.now c.args.flat.now (c.args.owner - 1) (span_of_fork c.args.case.now c.args.owners.now c.args.lanes.now c.requires.open c.requires.table.few c.requires.lanes) c.requires.flat (omega arith)).0)
 
 pub is_near-requires-clause-total : goal.is_near-requires-clause-total
 is_near-requires-clause-total c =
     let few = c.requires.table.few in let a = c.requires.owner_low in let b = c.requires.owner_high in
-    (flat_small c.args.lanes.now c.args.flat.now (c.args.owner - 1) (span_of_fork c.args.case.now c.args.owners.now c.args.lanes.now c.requires.open c.requires.table.few c.requires.lanes) c.requires.flat (omega arith)).1
+    rw c.lane_of-3.ensures ((flat_small c.args.lanes.now c.args.flat.now (c.args.owner - 1) (span_of_fork c.args.case.now c.args.owners.now c.args.lanes.now c.requires.open c.requires.table.few c.requires.lanes) c.requires.flat (omega arith)).1)
 
 pub is_near-requires-clause-sums : goal.is_near-requires-clause-sums
 is_near-requires-clause-sums c =
@@ -54,4 +54,4 @@ is_near-requires-clause-open c =
 pub returns : goal.returns
 returns c = λ no.
     far_bound c.args.case.now c.args.owners.now c.args.owner c.points_of-points.result c.args.lanes.now c.args.flat.now c.args.pair c.requires.open c.requires.table.few c.requires.owner_low c.requires.owner_high
-    c.points_of-points.ensures.value (span_of_fork c.args.case.now c.args.owners.now c.args.lanes.now c.requires.open c.requires.table.few c.requires.lanes) c.requires.lanes c.requires.flat (c.is_near.ensures no)
+    c.points_of-points.ensures.value (span_of_fork c.args.case.now c.args.owners.now c.args.lanes.now c.requires.open c.requires.table.few c.requires.lanes) c.requires.lanes c.requires.flat (rw (c.lane_of.ensures, c.lane_of-2.ensures, c.lane_of-3.ensures) at (c.is_near.ensures no))

@@ -13,6 +13,9 @@ bound_between-requires-clause-small c = (span_of_lanes c.args.case.now (c.args.o
 pub bound_between-requires-clause-top : goal.bound_between-requires-clause-top
 bound_between-requires-clause-top c = (span_of_lanes c.args.case.now (c.args.owners.now ++ c.args.owner ∷ []) c.give.new.lanes c.requires.open.valid c.requires.table.few c.give.ensures).within
 
+pub bound_between-requires-clause-rest : goal.bound_between-requires-clause-rest
+bound_between-requires-clause-rest c = (span_of_lanes c.args.case.now (c.args.owners.now ++ c.args.owner ∷ []) c.give.new.lanes c.requires.open.valid c.requires.table.few c.give.ensures).rest
+
 pub returns : goal.returns
 returns c =
     let is = (span_of_lanes c.args.case.now (c.args.owners.now ++ c.args.owner ∷ []) c.give.new.lanes c.requires.open.valid c.requires.table.few c.give.ensures) in

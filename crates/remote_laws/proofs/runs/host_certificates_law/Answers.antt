@@ -4,9 +4,9 @@ use Rattle.remote_laws.proofs.SentCertificates.{every_certificate}
 use Rattle.remote_laws.proofs.runs.host_certificates_law.Goals as goal
 
 pub returns-clause-yes : goal.returns-clause-yes
-returns-clause-yes g c disk after begun port port_after clock clock_after number host honest =
-    every_certificate IsYes (g.D.Disk.is_honest disk) (host_service g.D.Disk) c.host_reply_law.ensures.yes honest begun host.run host.ended host.machine host.published
+returns-clause-yes g c disk after begun port port_after clock clock_after number host =
+    every_certificate IsYes (host_service g.D.Disk) c.host_reply_law.ensures.yes begun host.run host.ended host.machine host.published
 
 pub returns-clause-only : goal.returns-clause-only
-returns-clause-only g c disk after begun port port_after clock clock_after number host honest =
-    every_certificate IsYesOnly (g.D.Disk.is_honest disk) (host_service g.D.Disk) c.host_reply_law.ensures.only honest begun host.run host.ended host.machine host.published
+returns-clause-only g c disk after begun port port_after clock clock_after number host =
+    every_certificate IsYesOnly (host_service g.D.Disk) c.host_reply_law.ensures.only begun host.run host.ended host.machine host.published

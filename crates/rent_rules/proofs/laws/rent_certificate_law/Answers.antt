@@ -1,8 +1,8 @@
-use Rattle.std.proofs.Common.{arith, sym, map, unsigned_abs}
+use Rattle.std.proofs.Common.{arith, sym, length, map, unsigned_abs}
 use Rattle.bid_rules.specs.Maximin.{value_step}
 use Rattle.bid_rules.specs.Rent.{room_count}
 use Rattle.rent_rules.specs.Printed.{printed_case, printed_rooms}
-use Rattle.rent_rules.specs.Rules.{rent_rule}
+use Rattle.rent_rules.specs.Rules.{rent_rule, rules_of_rent}
 use Rattle.rent_rules.proofs.Padded.{are_dual, are_prices, are_weights, padded}
 use Rattle.rent_rules.proofs.Shown.{are_shown}
 use Rattle.verdicts.proofs.Order.{one_verdict}
@@ -24,4 +24,4 @@ returns-clause-best c view kept =
     (are_weights case rooms view.walks (kept 5 (omega arith) (omega arith)) attained) (are_prices case rooms view.walks view.prices (kept 7 (omega arith) (omega arith)))
 
 pub returns-clause-one : goal.returns-clause-one
-returns-clause-one c view verdict other h k = sym (one_verdict (rent_rule view) 7 verdict other h k)
+returns-clause-one c view verdict other h k = sym (one_verdict (rent_rule view) (length (rules_of_rent view)) verdict other h k)

@@ -1,13 +1,14 @@
 use Rattle.std.proofs.Common.{arith, ◌≡◌, ◌∙◌, length, map, ap, unsigned_abs}
 use Rattle.std.proofs.lemmas.List.{length-map}
 use Rattle.split_lemmas.proofs.RangePermutations.{permutation_from_each, permutation_to_each}
-use Rattle.rent_rules.proofs.PrintedNumbers.{positive_from, rooms_bounded}
+use Rattle.rent_rules.proofs.PrintedNumbers.{positive_from}
+use Rattle.verdicts.proofs.PrintedNumbers.{order_bounded}
 use Rattle.rent_rules.proofs.printed.rooms_of.Goals as goal
 
 pub returns-in_default : goal.returns-in_default
 returns-in_default c h =
     let count = c.len-count.ensures.value in
-    c.in_default.ensures (rw c.as_slice.ensures.value (rooms_bounded c.len-count.result c.args.text.now.rooms.items (omega arith)
+    c.in_default.ensures (rw c.as_slice.ensures.value (order_bounded c.len-count.result c.args.text.now.rooms.items
     h.positive (rw count h.assignment)))
 
 pub returns-then-has_each : goal.returns-then-has_each

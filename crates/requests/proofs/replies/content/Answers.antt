@@ -22,5 +22,5 @@ returns-in-Some-clause-shows g c =
 pub returns-in-Some-clause-known : goal.returns-in-Some-clause-known
 returns-in-Some-clause-known g c =
     if_ok c.publication.result _ _ (λ told is.
-    told_status (content_view told) (c.publication_status_law.ensures (case_data (instance_view c.in-Some.instance.now)) c.in-Publish.what (content_view told) is))
+    told_status c.refusal_status_law.ensures.service (content_view told) (c.publication_status_law.ensures (case_data (instance_view c.in-Some.instance.now)) c.in-Publish.what (content_view told) is))
     c.publication.ensures

@@ -8,4 +8,4 @@ pub returns-clause-shows : goal.returns-clause-shows
 returns-clause-shows c = own_shows _ _ _ _ c.reply_status.ensures c.in_ok-text.ensures.text
 
 pub returns-clause-known : goal.returns-clause-known
-returns-clause-known c = subst (λ n. IsTrue (is_host_status n)) (sym c.reply_status.ensures) (reply_status c.args.answered.now.reply)
+returns-clause-known c = subst (λ n. IsTrue (is_host_status n)) (sym c.reply_status.ensures) (reply_status c.refusal_status_law.ensures.refusal c.args.answered.now.reply)

@@ -5,7 +5,8 @@ use Rattle.requests.proofs.settling.open_again.Goals as goal
 
 pub returns-in-Ok-clause-settled : goal.returns-in-Ok-clause-settled
 returns-in-Ok-clause-settled g c s stands =
-    leads_as g.D.Disk _ _ _ s _ _ (c.in-Ok.ensures.reopened s stands) (λ new p. settled_ok g.D.Disk _ _ s new (tt {0}) p)
+    let leads = c.in-Ok.ensures.reopened s stands in
+    record { new = leads.new; stands = leads.stands; passes = leads.passes; is = settled_ok g.D.Disk _ _ s leads.new (tt {0}) leads.stands.host.may_apply leads.is }
 
 pub returns-in-Err-clause-settled : goal.returns-in-Err-clause-settled
 returns-in-Err-clause-settled g c s stands =

@@ -1,7 +1,9 @@
-use Rattle.std.proofs.Common.{refl, ap, None, Some, option_map}
+use Rattle.std.proofs.Common.{refl, ap, subst, IfSome, None, Some, option_map}
+use Rattle.std.specs.Prelude.{Option}
 use Rattle.host_keeper.specs.Leading.{leads_as, leads_still}
 use Rattle.publications.specs.Contents.{content_view}
-use Rattle.sealed_core.specs.Host.{event_view}
+use Rattle.sealed_core.specs.declared.events.Event.{Event}
+use Rattle.sealed_core.specs.Host.{CanApply, HostView, event_view}
 use Rattle.sealed_core.specs.Step.{answer_view, command_view}
 use Rattle.requests.specs.Cases.{Steps}
 use Rattle.requests.specs.Said.{said_view}
@@ -32,4 +34,6 @@ returns-in-Some-clause-stepped g c s stands =
     leads_as g.D.Disk _ _ _ s _ _ (c.keep_first.ensures.kept s stands)
     (λ new p. stepped g.D.Disk _ _ event (content_view c.in-Ok.told) (said_view c.told-said.result) s new _ c.args.moment command
     (event_is h s stands.host.is_host c.args.moment command a is (Some event) (ap (option_map event_view) c.in-Some.is))
+    (subst (λ (x : HostView). CanApply x event) stands.host.is_host
+    (subst (λ (o : Option Event). IfSome o (λ e. CanApply h (event_view e))) c.in-Some.is c.answer-answered.ensures.applicable))
     (replied h s stands.host.is_host c.args.moment command a is (content_view c.in-Ok.told) c.in-Ok.ensures.shows) c.told-said.ensures p)

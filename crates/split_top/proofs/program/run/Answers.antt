@@ -1,11 +1,13 @@
-use Rattle.std.proofs.Common.{map, string_bytes}
+use Rattle.std.proofs.Common.{map, string_bytes, subst}
 use Rattle.endings.specs.Endings.{ending_of}
 use Rattle.endings.specs.Told.{told}
 use Rattle.link_runs.specs.Served.{tells_of}
+use Rattle.split_top.specs.Causes.{HasCauses, TakesMemory}
 use Rattle.split_top.specs.Outside.{outside_of}
 use Rattle.split_top.specs.Runs.{tells_by}
 use Rattle.split_top.proofs.CauseLaws.{has_causes}
 use Rattle.split_top.proofs.Finishing.{is_complete}
+use Rattle.split_top.proofs.OneCommand.{one_command}
 use Rattle.split_top.proofs.ServeLaws.{is_served}
 use Rattle.split_top.proofs.program.run.Goals as goal
 
@@ -26,6 +28,16 @@ returns-clause-complete g c = is_complete c.events_law.ensures.no_fault c.input_
     (told g.I.Source.left g.I.Source.faults c.args.input.now c.decide-ending.new.input) (told g.O.Sink.written g.O.Sink.faults c.args.output.now c.write_ending.new.output))
     (map string_bytes c.args.words.now) c.write_ending.result.code
     (ending_of c.decide-ending.result, c.decide-ending.ensures (told g.O.Sink.written g.O.Sink.faults c.args.output.now c.write_ending.new.output), c.write_ending.ensures.ends)
+
+pub returns-clause-memory : goal.returns-clause-memory
+returns-clause-memory g c = λ command row spare nine.
+    let tells = tells_by g.D.Disk g.P.Port (tells_of g.P.Link.Source g.P.Link.Sink) g.C.Clock g.X.Dial (tells_of g.X.Link.Source g.X.Link.Sink) in
+    let outside = outside_of c.args.disk.now c.decide-ending.new.disk c.args.port.now c.decide-ending.new.port c.args.clock.now c.decide-ending.new.clock c.args.dialer.now c.decide-ending.new.dialer
+    (told g.I.Source.left g.I.Source.faults c.args.input.now c.decide-ending.new.input) (told g.O.Sink.written g.O.Sink.faults c.args.output.now c.write_ending.new.output) in
+    let words = map string_bytes c.args.words.now in
+    let shown = subst (HasCauses tells outside words) nine (has_causes tells outside words c.write_ending.result.code
+    (ending_of c.decide-ending.result, c.decide-ending.ensures (told g.O.Sink.written g.O.Sink.faults c.args.output.now c.write_ending.new.output), c.write_ending.ensures.ends)) in
+    spare (subst TakesMemory (one_command words shown.1.0 command shown.1.1 row) shown.1.2)
 
 pub returns-clause-headline : goal.returns-clause-headline
 returns-clause-headline g c = λ number workers count row. is_served (tells_by g.D.Disk g.P.Port (tells_of g.P.Link.Source g.P.Link.Sink) g.C.Clock g.X.Dial (tells_of g.X.Link.Source g.X.Link.Sink))

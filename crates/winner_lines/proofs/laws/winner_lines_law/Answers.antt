@@ -1,11 +1,11 @@
-use Rattle.std.proofs.Common.{◌≡◌, ◌≤◌, ℕ, List, length, map, sym, ◌∙◌, subst}
+use Rattle.std.proofs.Common.{◌≡◌, ℕ, List, length, map, sym, ◌∙◌, arith}
 use Rattle.std.proofs.lemmas.List.{length-map}
 use Rattle.adjusted_winner.specs.Answers.{HasWinner}
 use Rattle.adjusted_winner.specs.Texts.{IsWinnerText}
 use Rattle.adjusted_winner.specs.declared.winner.Winner.{Winner}
 use Rattle.bid_rules.specs.declared.goods.GoodsCase.{GoodsCase}
 use Rattle.bid_rules.specs.Goods.{IsValidGoodsCase, player_count}
-use Rattle.cert_reader.specs.Pairs.{IsPairText, pair_said}
+use Rattle.cert_reader.specs.Pairs.{IsPairText}
 use Rattle.divided_goods.specs.Printed.{AreProperShares, HaveTotal, SupportShares}
 use Rattle.divided_goods.specs.Shown.{IsShown}
 use Rattle.split_frac.specs.Frac.{fraction_of}
@@ -13,7 +13,6 @@ use Rattle.winner_lines.specs.Lines.{winner_view}
 use Rattle.winner_lines.proofs.FewParts.{PartFacts, answer_in_few, shares_short, total_short}
 use Rattle.winner_lines.proofs.Fits.{winner_fits}
 use Rattle.winner_lines.proofs.Passes.{printed_is, winner_passes}
-use Rattle.winner_lines.proofs.Sizes.{pair_short}
 use Rattle.winner_lines.proofs.Texts.{NumberFacts, winner_text_is}
 use Rattle.winner_lines.proofs.laws.winner_lines_law.Goals as goal
 
@@ -68,8 +67,8 @@ returns-clause-judged c case text valid two is =
 
 pub returns-clause-short : goal.returns-clause-short
 returns-clause-short c case text valid two is =
-    let said = is_text c case text valid two is in
-    subst (λ (bytes : List ℕ). length bytes ≤ 4000000) (sym said.text) (pair_short case.facts.goods (pair_said (winner_view case is.0)) valid.facts.counts.3 said.fits)
+    let short = c.pair_law.ensures.short text (winner_view case is.0) (is_text c case text valid two is) in
+    omega (arith, short)
 
 pub returns-clause-one : goal.returns-clause-one
 returns-clause-one c = c.winner_text_law.ensures

@@ -1,4 +1,3 @@
-use Rattle.std.proofs.lemmas.Int.{ints}
 use Rattle.std.proofs.Common.{ℕ, ℤ, arith, ◌≡◌, ◌∙◌, List, map, ap, refl, sym, subst, unsigned_abs}
 use Rattle.arrayvec.specs.declared.array_vec.ArrayVec.{ArrayVec}
 use Rattle.bid_rules.specs.declared.goods.Goods.{Goods}
@@ -6,19 +5,20 @@ use Rattle.bid_rules.specs.declared.goods.GoodsCase.{GoodsCase}
 use Rattle.bid_rules.specs.Fractions.{Fraction}
 use Rattle.bid_rules.specs.Goods.{IsValidGoodsCase}
 use Rattle.winner_rules.specs.Rules.{printed_case}
-use Rattle.winner_rules.proofs.PrintedNumbers.{members_bounded, points_bounded, unsigned_row}
+use Rattle.verdicts.proofs.PrintedNumbers.{bounded, rows_bounded, unsigned_row}
 use Rattle.winner_rules.proofs.case.case_of.Goals as goal
 
 pub returns-in_default : goal.returns-in_default
-returns-in_default c shares weights total h = c.in_default.ensures (members_bounded _ h)
+returns-in_default c shares weights total h = c.in_default.ensures (bounded 12 12 c.args.who.now (omega arith) h.who h.valid.members)
 
 pub returns-in_default-rows_of_amounts : goal.returns-in_default-rows_of_amounts
-returns-in_default-rows_of_amounts c shares weights total h = c.in_default-rows_of_amounts.ensures (points_bounded _ h)
+returns-in_default-rows_of_amounts c shares weights total h =
+    c.in_default-rows_of_amounts.ensures (rows_bounded 24 1000 (map (λ row. row.items) c.args.values.now) h.values (λ k other l. let most = h.valid.sums k other l in omega (arith, most)))
 
 -- the case that was built is the printed one
 built : (case : GoodsCase) (goods : ℕ) (rows : List (ArrayVec ℤ 24 (Unit {0}))) (who : List ℤ) (shares : List Fraction) (weights : List ℤ) (total : Fraction)
     → case.facts ≡ record { members = 12; goods = goods; limit = 200000 }
-    → case.who.items ≡ map unsigned_abs who → case.values.items ≡ map unsigned_row (map (λ row. row.items) rows)
+    → case.who.items ≡ map unsigned_abs who → case.values.items ≡ map (unsigned_row 24) (map (λ row. row.items) rows)
     → case ≡ printed_case (record { goods = goods; who = who; values = map (λ row. row.items) rows; shares = shares; weights = weights; total = total })
 built case goods rows who shares weights total facts members points =
     ap {B = GoodsCase} (λ (f : Goods). record { facts = f; who = case.who; values = case.values }) facts

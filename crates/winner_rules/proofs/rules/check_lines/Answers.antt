@@ -1,11 +1,11 @@
-use Rattle.std.proofs.Common.{arith, rules, ◌≡◌, ◌∙◌, pos, ℕ, List, [], ◌∷◌, map, sym, ap, subst}
+use Rattle.std.proofs.Common.{arith, ◌≡◌, ◌∙◌, pos, ℕ, [], ◌∷◌, map, sym, ap, subst}
 use Rattle.bid_rules.specs.declared.goods.GoodsCase.{GoodsCase}
 use Rattle.bid_rules.specs.Goods.{IsValidGoodsCase, player_count}
 use Rattle.divided_goods.specs.Printed.{AreProperShares, HaveTotal, SupportShares}
 use Rattle.split_frac.specs.Frac.{fraction_of}
 use Rattle.verdicts.proofs.Order.{none_asked, one_asked}
-use Rattle.winner_rules.specs.Rules.{HasCase, HasWeights, printed_case, winner_rule}
-use Rattle.cert_reader.specs.Pairs.{PairView}
+use Rattle.winner_rules.specs.Rules.{HasWeights, printed_case, winner_rule}
+use Rattle.cert_reader.specs.Layout.{PairView}
 use Rattle.winner_rules.proofs.PrintedNumbers.{players_two}
 use Rattle.winner_rules.proofs.rules.check_lines.Goals as goal
 

@@ -1,5 +1,4 @@
-use Rattle.std.proofs.Common.{◌≡◌, ℕ, ◌+◌, ◌<◌, ◌≤◌, List, [], ◌∷◌, ◌++◌, length, true, false, arith, sym, ap, ◌∙◌, subst}
-use Rattle.bid_rules.specs.Goods.{player_count}
+use Rattle.std.proofs.Common.{◌≡◌, ℕ, ◌<◌, List, ◌∷◌, length, true, false, arith, sym, ap, ◌∙◌, subst}
 use Rattle.goods_audit.specs.Domination.{is_open}
 use Rattle.goods_audit.specs.Paths.{later_ones, to_come}
 use Rattle.goods_audit.specs.declared.paths.Path.{Path}

@@ -16,3 +16,6 @@ returns-clause-node c = λ _.
       owned = subst (AreOwners case) (sym owners) (All-push (λ o. (1 ≤ o) × (o ≤ player_count case)) path c.args.owner c.requires.owned (c.requires.owner_low, c.requires.owner_high));
       lanes = subst (λ (xs : List ℕ). IsLanes case xs c.descend.new.self.lanes) (sym owners) c.descend.ensures.lanes;
     }
+
+pub returns-then-is_left_out-clause-same : goal.returns-then-is_left_out-clause-same
+returns-then-is_left_out-clause-same c = λ _. c.ascend.ensures c.args.self.now.owners.items c.args.owner c.descend.ensures.owners

@@ -1,0 +1,4 @@
+mod Cycles
+mod FirstRoutes
+mod HeaviestWalks
+mod SomeRents

@@ -1,0 +1,145 @@
+// Rounds over one link, in pieces and with a call of the link or the clock that fails.
+use crate::dues::{Dues, INTERIM};
+use crate::hosts::{Fault, Got, Host};
+use crate::reports::{Report, is_refusal};
+use link_runs::LinkEnd;
+use std::alloc::Global;
+use std::io;
+use std::thread::Threads;
+
+/// The size of the pieces in which a round is read where a call fails.
+const PIECE: usize = 16;
+
+/// The most calls of a kind that are tried.
+const MOST_CALLS: u64 = 100_000;
+
+/// The code with which a request is refused where the clock failed.
+const CLOCK_FAULT: &[u8] = b"{\"code\":\"clock_fault\"}";
+
+/// The sizes of the pieces in which a round without a fault is read.
+const PIECES: [usize; 4] = [1, 2, 7, 4096];
+
+/// Rounds without a fault, in pieces of several sizes.
+pub(crate) fn try_pieces<R: Threads + Sync>(
+    alloc: Global,
+    rt: &R,
+    dues: &Dues,
+) -> io::Result<Report> {
+    let mut report = Report::new();
+    for piece in PIECES {
+        let mut host = Host::of_file(alloc, &dues.file)?;
+        let got = host.talk(alloc, rt, &dues.round, piece, Fault::Nowhere)?;
+        let right = got.end == LinkEnd::Ended && got.bytes == dues.whole;
+        let kept = dues.has_all(&host.events(alloc)?);
+        report.add(piece as u64, right && kept);
+    }
+    Ok(report)
+}
+
+/// Each read fails in turn.
+pub(crate) fn try_reads<R: Threads + Sync>(
+    alloc: Global,
+    rt: &R,
+    dues: &Dues,
+) -> io::Result<Report> {
+    let mut report = Report::new();
+    for number in 1..MOST_CALLS {
+        match try_link(alloc, rt, dues, Fault::Read(number))? {
+            Some(right) => report.add(number, right),
+            None => break,
+        }
+    }
+    Ok(report)
+}
+
+/// Each write fails in turn.
+pub(crate) fn try_writes<R: Threads + Sync>(
+    alloc: Global,
+    rt: &R,
+    dues: &Dues,
+) -> io::Result<Report> {
+    let mut report = Report::new();
+    for number in 1..MOST_CALLS {
+        match try_link(alloc, rt, dues, Fault::Write(number))? {
+            Some(right) => report.add(number, right),
+            None => break,
+        }
+    }
+    Ok(report)
+}
+
+// Whether a round with this fault of its link is as it must be. None where no call failed.
+fn try_link<R: Threads + Sync>(
+    alloc: Global,
+    rt: &R,
+    dues: &Dues,
+    fault: Fault,
+) -> io::Result<Option<bool>> {
+    let mut host = Host::of_file(alloc, &dues.file)?;
+    let got = host.talk(alloc, rt, &dues.round, PIECE, fault)?;
+    if !got.failed {
+        return Ok(None);
+    }
+    let events = host.events(alloc)?;
+    let (count, _) = dues.replies_in(got.bytes.len());
+    let right = ends_there(dues, &got, &events, fault);
+    let on = dues.goes_on(alloc, rt, &mut host, count)?;
+    Ok(Some(right && on))
+}
+
+// Whether a link ended at its fault: a request whose reply was being written is kept, and no later one.
+fn ends_there(dues: &Dues, got: &Got, events: &[u8], fault: Fault) -> bool {
+    let Some(missing) = dues.whole.strip_prefix(got.bytes.as_slice()) else {
+        return false;
+    };
+    let (count, whole) = dues.replies_in(got.bytes.len());
+    let torn = got.bytes.len().saturating_sub(whole);
+    let (kept, first_part) = match fault {
+        Fault::Write(_) if !missing.starts_with(INTERIM) => (count.saturating_add(1), true),
+        Fault::Write(_) => (count, torn == 0),
+        _ => (count, torn == 0 || torn == INTERIM.len()),
+    };
+    got.end == LinkEnd::LinkFault && first_part && events == dues.events_behind(kept)
+}
+
+/// Each call of the clock fails in turn: one a request.
+pub(crate) fn try_clocks<R: Threads + Sync>(
+    alloc: Global,
+    rt: &R,
+    dues: &Dues,
+) -> io::Result<Report> {
+    let mut report = Report::new();
+    for place in 0..dues.round.len() {
+        let right = try_clock(alloc, rt, dues, place)?;
+        report.add(place as u64, right);
+    }
+    Ok(report)
+}
+
+// Whether a round is as it must be in which the clock fails at the request at this place.
+fn try_clock<R: Threads + Sync>(
+    alloc: Global,
+    rt: &R,
+    dues: &Dues,
+    place: usize,
+) -> io::Result<bool> {
+    let mut host = Host::of_file(alloc, &dues.file)?;
+    let number = (place as u64).saturating_add(1);
+    let got = host.talk(alloc, rt, &dues.round, PIECE, Fault::Clock(number))?;
+    let events = host.events(alloc)?;
+    let refused = ends_refused(dues, &got, place) && events.as_slice() == dues.events_behind(place);
+    let on = dues.goes_on(alloc, rt, &mut host, place)?;
+    Ok(refused && on)
+}
+
+// Whether a link ended by the refusal of the request at this place, behind the replies to those before.
+fn ends_refused(dues: &Dues, got: &Got, place: usize) -> bool {
+    let mut bytes = got.bytes.as_slice();
+    for due in dues.each.iter().take(place) {
+        match bytes.strip_prefix(due.reply.as_slice()) {
+            Some(behind) => bytes = behind,
+            None => return false,
+        }
+    }
+    got.end == LinkEnd::Ended && is_refusal(bytes, dues.is_bodiless(place), CLOCK_FAULT)
+}
