@@ -2,14 +2,16 @@
 use Rattle.std.specs.Prelude.{◌≡◌, ◌≤◌, length}
 use Rattle.bid_rules.specs.declared.goods.GoodsCase.{GoodsCase}
 use Rattle.bid_rules.specs.Goods.{AreOwners, IsValidGoodsCase, pair_of}
+use Rattle.nash_bounds.specs.Goals.{IsGoal}
 use Rattle.nash_bounds.specs.Lanes.{IsLanes}
 use Rattle.goods_lines.specs.declared.answer.Answer.{Answer}
 use Rattle.goods_lines.specs.declared.node.Node.{Node}
 
--- an owner for each good, with the pair of these owners
+-- an owner for each good, with the pair of these owners as the goal
 pub record IsAnswer (case : GoodsCase) (answer : Answer) : Type 0 where
   pub whole : length answer.owners.items ≡ case.facts.goods
-  pub pair : answer.pair ≡ pair_of case answer.owners.items
+  pub goal : IsGoal answer.goal
+  pub pair : answer.goal.pair ≡ pair_of case answer.owners.items
 
 -- owners of the first few goods of a valid case, and their lanes
 pub record IsNode (case : GoodsCase) (node : Node) : Type 0 where

@@ -102,11 +102,10 @@ fn push_tree(
         return push_answer(text, before);
     }
     push(text, run_and_node(before))?;
-    let lanes = node.fork(case, table);
-    let flat = node.flat(case, table, &lanes);
+    let parent = node.parent(case, table, answer);
     let mut waiting = 0;
     for k in 0..players(case) {
-        if node.open_child(case, table, answer, &lanes, &flat, k + 1) {
+        if node.open_child(case, table, answer, &parent, k + 1) {
             waiting = push_tree(text, case, table, answer, node, waiting)?;
             node.ascend();
         } else {

@@ -3,17 +3,17 @@ ghost use Rattle.std.specs.Prelude.{◌≡◌, ℕ, List, ◌<◌, ◌≤◌, �
 ghost use Rattle.bid_rules.specs.Goods.{AreOwners, IsValidGoodsCase, player_count};
 ghost use Rattle.bid_rules.specs.declared.limits.TheConstants.{MEMBER_ROOM};
 ghost use Rattle.goods_lines.specs.Nodes.{IsAnswer, IsNode};
+ghost use Rattle.goods_rules.specs.Path.{IsParent};
 ghost use Rattle.nash_bounds.specs.LeftOut.{may_be_left};
 ghost use Rattle.nash_bounds.specs.Lanes.{IsFork, IsLanes, IsLaneTable, HasFreeGood};
-ghost use Rattle.nash_bounds.specs.Reach.{IsFlat};
 
-use crate::answer::{Answer, leaves_out};
+use crate::answer::Answer;
 use arrayvec::ArrayVec;
 use bid_rules::GoodsCase;
-use bid_rules::limits::{ITEM_ROOM, WHOLE_POINTS};
+use bid_rules::limits::ITEM_ROOM;
+use goods_rules::{Parent, parent_of};
 use nash_bounds::{
-    Flat, LaneTable, Lanes, empty_prefix, flat_of, fork, give, lane_bound, lanes_of, may_reach,
-    open_prefixes_law,
+    LaneTable, Lanes, empty_prefix, give, lanes_of, open_prefixes_law, players, reaches,
 };
 
 /// A node of the tree. There is one, which goes from node to node.
@@ -34,51 +34,41 @@ pub(crate) fn root_of(case: &GoodsCase) -> Node
     ensures node { IsNode case.now result }
     ensures none { result.owners.items ≡ [] }
 {
+    let lanes = lanes_of(case, &empty_prefix(case));
     Node {
         owners: ArrayVec::new(),
-        lanes: lanes_of(case, &empty_prefix(case)),
-        level: WHOLE_POINTS,
+        lanes,
+        level: lanes.top / u32::from(players(case).max(1)),
     }
 }
 
 impl Node {
-    /// The node's lanes without the next good, which its children have in common.
-    pub(crate) fn fork(&self, case: &GoodsCase, table: &LaneTable) -> Lanes
+    /// What the node's children are judged by.
+    pub(crate) fn parent(&self, case: &GoodsCase, table: &LaneTable, answer: &Answer) -> Parent
         requires table { IsLaneTable case.now table.now }
+        requires answer { IsAnswer case.now answer.now }
         requires node { IsNode case.now self.now }
         requires shorter { length self.now.owners.items < case.now.facts.goods }
-        ensures { IsFork case.now self.now.owners.items result }
+        ensures { IsParent case.now answer.now.goal.pair self.now.owners.items result }
     {
-        let mut lanes = self.lanes;
-        fork(case, table, self.owners.as_slice(), &mut lanes);
-        lanes
-    }
-
-    /// These lanes at one level.
-    pub(crate) fn flat(&self, case: &GoodsCase, table: &LaneTable, lanes: &Lanes) -> Flat
-        requires table { IsLaneTable case.now table.now }
-        requires node { IsNode case.now self.now }
-        requires shorter { length self.now.owners.items < case.now.facts.goods }
-        requires lanes { IsFork case.now self.now.owners.items lanes.now }
-        ensures { IsFlat lanes.now result }
-    {
-        flat_of(case, table, self.owners.as_slice(), lanes, self.level)
+        let owners = self.owners.as_slice();
+        parent_of(case, table, owners, &self.lanes, self.level, &answer.goal)
     }
 
     /// Goes down to the child whose next good goes to the owner.
-    fn descend(&mut self, case: &GoodsCase, table: &LaneTable, lanes: &Lanes, level: u32, owner: u8)
+    fn descend(&mut self, case: &GoodsCase, table: &LaneTable, parent: &Parent, owner: u8)
         requires table { IsLaneTable case.now table.now }
         requires open { HasFreeGood case.now self.old.owners.items }
-        requires lanes { IsFork case.now self.old.owners.items lanes.now }
+        requires lanes { IsFork case.now self.old.owners.items parent.now.lanes }
         requires owner_low { 1 ≤ owner }
         requires owner_high { owner ≤ player_count case.now }
         ensures owners { self.new.owners.items ≡ self.old.owners.items ++ owner ∷ [] }
         ensures lanes { IsLanes case.now (self.old.owners.items ++ owner ∷ []) self.new.lanes }
     {
-        self.lanes = *lanes;
+        self.lanes = parent.lanes;
         give(case, table, self.owners.as_slice(), owner, &mut self.lanes);
         self.owners.push(owner);
-        self.level = level;
+        self.level = parent.contenders.level_of(owner);
     }
 
     /// Goes up to the parent.
@@ -88,68 +78,40 @@ impl Node {
         let _ = self.owners.pop();
     }
 
-    /// Whether the tree may leave out the node.
-    fn is_left_out(&self, case: &GoodsCase, answer: &Answer) -> bool
+    /// Whether the tree may leave out the node. The node's level is then nearer to that of its bound.
+    fn is_left_out(&mut self, case: &GoodsCase, answer: &Answer) -> bool
         requires valid { IsValidGoodsCase case.now }
         requires few { player_count case.now ≤ MEMBER_ROOM }
         requires answer { IsAnswer case.now answer.now }
-        requires short { length self.now.owners.items ≤ case.now.facts.goods }
-        requires lanes { IsLanes case.now self.now.owners.items self.now.lanes }
-        ensures { result ≡ may_be_left case.now answer.now.owners.items self.now.owners.items }
-    {
-        let bound = lane_bound(case, self.owners.as_slice(), &self.lanes, self.level);
-        leaves_out(answer, bound, self.owners.as_slice())
-    }
-
-    /// Whether the child whose next good goes to the owner could reach the answer's pair; only if not, the tree may leave it out.
-    ///
-    /// Most children cannot, and this test is cheaper than that by their bound.
-    fn may_reach(
-        &self,
-        case: &GoodsCase,
-        table: &LaneTable,
-        answer: &Answer,
-        lanes: &Lanes,
-        flat: &Flat,
-        owner: u8,
-    ) -> bool
-        requires table { IsLaneTable case.now table.now }
-        requires answer { IsAnswer case.now answer.now }
-        requires open { HasFreeGood case.now self.now.owners.items }
-        requires lanes { IsFork case.now self.now.owners.items lanes.now }
-        requires flat { IsFlat lanes.now flat.now }
-        requires owner_low { 1 ≤ owner }
-        requires owner_high { owner ≤ player_count case.now }
-        ensures { result ≡ false → may_be_left case.now answer.now.owners.items (self.now.owners.items ++ owner ∷ []) ≡ true }
+        requires short { length self.old.owners.items ≤ case.now.facts.goods }
+        requires lanes { IsLanes case.now self.old.owners.items self.old.lanes }
+        ensures left { result ≡ may_be_left case.now answer.now.owners.items self.old.owners.items }
+        ensures owners { self.new.owners.items ≡ self.old.owners.items }
+        ensures lanes { self.new.lanes ≡ self.old.lanes }
     {
         open_prefixes_law();
-        may_reach(
-            case,
-            table,
-            self.owners.as_slice(),
-            owner,
-            lanes,
-            flat,
-            answer.pair,
-        )
+        let owners = self.owners.as_slice();
+        let beyond = answer.comes_before(owners);
+        let reached = reaches(case, owners, &self.lanes, self.level, &answer.goal, beyond);
+        self.level = reached.level;
+        !reached.reaches
     }
 
-    /// Goes down to the child whose next good goes to the owner, unless the tree may leave it out; whether it did.
+    /// Goes down to the child whose next good goes to the owner, unless the tree may leave it out; whether it did. Most children could not
+    /// reach the answer's pair.
     pub(crate) fn open_child(
         &mut self,
         case: &GoodsCase,
         table: &LaneTable,
         answer: &Answer,
-        lanes: &Lanes,
-        flat: &Flat,
+        parent: &Parent,
         owner: u8,
     ) -> bool
         requires table { IsLaneTable case.now table.now }
         requires answer { IsAnswer case.now answer.now }
         requires open { HasFreeGood case.now self.old.owners.items }
         requires owned { AreOwners case.now self.old.owners.items }
-        requires lanes { IsFork case.now self.old.owners.items lanes.now }
-        requires flat { IsFlat lanes.now flat.now }
+        requires parent { IsParent case.now answer.now.goal.pair self.old.owners.items parent.now }
         requires owner_low { 1 ≤ owner }
         requires owner_high { owner ≤ player_count case.now }
         ensures node { result ≡ true → IsNode case.now self.new }
@@ -158,10 +120,11 @@ impl Node {
         ensures same { result ≡ false → self.new.owners.items ≡ self.old.owners.items }
         ensures left { result ≡ false → may_be_left case.now answer.now.owners.items (self.old.owners.items ++ owner ∷ []) ≡ true }
     {
-        if !self.may_reach(case, table, answer, lanes, flat, owner) {
+        open_prefixes_law();
+        if !parent.contenders.has(owner) {
             return false;
         }
-        self.descend(case, table, lanes, flat.level, owner);
+        self.descend(case, table, parent, owner);
         if self.is_left_out(case, answer) {
             self.ascend();
             return false;

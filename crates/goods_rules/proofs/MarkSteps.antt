@@ -1,8 +1,11 @@
 -- One mark at a node, under any rule on leaves.
-use Rattle.std.proofs.Common.{arith, refl, ◌≡◌, ◌≢◌, sym, ◌↔◌, ◌<◌, ◌≤◌, ◌∷◌, List, ℕ, subst, reverse, length, Bool, true, false, IsTrue, ◌⊎◌, inl, inr, ⊎_elim}
+use Rattle.std.proofs.Common.{arith, refl, ◌≡◌, ◌≢◌, sym, ◌↔◌, ◌<◌, ◌≤◌, ◌∷◌, List, ℕ, zero, suc, subst, reverse, length, Bool, true, false, IsTrue, ◌⊎◌, inl, inr, ⊎_elim}
 use Rattle.std.proofs.lemmas.List.{length-reverse, reverse-reverse}
 use Rattle.std.proofs.lemmas.Bool.{cases_lt}
+use Rattle.bid_rules.specs.declared.goods.GoodsCase.{GoodsCase}
+use Rattle.nash_bounds.specs.LeftOut.{may_be_left}
 use Rattle.goods_rules.specs.Ahead.{FinishesBehind, CanStand, FinishesTree}
+use Rattle.goods_rules.specs.Rules.{leaf_rule}
 use Rattle.goods_rules.proofs.PathSteps.{leaf_back, leaf_up, no_mark}
 
 -- a mark that does not fit stands in no tree
@@ -48,3 +51,13 @@ passed a b e h = (λ k. (subst IsTrue e k.0, h.0 k.1), λ k. (subst IsTrue (sym 
 pub plus_fits : (g : ℕ) (whole : Bool) (path : List ℕ) (mark : ℕ) → CanStand g whole path mark → mark ≡ 43 → length path < g
 plus_fits g whole path mark fits e = ⊎_elim (λ (a : (mark ≡ 43) × (length path < g)). a.1)
     (λ (b : (mark ≡ 45) ⊎ ((mark ≡ 61) × (g ≤ length path))). ⊎_elim (λ (m : mark ≡ 45). absurd (omega arith)) (λ (m : (mark ≡ 61) × (g ≤ length path)). absurd (let f = m.0 in omega arith)) b) fits.1
+
+-- where a prefix may be left out, its `-` is as each rule on leaves asks
+pub left_leaf : (case : GoodsCase) (answer prefix : List ℕ) (number : ℕ) → may_be_left case answer prefix ≡ true → leaf_rule case answer number prefix 45
+left_leaf case answer prefix zero h = tt
+left_leaf case answer prefix (suc zero) h = tt
+left_leaf case answer prefix (suc (suc zero)) h = tt
+left_leaf case answer prefix (suc (suc (suc zero))) h = tt
+left_leaf case answer prefix (suc (suc (suc (suc zero)))) h = λ m l. h
+left_leaf case answer prefix (suc (suc (suc (suc (suc zero))))) h = λ m l. h
+left_leaf case answer prefix (suc (suc (suc (suc (suc (suc number)))))) h = λ m. absurd (omega arith)

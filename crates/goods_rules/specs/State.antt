@@ -6,14 +6,14 @@ use Rattle.goods_rules.specs.declared.state.GoodsState.{GoodsState}
 use Rattle.goods_rules.specs.declared.state.GoodsState.TheVariants.{Broken, Walking}
 use Rattle.goods_rules.specs.declared.walk.Walk.{Walk}
 use Rattle.goods_rules.specs.Ahead.{IsLeft, holds_so_far}
-use Rattle.goods_rules.specs.Path.{IsGoodsAnswer, IsPath}
+use Rattle.goods_rules.specs.Path.{IsGoodsAnswer, IsWalk}
 use Rattle.goods_rules.specs.Printed.{printed_answer, printed_case}
 use Rattle.goods_rules.specs.Rules.{HasCase, HasOwners, IsRuledTree}
 
--- an answer, and a path from the root of its tree
+-- an answer, and a walk through its tree
 abbrev pub IsState : GoodsState → Type 0
 IsState (Broken rule) = Unit {0}
-IsState (Walking answer walk) = IsGoodsAnswer answer × IsPath answer.case walk.path
+IsState (Walking answer walk) = IsGoodsAnswer answer × IsWalk answer.case answer.goal.pair walk
 
 -- the printed case and answer, and each rule on the tree asks of the marks to come what it asks of all marks, of which these were taken
 pub record IsWalked (view : GoodsView) (taken : List ℕ) (answer : Answer) (walk : Walk) : Type 0 where

@@ -1,9 +1,8 @@
 // What the leaves of the tree are judged by: the printed allocation of a valid case.
-ghost use Rattle.std.specs.Prelude.{◌≡◌, ◌≤◌, length, true};
+ghost use Rattle.std.specs.Prelude.{◌≡◌, ◌≤◌, length};
 ghost use Rattle.bid_rules.specs.Goods.{AreOwners, IsAllocation, IsValidGoodsCase, in_search_order, pair_of};
 ghost use Rattle.goods_rules.specs.Path.{IsGoodsAnswer};
-ghost use Rattle.nash_bounds.specs.LeftOut.{is_after, may_be_left};
-ghost use Rattle.nash_bounds.specs.Prefixes.{prefix_bound};
+ghost use Rattle.nash_bounds.specs.LeftOut.{is_after};
 ghost use Rattle.nash_bounds.specs.Tables.{IsTable};
 
 use arrayvec::ArrayVec;
@@ -11,13 +10,13 @@ use bid_rules::GoodsCase;
 use bid_rules::limits::ITEM_ROOM;
 use goods_laws::players_law;
 use nash_bounds::{
-    LaneTable, Pair, PointTable, bound, empty_prefix, extend_by, lane_table, open_prefixes_law,
+    Goal, LaneTable, Pair, PointTable, bound, empty_prefix, extend_by, lane_table,
     owners_by_good_law, owners_in_order, point_table, search_order, search_order_law,
     whole_list_law,
 };
 use std::cmp::Ordering;
 
-/// A valid case and an allocation, with what prefixes are compared by.
+/// A valid case and an allocation, with what prefixes are judged by.
 #[derive(Drop)]
 pub struct Answer {
     /// The case.
@@ -26,8 +25,8 @@ pub struct Answer {
     pub table: LaneTable,
     /// The owner of each good, in search order.
     pub owners: ArrayVec<u8, ITEM_ROOM>,
-    /// The pair of the players' utilities.
-    pub pair: Pair,
+    /// The pair of the players' utilities, which prefixes reach or not.
+    pub goal: Goal,
 }
 
 /// The pair of the players' utilities where they own the goods, in search order.
@@ -65,27 +64,16 @@ pub(crate) fn answer_of(case: GoodsCase, owners: &[u8]) -> Answer
         case,
         table,
         owners,
-        pair,
+        goal: Goal::of(pair),
     }
 }
 
 impl Answer {
     /// Whether the answer's first owners come before these.
-    fn comes_before(&self, owners: &[u8]) -> bool
+    pub(crate) fn comes_before(&self, owners: &[u8]) -> bool
         requires { length owners.now ≤ length self.now.owners.items }
         ensures { result ≡ is_after self.now.owners.items owners.now }
     {
         owners.cmp(&self.owners.as_slice()[..owners.len()]) == Ordering::Greater
-    }
-
-    /// Whether owners of the first few goods, with this bound, may be left out.
-    pub(crate) fn is_beyond(&self, owners: &[u8], bound: Pair) -> bool
-        requires answer { IsGoodsAnswer self.now }
-        requires short { length owners.now ≤ self.now.case.facts.goods }
-        requires bound { bound ≡ prefix_bound self.now.case owners.now }
-        ensures { result ≡ may_be_left self.now.case self.now.owners.items owners.now }
-    {
-        open_prefixes_law();
-        bound < self.pair || (bound == self.pair && self.comes_before(owners))
     }
 }

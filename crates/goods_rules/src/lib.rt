@@ -5,6 +5,7 @@
 mod answer;
 mod case;
 mod laws;
+mod parent;
 mod path;
 mod state;
 mod walk;
@@ -12,6 +13,7 @@ mod walk;
 pub use answer::Answer;
 pub use case::PrintedRow;
 pub use laws::goods_certificate_law;
-pub use path::{Parent, Path};
+pub use parent::{Parent, parent_of};
+pub use path::Path;
 pub use state::{GoodsState, end_goods, start_goods, take_mark};
 pub use walk::{Kept, Walk};

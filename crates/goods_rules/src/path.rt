@@ -1,6 +1,7 @@
-// The path from the root of the tree to the node that comes next, and what the children of each inner node on it are judged by.
-ghost use Rattle.std.specs.Prelude.{◌≡◌, ℕ, [], ◌∷◌, ◌++◌, ◌<◌, ◌≤◌, ◌↔◌, List, length, reverse};
+// The path from the root of the tree to the node that comes next.
+ghost use Rattle.std.specs.Prelude.{◌≡◌, ℕ, [], ◌∷◌, ◌++◌, ◌+◌, ◌<◌, ◌≤◌, ◌↔◌, List, length, reverse, take, true, false};
 ghost use Rattle.bid_rules.specs.declared.goods.GoodsCase.{GoodsCase};
+ghost use Rattle.bid_rules.specs.declared.pair.Pair.{Pair};
 ghost use Rattle.bid_rules.specs.declared.limits.TheConstants.{MEMBER_ROOM};
 ghost use Rattle.bid_rules.specs.Goods.{player_count};
 ghost use Rattle.goods_rules.specs.Ahead.{FinishesBehind, FinishesTree};
@@ -10,42 +11,10 @@ ghost use Rattle.nash_bounds.specs.Lanes.{IsLanes};
 ghost use Rattle.nash_bounds.specs.LeftOut.{may_be_left};
 
 use crate::answer::Answer;
+use crate::parent::{Parent, parent_of};
 use arrayvec::ArrayVec;
 use bid_rules::limits::{ITEM_ROOM, MEMBER_ROOM};
-use nash_bounds::{
-    Flat, Lanes, bound, empty_prefix, flat_of, fork, give, lanes_of, may_reach, next_bound,
-    open_prefixes_law, whole_list_law,
-};
-use std::simd::prelude::*;
-
-/// What the children of an inner node are judged by.
-#[derive(Clone, Copy)]
-pub struct Parent {
-    /// What the players have and may have without the next good.
-    pub lanes: Lanes,
-    /// The same raised to one level.
-    pub flat: Flat,
-}
-
-impl Default for Parent {
-    /// Nobody has or may have a point.
-    fn default() -> Parent {
-        Parent {
-            lanes: Lanes {
-                low: u16x16::splat(0),
-                high: u16x16::splat(0),
-                top: 0,
-            },
-            flat: Flat {
-                level: 1,
-                entries: u16x16::splat(0),
-                total: 0,
-                open_lanes: 0,
-                units: 1,
-            },
-        }
-    }
-}
+use nash_bounds::{Lanes, empty_prefix, give, lanes_of, open_prefixes_law, players, reaches};
 
 /// The path to a node.
 #[derive(Drop)]
@@ -59,7 +28,7 @@ pub struct Path {
 impl Path {
     /// The path to the root.
     pub(crate) fn new() -> Path
-        ensures path { (case : GoodsCase) → IsPath case result }
+        ensures path { (case : GoodsCase) (pair : Pair) → IsPath case pair result }
         ensures none { result.owners.items ≡ [] }
     {
         Path {
@@ -71,7 +40,7 @@ impl Path {
     /// What the players have and may have.
     fn lanes(&self, answer: &Answer) -> Lanes
         requires answer { IsGoodsAnswer answer.now }
-        requires path { IsPath answer.now.case self.now }
+        requires path { IsPath answer.now.case answer.now.goal.pair self.now }
         ensures { IsLanes answer.now.case self.now.owners.items result }
     {
         let Some((owner, owners)) = self.owners.as_slice().split_last() else {
@@ -82,34 +51,43 @@ impl Path {
         lanes
     }
 
-    /// A level near that of the node's bound.
-    fn level(&self) -> u32 {
-        match self.parents.last() {
-            Some(parent) => parent.flat.level,
-            None => 0,
-        }
+    /// A level near that of the node's bound, by the node's lanes where it is the root.
+    fn level(&self, answer: &Answer, lanes: &Lanes) -> u32
+        requires answer { IsGoodsAnswer answer.now }
+        requires path { IsPath answer.now.case answer.now.goal.pair self.now }
+    {
+        let Some((owner, owners)) = self.owners.as_slice().split_last() else {
+            return lanes.top / u32::from(players(&answer.case).max(1));
+        };
+        self.parents[owners.len()].contenders.level_of(*owner)
     }
 
     /// What the children of the node are judged by.
     fn parent(&self, answer: &Answer) -> Parent
         requires answer { IsGoodsAnswer answer.now }
-        requires path { IsPath answer.now.case self.now }
+        requires path { IsPath answer.now.case answer.now.goal.pair self.now }
         requires open { length self.now.owners.items < answer.now.case.facts.goods }
-        ensures { IsParent answer.now.case self.now.owners.items result }
+        ensures { IsParent answer.now.case answer.now.goal.pair self.now.owners.items result }
     {
         let owners = self.owners.as_slice();
-        let mut lanes = self.lanes(answer);
-        fork(&answer.case, &answer.table, owners, &mut lanes);
-        let flat = flat_of(&answer.case, &answer.table, owners, &lanes, self.level());
-        Parent { lanes, flat }
+        let lanes = self.lanes(answer);
+        let level = self.level(answer, &lanes);
+        parent_of(
+            &answer.case,
+            &answer.table,
+            owners,
+            &lanes,
+            level,
+            &answer.goal,
+        )
     }
 
     /// Goes down to the first child.
     pub(crate) fn enter(&mut self, answer: &Answer)
         requires answer { IsGoodsAnswer answer.now }
-        requires path { IsPath answer.now.case self.old }
+        requires path { IsPath answer.now.case answer.now.goal.pair self.old }
         requires open { length self.old.owners.items < answer.now.case.facts.goods }
-        ensures path { IsPath answer.now.case self.new }
+        ensures path { IsPath answer.now.case answer.now.goal.pair self.new }
         ensures owners { self.new.owners.items ≡ self.old.owners.items ++ 1 ∷ [] }
     {
         let parent = self.parent(answer);
@@ -117,68 +95,81 @@ impl Path {
         self.owners.push(1);
     }
 
+    /// Goes to the next sibling of a child, if it has one; whether it did.
+    fn to_sibling(&mut self, players: u8) -> bool
+        requires child { 0 < length self.old.owners.items }
+        requires players { players ≤ MEMBER_ROOM }
+        ensures parents { self.new.parents.items ≡ self.old.parents.items }
+        ensures goes { result ≡ true → (above : List ℕ) × (owner : ℕ) × (owner < players)
+            × (self.old.owners.items ≡ above ++ owner ∷ []) × (self.new.owners.items ≡ above ++ (owner + 1) ∷ []) }
+        ensures stays { result ≡ false → (above : List ℕ) × (owner : ℕ) × (players ≤ owner)
+            × (self.old.owners.items ≡ above ++ owner ∷ []) × (self.new.owners.items ≡ self.old.owners.items) }
+    {
+        let Some((owner, above)) = self.owners.as_slice().split_last() else {
+            return false;
+        };
+        let (owner, last) = (*owner, above.len());
+        if owner >= players {
+            return false;
+        }
+        self.owners[last] = owner + 1;
+        true
+    }
+
+    /// Goes up to the parent.
+    fn ascend(&mut self)
+        ensures owners { (above : List ℕ) (owner : ℕ) → self.old.owners.items ≡ above ++ owner ∷ [] → self.new.owners.items ≡ above }
+        ensures parents { self.new.parents.items ≡ take (length self.new.owners.items) self.old.parents.items }
+    {
+        let _ = self.owners.pop();
+        self.parents.truncate(self.owners.len());
+    }
+
     /// Leaves a node whose subtree was read whole: goes to the next sibling, of it or of the nearest node above that has one. Whether there
     /// is none.
     pub(crate) fn climb(&mut self, players: u8) -> bool
         requires players { players ≤ MEMBER_ROOM }
-        ensures path { (case : GoodsCase) → player_count case ≡ players → IsPath case self.old → IsPath case self.new }
+        ensures path { (case : GoodsCase) (pair : Pair) → player_count case ≡ players → IsPath case pair self.old → IsPath case pair self.new }
         ensures left { (case : GoodsCase) (answer : List ℕ) (number : ℕ) (marks : List ℕ)
             → FinishesBehind (leaf_rule case answer number) players case.facts.goods (reverse self.old.owners.items) marks
             ↔ FinishesTree (leaf_rule case answer number) players case.facts.goods result self.new.owners.items marks }
+        ensures ended { result ≡ true → self.new.owners.items ≡ [] }
     {
         'up: while self.owners.len() > 0 {
-            let owner = self.owners.pop().unwrap();
-            if owner < players {
-                self.owners.push(owner + 1);
+            if self.to_sibling(players) {
                 return false;
             }
-            self.parents.truncate(self.owners.len());
+            self.ascend();
         }
         true
     }
 
-    /// Whether the root may be left out.
-    fn may_leave_root(&self, answer: &Answer) -> bool
+    /// Whether the node is a child who could not reach the answer's pair, and so may be left out.
+    pub(crate) fn is_far(&self, answer: &Answer) -> bool
         requires answer { IsGoodsAnswer answer.now }
-        requires root { self.now.owners.items ≡ [] }
-        ensures { result ≡ may_be_left answer.now.case answer.now.owners.items self.now.owners.items }
+        requires path { IsPath answer.now.case answer.now.goal.pair self.now }
+        ensures child { result ≡ true → 0 < length self.now.owners.items }
+        ensures left { result ≡ true → may_be_left answer.now.case answer.now.owners.items self.now.owners.items ≡ true }
     {
-        let bound = bound(&empty_prefix(&answer.case));
-        answer.is_beyond(self.owners.as_slice(), bound)
+        open_prefixes_law();
+        let Some((owner, owners)) = self.owners.as_slice().split_last() else {
+            return false;
+        };
+        !self.parents[owners.len()].contenders.has(*owner)
     }
 
     /// Whether the node may be left out: no allocation below it comes before the answer.
     pub(crate) fn may_be_left(&self, answer: &Answer) -> bool
         requires answer { IsGoodsAnswer answer.now }
-        requires path { IsPath answer.now.case self.now }
+        requires path { IsPath answer.now.case answer.now.goal.pair self.now }
         ensures { result ≡ may_be_left answer.now.case answer.now.owners.items self.now.owners.items }
     {
         open_prefixes_law();
-        let path = self.owners.as_slice();
-        let Some((owner, owners)) = path.split_last() else {
-            return self.may_leave_root(answer);
-        };
-        let parent = &self.parents[owners.len()];
-        let case = &answer.case;
-        if !may_reach(
-            case,
-            &answer.table,
-            owners,
-            *owner,
-            &parent.lanes,
-            &parent.flat,
-            answer.pair,
-        ) {
-            return true;
-        }
-        let bound = next_bound(
-            case,
-            &answer.table,
-            owners,
-            *owner,
-            &parent.lanes,
-            parent.flat.level,
-        );
-        answer.is_beyond(path, bound)
+        let owners = self.owners.as_slice();
+        let lanes = self.lanes(answer);
+        let level = self.level(answer, &lanes);
+        let beyond = answer.comes_before(owners);
+        let reached = reaches(&answer.case, owners, &lanes, level, &answer.goal, beyond);
+        !reached.reaches
     }
 }

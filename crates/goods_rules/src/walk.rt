@@ -1,8 +1,9 @@
 // A walk through the tree, mark by mark.
 ghost use Rattle.std.specs.Prelude.{◌≡◌, ℕ, ◌∷◌, ◌↔◌, List, IsTrue};
 ghost use Rattle.bid_rules.specs.declared.goods.GoodsCase.{GoodsCase};
+ghost use Rattle.bid_rules.specs.declared.pair.Pair.{Pair};
 ghost use Rattle.goods_rules.specs.Ahead.{CanStand, IsLeft, holds_so_far};
-ghost use Rattle.goods_rules.specs.Path.{IsGoodsAnswer, IsPath};
+ghost use Rattle.goods_rules.specs.Path.{IsGoodsAnswer, IsPath, IsWalk};
 ghost use Rattle.goods_rules.specs.Rules.{IsRuledTree, leaf_rule};
 
 use crate::answer::Answer;
@@ -38,7 +39,7 @@ impl Kept {
     /// Judges a leaf.
     fn judge(&mut self, answer: &Answer, path: &Path, mark: u8)
         requires answer { IsGoodsAnswer answer.now }
-        requires path { IsPath answer.now.case path.now }
+        requires path { IsPath answer.now.case answer.now.goal.pair path.now }
         ensures { (number : ℕ) → IsTrue (holds_so_far self.new number)
             ↔ IsTrue (holds_so_far self.old number) × leaf_rule answer.now.case answer.now.owners.items number path.now.owners.items mark }
     {
@@ -61,7 +62,7 @@ impl Kept {
 impl Walk {
     /// Before the first mark.
     pub(crate) fn new() -> Walk
-        ensures path { (case : GoodsCase) → IsPath case result.path }
+        ensures walk { (case : GoodsCase) (pair : Pair) → IsWalk case pair result }
         ensures left { (case : GoodsCase) (answer : List ℕ) (number : ℕ) (marks : List ℕ) → IsRuledTree case answer number marks ↔ IsLeft case answer result number marks }
     {
         Walk {
@@ -95,6 +96,7 @@ impl Walk {
     /// No tree goes on so.
     fn give_up(&mut self)
         ensures path { self.new.path ≡ self.old.path }
+        ensures whole { self.new.whole ≡ self.old.whole }
         ensures kept { (number : ℕ) → IsTrue (holds_so_far self.new.kept number) → ⊥ }
     {
         self.kept = Kept {
@@ -105,11 +107,11 @@ impl Walk {
         };
     }
 
-    /// Takes one mark.
-    pub(crate) fn take(&mut self, answer: &Answer, mark: u8)
+    /// Takes any mark.
+    fn take_any(&mut self, answer: &Answer, mark: u8)
         requires answer { IsGoodsAnswer answer.now }
-        requires path { IsPath answer.now.case self.old.path }
-        ensures path { IsPath answer.now.case self.new.path }
+        requires walk { IsWalk answer.now.case answer.now.goal.pair self.old }
+        ensures walk { IsWalk answer.now.case answer.now.goal.pair self.new }
         ensures left { (number : ℕ) (marks : List ℕ) → IsLeft answer.now.case answer.now.owners.items self.old number (mark ∷ marks)
             ↔ IsLeft answer.now.case answer.now.owners.items self.new number marks }
     {
@@ -123,5 +125,20 @@ impl Walk {
         }
         self.kept.judge(answer, &self.path, mark);
         self.whole = self.path.climb(players(&answer.case));
+    }
+
+    /// Takes one mark. Most are of children who are left out and could not reach the answer's pair, which changes nothing that is kept.
+    pub(crate) fn take(&mut self, answer: &Answer, mark: u8)
+        requires answer { IsGoodsAnswer answer.now }
+        requires walk { IsWalk answer.now.case answer.now.goal.pair self.old }
+        ensures walk { IsWalk answer.now.case answer.now.goal.pair self.new }
+        ensures left { (number : ℕ) (marks : List ℕ) → IsLeft answer.now.case answer.now.owners.items self.old number (mark ∷ marks)
+            ↔ IsLeft answer.now.case answer.now.owners.items self.new number marks }
+    {
+        if mark == LEFT_OUT && self.path.is_far(answer) {
+            self.whole = self.path.climb(players(&answer.case));
+            return;
+        }
+        self.take_any(answer, mark);
     }
 }

@@ -159,7 +159,7 @@ positives_zeros zero = refl
 positives_zeros (suc k) = let rest = positives_zeros k in omega arith
 
 -- filling up makes no entry positive
-positives_filled_up : (k : ℕ) (us : List ℕ) → positives (us ++ zeros k) ≡ positives us
+pub positives_filled_up : (k : ℕ) (us : List ℕ) → positives (us ++ zeros k) ≡ positives us
 positives_filled_up k [] = positives_zeros k
 positives_filled_up k (u ∷ us) = ap (λ n. min u 1 + n) (positives_filled_up k us)
 
@@ -170,7 +170,7 @@ product_zeros zero = refl
 product_zeros (suc k) = let rest = product_zeros k in omega arith
 
 -- filling up leaves the product
-product_filled_up : (k : ℕ) (us : List ℕ) → product (us ++ zeros k) ≡ product us
+pub product_filled_up : (k : ℕ) (us : List ℕ) → product (us ++ zeros k) ≡ product us
 product_filled_up k [] = product_zeros k
 product_filled_up k (u ∷ us) = ap (λ n. max u 1 * n) (product_filled_up k us)
 

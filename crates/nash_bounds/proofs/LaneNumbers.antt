@@ -12,10 +12,12 @@ use Rattle.std.proofs.lemmas.Bool.Decides.{nat_tests}
 use Rattle.std.proofs.lemmas.List.FromFn.{get_or-map-range_with_len, length-range_with_len}
 use Rattle.std.proofs.lemmas.List.Sums.{sum_by-cons}
 use Rattle.bid_rules.specs.declared.goods.GoodsCase.{GoodsCase}
-use Rattle.bid_rules.specs.Goods.{IsValidGoodsCase, player_count, points, greatest_points, order_of, utilities}
+use Rattle.bid_rules.specs.Goods.{IsValidGoodsCase, player_count, points, greatest_points, order_of, pair_of, utilities}
+use Rattle.bid_rules.specs.Pairs.{nash_welfare, positives, product}
+use Rattle.bid_rules.specs.declared.pair.Pair.{Pair}
 use Rattle.nash_bounds.specs.Levels.{bound_of}
-use Rattle.nash_bounds.specs.FarLanes.{IsSpan}
-use Rattle.nash_bounds.proofs.LaneEntries.{zeros, by_room, bound_filled_up, sum_filled_up}
+use Rattle.nash_bounds.specs.Reach.{IsSpan}
+use Rattle.nash_bounds.proofs.LaneEntries.{zeros, by_room, bound_filled_up, positives_filled_up, product_filled_up, sum_filled_up}
 use Rattle.nash_bounds.specs.declared.lanes.Lanes.{Lanes}
 use Rattle.nash_bounds.specs.declared.lanes.LaneRow.{LaneRow}
 use Rattle.nash_bounds.specs.declared.lanes.LaneTable.{LaneTable}
@@ -26,7 +28,7 @@ use Rattle.nash_bounds.proofs.LongerPrefixes.{utility_within, within_whole, free
 use Rattle.nash_bounds.proofs.NextEntries.{sum_within}
 use Rattle.nash_bounds.proofs.SortedGoods.{order_length, range_all}
 use Rattle.split_lemmas.proofs.ListPlaces.{get_le_sum}
-use Rattle.std.proofs.lemmas.List.Elements.{All-head, All-tail, All-map, All-weaker}
+use Rattle.std.proofs.lemmas.List.Elements.{AllZip-get_or, All-head, All-tail, All-map, All-weaker}
 use Rattle.bid_rules.specs.declared.limits.TheConstants.{MEMBER_ROOM, WHOLE_POINTS}
 use Rattle.nash_bounds.specs.declared.limits.TheConstants.{LANES, MOST_TOP}
 
@@ -387,3 +389,19 @@ lane_row_more case rows new row k long is last before place other l =
           let at : get_or new place other ≡ get_or rows place other = ap (λ xs. get_or xs place other) is ∙ get_or_append_left rows (row ∷ []) other place (omega arith) in
           subst (λ (r : LaneRow). IsLaneRow case (slice_index (order_of case) place) r) (sym at) (before place other (omega arith)))
     ]
+
+-- what a lane beyond the room for players has is nothing
+pub low_rest : (lanes : Lanes) → IsSpan lanes → (k : ℕ) → MEMBER_ROOM ≤ k → get_or lanes.low k 0 ≡ 0
+low_rest lanes span k l =
+    elim (cases_lt k LANES) [
+      | inl h ↦ (let a = span.lows in let b = span.rest k l in let o = AllZip-get_or ◌≤◌ lanes.low lanes.high k 0 0 span.in_order (omega arith) in omega arith)
+      | inr h ↦ get_or_past lanes.low k 0 (let a = span.lows in omega arith)
+    ]
+
+-- the pair of the lanes' lows is that of the owners
+pub low_pair : (case : GoodsCase) (owners : List ℕ) (lanes : Lanes) → player_count case ≤ MEMBER_ROOM → IsLanes case owners lanes → nash_welfare lanes.low ≡ pair_of case owners
+low_pair case owners lanes few is =
+    let n = LANES - player_count case in
+    ap nash_welfare (low_filled_up case owners lanes.low few is.is_low)
+    ∙ ap (λ m. let q : Pair = record { count = m; product = product (utilities case owners ++ zeros n) } in q) (positives_filled_up n (utilities case owners))
+    ∙ ap (λ m. let q : Pair = record { count = positives (utilities case owners); product = m } in q) (product_filled_up n (utilities case owners))

@@ -2,8 +2,10 @@ pub mod WeightRatios
 pub mod GreatestPair
 pub mod LaneNumbers
 pub mod FarOwners
+pub mod ShortLanes
 pub mod LaneEntries
 pub mod LaneVectors
+pub mod LanePlaces
 pub mod LevelReach
 pub mod RaisedEntries
 pub mod NextEntries
@@ -35,3 +37,6 @@ pub mod OpenPrefixes
 pub mod OpenCounts
 pub mod OwnersAgain
 pub mod MembersApart
+pub mod LaneProducts
+pub mod JudgedLevels
+pub mod FarProducts

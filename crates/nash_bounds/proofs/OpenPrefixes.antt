@@ -1,5 +1,5 @@
 -- Prefixes that may not be left out are counted.
-use Rattle.std.proofs.Common.{◌≡◌, ℕ, ◌-◌, ◌*◌, ◌/◌, ◌<◌, ◌≤◌, List, [], ◌++◌, length, take, flat_map, get_or, All, Ordering, Option, Some, None, Bool, true, false, ◌&&◌, ◌||◌, ◌↔◌, ◌⊎◌, inl, inr, ⊎_elim, arith, refl, sym, ap, ◌∙◌, subst}
+use Rattle.std.proofs.Common.{◌≡◌, ℕ, ◌-◌, ◌*◌, ◌/◌, ◌<◌, ◌≤◌, List, [], ◌++◌, length, take, flat_map, get_or, All, Ordering, Option, Some, None, Bool, not, true, false, ◌&&◌, ◌||◌, ◌↔◌, ◌⊎◌, inl, inr, ⊎_elim, arith, refl, sym, ap, ◌∙◌, subst}
 use Rattle.std.specs.List.{range_with_len}
 use Rattle.std.specs.Cmp.Lexicographic.{slice_cmp}
 use Rattle.std.specs.Ordering.{nat_cmp}
@@ -12,6 +12,7 @@ use Rattle.bid_rules.specs.declared.pair.Pair.{Pair}
 use Rattle.bid_rules.specs.Goods.{GoodsBest, IsAllocation, pair_of, player_count}
 use Rattle.bid_rules.specs.Pairs.{IsAtMost, IsLess, is_above, is_at_most, is_less}
 use Rattle.nash_bounds.specs.Counted.{is_counted}
+use Rattle.nash_bounds.specs.Goals.{is_reached}
 use Rattle.nash_bounds.specs.OwnerLists.{lists}
 use Rattle.nash_bounds.specs.Prefixes.{prefix_bound}
 use Rattle.nash_bounds.specs.Start.{IsStartValue}
@@ -201,3 +202,12 @@ left_is case answer owners =
     after : (x y : Pair) (less : Bool) (o : Ordering) → x ≡ y → o ≡ Greater → (less || (is_same x y && is_greater o)) ≡ true
     after x y true o e g = refl
     after x y false o e g = ap (λ (z : Pair). is_same z y && is_greater o) e ∙ ap (λ t. t && is_greater o) (itself y) ∙ ap is_greater g
+
+-- a prefix may be left out where its bound does not reach the answer's pair, beyond it where the owners are after the answer's first ones
+pub left_reached : (case : GoodsCase) (answer owners : List ℕ) → may_be_left case answer owners ≡ not (is_reached (pair_of case answer) (is_after answer owners) (prefix_bound case owners))
+unfolding may_be_left
+left_reached case answer owners = by_after (prefix_bound case owners) (pair_of case answer) (is_after answer owners)
+  where
+    by_after : (b a : Pair) (after : Bool) → (is_less b a || (is_same b a && after)) ≡ not (is_reached a after b)
+    by_after b a true = grind (arith, nat_tests)
+    by_after b a false = grind (arith, nat_tests)

@@ -14,6 +14,7 @@ pub mod Lanes
 pub mod Reach
 pub mod Serving
 pub mod LeftOut
+pub mod Goals
 pub mod FarLanes
 pub mod NextOwner
 pub mod Raised

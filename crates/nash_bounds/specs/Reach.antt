@@ -1,11 +1,13 @@
 -- The lanes at one level, by which owners of the next good are told apart from those who could reach a pair.
-use Rattle.std.specs.Prelude.{◌≡◌, ℕ, ◌*◌, ◌^◌, ◌<◌, ◌≤◌, List, [], ◌∷◌, sum}
+use Rattle.std.specs.Prelude.{◌≡◌, ℕ, ◌+◌, ◌≤◌, List, [], ◌∷◌, length, slice_index, sum, All}
+use Rattle.std.specs.List.{AllZip}
 use Rattle.bid_rules.specs.Pairs.{positives, product}
 use Rattle.nash_bounds.specs.Levels.{entry_at}
+use Rattle.nash_bounds.specs.declared.fitting.Fitting.{Fitting}
 use Rattle.nash_bounds.specs.declared.lanes.Lanes.{Lanes}
 use Rattle.nash_bounds.specs.declared.reach.Flat.{Flat}
-use Rattle.bid_rules.specs.declared.limits.TheConstants.{WHOLE_POINTS}
-use Rattle.nash_bounds.specs.declared.limits.TheConstants.{UNIT}
+use Rattle.bid_rules.specs.declared.limits.TheConstants.{MEMBER_ROOM, WHOLE_POINTS}
+use Rattle.nash_bounds.specs.declared.limits.TheConstants.{LANES}
 
 -- all entries at a level
 abbrev pub entries_at : ℕ → List ℕ → List ℕ → List ℕ
@@ -13,12 +15,26 @@ entries_at level [] highs = []
 entries_at level (low ∷ lows) [] = []
 entries_at level (low ∷ lows) (high ∷ highs) = entry_at level low high ∷ entries_at level lows highs
 
--- the entries at a level from 1 to all points of a player, their sum, how many lanes may have points, and a number of units above the entries' product
+-- all lanes, low and high in order and at most all points of a player, none beyond the room for players above 0, and low within top
+pub record IsSpan (lanes : Lanes) : Type 0 where
+  pub lows : length lanes.low ≡ LANES
+  pub highs : length lanes.high ≡ LANES
+  pub in_order : AllZip ◌≤◌ lanes.low lanes.high
+  pub small : All (λ most. most ≤ WHOLE_POINTS) lanes.high
+  pub rest : (k : ℕ) → MEMBER_ROOM ≤ k → slice_index lanes.high k ≡ 0
+  pub within : sum lanes.low ≤ lanes.top
+
+-- the entries at a level that is at most all points of a player, and what they leave over of the top
+pub record IsFitting (lanes : Lanes) (at : Fitting) : Type 0 where
+  pub most : at.level ≤ WHOLE_POINTS
+  pub is_entries : at.entries ≡ entries_at at.level lanes.low lanes.high
+  pub is_spare : sum (entries_at at.level lanes.low lanes.high) + at.spare ≡ lanes.top
+
+-- the entries at a level that is at most all points of a player, what they leave over of the top, how many lanes may have points, and the
+-- entries' product
 pub record IsFlat (lanes : Lanes) (flat : Flat) : Type 0 where
-  pub some : 1 ≤ flat.level
   pub most : flat.level ≤ WHOLE_POINTS
   pub is_entries : flat.entries ≡ entries_at flat.level lanes.low lanes.high
-  pub is_total : flat.total ≡ sum (entries_at flat.level lanes.low lanes.high)
+  pub is_spare : sum (entries_at flat.level lanes.low lanes.high) + flat.spare ≡ lanes.top
   pub is_open : flat.open_lanes ≡ positives lanes.high
-  pub above : product (entries_at flat.level lanes.low lanes.high) < flat.units * UNIT
-  pub few_units : flat.units ≤ 2 ^ 97
+  pub is_product : flat.product ≡ product (entries_at flat.level lanes.low lanes.high)

@@ -31,7 +31,7 @@ pub struct LaneTable {
 }
 
 /// What each player has with the owners of the first few goods, and may have with the others.
-#[derive(Clone, Copy)]
+#[derive(Clone, Copy, Default)]
 pub struct Lanes {
     /// By lane the points that the player has so far.
     pub low: u16x16,

@@ -3,6 +3,9 @@
 //! The definitions of start value, counted prefixes and step count stand here too. They speak of allocations, and of no search.
 #![tactic(auto)]
 
+mod contenders;
+mod fitting;
+mod goals;
 mod lanes;
 mod laws;
 mod levels;
@@ -16,6 +19,8 @@ mod table;
 mod vectors;
 
 pub use bid_rules::Pair;
+pub use contenders::{Contenders, contenders_of};
+pub use goals::Goal;
 pub use lanes::{LaneRow, LaneTable, Lanes, fork, give, join, lane_table, lanes_of, players, take};
 pub use laws::{
     bound_law, longer_prefix_law, owners_by_good_law, search_order_law, slow_filling_law,
@@ -24,7 +29,7 @@ pub use laws::{
 pub use order::search_order;
 pub use owners::{owners_by_good, owners_in_order};
 pub use prefix::{Prefix, bound, empty_prefix, extend, extend_by};
-pub use reach::{Flat, flat_of, lane_bound, may_reach, next_bound};
+pub use reach::{Reached, next_reaches, pair_so_far, reaches};
 pub use step_laws::{
     allocations_law, best_before_law, best_counted_law, open_prefixes_law, owner_lists_law,
     serving_law, steps_law, tasks_in_row_law, tasks_law,

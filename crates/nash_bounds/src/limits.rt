@@ -1,5 +1,5 @@
 // The limits of bounds, tasks and blocks. Each number of them stands here and nowhere else; those of facts and bids stand in `bid_rules`.
-use bid_rules::limits::{MOST_GOODS, MOST_MEMBERS, WHOLE_POINTS};
+use bid_rules::limits::{MEMBER_ROOM, MOST_GOODS, MOST_MEMBERS, WHOLE_POINTS};
 
 /// The most points that the players have in sum.
 pub const MOST_SUM: u32 = MOST_MEMBERS as u32 * WHOLE_POINTS;
@@ -9,8 +9,16 @@ pub const MOST_TOP: u32 = MOST_SUM + MOST_GOODS as u32 * WHOLE_POINTS;
 pub const LANES: usize = 16;
 /// The most that the entries of all lanes may sum to.
 pub const MOST_LANES_SUM: u32 = LANES as u32 * WHOLE_POINTS;
-/// The unit in which products are compared, so that they still fit after a factor.
-pub const UNIT: u128 = 1 << 24;
+/// Half of the room for players: the product of so many of their points fits 64 bits.
+pub const HALF_ROOM: usize = MEMBER_ROOM / 2;
+/// The bits of all lanes.
+pub const ALL_LANES: u64 = (1 << LANES) - 1;
+/// Products are compared in so many shares of a goal's.
+pub const SHARES: u32 = 1024;
+/// The product of a goal has so many bits in units, or fewer.
+pub const UNIT_BITS: u32 = 32;
+/// The most units in the product of a goal.
+pub const MOST_UNITS: u128 = (1 << UNIT_BITS) - 1;
 
 /// Tasks begin with lists of owners of the least length of which there are so many, or else of the length of all goods.
 pub const FEWEST_LISTS: u32 = 64;

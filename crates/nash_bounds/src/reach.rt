@@ -1,81 +1,62 @@
-ghost use Rattle.std.specs.Prelude.{◌≡◌, ℕ, List, ◌+◌, ◌-◌, ◌*◌, ◌/◌, ◌^◌, ◌<◌, ◌≤◌, [], ◌∷◌, ◌++◌, length, All, false, slice_index};
-ghost use Rattle.bid_rules.specs.Goods.{IsValidGoodsCase, player_count};
-ghost use Rattle.bid_rules.specs.Pairs.{product, IsLess};
+ghost use Rattle.std.specs.Prelude.{◌≡◌, ◌<◌, ◌≤◌, [], ◌∷◌, ◌++◌, IfSome, true};
+ghost use Rattle.bid_rules.specs.Goods.{IsValidGoodsCase, pair_of, player_count};
+ghost use Rattle.bid_rules.specs.Pairs.{is_at_most, is_less, product};
+ghost use Rattle.nash_bounds.specs.Goals.{IsGoal, IsShort, is_reached};
+ghost use Rattle.nash_bounds.specs.Levels.{bound_of};
 ghost use Rattle.nash_bounds.specs.Prefixes.{prefix_bound};
 ghost use Rattle.nash_bounds.specs.Lanes.{IsLaneTable, IsLanes, IsFork, HasFreeGood};
-ghost use Rattle.nash_bounds.specs.Reach.{IsFlat};
-ghost use Rattle.nash_bounds.specs.FarLanes.{IsSpan, IsFar};
+ghost use Rattle.nash_bounds.specs.Reach.{IsFitting, IsFlat, IsSpan};
 
-use crate::lanes::{LaneTable, Lanes, give, points_of};
-use crate::levels::{bound_between, raise};
-use crate::limits::{LANES, MOST_LANES_SUM, MOST_TOP, UNIT};
-use crate::vectors::{count_positive, entries_of, entry, lane_of, total};
+use crate::fitting::{Fitting, fit, rising};
+use crate::goals::Goal;
+use crate::lanes::{LaneTable, Lanes, give, players};
+use crate::levels::bound_between;
+use crate::vectors::{count_positive, product_of};
 use bid_rules::limits::{MEMBER_ROOM, WHOLE_POINTS};
 use bid_rules::{GoodsCase, Pair};
 use std::simd::prelude::*;
 
-/// The lanes raised to one level.
+/// The lanes at a level at which they fit.
 #[derive(Clone, Copy)]
-pub struct Flat {
-    /// The level, from 1 to `WHOLE_POINTS`.
-    pub level: u32,
+pub(crate) struct Flat {
+    /// The level, at most `WHOLE_POINTS`.
+    pub(crate) level: u32,
+    /// About how many lanes rise there with the level.
+    pub(crate) rising: u32,
     /// By lane the entry at the level.
-    pub entries: u16x16,
-    /// The sum of the entries.
-    pub total: u32,
+    pub(crate) entries: u16x16,
+    /// What the entries leave over of the lanes' `top`.
+    pub(crate) spare: u32,
     /// How many lanes may have points.
-    pub open_lanes: u8,
-    /// The product of the positive entries is below this many times `UNIT`.
-    pub units: u128,
+    pub(crate) open_lanes: u8,
+    /// The product of the positive entries.
+    pub(crate) product: u128,
 }
 
-/// The bound of the owners with these lanes. It is found soonest where `start` is near the level of the bound.
-pub fn lane_bound(case: &GoodsCase, owners: &[u8], lanes: &Lanes, start: u32) -> Pair
+/// Whether a bound reaches a goal, and a level near that of the bound.
+#[derive(Clone, Copy)]
+pub struct Reached {
+    /// Whether it does.
+    pub reaches: bool,
+    /// The level, in points.
+    pub level: u32,
+}
+
+/// The pair of what the players have with the owners.
+pub fn pair_so_far(case: &GoodsCase, owners: &[u8], lanes: &Lanes) -> Pair
     requires valid { IsValidGoodsCase case.now }
     requires few { player_count case.now ≤ MEMBER_ROOM }
     requires lanes { IsLanes case.now owners.now lanes.now }
-    ensures { result ≡ prefix_bound case.now owners.now }
+    ensures { result ≡ pair_of case.now owners.now }
 {
-    bound_between(lanes.low, lanes.high, lanes.top, start)
-}
-
-/// The bound of the owners with the next good given to this owner. It is found soonest where `start` is near the bound's level.
-pub fn next_bound(
-    case: &GoodsCase,
-    table: &LaneTable,
-    owners: &[u8],
-    owner: u8,
-    lanes: &Lanes,
-    start: u32,
-) -> Pair
-    requires table { IsLaneTable case.now table.now }
-    requires open { HasFreeGood case.now owners.now }
-    requires owner_low { 1 ≤ owner }
-    requires owner_high { owner ≤ player_count case.now }
-    requires lanes { IsFork case.now owners.now lanes.now }
-    ensures { result ≡ prefix_bound case.now (owners.now ++ owner ∷ []) }
-{
-    let mut child = *lanes;
-    give(case, table, owners, owner, &mut child);
-    bound_between(child.low, child.high, child.top, start)
-}
-
-/// The product of the positive numbers.
-fn product_of(numbers: &[u16]) -> u128
-    requires short { length numbers.now ≤ MEMBER_ROOM }
-    requires small { All (λ number. number ≤ WHOLE_POINTS) numbers.now }
-    ensures value { result ≡ product numbers.now }
-    ensures small { result ≤ WHOLE_POINTS ^ MEMBER_ROOM }
-{
-    let mut product: u128 = 1;
-    for number in numbers {
-        product *= u128::from((*number).max(1));
+    Pair {
+        count: count_positive(lanes.low),
+        product: product_of(lanes.low),
     }
-    product
 }
 
-/// The lanes without the next good, raised to a level near that of their bound.
-pub fn flat_of(
+/// The lanes without the next good at a level at which they fit. It is found soonest where `start` is near the level of the owners' bound.
+pub(crate) fn flat_of(
     case: &GoodsCase,
     table: &LaneTable,
     owners: &[u8],
@@ -87,86 +68,137 @@ pub fn flat_of(
     requires lanes { IsFork case.now owners.now lanes.now }
     ensures { IsFlat lanes.now result }
 {
-    flat_at(lanes, start)
+    let row = &table.rows[owners.len()];
+    let fall = row.greatest / u32::from(players(case).max(1));
+    flat_at(lanes, start.saturating_sub(fall))
 }
 
 fn flat_at(lanes: &Lanes, start: u32) -> Flat
     requires { IsSpan lanes.now }
     ensures { IsFlat lanes.now result }
 {
-    let level = raise(lanes.low, lanes.high, lanes.top, start).level.max(1);
-    let entries = entries_of(lanes.low, lanes.high, level);
+    let at = fit(lanes, start);
     Flat {
-        level,
-        entries,
-        total: total(entries),
+        level: at.level,
+        rising: rising(lanes.low, lanes.high, at.level),
+        entries: at.entries,
+        spare: at.spare,
         open_lanes: count_positive(lanes.high),
-        units: product_of(&entries.as_array()[..MEMBER_ROOM]) / UNIT + 1,
+        product: product_of(at.entries),
     }
 }
 
-fn whole_units(product: u128) -> u128
-    ensures value { result ≡ product / UNIT }
-    ensures small { result ≤ 2 ^ 104 }
+/// Whether no list with so many points more than the entries reaches the goal's product: they multiply the entries' product by at most
+/// (2 * level + spare) / (2 * level - spare).
+fn is_short(at: &Fitting, product: u128, goal: &Goal) -> bool
+    requires level { at.now.level ≤ WHOLE_POINTS }
+    requires goal { IsGoal goal.now }
+    ensures { result ≡ true → IsShort at.now.level at.now.spare product goal.now }
 {
-    product / UNIT
+    let twice = 2 * at.level;
+    if at.spare >= twice {
+        return false;
+    }
+    let units = goal.units_above(product);
+    units * u64::from(twice + at.spare) < goal.units * u64::from(twice - at.spare)
 }
 
-/// Whether a lane with these points could reach the pair: an upper bound of its product is not below the pair's.
-fn is_near(low: u32, high: u32, top: u32, points: u32, flat: &Flat, before: u32, pair: Pair) -> bool
-    requires small { high + points ≤ WHOLE_POINTS }
-    requires low { low ≤ high }
-    requires top { top + points ≤ MOST_TOP }
-    requires some { 1 ≤ flat.now.level }
-    requires most { flat.now.level ≤ WHOLE_POINTS }
-    requires before { before ≤ WHOLE_POINTS }
-    requires total { before ≤ flat.now.total }
-    requires sums { flat.now.total ≤ MOST_LANES_SUM }
-    requires open { flat.now.open_lanes ≤ LANES }
-    requires units { flat.now.units ≤ 2 ^ 97 }
-    ensures { result ≡ false → IsFar low high top points flat.now before pair }
+/// Whether the greatest pair of a list between the lanes' low and high, and within their top, reaches the goal, where a level tells: the
+/// entries there are such a list.
+fn by_level(lanes: &Lanes, at: &Fitting, goal: &Goal, beyond: bool) -> Option<bool>
+    requires lanes { IsSpan lanes.now }
+    requires at { IsFitting lanes.now at.now }
+    requires goal { IsGoal goal.now }
+    ensures { IfSome result (λ reaches. reaches ≡ is_reached goal.now.pair beyond (bound_of lanes.now.low lanes.now.high lanes.now.top)) }
 {
-    let after = entry(low + points, high + points, flat.level);
-    let open = flat.open_lanes + ((high + points).min(1) - high.min(1)) as u8;
-    if open != pair.count {
-        return open > pair.count;
+    let open = count_positive(lanes.high);
+    if at.level == 0 {
+        return None;
     }
-    let over = (top + points).saturating_sub(flat.total - before + after);
-    if over >= 2 * flat.level {
-        return true;
+    if open != goal.pair.count {
+        return Some(open > goal.pair.count);
     }
-    let rises = after.max(1) * (2 * flat.level + over);
-    let stays = before.max(1) * (2 * flat.level - over);
-    let units = whole_units(pair.product);
-    flat.units * u128::from(rises) >= units * u128::from(stays)
+    let product = product_of(at.entries);
+    let entries = Pair {
+        count: open,
+        product,
+    };
+    if reaches_by(goal.pair, beyond, entries) {
+        return Some(true);
+    }
+    if is_short(at, product, goal) {
+        return Some(false);
+    }
+    None
 }
 
-/// Whether the owner could reach the pair with the next good; false only where the bound is below the pair.
-pub fn may_reach(
+/// Whether the greatest pair of a list between the lanes' low and high, and within their top, reaches the goal.
+fn judge(lanes: &Lanes, start: u32, goal: &Goal, beyond: bool) -> Reached
+    requires lanes { IsSpan lanes.now }
+    requires goal { IsGoal goal.now }
+    ensures { result.reaches ≡ is_reached goal.now.pair beyond (bound_of lanes.now.low lanes.now.high lanes.now.top) }
+{
+    let at = fit(lanes, start);
+    let reaches = match by_level(lanes, &at, goal, beyond) {
+        Some(reaches) => reaches,
+        None => {
+            let bound = bound_between(lanes.low, lanes.high, lanes.top, at.level);
+            reaches_by(goal.pair, beyond, bound)
+        }
+    };
+    Reached {
+        reaches,
+        level: at.level,
+    }
+}
+
+/// Whether the bound is at least the pair, or above it where it has to be beyond.
+fn reaches_by(pair: Pair, beyond: bool, bound: Pair) -> bool
+    ensures { result ≡ is_reached pair beyond bound }
+{
+    if beyond { pair < bound } else { pair <= bound }
+}
+
+/// Whether the bound of the owners with these lanes is at least the goal's pair, or above it where it has to be beyond. It is found soonest
+/// where `start` is near the bound's level.
+pub fn reaches(
+    case: &GoodsCase,
+    owners: &[u8],
+    lanes: &Lanes,
+    start: u32,
+    goal: &Goal,
+    beyond: bool,
+) -> Reached
+    requires valid { IsValidGoodsCase case.now }
+    requires few { player_count case.now ≤ MEMBER_ROOM }
+    requires lanes { IsLanes case.now owners.now lanes.now }
+    requires goal { IsGoal goal.now }
+    ensures { result.reaches ≡ is_reached goal.now.pair beyond (prefix_bound case.now owners.now) }
+{
+    judge(lanes, start, goal, beyond)
+}
+
+/// Whether the bound of the owners with the next good given to this owner is at least the goal's pair, or above it where it has to be beyond.
+/// It is found soonest where `start` is near the bound's level.
+pub fn next_reaches(
     case: &GoodsCase,
     table: &LaneTable,
     owners: &[u8],
     owner: u8,
     lanes: &Lanes,
-    flat: &Flat,
-    pair: Pair,
-) -> bool
+    start: u32,
+    goal: &Goal,
+    beyond: bool,
+) -> Reached
     requires table { IsLaneTable case.now table.now }
     requires open { HasFreeGood case.now owners.now }
     requires owner_low { 1 ≤ owner }
     requires owner_high { owner ≤ player_count case.now }
     requires lanes { IsFork case.now owners.now lanes.now }
-    requires flat { IsFlat lanes.now flat.now }
-    ensures { result ≡ false → IsLess (prefix_bound case.now (owners.now ++ owner ∷ [])) pair }
+    requires goal { IsGoal goal.now }
+    ensures { result.reaches ≡ is_reached goal.now.pair beyond (prefix_bound case.now (owners.now ++ owner ∷ [])) }
 {
-    let points = points_of(case, table, owners, owner);
-    is_near(
-        lane_of(&lanes.low, owner),
-        lane_of(&lanes.high, owner),
-        lanes.top,
-        points,
-        flat,
-        lane_of(&flat.entries, owner),
-        pair,
-    )
+    let mut child = *lanes;
+    give(case, table, owners, owner, &mut child);
+    judge(&child, start, goal, beyond)
 }

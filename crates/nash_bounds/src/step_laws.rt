@@ -1,5 +1,5 @@
 // What holds of tasks, counted prefixes and the step count, for all cases: each law is the contract of a function that does nothing.
-ghost use Rattle.std.specs.Prelude.{◌≡◌, ◌≢◌, ℕ, ◌+◌, ◌-◌, ◌*◌, ◌^◌, ◌<◌, ◌≤◌, ◌↔◌, ◌⊎◌, List, [], ◌∷◌, ◌++◌, length, take, AllPairs, All, Contains, Option, Some, None, flat_map, true};
+ghost use Rattle.std.specs.Prelude.{◌≡◌, ◌≢◌, ℕ, ◌+◌, ◌-◌, ◌*◌, ◌^◌, ◌<◌, ◌≤◌, ◌↔◌, ◌⊎◌, List, [], ◌∷◌, ◌++◌, length, take, AllPairs, All, Contains, Option, Some, None, flat_map, not, true};
 ghost use Rattle.std.specs.List.{range_with_len};
 ghost use Rattle.std.specs.Option.{option_to_list};
 ghost use Rattle.std.specs.Cmp.Lexicographic.{slice_cmp};
@@ -11,7 +11,8 @@ ghost use Rattle.bid_rules.specs.Goods.{AreOwners, GoodsBest, IsAllocation, IsBe
 ghost use Rattle.bid_rules.specs.Pairs.{IsLess};
 ghost use Rattle.nash_bounds.specs.Allocations.{IsBestOf};
 ghost use Rattle.nash_bounds.specs.Counted.{best, count_task, count_tasks, counted_leaves, counted_of_tasks};
-ghost use Rattle.nash_bounds.specs.LeftOut.{may_be_left, open_count};
+ghost use Rattle.nash_bounds.specs.Goals.{is_reached};
+ghost use Rattle.nash_bounds.specs.LeftOut.{is_after, may_be_left, open_count};
 ghost use Rattle.nash_bounds.specs.OwnerLists.{ArePlayers, IsLonger, below, leaves, lists};
 ghost use Rattle.nash_bounds.specs.Prefixes.{prefix_bound};
 ghost use Rattle.nash_bounds.specs.Serving.{Serves};
@@ -111,11 +112,14 @@ pub fn steps_law()
 
 /// The step law: of the prefixes of all lengths, the empty one among them, at most as many as the step count and `MOST_SHORTER` may not be
 /// left out by a tree that shows the best allocation. One may be left out where its bound is below the answer's pair, or the same and it is
-/// after the answer's first owners.
+/// after the answer's first owners: where its bound does not reach the pair, or is not above it where the owners are after the answer's first
+/// ones.
 pub fn open_prefixes_law()
     ensures left { (case : GoodsCase) (answer owners : List ℕ) → may_be_left case answer owners ≡ true
         ↔ IsLess (prefix_bound case owners) (pair_of case answer)
         ⊎ ((prefix_bound case owners ≡ pair_of case answer) × (slice_cmp nat_cmp owners (take (length owners) answer) ≡ Greater)) }
+    ensures reached { (case : GoodsCase) (answer owners : List ℕ)
+        → may_be_left case answer owners ≡ not (is_reached (pair_of case answer) (is_after answer owners) (prefix_bound case owners)) }
     ensures few { (case : GoodsCase) (floor : Pair) (answer : List ℕ) → IsValidGoodsCase case → IsStartValue case floor → GoodsBest case answer
         → open_count case answer ≤ step_count case floor + MOST_SHORTER }
 {}

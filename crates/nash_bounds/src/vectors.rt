@@ -1,9 +1,9 @@
-ghost use Rattle.std.specs.Prelude.{◌≡◌, ◌<◌, ◌≤◌, ◌-◌, ◌^◌, length, slice_index, sum};
-ghost use Rattle.bid_rules.specs.Pairs.{positives};
-ghost use Rattle.nash_bounds.specs.Levels.{entry_at};
+ghost use Rattle.std.specs.Prelude.{◌≡◌, ℕ, ◌<◌, ◌≤◌, ◌-◌, ◌^◌, length, map, max, slice_index, sum, All};
+ghost use Rattle.bid_rules.specs.Pairs.{positives, product};
 ghost use Rattle.nash_bounds.specs.Reach.{entries_at};
 
-use crate::limits::LANES;
+use crate::limits::{HALF_ROOM, LANES};
+use bid_rules::limits::{MEMBER_ROOM, WHOLE_POINTS};
 use std::simd::prelude::*;
 
 /// The number of a player's lane.
@@ -14,13 +14,6 @@ pub(crate) fn lane_of(numbers: &u16x16, player: u8) -> u32
     ensures { result ≡ slice_index numbers.now (player - 1) }
 {
     u32::from(numbers.as_array()[player as usize - 1])
-}
-
-/// An entry at a level.
-pub(crate) fn entry(low: u32, high: u32, level: u32) -> u32
-    ensures { result ≡ entry_at level low high }
-{
-    level.min(high).max(low)
 }
 
 /// The entries at a level.
@@ -48,4 +41,41 @@ pub(crate) fn count_positive(numbers: u16x16) -> u8
     ensures few { result ≤ LANES }
 {
     total(numbers.simd_min(u16x16::splat(1))) as u8
+}
+
+/// The numbers, each at least 1.
+fn raised(numbers: u16x16) -> u16x16
+    requires { length numbers ≡ LANES }
+    ensures { result ≡ map (λ number. max number 1) numbers }
+{
+    numbers.simd_max(u16x16::splat(1))
+}
+
+/// The product of up to half as many numbers as there is room for players.
+fn half_product(numbers: &[u16]) -> u64
+    requires short { length numbers.now ≤ HALF_ROOM }
+    requires some { All (λ number. 1 ≤ number) numbers.now }
+    requires small { All (λ number. number ≤ WHOLE_POINTS) numbers.now }
+    ensures value { result ≡ product numbers.now }
+    ensures small { result ≤ WHOLE_POINTS ^ HALF_ROOM }
+{
+    let mut product: u64 = 1;
+    for number in numbers {
+        product *= u64::from(*number);
+    }
+    product
+}
+
+/// The product of the positive numbers, of which there is one for each player, and 0 in the other lanes.
+///
+/// Each half of the players' numbers has a product that fits 64 bits.
+pub(crate) fn product_of(numbers: u16x16) -> u128
+    requires long { length numbers ≡ LANES }
+    requires small { All (λ number. number ≤ WHOLE_POINTS) numbers }
+    requires rest { (k : ℕ) → MEMBER_ROOM ≤ k → slice_index numbers k ≡ 0 }
+    ensures { result ≡ product numbers }
+{
+    let raised = raised(numbers);
+    let (first, others) = raised.as_array().split_at(HALF_ROOM);
+    u128::from(half_product(first)) * u128::from(half_product(&others[..HALF_ROOM]))
 }

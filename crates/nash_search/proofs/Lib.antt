@@ -1,6 +1,8 @@
 pub mod CountedBelow
 pub mod WaitingOwners
 pub mod WalkMoves
+pub mod ReachedGoals
+pub mod LevelForks
 pub mod WalkPieces
 pub mod TaskPlaces
 pub mod FirstPlayers

@@ -10,7 +10,7 @@ use Rattle.nash_search.specs.Best.{list_of}
 use Rattle.nash_search.specs.Waiting.{IsSettled, IsWalk, to_come, count_all, best_all, Goes}
 use Rattle.nash_search.specs.Pieces.{Advanced, IsTaskWalk, Pieces}
 use Rattle.nash_search.specs.declared.found.Found.{Found}
-use Rattle.nash_search.specs.declared.walk.Rules.{Rules}
+use Rattle.nash_search.specs.declared.rules.Rules.{Rules}
 use Rattle.nash_search.specs.declared.walk.Walk.{Walk}
 use Rattle.nash_search.proofs.WaitingOwners.{one_count, one_best}
 use Rattle.nash_search.proofs.CountedBelow.{BoundFalls}

@@ -1,25 +1,21 @@
 -- What a walk on a path has still to come.
-use Rattle.std.specs.Prelude.{◌≡◌, ℕ, ◌-◌, ◌+◌, ◌<◌, ◌⊎◌, List, [], ◌∷◌, ◌++◌, length, map, fold, reverse, All, Option, ◌&&◌, true, false}
+use Rattle.std.specs.Prelude.{◌≡◌, ℕ, ◌-◌, ◌+◌, ◌<◌, ◌⊎◌, List, [], ◌∷◌, ◌++◌, length, map, fold, reverse, take, slice_index_or, All, Option, ◌&&◌, true}
 use Rattle.std.specs.List.{sum_by}
 use Rattle.bid_rules.specs.declared.goods.GoodsCase.{GoodsCase}
 use Rattle.bid_rules.specs.declared.pair.Pair.{Pair}
-use Rattle.bid_rules.specs.Pairs.{IsLess}
 use Rattle.bid_rules.specs.Goods.{AreOwners}
-use Rattle.bid_rules.specs.declared.limits.TheConstants.{MEMBER_ROOM}
-use Rattle.arrayvec.specs.declared.array_vec.ArrayVec.{ArrayVec}
-use Rattle.nash_bounds.specs.Lanes.{IsLaneTable, IsLanes}
+use Rattle.nash_bounds.specs.Goals.{IsGoal, is_reached}
+use Rattle.nash_bounds.specs.Lanes.{IsFork, IsLaneTable}
 use Rattle.bid_rules.specs.Pairs.{is_at_most, is_above}
 use Rattle.nash_bounds.specs.Counted.{is_counted, count, best}
 use Rattle.nash_search.specs.Best.{list_of, IsKept}
+use Rattle.nash_search.specs.declared.levels.Level.{Level}
+use Rattle.nash_search.specs.declared.rules.Rules.{Rules}
 use Rattle.nash_search.specs.declared.walk.Walk.{Walk}
 
 -- the owners who wait at a level
-abbrev pub Level : Type 0
-Level = ArrayVec ℕ MEMBER_ROOM (Unit {0})
-
--- these owners as a list
 abbrev pub owners_of : Level → List ℕ
-owners_of level = level.items
+owners_of level = level.owners.items
 
 -- the prefixes that wait, in rising order: first those that extend the whole path, by the owners of the last level from its end, and last those
 -- that extend none of it
@@ -40,25 +36,34 @@ count_all case floor above prefixes = sum_by (λ owners. count case floor above 
 abbrev pub best_all : GoodsCase → Pair → Option Pair → List (List ℕ) → Option (List ℕ) → Option (List ℕ)
 best_all case floor above prefixes old = fold (λ kept owners. best case floor above (case.facts.goods - length owners) owners kept) old prefixes
 
--- a pair below it is not counted
-abbrev pub IsReach : Pair → Option Pair → Pair → Type 0
-IsReach floor above reach = (pair : Pair) → IsLess pair reach → (is_at_most floor pair && is_above above pair) ≡ false
+-- a pair reaches the goal, or is above it where it has to be, exactly where it is at least floor and greater than above
+pub record AreRules (rules : Rules) : Type 0 where
+  pub goal : IsGoal rules.goal
+  pub same : (pair : Pair) → (is_at_most rules.floor pair && is_above rules.above pair) ≡ is_reached rules.goal.pair rules.beyond pair
+
+-- where somebody waits at the level, it has the lanes of these owners, without the next good
+abbrev pub HasFork : GoodsCase → List ℕ → Level → Type 0
+HasFork case owners level = 0 < length level.owners.items → IsFork case owners level.lanes
+
+-- each level has those of the path's owners before it
+abbrev pub HaveForks : GoodsCase → List ℕ → List Level → Type 0
+HaveForks case path levels = (k : ℕ) (other : Level) → k < length levels → HasFork case (take k path) (slice_index_or levels k other)
 
 -- owners of the first few goods with a level for each of these and one more, or no level; each prefix that waits is counted
 pub record IsWalk (case : GoodsCase) (walk : Walk) : Type 0 where
   pub table : IsLaneTable case walk.table
-  pub lanes : IsLanes case walk.path.items walk.lanes
+  pub forks : HaveForks case walk.path.items walk.levels.items
   pub short : length walk.path.items < case.facts.goods
   pub owned : AreOwners case walk.path.items
   pub levelled : (walk.levels.items ≡ []) ⊎ (length walk.levels.items ≡ length walk.path.items + 1)
   pub players : All (λ level. AreOwners case (owners_of level)) walk.levels.items
   pub counted : All (λ owners. is_counted case walk.rules.floor walk.rules.above owners ≡ true) (to_come walk)
   pub kept : IsKept case walk.best
-  pub reach : IsReach walk.rules.floor walk.rules.above walk.rules.reach
+  pub rules : AreRules walk.rules
 
 -- nothing waits, or the last level has an owner
 abbrev pub IsSettled : Walk → Type 0
-IsSettled walk = (walk.levels.items ≡ []) ⊎ ((front : List Level) × (last : Level) × (walk.levels.items ≡ front ++ last ∷ []) × (0 < length last.items))
+IsSettled walk = (walk.levels.items ≡ []) ⊎ ((front : List Level) × (last : Level) × (walk.levels.items ≡ front ++ last ∷ []) × (0 < length last.owners.items))
 
 -- what was counted and what is still to come is the same together
 pub record Goes (case : GoodsCase) (old new : Walk) : Type 0 where

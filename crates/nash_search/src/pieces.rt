@@ -6,9 +6,10 @@ ghost use Rattle.nash_search.specs.Pieces.{IsTaskWalk, Advanced};
 ghost use Rattle.nash_search.specs.Tables.{AreTables};
 
 use crate::found::{Found, copied};
+use crate::rules::rules_of;
 use crate::tables::Tables;
 use crate::task::task_prefix;
-use crate::walk::{Rules, Walk, reach_of, start};
+use crate::walk::{Walk, start};
 use bid_rules::GoodsCase;
 use nash_bounds::{Pair, best_counted_law, bound_law};
 use std::marker::Model;
@@ -70,12 +71,7 @@ pub fn walk_by(
 {
     bound_law();
     let prefix = task_prefix(case, &tables.points, task);
-    let rules = Rules {
-        floor,
-        above,
-        reach: reach_of(floor, above),
-    };
-    let walk = start(case, tables.copied_lanes(), &prefix, rules);
+    let walk = start(case, tables.copied_lanes(), &prefix, rules_of(floor, above));
     TaskWalk { task, walk }
 }
 

@@ -1,10 +1,10 @@
 -- How the search of a block ends.
-use Rattle.std.specs.Prelude.{◌≡◌, ℕ, ◌+◌, ◌*◌, ◌<◌, ◌≤◌, List, Option}
+use Rattle.std.specs.Prelude.{◌≡◌, ℕ, ◌+◌, ◌*◌, ◌<◌, ◌≤◌, List, Option, min}
 use mathlib.Core.Option.{some}
 use lib.ListN.{get_elem?}
 use Rattle.bid_rules.specs.declared.goods.GoodsCase.{GoodsCase}
 use Rattle.bid_rules.specs.declared.pair.Pair.{Pair}
-use Rattle.nash_bounds.specs.Blocks.{count_block, counted_of_block}
+use Rattle.nash_bounds.specs.Blocks.{count_block, counted_of_block, tasks_in}
 use Rattle.nash_search.specs.Best.{IsFoundBest}
 use Rattle.nash_search.specs.declared.found.Found.{Found}
 use Rattle.search_workers.specs.declared.limits.TheConstants.{LONGEST_PIECE}
@@ -12,6 +12,10 @@ use Rattle.search_workers.specs.declared.block.BlockEnd.{BlockEnd}
 use Rattle.search_workers.specs.declared.block.BlockEnd.TheVariants.{Done, Over}
 use Rattle.search_workers.specs.declared.view.DeskView.{DeskView}
 use Rattle.search_workers.specs.Works.{HasWhole}
+
+-- how many workers a block takes: those asked for, but no more than it has tasks
+abbrev pub crew_of : GoodsCase → ℕ → ℕ → ℕ
+crew_of case block workers = min workers (tasks_in case block)
 
 -- the counted prefixes of the block's tasks are no more than are left: all are counted, and the best of the counted allocations is found. Or
 -- they are more, and of them more than are left are counted, by at most a piece a worker

@@ -2,7 +2,7 @@ ghost use Rattle.std.specs.Prelude.{◌≡◌, ◌+◌, ◌*◌, ◌<◌, ◌≤
 ghost use Rattle.bid_rules.specs.Goods.{IsValidGoodsCase};
 ghost use Rattle.nash_bounds.specs.Tasks.{tasks_of};
 ghost use Rattle.nash_search.specs.Tables.{AreTables};
-ghost use Rattle.search_workers.specs.BlockEnds.{EndsBlock};
+ghost use Rattle.search_workers.specs.BlockEnds.{EndsBlock, crew_of};
 
 use crate::crew::{gather, run_workers, seat_workers};
 use crate::desk::open_desk;
@@ -90,6 +90,19 @@ fn share<R: Threads + Sync, G: Gate + Sync>(
     Ok(gather(&desk, crew, case, rule, workers))
 }
 
+/// How many workers a block takes: those asked for, but no more than it has tasks.
+fn crew_size(case: &GoodsCase, block: u32, workers: u8) -> u8
+    requires case { IsValidGoodsCase case.now }
+    requires block { BLOCK_TASKS * block < tasks_of case.now }
+    requires workers { 1 ≤ workers }
+    ensures crew { result ≡ crew_of case.now block workers }
+    ensures some { 1 ≤ result }
+    ensures asked { result ≤ workers }
+{
+    let tasks = tasks_in_block(case, block);
+    workers.min(tasks as u8)
+}
+
 /// What `run_block` does, by the case's tables.
 pub(crate) fn run_by<R: Threads + Sync, G: Gate + Sync>(
     alloc: Global,
@@ -105,14 +118,16 @@ pub(crate) fn run_by<R: Threads + Sync, G: Gate + Sync>(
     requires block { BLOCK_TASKS * rule.now.block < tasks_of case.now }
     requires left { rule.now.left ≤ MOST_STEPS }
     requires workers { (1 ≤ workers) × (workers ≤ MOST_WORKERS) }
-    ensures { EndsBlock case.now rule.now.floor rule.now.above rule.now.block rule.now.left workers result }
+    ensures asked { EndsBlock case.now rule.now.floor rule.now.above rule.now.block rule.now.left workers result }
+    ensures crew { EndsBlock case.now rule.now.floor rule.now.above rule.now.block rule.now.left (crew_of case.now rule.now.block workers) result }
 {
-    if workers == 1 {
-        return walk_alone(case, tables, rule, workers, gate);
+    let crew = crew_size(case, rule.block, workers);
+    if crew == 1 {
+        return walk_alone(case, tables, rule, crew, gate);
     }
-    match share(alloc, rt, case, tables, rule, workers, gate) {
+    match share(alloc, rt, case, tables, rule, crew, gate) {
         Ok(end) => end,
-        Err(AllocError) => walk_alone(case, tables, rule, workers, gate),
+        Err(AllocError) => walk_alone(case, tables, rule, crew, gate),
     }
 }
 
@@ -120,7 +135,10 @@ pub(crate) fn run_by<R: Threads + Sync, G: Gate + Sync>(
 ///
 /// Those prefixes of the tasks are counted whose bound is at least `floor` and, where `above` is there, greater than it. `Over` comes exactly
 /// where they are more than `left`. The end is the same for every number of workers and whoever walks which task, but for the number that
-/// `Over` gives. One worker, or where no memory is found for the desk or its seats, the calling thread walks the block alone.
+/// `Over` gives.
+///
+/// It takes no more workers than the block has tasks, the calling thread among them. Where it takes one, or no memory is found for the desk or
+/// its seats, the calling thread walks the block alone.
 pub fn run_block<R: Threads + Sync, G: Gate + Sync>(
     alloc: Global,
     rt: &R,
@@ -136,7 +154,8 @@ pub fn run_block<R: Threads + Sync, G: Gate + Sync>(
     requires block { BLOCK_TASKS * block < tasks_of case.now }
     requires left { left ≤ MOST_STEPS }
     requires workers { (1 ≤ workers) × (workers ≤ MOST_WORKERS) }
-    ensures { EndsBlock case.now floor above block left workers result }
+    ensures asked { EndsBlock case.now floor above block left workers result }
+    ensures crew { EndsBlock case.now floor above block left (crew_of case.now block workers) result }
 {
     let tables = Tables::of(case);
     let rule = BlockRule {

@@ -7,5 +7,6 @@ returns-clause-answer c = record {
   valid = c.requires.case;
   table = c.lane_table-table.ensures;
   allocation = subst (IsAllocation c.args.case) (sym c.owners_in_order-owners.ensures) (c.owners_by_good_law.ensures.allocation c.args.case c.args.owners.now c.requires.owners c.requires.owned);
-  pair = c.pair_of-pair.ensures ∙ ap (pair_of c.args.case) c.as_slice-4.ensures.value;
+  goal = c.of.ensures.goal;
+  pair = c.of.ensures.pair ∙ c.pair_of-pair.ensures ∙ ap (pair_of c.args.case) c.as_slice-4.ensures.value;
 }

@@ -42,7 +42,7 @@ answer_of-requires-clause-owned c =
     rw (numbers, ← players) (owners_unsigned (length c.args.who.now) c.args.owners.now c.in-Some-owners_of.ensures.0)
 
 pub returns-clause-state : goal.returns-clause-state
-returns-clause-state c = (c.answer_of.ensures.answer, c.new.ensures.path c.answer_of.result.case)
+returns-clause-state c = (c.answer_of.ensures.answer, c.new.ensures.walk c.answer_of.result.case c.answer_of.result.goal.pair)
 
 pub returns-clause-stands : goal.returns-clause-stands
 returns-clause-stands c steps marks =

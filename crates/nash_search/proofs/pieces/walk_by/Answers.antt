@@ -1,7 +1,7 @@
 use Rattle.std.proofs.Common.{◌≡◌, ◌∷◌, [], cond, subst, sym}
 use Rattle.nash_bounds.specs.Counted.{is_counted}
 use Rattle.nash_search.specs.Waiting.{to_come}
-use Rattle.nash_search.specs.declared.walk.Rules.{Rules}
+use Rattle.nash_search.specs.declared.rules.Rules.{Rules}
 use Rattle.nash_search.proofs.WalkPieces.{begins}
 use Rattle.nash_search.proofs.pieces.walk_by.Goals as goal
 

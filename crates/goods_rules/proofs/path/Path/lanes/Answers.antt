@@ -11,12 +11,12 @@ returns-in_default c =
 
 pub give-requires-clause-owner_low : goal.give-requires-clause-owner_low
 give-requires-clause-owner_low c =
-    (last_owner c.args.answer.now.case c.args.self.now c.in-Some.owner.now c.in-Some.owners.now (sym c.as_slice.ensures.value ∙ c.in-Some.ensures.cases.0) c.requires.path).0
+    (last_owner c.args.answer.now.case c.args.answer.now.goal.pair c.args.self.now c.in-Some.owner.now c.in-Some.owners.now (sym c.as_slice.ensures.value ∙ c.in-Some.ensures.cases.0) c.requires.path).0
 
 pub give-requires-clause-owner_high : goal.give-requires-clause-owner_high
 give-requires-clause-owner_high c =
-    (last_owner c.args.answer.now.case c.args.self.now c.in-Some.owner.now c.in-Some.owners.now (sym c.as_slice.ensures.value ∙ c.in-Some.ensures.cases.0) c.requires.path).1
+    (last_owner c.args.answer.now.case c.args.answer.now.goal.pair c.args.self.now c.in-Some.owner.now c.in-Some.owners.now (sym c.as_slice.ensures.value ∙ c.in-Some.ensures.cases.0) c.requires.path).1
 
 pub give-requires-clause-lanes : goal.give-requires-clause-lanes
 give-requires-clause-lanes c =
-    rw c.deref.ensures.0 (last_parent c.args.answer.now.case c.args.self.now c.in-Some.owner.now c.in-Some.owners.now _ (sym c.as_slice.ensures.value ∙ c.in-Some.ensures.cases.0) c.requires.path).fork
+    rw c.deref.ensures.0 (last_parent c.args.answer.now.case c.args.answer.now.goal.pair c.args.self.now c.in-Some.owner.now c.in-Some.owners.now _ (sym c.as_slice.ensures.value ∙ c.in-Some.ensures.cases.0) c.requires.path).fork

@@ -1,40 +1,31 @@
-use Rattle.std.proofs.Common.{arith, refl, sym, ◌↔◌, ◌∷◌, ◌≤◌, List, ℕ, subst, reverse}
+use Rattle.std.proofs.Common.{arith, refl, ◌≡◌, ◌<◌, inl, inr, ap, sym, ◌↔◌, [], List, ℕ, length, subst, reverse, Bool, true, false}
 use Rattle.bid_rules.specs.Goods.{player_count}
-use Rattle.goods_rules.specs.Ahead.{FinishesBehind, CanStand, FinishesAt, FinishesTree, holds_so_far}
+use Rattle.goods_rules.specs.Ahead.{FinishesBehind, CanStand, FinishesTree}
 use Rattle.goods_rules.specs.Rules.{leaf_rule}
-use Rattle.goods_rules.proofs.MarkSteps.{judged, no_tree, one_leaf, passed, plus_fits}
-use Rattle.goods_rules.proofs.PathSteps.{ahead_false, mark_plus}
+use Rattle.goods_rules.proofs.MarkSteps.{judged, left_leaf, one_leaf}
 use Rattle.goods_rules.proofs.walk.Walk.take.Goals as goal
 
-pub returns-then-not-fits-clause-left : goal.returns-then-not-fits-clause-left
-returns-then-not-fits-clause-left c number marks = (
-  λ h. absurd (no_tree (leaf_rule c.args.answer.now.case c.args.answer.now.owners.items number) (player_count c.args.answer.now.case) c.args.answer.now.case.facts.goods
-      c.args.self.now.whole c.args.self.now.path.owners.items c.args.mark marks (λ f. let now = c.fits.ensures.1 f in let never = c.if-not-fits.true in cc) h.1),
-  λ h. absurd (c.give_up.ensures.kept number h.0),
-)
+pub returns-then-is_far-clause-walk : goal.returns-then-is_far-clause-walk
+returns-then-is_far-clause-walk c = record {
+  path = c.climb-self.ensures.path c.args.answer.now.case c.args.answer.now.goal.pair (sym c.players.ensures.value) c.requires.walk.path;
+  ended = c.climb-self.ensures.ended;
+}
 
-pub returns-then-mark-eq-INNER_NODE-clause-left : goal.returns-then-mark-eq-INNER_NODE-clause-left
-returns-then-mark-eq-INNER_NODE-clause-left c number marks =
-    let case = c.args.answer.now.case in
-    let leaf : List ℕ → ℕ → Type 0 = leaf_rule case c.args.answer.now.owners.items number in
-    let path = c.args.self.now.path.owners.items in
-    let longer = c.enter.new.self.owners.items in
-    let fits : CanStand case.facts.goods c.args.self.now.whole path c.args.mark = c.fits.ensures.0 c.if-not-fits.false in
-    let low = plus_fits case.facts.goods c.args.self.now.whole path c.args.mark fits c.if-mark-eq-INNER_NODE.true in
-    let some : 1 ≤ player_count case = (let one = c.requires.answer.valid.some in let each = c.requires.answer.valid.each in omega arith) in
-    let step : FinishesAt leaf (player_count case) case.facts.goods (reverse path) (c.args.mark ∷ marks) ↔ FinishesAt leaf (player_count case) case.facts.goods (reverse longer) marks =
-    subst (λ m. FinishesAt leaf (player_count case) case.facts.goods (reverse path) (m ∷ marks) ↔ FinishesAt leaf (player_count case) case.facts.goods (reverse longer) marks) (sym c.if-mark-eq-INNER_NODE.true)
-    (mark_plus leaf (player_count case) case.facts.goods path longer c.enter.ensures.owners some low marks) in
-    passed (holds_so_far c.args.self.now.kept number) (holds_so_far c.args.self.now.kept number) refl
-    (ahead_false leaf (player_count case) case.facts.goods c.args.self.now.whole path longer (c.args.mark ∷ marks) marks fits.0 step)
+-- a walk that is not at the root goes on
+going : (whole : Bool) (owners : List ℕ) → (whole ≡ true → owners ≡ []) → 0 < length owners → whole ≡ false
+going true owners ended some = let none = ap length (ended refl) in absurd (omega arith)
+going false owners ended some = refl
 
-pub returns-clause-left : goal.returns-clause-left
-returns-clause-left c number marks =
+pub returns-then-is_far-clause-left : goal.returns-then-is_far-clause-left
+returns-then-is_far-clause-left c number marks =
     let case = c.args.answer.now.case in
-    let leaf : List ℕ → ℕ → Type 0 = leaf_rule case c.args.answer.now.owners.items number in
+    let answer : List ℕ = c.args.answer.now.owners.items in
+    let leaf : List ℕ → ℕ → Type 0 = leaf_rule case answer number in
     let path = c.args.self.now.path.owners.items in
-    let fits : CanStand case.facts.goods c.args.self.now.whole path c.args.mark = c.fits.ensures.0 c.if-not-fits.false in
+    let mark = c.if-mark-eq-LEFT_OUT.true in
+    let fits : CanStand case.facts.goods c.args.self.now.whole path c.args.mark = (going c.args.self.now.whole path c.requires.walk.ended (c.is_far.ensures.child c.if-is_far.true), inr (inl mark)) in
+    let stands : leaf path c.args.mark = subst (leaf path) (sym mark) (left_leaf case answer path number (c.is_far.ensures.left c.if-is_far.true)) in
     let after : FinishesBehind leaf (player_count case) case.facts.goods (reverse path) marks ↔ FinishesTree leaf (player_count case) case.facts.goods c.climb-self.result c.climb-self.new.self.owners.items marks =
     subst (λ n. FinishesBehind leaf n case.facts.goods (reverse path) marks ↔ FinishesTree leaf n case.facts.goods c.climb-self.result c.climb-self.new.self.owners.items marks) c.players.ensures.value
-    (c.climb-self.ensures.left case c.args.answer.now.owners.items number marks) in
-    judged (c.judge.ensures number) (one_leaf leaf (player_count case) case.facts.goods c.args.self.now.whole path c.args.mark marks fits c.if-mark-eq-INNER_NODE.false) after
+    (c.climb-self.ensures.left case answer number marks) in
+    judged (λ kept. (kept, stands), λ both. both.0) (one_leaf leaf (player_count case) case.facts.goods c.args.self.now.whole path c.args.mark marks fits (λ plus. absurd (omega arith))) after

@@ -1,6 +1,6 @@
 use Rattle.std.proofs.Common.{◌≡◌, ap, sym, subst}
 use Rattle.nash_search.specs.Pieces.{Advanced, IsTaskWalk, Pieces}
-use Rattle.nash_search.specs.declared.walk.Rules.{Rules}
+use Rattle.nash_search.specs.declared.rules.Rules.{Rules}
 use Rattle.nash_search.proofs.WalkPieces.{after_piece, all_or_left, goes_far, goes_task, same_view, view_of}
 use Rattle.nash_search.proofs.pieces.TaskWalk.advance.Goals as goal
 

@@ -1,7 +1,7 @@
 use Rattle.std.proofs.Common.{arith, ◌<◌, length, subst}
 use Rattle.std.proofs.lemmas.Bool.Decides.{nat_tests}
 use Rattle.nash_search.specs.Waiting.{to_come, count_all}
-use Rattle.nash_search.specs.declared.walk.Rules.{Rules}
+use Rattle.nash_search.specs.declared.rules.Rules.{Rules}
 use Rattle.nash_search.proofs.WalkMoves.{goes_none, goes_on, settled_left}
 use Rattle.nash_search.proofs.walk.Walk.run.Goals as goal
 

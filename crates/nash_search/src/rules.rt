@@ -1,0 +1,39 @@
+ghost use Rattle.std.specs.Prelude.{◌≡◌};
+ghost use Rattle.nash_search.specs.Waiting.{AreRules};
+
+use nash_bounds::{Goal, Pair};
+
+/// Which prefixes are counted.
+#[derive(Clone, Copy)]
+pub(crate) struct Rules {
+    /// A counted prefix has at least this bound.
+    pub(crate) floor: Pair,
+    /// A counted prefix has a greater bound, where this is there.
+    pub(crate) above: Option<Pair>,
+    /// What the bound of a counted prefix reaches.
+    pub(crate) goal: Goal,
+    /// Whether it has to be above the goal's pair.
+    pub(crate) beyond: bool,
+}
+
+/// The rules by which a counted prefix has at least `floor` as its bound and, where `above` is there, a greater one than that.
+pub(crate) fn rules_of(floor: Pair, above: Option<Pair>) -> Rules
+    ensures rules { AreRules result }
+    ensures floor { result.floor ≡ floor }
+    ensures above { result.above ≡ above }
+{
+    match above {
+        Some(pair) if floor <= pair => Rules {
+            floor,
+            above,
+            goal: Goal::of(pair),
+            beyond: true,
+        },
+        _ => Rules {
+            floor,
+            above,
+            goal: Goal::of(floor),
+            beyond: false,
+        },
+    }
+}
