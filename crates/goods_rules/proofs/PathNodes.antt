@@ -126,3 +126,18 @@ far_less case pair path owner owners parents other has is same told far h =
     never : (b : Bool) → not b ≡ true → b ≡ false
     never true e = absurd (cc)
     never false e = refl
+
+-- a path with the same owners and parents is a path
+pub path_same : (case : GoodsCase) (pair : Pair) (path next : Path) → next.owners.items ≡ path.owners.items → next.parents.items ≡ path.parents.items → IsPath case pair path → IsPath case pair next
+path_same case pair path next owners parents h =
+    let long = ap length owners in
+    let short = h.short in
+    let count = h.count in
+    record {
+      short = omega arith;
+      owned = subst (AreOwners case) (sym owners) h.owned;
+      count = ap length parents ∙ count ∙ sym long;
+      each = λ k other l.
+          subst (λ (os : List ℕ). IsParent case pair (take k os) (get_or next.parents.items k other)) (sym owners)
+          (subst (λ (ps : List Parent). IsParent case pair (take k path.owners.items) (get_or ps k other)) (sym parents) (h.each k other (omega arith)));
+    }

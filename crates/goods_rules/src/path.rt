@@ -127,7 +127,8 @@ impl Path {
 
     /// Leaves a node whose subtree was read whole: goes to the next sibling, of it or of the nearest node above that has one. Whether there
     /// is none.
-    pub(crate) fn climb(&mut self, players: u8) -> bool
+    #[inline(never)]
+    fn climb_up(&mut self, players: u8) -> bool
         requires players { players ≤ MEMBER_ROOM }
         ensures path { (case : GoodsCase) (pair : Pair) → player_count case ≡ players → IsPath case pair self.old → IsPath case pair self.new }
         ensures left { (case : GoodsCase) (answer : List ℕ) (number : ℕ) (marks : List ℕ)
@@ -142,6 +143,24 @@ impl Path {
             self.ascend();
         }
         true
+    }
+
+    /// The same. Most nodes have a sibling, and no node above is then left.
+    pub(crate) fn climb(&mut self, players: u8) -> bool
+        requires players { players ≤ MEMBER_ROOM }
+        ensures path { (case : GoodsCase) (pair : Pair) → player_count case ≡ players → IsPath case pair self.old → IsPath case pair self.new }
+        ensures left { (case : GoodsCase) (answer : List ℕ) (number : ℕ) (marks : List ℕ)
+            → FinishesBehind (leaf_rule case answer number) players case.facts.goods (reverse self.old.owners.items) marks
+            ↔ FinishesTree (leaf_rule case answer number) players case.facts.goods result self.new.owners.items marks }
+        ensures ended { result ≡ true → self.new.owners.items ≡ [] }
+    {
+        if self.owners.is_empty() {
+            return true;
+        }
+        if self.to_sibling(players) {
+            return false;
+        }
+        self.climb_up(players)
     }
 
     /// Whether the node is a child who could not reach the answer's pair, and so may be left out.

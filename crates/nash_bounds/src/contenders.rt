@@ -208,6 +208,7 @@ fn among(open_lanes: u8, count: u8, reaching: u64, opened: u64) -> u64
 }
 
 /// The same by the lanes at a level.
+#[inline(always)]
 fn contenders_at(
     case: &GoodsCase,
     table: &LaneTable,
@@ -239,6 +240,7 @@ fn contenders_at(
 
 /// Who could reach the goal with the next good: whoever is left out has a bound below the goal's pair with it. They are told apart soonest
 /// where `start` is near the level of the owners' bound.
+#[inline(always)]
 pub fn contenders_of(
     case: &GoodsCase,
     table: &LaneTable,

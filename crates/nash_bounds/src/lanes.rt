@@ -95,7 +95,7 @@ fn raised(top: u32, points: u32) -> u32
 }
 
 /// What the owner gives the next good.
-pub(crate) fn points_of(case: &GoodsCase, table: &LaneTable, owners: &[u8], owner: u8) -> u32
+fn points_of(case: &GoodsCase, table: &LaneTable, owners: &[u8], owner: u8) -> u32
     requires table { IsLaneTable case.now table.now }
     requires open { HasFreeGood case.now owners.now }
     requires owner_low { 1 ≤ owner }
@@ -131,6 +131,7 @@ fn lowered_lane(numbers: u16x16, owner: u8, points: u32) -> u16x16
 }
 
 /// Gives the next good to the owner.
+#[inline(always)]
 pub fn give(case: &GoodsCase, table: &LaneTable, owners: &[u8], owner: u8, lanes: &mut Lanes)
     requires table { IsLaneTable case.now table.now }
     requires open { HasFreeGood case.now owners.now }

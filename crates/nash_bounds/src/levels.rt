@@ -13,9 +13,9 @@ use std::simd::prelude::*;
 
 /// All entries at one level, each within its low and high, and the first few of those that can rise one above it.
 #[derive(Clone, Copy)]
-pub(crate) struct Height {
-    pub(crate) level: u32,
-    pub(crate) extra: u32,
+struct Height {
+    level: u32,
+    extra: u32,
 }
 
 /// What the entries sum to at a level, and how many of them rise from there to the next.
@@ -63,7 +63,7 @@ fn aim(at: AtLevel, level: u32, top: u32, middle: u32) -> u32
 ///
 /// It lies between a level that fits and one that doesn't. The first guess is `start`, any number. Each further one takes the number of rising entries as constant, and so meets
 /// it as soon as no entry's ends lie between.
-pub(crate) fn last_level(low: u16x16, high: u16x16, top: u32, start: u32) -> Height
+fn last_level(low: u16x16, high: u16x16, top: u32, start: u32) -> Height
     requires lows { length low ≡ LANES }
     requires highs { length high ≡ LANES }
     requires order { AllZip ◌≤◌ low high }
@@ -99,7 +99,7 @@ pub(crate) fn last_level(low: u16x16, high: u16x16, top: u32, start: u32) -> Hei
 /// How high the entries rise together from low, until they sum to `top` or are all high.
 ///
 /// No whole list allowed has a greater pair: one more point multiplies the smallest utility by the most.
-pub(crate) fn raise(low: u16x16, high: u16x16, top: u32, start: u32) -> Height
+fn raise(low: u16x16, high: u16x16, top: u32, start: u32) -> Height
     requires lows { length low ≡ LANES }
     requires highs { length high ≡ LANES }
     requires order { AllZip ◌≤◌ low high }

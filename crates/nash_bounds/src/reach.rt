@@ -1,6 +1,5 @@
 ghost use Rattle.std.specs.Prelude.{◌≡◌, ◌<◌, ◌≤◌, [], ◌∷◌, ◌++◌, IfSome, true};
 ghost use Rattle.bid_rules.specs.Goods.{IsValidGoodsCase, pair_of, player_count};
-ghost use Rattle.bid_rules.specs.Pairs.{is_at_most, is_less, product};
 ghost use Rattle.nash_bounds.specs.Goals.{IsGoal, IsShort, is_reached};
 ghost use Rattle.nash_bounds.specs.Levels.{bound_of};
 ghost use Rattle.nash_bounds.specs.Prefixes.{prefix_bound};

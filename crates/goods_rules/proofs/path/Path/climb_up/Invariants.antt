@@ -5,7 +5,7 @@ use Rattle.bid_rules.specs.declared.pair.Pair.{Pair}
 use Rattle.goods_rules.specs.Ahead.{FinishesBehind}
 use Rattle.goods_rules.specs.Path.{IsPath}
 use Rattle.goods_rules.specs.Rules.{leaf_rule}
-use Rattle.goods_rules.proofs.path.Path.climb.Given as goal
+use Rattle.goods_rules.proofs.path.Path.climb_up.Given as goal
 
 abbrev pub invariant-up : goal.invariant-up
 invariant-up l = record {
