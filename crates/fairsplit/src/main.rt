@@ -2,7 +2,9 @@
 #![tactic(auto)]
 
 use adapters::{Reading, Started, Writing, words_of};
-use host_adapters::{JournalFile, LinkLimits, SystemClock, TcpDialer, TcpPort};
+use host_adapters::{
+    JournalFile, LinkLimits, StandardDescriptors, SystemClock, TcpDialer, TcpPort,
+};
 use split_base::{NoMemory, Quiet, write_all};
 use split_top::{Stop, run};
 use std::io;
@@ -14,7 +16,13 @@ const JOURNAL: &str = "split.journal";
 /// That folder.
 const FOLDER: &str = ".";
 
+/// The status where the standard descriptors can't be taken, as where a write fails.
+const WRITE_FAILED: u8 = 6;
+
 fn main(rt: HostRuntime) -> ExitCode {
+    let Ok(_taken) = StandardDescriptors::take(&rt) else {
+        return ExitCode::from(WRITE_FAILED);
+    };
     let mut output = Writing::new(io::writer(&rt));
     let words = match words_of(rt.alloc(), &Started::new(&rt)) {
         Ok(words) => words,
