@@ -1,11 +1,31 @@
-//! What a program is started with and on, as its commands see it: a reader as a source, a writer as
-//! a sink, and the words that stand in its arguments.
+//! The real outside: streams, arguments, the journal's file, a TCP port with many clients, a dialer, and the clock. It also keeps files
+//! and sockets from the three standard descriptors.
 #![tactic(auto)]
 
 mod arguments;
+mod clients;
+mod clocks;
+mod counts;
+mod crowd;
+mod files;
+mod held;
+pub mod limits;
+mod links;
+mod pool;
+mod ports;
+mod purse;
+mod standard;
 mod streams;
+mod turns;
 mod words;
 
 pub use arguments::{Arguments, Started};
+pub use clocks::SystemClock;
+pub use files::JournalFile;
+pub use limits::{LinkLimits, PortLimits};
+pub use links::TcpLink;
+pub use ports::{TcpDialer, TcpPort};
+pub use standard::StandardDescriptors;
 pub use streams::{Reading, Writing};
+pub use turns::TurnLink;
 pub use words::words_of;

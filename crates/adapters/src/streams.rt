@@ -2,6 +2,7 @@
 ghost use Rattle.std.specs.Prelude.{◌≡◌, ◌≤◌};
 ghost use Rattle.split_base.specs.Faults.{HasRisen, counted};
 
+use crate::counts::fault;
 use split_base::{Failed, Sink, Source};
 use std::io::{Read, Write};
 
@@ -76,14 +77,4 @@ impl<W: Write> Sink for Writing<W> {
             _ => Err(fault(&mut self.faults)),
         }
     }
-}
-
-// Counts a fault.
-fn fault(faults: &mut u64) -> Failed
-    ensures count { faults.new ≡ counted faults.old }
-    ensures risen { HasRisen faults.old faults.new }
-    ensures never_falls { faults.old ≤ faults.new }
-{
-    *faults = faults.saturating_add(1);
-    Failed
 }

@@ -3,8 +3,8 @@ use Rattle.std.specs.Prelude.{◌≡◌, ℕ, pos, List, [], ◌∷◌}
 use Rattle.std.specs.List.{AllZip}
 use Rattle.bid_rules.specs.declared.goods.GoodsCase.{GoodsCase}
 use Rattle.split_frac.specs.Frac.{HasValue}
-use Rattle.divided_goods.specs.Divisions.{first_points}
-use Rattle.divided_goods.specs.Procedure.{IsOutcome}
+use Rattle.winner_laws.specs.Divisions.{first_points}
+use Rattle.winner_laws.specs.Procedure.{IsOutcome}
 use Rattle.adjusted_winner.specs.declared.winner.Winner.{Winner}
 
 -- the answer is what the rule comes to: its weights, and its shares and total as fractions of the parts

@@ -3,7 +3,7 @@ use Rattle.std.specs.Prelude.{◌≡◌, ℕ, List, [], ◌∷◌, ◌++◌, cod
 use Rattle.std.specs.Fmt.{decimal}
 use Rattle.bid_rules.specs.declared.goods.GoodsCase.{GoodsCase}
 use Rattle.split_frac.specs.Frac.{frac_text}
-use Rattle.split_text.specs.Texts.{word_line}
+use Rattle.split_frac.specs.Texts.{word_line}
 use Rattle.adjusted_winner.specs.declared.winner.Winner.{Winner}
 use Rattle.adjusted_winner.specs.Answers.{HasWinner}
 

@@ -1,18 +1,20 @@
 // What the players have while goods move one by one, and which good moves next.
 ghost use Rattle.std.specs.Prelude.{◌≡◌, ◌+◌, ◌*◌, ◌<◌, ◌≤◌, cond, ◌==◌};
 ghost use Rattle.bid_rules.specs.Goods.{IsValidGoodsCase, player_count, points};
-ghost use Rattle.divided_goods.specs.Moving.{IsNextOf, is_gone};
-ghost use Rattle.divided_goods.specs.Procedure.{points_at_first};
-ghost use Rattle.divided_goods.specs.Winners.{first_owner, greater_points, lesser_points, may_move, moves_before};
+ghost use Rattle.winner_laws.specs.Moving.{IsNextOf, is_gone};
+ghost use Rattle.winner_laws.specs.Procedure.{points_at_first};
+ghost use Rattle.winner_laws.specs.Winners.{first_owner, greater_points, lesser_points, may_move, moves_before};
 ghost use Rattle.adjusted_winner.specs.Moves.{IsLastToMove, MovedUpTo};
+ghost use Rattle.bid_rules.specs.declared.limits.TheConstants.{PAIR};
 
 use bid_rules::GoodsCase;
 use bid_rules::limits::{MOST_GOODS, WHOLE_POINTS};
+use winner_laws::{next_good_law, next_to_move_law};
 
 /// The points that its first owner gives the good.
 pub(crate) fn greater_points(case: &GoodsCase, good: u8) -> u32
     requires case { IsValidGoodsCase case.now }
-    requires two { player_count case.now ≡ 2 }
+    requires two { player_count case.now ≡ PAIR }
     requires low { 1 ≤ good }
     requires high { good ≤ case.now.facts.goods }
     ensures value { result ≡ greater_points case.now good }
@@ -24,7 +26,7 @@ pub(crate) fn greater_points(case: &GoodsCase, good: u8) -> u32
 /// The points that the other player gives it.
 pub(crate) fn lesser_points(case: &GoodsCase, good: u8) -> u32
     requires case { IsValidGoodsCase case.now }
-    requires two { player_count case.now ≡ 2 }
+    requires two { player_count case.now ≡ PAIR }
     requires low { 1 ≤ good }
     requires high { good ≤ case.now.facts.goods }
     ensures value { result ≡ lesser_points case.now good }
@@ -36,7 +38,7 @@ pub(crate) fn lesser_points(case: &GoodsCase, good: u8) -> u32
 /// Who has the good at first: the player who gives it more points, ties to player 1.
 pub(crate) fn first_owner(case: &GoodsCase, good: u8) -> u8
     requires case { IsValidGoodsCase case.now }
-    requires two { player_count case.now ≡ 2 }
+    requires two { player_count case.now ≡ PAIR }
     requires low { 1 ≤ good }
     requires high { good ≤ case.now.facts.goods }
     ensures { result ≡ first_owner case.now good }
@@ -51,7 +53,7 @@ pub(crate) fn first_owner(case: &GoodsCase, good: u8) -> u8
 /// Whether the player may give the good up: they have it at first, and the other gives it points.
 pub(crate) fn may_move(case: &GoodsCase, player: u8, good: u8) -> bool
     requires case { IsValidGoodsCase case.now }
-    requires two { player_count case.now ≡ 2 }
+    requires two { player_count case.now ≡ PAIR }
     requires low { 1 ≤ good }
     requires high { good ≤ case.now.facts.goods }
     ensures { result ≡ may_move case.now player good }
@@ -62,7 +64,7 @@ pub(crate) fn may_move(case: &GoodsCase, player: u8, good: u8) -> bool
 /// Whether the first good moves before the second: its ratio of points is lower, or the same and its number is lower.
 pub(crate) fn moves_before(case: &GoodsCase, good: u8, other: u8) -> bool
     requires case { IsValidGoodsCase case.now }
-    requires two { player_count case.now ≡ 2 }
+    requires two { player_count case.now ≡ PAIR }
     requires low { 1 ≤ good }
     requires high { good ≤ case.now.facts.goods }
     requires other_low { 1 ≤ other }
@@ -77,7 +79,7 @@ pub(crate) fn moves_before(case: &GoodsCase, good: u8, other: u8) -> bool
 /// Whether the player has given the good up, where the last that they gave up is `last`, or none where that is 0.
 fn is_gone(case: &GoodsCase, player: u8, last: u8, good: u8) -> bool
     requires case { IsValidGoodsCase case.now }
-    requires two { player_count case.now ≡ 2 }
+    requires two { player_count case.now ≡ PAIR }
     requires low { 1 ≤ good }
     requires high { good ≤ case.now.facts.goods }
     requires last { last ≤ case.now.facts.goods }
@@ -89,7 +91,7 @@ fn is_gone(case: &GoodsCase, player: u8, last: u8, good: u8) -> bool
 /// What the player has of a good before any moves.
 fn good_at_first(case: &GoodsCase, player: u8, good: u8) -> u32
     requires case { IsValidGoodsCase case.now }
-    requires two { player_count case.now ≡ 2 }
+    requires two { player_count case.now ≡ PAIR }
     requires player_low { 1 ≤ player }
     requires player_high { player ≤ 2 }
     requires low { 1 ≤ good }
@@ -107,7 +109,7 @@ fn good_at_first(case: &GoodsCase, player: u8, good: u8) -> u32
 /// What the player has before any good moves.
 pub(crate) fn points_at_first(case: &GoodsCase, player: u8) -> u32
     requires case { IsValidGoodsCase case.now }
-    requires two { player_count case.now ≡ 2 }
+    requires two { player_count case.now ≡ PAIR }
     requires player_low { 1 ≤ player }
     requires player_high { player ≤ 2 }
     ensures value { result ≡ points_at_first case.now player }
@@ -123,12 +125,13 @@ pub(crate) fn points_at_first(case: &GoodsCase, player: u8) -> u32
 /// Which good moves next: the first to move of the first `count` goods, or the one after them.
 fn next_of(case: &GoodsCase, player: u8, last: u8, next: u8, count: u8) -> u8
     requires case { IsValidGoodsCase case.now }
-    requires two { player_count case.now ≡ 2 }
+    requires two { player_count case.now ≡ PAIR }
     requires last { last ≤ case.now.facts.goods }
     requires more { count < case.now.facts.goods }
     requires before { IsNextOf case.now player last count next }
     ensures { IsNextOf case.now player last (count + 1) result }
 {
+    next_good_law();
     let good = count + 1;
     if !may_move(case, player, good) {
         return next;
@@ -148,7 +151,7 @@ fn next_of(case: &GoodsCase, player: u8, last: u8, next: u8, count: u8) -> u8
 /// The first good that the player may give up and has not, in the order in which they move, or 0.
 fn next_good(case: &GoodsCase, player: u8, last: u8) -> u8
     requires case { IsValidGoodsCase case.now }
-    requires two { player_count case.now ≡ 2 }
+    requires two { player_count case.now ≡ PAIR }
     requires last { last ≤ case.now.facts.goods }
     ensures { IsNextOf case.now player last case.now.facts.goods result }
 {
@@ -173,12 +176,14 @@ pub(crate) struct Last {
 /// Moves goods of the richer player one by one, until only the last is left to move, in whole or in part.
 pub(crate) fn last_good(case: &GoodsCase, player: u8, rich: u32, poor: u32) -> Last
     requires case { IsValidGoodsCase case.now }
-    requires two { player_count case.now ≡ 2 }
+    requires two { player_count case.now ≡ PAIR }
     requires richer { MovedUpTo case.now player 0 rich poor }
     requires small { rich ≤ MOST_GOODS * WHOLE_POINTS }
     ensures last { IsLastToMove case.now player result.rich result.poor result.good }
     ensures small { result.rich ≤ MOST_GOODS * WHOLE_POINTS }
 {
+    next_good_law();
+    next_to_move_law();
     let mut rich = rich;
     let mut poor = poor;
     let mut last = 0;

@@ -2,15 +2,16 @@
 ghost use Rattle.std.specs.Prelude.{◌≡◌, ◌++◌, codes, flat_map, map, IfOk, OnOk, string_bytes};
 ghost use Rattle.std.specs.Fmt.{decimal};
 ghost use Rattle.bid_rules.specs.Goods.{IsValidGoodsCase, player_count};
-ghost use Rattle.split_text.specs.Texts.{word_line};
+ghost use Rattle.split_frac.specs.Texts.{word_line};
 ghost use Rattle.adjusted_winner.specs.Answers.{HasWinner};
 ghost use Rattle.adjusted_winner.specs.Texts.{IsWinnerText, answer_lines, case_lines, winner_text};
+ghost use Rattle.bid_rules.specs.declared.limits.TheConstants.{PAIR};
 
 use crate::winner::{Winner, solve_winner};
 use bid_rules::GoodsCase;
 use bid_rules::limits::Values;
 use split_base::NoMemory;
-use split_text::push_numbers;
+use split_frac::push_numbers;
 use std::alloc::Global;
 
 /// Appends a line of points for each player.
@@ -66,7 +67,7 @@ pub fn write_winner(alloc: Global, case: &GoodsCase, winner: &Winner) -> Result<
 /// `NoMemory` comes for want of memory alone.
 pub fn winner_text(alloc: Global, case: &GoodsCase) -> Result<Vec<u8>, NoMemory>
     requires case { IsValidGoodsCase case.now }
-    requires two { player_count case.now ≡ 2 }
+    requires two { player_count case.now ≡ PAIR }
     ensures { IfOk result (λ text. IsWinnerText case.now text.items) }
 {
     write_winner(alloc, case, &solve_winner(case))

@@ -2,9 +2,10 @@ ghost use Rattle.std.specs.Prelude.{◌≡◌, ℕ, ◌+◌, ◌*◌, ◌<◌, �
 ghost use Rattle.std.specs.List.{AllZip, range_with_len};
 ghost use Rattle.bid_rules.specs.Goods.{IsValidGoodsCase, player_count};
 ghost use Rattle.split_frac.specs.Frac.{HasValue};
-ghost use Rattle.divided_goods.specs.Winners.{given_up, share_after, share_at_first};
+ghost use Rattle.winner_laws.specs.Winners.{given_up, share_after, share_at_first};
 ghost use Rattle.adjusted_winner.specs.Answers.{HasWinner};
 ghost use Rattle.adjusted_winner.specs.Moves.{MovedUpTo};
+ghost use Rattle.bid_rules.specs.declared.limits.TheConstants.{PAIR};
 
 use crate::moving::{
     first_owner, greater_points, last_good, lesser_points, may_move, moves_before, points_at_first,
@@ -13,6 +14,7 @@ use arrayvec::ArrayVec;
 use bid_rules::GoodsCase;
 use bid_rules::limits::{ITEM_ROOM, MOST_GOODS, WHOLE_POINTS};
 use split_frac::{Frac, make};
+use winner_laws::{last_good_law, next_to_move_law};
 
 /// The division between two players.
 #[derive(Drop)]
@@ -37,7 +39,7 @@ fn fraction(number: u32, parts: u32) -> Frac
 /// The parts of a good that its first owner has given up, where the last good has moved so many.
 fn given_up(case: &GoodsCase, parts: u32, last: u8, moved: u32, good: u8) -> u32
     requires case { IsValidGoodsCase case.now }
-    requires two { player_count case.now ≡ 2 }
+    requires two { player_count case.now ≡ PAIR }
     requires low { 1 ≤ good }
     requires high { good ≤ case.now.facts.goods }
     requires last_low { 1 ≤ last }
@@ -58,7 +60,7 @@ fn given_up(case: &GoodsCase, parts: u32, last: u8, moved: u32, good: u8) -> u32
 /// Player 1's parts of a good then.
 fn share_after(case: &GoodsCase, parts: u32, last: u8, moved: u32, good: u8) -> u32
     requires case { IsValidGoodsCase case.now }
-    requires two { player_count case.now ≡ 2 }
+    requires two { player_count case.now ≡ PAIR }
     requires low { 1 ≤ good }
     requires high { good ≤ case.now.facts.goods }
     requires last_low { 1 ≤ last }
@@ -77,7 +79,7 @@ fn share_after(case: &GoodsCase, parts: u32, last: u8, moved: u32, good: u8) -> 
 /// Player 1's shares then.
 fn shares_after(case: &GoodsCase, parts: u32, last: u8, moved: u32) -> ArrayVec<Frac, ITEM_ROOM>
     requires case { IsValidGoodsCase case.now }
-    requires two { player_count case.now ≡ 2 }
+    requires two { player_count case.now ≡ PAIR }
     requires last_low { 1 ≤ last }
     requires last_high { last ≤ case.now.facts.goods }
     requires moved { moved ≤ parts }
@@ -95,7 +97,7 @@ fn shares_after(case: &GoodsCase, parts: u32, last: u8, moved: u32) -> ArrayVec<
 /// Player 1's share of a good at first: all of it or nothing.
 fn share_at_first(case: &GoodsCase, good: u8) -> u32
     requires case { IsValidGoodsCase case.now }
-    requires two { player_count case.now ≡ 2 }
+    requires two { player_count case.now ≡ PAIR }
     requires low { 1 ≤ good }
     requires high { good ≤ case.now.facts.goods }
     ensures { result ≡ share_at_first case.now 1 1 good }
@@ -106,7 +108,7 @@ fn share_at_first(case: &GoodsCase, good: u8) -> u32
 /// Player 1's shares at first.
 fn shares_at_first(case: &GoodsCase) -> ArrayVec<Frac, ITEM_ROOM>
     requires case { IsValidGoodsCase case.now }
-    requires two { player_count case.now ≡ 2 }
+    requires two { player_count case.now ≡ PAIR }
     ensures { AllZip (λ share part. HasValue share (pos part) 1) result.items (map (share_at_first case.now 1 1) (range_with_len 1 case.now.facts.goods)) }
 {
     let mut shares = ArrayVec::new();
@@ -119,11 +121,13 @@ fn shares_at_first(case: &GoodsCase) -> ArrayVec<Frac, ITEM_ROOM>
 /// The division where one player is richer at first.
 fn moved(case: &GoodsCase, player: u8, rich: u32, poor: u32) -> Winner
     requires case { IsValidGoodsCase case.now }
-    requires two { player_count case.now ≡ 2 }
+    requires two { player_count case.now ≡ PAIR }
     requires richer { MovedUpTo case.now player 0 rich poor }
     requires small { rich ≤ MOST_GOODS * WHOLE_POINTS }
     ensures { HasWinner case.now result }
 {
+    last_good_law();
+    next_to_move_law();
     let last = last_good(case, player, rich, poor);
     let greater = greater_points(case, last.good);
     let lesser = lesser_points(case, last.good);
@@ -138,9 +142,10 @@ fn moved(case: &GoodsCase, player: u8, rich: u32, poor: u32) -> Winner
 /// The division between two players by adjusted winner.
 pub fn solve_winner(case: &GoodsCase) -> Winner
     requires case { IsValidGoodsCase case.now }
-    requires two { player_count case.now ≡ 2 }
+    requires two { player_count case.now ≡ PAIR }
     ensures { HasWinner case.now result }
 {
+    last_good_law();
     let first = points_at_first(case, 1);
     let second = points_at_first(case, 2);
     if first > second {

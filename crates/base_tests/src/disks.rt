@@ -1,5 +1,17 @@
 use crate::objects::{crashed, disk_of};
 use split_base::{Disk, MemDisk, write_synced};
+use std::alloc::Global;
+use std::process::Abort;
+
+// A disk with one write that was synced, and two that were not.
+fn written(rt: &impl Abort, alloc: Global) -> MemDisk {
+    let mut disk = disk_of(rt, alloc, b"abcdef", &[], None);
+    let done = write_synced(&mut disk, 2, b"X").is_ok()
+        && disk.write_at(0, b"123").is_ok()
+        && disk.write_at(7, b"67").is_ok();
+    assert!(rt; done && disk.bytes() == b"123def\x0067".as_slice());
+    disk
+}
 
 #[test]
 fn a_crash_keeps_a_part_of_the_later_writes(rt: HostRuntime) {
@@ -12,13 +24,8 @@ fn a_crash_keeps_a_part_of_the_later_writes(rt: HostRuntime) {
         (usize::MAX, b"123def\x0067"),
     ];
     for (keep, after) in cases {
-        let mut disk = disk_of(&rt, alloc, b"abcdef", &[], None);
-        assert_eq!(rt; write_synced(&mut disk, 2, b"X"), Ok(()));
-        assert_eq!(rt; disk.write_at(0, b"123"), Ok(()));
-        assert_eq!(rt; disk.write_at(7, b"67"), Ok(()));
-        assert_eq!(rt; disk.bytes(), b"123def\x0067".as_slice());
-        let left = crashed(&rt, alloc, disk, keep);
-        assert_eq!(rt; left.bytes(), after, "the first {keep} bytes");
+        let left = crashed(&rt, alloc, written(&rt, alloc), keep);
+        assert!(rt; left.bytes() == after, "the first {keep} bytes");
     }
 }
 
@@ -45,12 +52,14 @@ fn calls_fail_where_told(rt: HostRuntime) {
     ];
     for (fails, stop, failed) in cases {
         let mut disk = disk_of(&rt, alloc, b"abc", fails, stop);
-        assert_eq!(rt; failing(&mut disk), failed);
+        assert!(rt; failing(&mut disk) == failed);
     }
-    let mut disk = disk_of(&rt, alloc, b"abc", &[], None);
+}
+
+#[test]
+fn a_disk_gives_what_was_written(rt: HostRuntime) {
+    let mut disk = disk_of(&rt, rt.alloc(), b"abc", &[], None);
     let mut buffer = [0; 3];
-    assert_eq!(rt; failing(&mut disk), [false; 4]);
-    assert_eq!(rt; disk.size(), Ok(3));
-    assert_eq!(rt; disk.read_at(1, &mut buffer), Ok(2));
-    assert_eq!(rt; &buffer, b"bc\0");
+    assert!(rt; failing(&mut disk) == [false; 4] && disk.size() == Ok(3));
+    assert!(rt; disk.read_at(1, &mut buffer) == Ok(2) && &buffer == b"bc\0");
 }

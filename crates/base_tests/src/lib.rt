@@ -1,15 +1,19 @@
-//! Tests of `split_base`, `gate_log` and `split_http`, over their public names alone.
+//! Tests of the outside, in memory and the real one, and of `gate_log`.
 #![tactic(auto)]
 
 #[cfg(test)]
+mod clocks;
+#[cfg(test)]
 mod disks;
 #[cfg(test)]
-mod heads;
+mod files;
 #[cfg(test)]
 mod links;
 #[cfg(test)]
 mod logs;
 #[cfg(test)]
+mod memory;
+#[cfg(test)]
 mod objects;
 #[cfg(test)]
-mod replies;
+mod sockets;

@@ -30,6 +30,19 @@ fn echo_piece<L: Link>(link: &mut L) -> Result<bool, Failed> {
     Ok(count == 0)
 }
 
+// Writes all that is read, piece by piece, and tells the last turn that failed.
+fn echo_all<L: Link>(link: &mut L) -> u32 {
+    let mut failed = 0;
+    for turn in 1..9u32 {
+        match echo_piece(link) {
+            Ok(true) => break,
+            Ok(false) => {}
+            Err(Failed) => failed = turn,
+        }
+    }
+    failed
+}
+
 #[test]
 fn a_link_is_read_and_written(rt: HostRuntime) {
     // The size of the pieces, the failing read, the failing write, the turn that failed, and what
@@ -45,18 +58,9 @@ fn a_link_is_read_and_written(rt: HostRuntime) {
     ];
     for (piece, read, write, turn, written) in cases {
         let mut link = link_of(&rt, rt.alloc(), b"abcdef", piece, &[read], &[write]);
-        let mut failed = 0;
-        for turn in 1..9u32 {
-            match echo_piece(&mut link) {
-                Ok(true) => break,
-                Ok(false) => {}
-                Err(Failed) => failed = turn,
-            }
-        }
-        assert_eq!(rt; failed, turn);
-        assert_eq!(rt;
-            link.output().bytes(),
-            written,
+        assert!(rt; echo_all(&mut link) == turn);
+        assert!(rt;
+            link.output().bytes() == written,
             "read {read}, write {write}"
         );
     }

@@ -60,7 +60,7 @@ fn files_are_read_or_have_a_first_fault(rt: HostRuntime) {
         assert_read(&rt, alloc, &journal(&rt, alloc, gate, rest), due);
     }
     let mut whole = journal(&rt, alloc, 1, b"\x01\x03\0\0\0one\0");
-    assert_eq!(rt; whole.len(), 58);
+    assert!(rt; whole.len() == 58);
     for cut in 0..58 {
         assert_read(&rt, alloc, &whole[..cut], Err(cut as u64));
     }
@@ -73,46 +73,60 @@ fn append(rt: &impl Abort, alloc: Global, disk: &mut MemDisk) -> Result<(), LogF
     log.append(disk, b"one")
 }
 
+// Makes a journal and appends to it on a disk that stops at this call, and keeps so many bytes of what no sync followed. Making the journal takes three
+// calls, reading it three more, and appending four. A stop at the last leaves the record or doesn't.
+fn assert_kept(rt: &impl Abort, alloc: Global, stop: u64, keep: usize) {
+    let mut disk = disk_of(rt, alloc, b"", &[], Some(stop));
+    let made = create_log(&mut disk, &SECRET);
+    if stop <= 3 {
+        return assert!(rt; made == Err(LogFault::Disk));
+    }
+    assert!(rt; append(rt, alloc, &mut disk).is_ok() == (stop == 11));
+    let left = crashed(rt, alloc, disk, keep);
+    let bodies: &[u8] = match (stop, keep) {
+        (11, _) => b"one|",
+        (10, keep) if keep > 0 => b"one|",
+        _ => b"",
+    };
+    assert_read(rt, alloc, left.bytes(), Ok((2, bodies)));
+}
+
 #[test]
 fn a_record_is_kept_or_left_out(rt: HostRuntime) {
-    let alloc = rt.alloc();
-    // Making the journal takes three calls, reading it three more, and appending four. A stop at the
-    // last leaves the record or doesn't.
     for stop in 1..=11 {
-        for keep in [0, usize::MAX] {
-            let mut disk = disk_of(&rt, alloc, b"", &[], Some(stop));
-            let made = create_log(&mut disk, &SECRET);
-            assert!(rt;
-                made == if stop > 3 {
-                    Ok(())
-                } else {
-                    Err(LogFault::Disk)
-                }
-            );
-            if made.is_ok() {
-                assert_eq!(rt; append(&rt, alloc, &mut disk).is_ok(), stop == 11);
-                let left = crashed(&rt, alloc, disk, keep);
-                let one = stop == 11 || (stop == 10 && keep > 0);
-                assert_read(
-                    &rt,
-                    alloc,
-                    left.bytes(),
-                    Ok((2, if one { b"one|" } else { b"" })),
-                );
-            }
-        }
+        assert_kept(&rt, rt.alloc(), stop, 0);
+        assert_kept(&rt, rt.alloc(), stop, usize::MAX);
     }
+}
+
+#[test]
+fn records_stand_behind_one_another(rt: HostRuntime) {
+    let alloc = rt.alloc();
     let mut disk = disk_of(&rt, alloc, b"", &[], None);
-    assert_eq!(rt; create_log(&mut disk, &SECRET), Ok(()));
-    assert_eq!(rt; disk.bytes(), journal(&rt, alloc, 1, b"\0").as_slice());
-    assert_eq!(rt; append(&rt, alloc, &mut disk), Ok(()));
-    assert_eq!(rt; append(&rt, alloc, &mut disk), Ok(()));
-    let after = journal(&rt, alloc, 1, b"\x01\x03\0\0\0one\x01\x03\0\0\0one\0");
-    assert_eq!(rt; disk.bytes(), after.as_slice());
-    assert_eq!(rt;
-        create_log(&mut disk, &SECRET),
-        Err(LogFault::NotALog { place: 0 })
-    );
+    assert!(rt; create_log(&mut disk, &SECRET).is_ok());
+    for rest in [
+        b"\0".as_slice(),
+        b"\x01\x03\0\0\0one\0",
+        b"\x01\x03\0\0\0one\x01\x03\0\0\0one\0",
+    ] {
+        assert!(rt; disk.bytes() == journal(&rt, alloc, 1, rest).as_slice());
+        assert!(rt; append(&rt, alloc, &mut disk).is_ok());
+    }
+    assert!(rt; create_log(&mut disk, &SECRET) == Err(LogFault::NotALog { place: 0 }));
+}
+
+// Raises a journal of version 1 on a disk that stops at this call. Reading makes three calls; the fourth and the fifth are those of raising.
+fn assert_raised(rt: &impl Abort, alloc: Global, stop: u64, old: &[u8], new: &[u8]) {
+    let mut disk = disk_of(rt, alloc, old, &[], Some(stop));
+    let Ok((mut log, _all)) = read(rt, alloc, &mut disk) else {
+        panic!(rt; "not read");
+    };
+    assert!(rt; log.version() == 1 && log.raise(&mut disk).is_ok() == (stop == 6));
+    let written = if stop == 4 { old } else { new };
+    assert!(rt; disk.bytes() == written, "stopped at {stop}");
+    let left = crashed(rt, alloc, disk, 0);
+    let stable = if stop < 6 { old } else { new };
+    assert!(rt; left.bytes() == stable, "stopped at {stop}");
 }
 
 #[test]
@@ -120,19 +134,7 @@ fn version_one_is_raised(rt: HostRuntime) {
     let alloc = rt.alloc();
     let old = journal(&rt, alloc, 0, b"\x01\x03\0\0\0one\0");
     let new = journal(&rt, alloc, 1, b"\x01\x03\0\0\0one\0");
-
-    // Reading makes three calls; the fourth and the fifth are those of raising.
     for stop in 4..=6 {
-        let mut disk = disk_of(&rt, alloc, &old, &[], Some(stop));
-        let Ok((mut log, _all)) = read(&rt, alloc, &mut disk) else {
-            panic!(rt; "not read");
-        };
-        assert_eq!(rt; log.version(), 1);
-        assert_eq!(rt; log.raise(&mut disk).is_ok(), stop == 6);
-        let written = if stop == 4 { &old } else { &new };
-        assert_eq!(rt; disk.bytes(), written.as_slice(), "stopped at {stop}");
-        let left = crashed(&rt, alloc, disk, 0);
-        let stable = if stop < 6 { &old } else { &new };
-        assert_eq!(rt; left.bytes(), stable.as_slice(), "stopped at {stop}");
+        assert_raised(&rt, alloc, stop, &old, &new);
     }
 }

@@ -1,8 +1,9 @@
 pub mod Cents
+pub mod Checks
 pub mod Coalitions
-pub mod Decisions
 pub mod FactFaults
 pub mod Facts
+pub mod FareLimits
 pub mod Fares
 pub mod Fractions
 pub mod Goods

@@ -11,6 +11,8 @@ pub const MOST_RIDERS: u8 = 10;
 pub const MOST_PLACES: u8 = 12;
 /// The most goods.
 pub const MOST_GOODS: u8 = 24;
+/// How many players share goods by adjusted winner.
+pub const PAIR: u8 = 2;
 /// The greatest rent, in cents.
 pub const MOST_RENT: u32 = 10_000_000;
 /// The farthest from 0 that an exact amount of cents lies: a price, a fare or what somebody would have.
@@ -28,6 +30,8 @@ pub const LONGEST_NAME: usize = 40;
 
 /// Room for an entry a member, or a player.
 pub const MEMBER_ROOM: usize = MOST_MEMBERS as usize;
+/// As many players as a pair is, as the length of a list.
+pub const PAIR_ROOM: usize = PAIR as usize;
 /// Room for an entry a rider.
 pub const RIDER_ROOM: usize = MOST_RIDERS as usize;
 /// Room for an entry a place.

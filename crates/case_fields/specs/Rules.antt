@@ -1,11 +1,10 @@
 -- The rules that a reader of bodies and the host share: those of names, of tags, and of a bid under checked facts.
-use Rattle.std.specs.Prelude.{◌≡◌, ℕ, Bool, true, not, ◌&&◌, ◌||◌, ◌==◌, nat_le, nat_lt, List, length, Option}
+use Rattle.std.specs.Prelude.{◌≡◌, ℕ, Bool, true, not, ◌&&◌, ◌||◌, ◌==◌, nat_le, nat_lt, List, length, Option, Some, None, if◌then◌else◌}
 use Rattle.std.specs.List.{list_all}
 use Rattle.bid_rules.specs.declared.bids.Bid.{Bid}
 use Rattle.bid_rules.specs.declared.bids.Facts.{Facts}
 use Rattle.bid_rules.specs.declared.limits.TheConstants.{LONGEST_NAME}
-use Rattle.bid_rules.specs.Decisions.{is_checked_bid, where_holds}
-use Rattle.bid_rules.specs.Facts.{IsCheckedBid}
+use Rattle.bid_rules.specs.Checks.{passes_bid}
 use Rattle.case_fields.specs.declared.limits.TheConstants.{LONGEST_TAG, SHORTEST_TAG}
 
 -- a byte that is no control character of ASCII
@@ -32,4 +31,4 @@ IsTag text = is_tag text ≡ true
 
 -- a bid, where the facts allow it
 unfoldable pub allowed_bid : Facts → Bid → Option Bid
-allowed_bid facts bid = where_holds (IsCheckedBid facts bid) (is_checked_bid facts bid) bid
+allowed_bid facts bid = if passes_bid facts bid then Some bid else None

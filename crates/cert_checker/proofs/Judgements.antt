@@ -5,16 +5,16 @@ use Rattle.cert_reader.specs.declared.certificate.Certificate.{Certificate}
 use Rattle.cert_reader.specs.declared.certificate.Certificate.TheVariants as certificate
 use Rattle.cert_reader.specs.Shapes.{HasRows}
 use Rattle.cert_reader.specs.Text.{IsText}
-use Rattle.cert_reader.specs.Views.{View, counts_of, said_of, view_of}
-use Rattle.verdicts.specs.declared.verdict.Verdict.{Verdict}
-use Rattle.verdicts.specs.declared.verdict.Verdict.TheVariants.{Yes, No}
-use Rattle.verdicts.specs.Verdicts.{AreKept, IsVerdict}
-use Rattle.verdicts.proofs.Order.{none_asked, one_asked}
+use Rattle.cert_reader.specs.Views.{CertificateView, counts_of, said_of, view_of}
+use Rattle.rule_verdicts.specs.declared.verdict.Verdict.{Verdict}
+use Rattle.rule_verdicts.specs.declared.verdict.Verdict.TheVariants.{Yes, No}
+use Rattle.rule_verdicts.specs.Verdicts.{AreKept, IsVerdict}
+use Rattle.split_lemmas.proofs.AskedInOrder.{none_asked, one_asked}
 use Rattle.cert_checker.specs.Judged.{GivesVerdict, IsJudged, SaysView}
 
 -- the rules give what the bytes say this verdict
 pub record IsGiven (bytes : List ℕ) (verdict : Verdict) : Type 0 where
-  pub view : View
+  pub view : CertificateView
   pub says : SaysView bytes view
   pub gives : GivesVerdict view verdict
 
@@ -24,7 +24,7 @@ given bytes Yes h = record { view = h.view; says = h.says; gives = λ number low
 given bytes (No number) h = record { view = h.view; says = h.says; gives = (h.low, h.high, h.before, h.broken) }
 
 -- and only there
-pub judged : (bytes : List ℕ) (view : View) (verdict : Verdict) → SaysView bytes view → GivesVerdict view verdict → IsJudged bytes verdict
+pub judged : (bytes : List ℕ) (view : CertificateView) (verdict : Verdict) → SaysView bytes view → GivesVerdict view verdict → IsJudged bytes verdict
 judged bytes view Yes says gives = record { view = view; says = says; rules = λ number low high. gives number low (omega arith) }
 judged bytes view (No number) says gives = record { view = view; says = says; low = gives.0; high = gives.1; before = gives.2; broken = gives.3 }
 

@@ -15,8 +15,8 @@ use Rattle.cert_reader.specs.Layout.{FaresView}
 use Rattle.cert_reader.specs.Views.{OfFares, OfGoods, fares_said, goods_said, said_of, says}
 use Rattle.fare_rules.specs.Rules.{rules_of_fares}
 use Rattle.goods_rules.specs.Rules.{rules_of_goods}
-use Rattle.verdicts.specs.declared.verdict.Verdict.{Verdict}
-use Rattle.verdicts.specs.Verdicts.{IsVerdictOf}
+use Rattle.rule_verdicts.specs.declared.verdict.Verdict.{Verdict}
+use Rattle.rule_verdicts.specs.Verdicts.{IsVerdictOf}
 use Rattle.cert_checker.specs.FaresLines.{IsWhole, front_said}
 use Rattle.cert_checker.specs.GoodsLines.{IsWholeGoods}
 use Rattle.cert_checker.specs.declared.lines.Lines.{Lines}

@@ -3,7 +3,7 @@ use Rattle.std.proofs.Common.{◌≡◌, ℕ, List, ap, sym, subst, refl}
 use Rattle.cert_reader.specs.declared.forms.Counts.{Counts}
 use Rattle.cert_reader.specs.declared.forms.Counts.TheVariants as count
 use Rattle.cert_reader.specs.Text.{IsText, Said}
-use Rattle.cert_reader.specs.Views.{OfFares, OfGoods, OfRent, View}
+use Rattle.cert_reader.specs.Views.{OfFares, OfGoods, OfRent, CertificateView}
 use Rattle.cert_checker.specs.Judged.{SaysView}
 use Rattle.cert_checker.proofs.LineSteps.{fares_is, goods_is}
 use Rattle.cert_checker.proofs.RentViews.{rent_view_of}
@@ -13,7 +13,7 @@ text_so : (bytes : List ℕ) (counts other : Counts) (said more : List Said) →
 text_so bytes counts other said more same is text = subst (λ c. IsText bytes c more) same (subst (IsText bytes counts) is text)
 
 -- text of any kind says a view
-pub view_said : (bytes : List ℕ) (counts : Counts) (said : List Said) → IsText bytes counts said → (view : View) × SaysView bytes view
+pub view_said : (bytes : List ℕ) (counts : Counts) (said : List Said) → IsText bytes counts said → (view : CertificateView) × SaysView bytes view
 view_said bytes (count.Rent n) said text =
     let v = rent_view_of n said text.fits in
     (OfRent v.view, record { is_text = text_so bytes (count.Rent n) _ said _ (sym (ap count.Rent v.members)) (sym v.is) text; rows = v.rows })

@@ -1,6 +1,6 @@
 -- The lines of a text, one after another, and what the judge knows behind them.
 use Rattle.std.specs.Prelude.{◌≡◌, ℕ, ◌≤◌, List, ◌∷◌, ◌++◌, length, map, Option, Result, Ok, Err, ⊤}
-use Rattle.cert_reader.specs.declared.ends.ReadEnd.{ReadEnd}
+use Rattle.cert_reader.specs.declared.ends.TextEnd.{TextEnd}
 use Rattle.cert_reader.specs.declared.forms.Counts.{Counts}
 use Rattle.cert_reader.specs.Forms.{AreCounts, forms_of}
 use Rattle.cert_reader.specs.Gathered.{line_said}
@@ -9,8 +9,8 @@ use Rattle.cert_reader.specs.Reading.{IsEnd, IsOpen, IsRead, Reading, with_mark}
 use Rattle.cert_reader.specs.Shapes.{HasRows}
 use Rattle.cert_reader.specs.Text.{CanSayAll, Said}
 use Rattle.cert_reader.specs.Layout.{FaresView}
-use Rattle.cert_reader.specs.Views.{View, counts_of, fares_said, said_of}
-use Rattle.verdicts.specs.declared.verdict.Verdict.{Verdict}
+use Rattle.cert_reader.specs.Views.{CertificateView, counts_of, fares_said, said_of}
+use Rattle.rule_verdicts.specs.declared.verdict.Verdict.{Verdict}
 use Rattle.cert_checker.specs.FaresLines.{IsAt, IsWhole, front_said}
 use Rattle.cert_checker.specs.GoodsLines.{IsAtGoods}
 use Rattle.cert_checker.specs.Judged.{GivesVerdict}
@@ -48,7 +48,7 @@ pub record MarkGoesOn (lines : Lines) (said : List Said) (mark : ℕ) : Type 0 w
 
 -- what the lines of a text with these counts say is a certificate to which the rules give this verdict
 pub record GivesOf (counts : Counts) (said : List Said) (verdict : Verdict) : Type 0 where
-  pub view : View
+  pub view : CertificateView
   pub counted : counts_of view ≡ counts
   pub is_said : said_of view ≡ said
   pub rows : HasRows view
@@ -65,6 +65,6 @@ pub record IsUpTo (pieces : Reading) (lines : Lines) (taken : List ℕ) : Type 0
   pub long : length said ≡ pieces.lines
 
 -- the reading went on up to these bytes, or ended with them
-abbrev pub IsGoneOn : Reading → Lines → Option (List ℕ) → List ℕ → Result ⊤ ReadEnd → Type 0
+abbrev pub IsGoneOn : Reading → Lines → Option (List ℕ) → List ℕ → Result ⊤ TextEnd → Type 0
 IsGoneOn pieces lines left taken (Ok done) = IsUpTo pieces lines taken
 IsGoneOn pieces lines left taken (Err end) = IsEnd end left taken

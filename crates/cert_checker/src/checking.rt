@@ -5,13 +5,13 @@ ghost use Rattle.cert_reader.specs.Text.{IsText};
 ghost use Rattle.cert_reader.specs.Views.{counts_of, fares_view, goods_view, said_of, view_of};
 ghost use Rattle.fare_rules.specs.Rules.{rules_of_fares};
 ghost use Rattle.goods_rules.specs.Rules.{rules_of_goods};
-ghost use Rattle.verdicts.specs.Verdicts.{IsVerdictOf};
+ghost use Rattle.rule_verdicts.specs.Verdicts.{IsVerdictOf};
 
 use cert_reader::{Certificate, FaresText, GoodsText, set_count, start_count};
 use fare_rules::{end_fares, fares_certificate_law, start_fares, take_set};
 use goods_rules::{end_goods, goods_certificate_law, start_goods, take_mark};
 use rent_rules::{check_rent, rent_certificate_law};
-use verdicts::Verdict;
+use rule_verdicts::Verdict;
 
 /// Whether all rules of its kind hold for the certificate, or the first that does not: so this is the verdict on the bytes from which it was read, the one
 /// that `judge` gives of them. It takes no memory.

@@ -5,29 +5,25 @@ ghost use Rattle.cert_reader.specs.Gathered.{Gathered, line_said};
 ghost use Rattle.cert_reader.specs.Text.{Numbers, Said};
 ghost use Rattle.cert_reader.specs.Layout.{FaresView};
 ghost use Rattle.cert_reader.specs.Views.{fares_said, says};
+ghost use Rattle.cert_reader.specs.declared.places.TheConstants.{FARES_PLACES};
 ghost use Rattle.fare_rules.specs.Rules.{rules_of_fares};
-ghost use Rattle.verdicts.specs.Verdicts.{IsVerdictOf};
+ghost use Rattle.rule_verdicts.specs.Verdicts.{IsVerdictOf};
 ghost use Rattle.cert_checker.specs.FaresLines.{HasNoTable, IsAt, IsBehindHead, IsNext, IsWhole, front_said, head_said};
 
 use arrayvec::ArrayVec;
 use bid_rules::limits::{LEG_ROW_ROOM, RIDER_ROOM};
 use cert_reader::limits::MOST_NUMBERS;
+use cert_reader::places::{
+    FARES_FARES, FARES_FLAG, FARES_LAST_LINES, FARES_LEGS, FARES_PLACES, FARES_ROUTE,
+};
 use cert_reader::{LineNumbers, number_at, row_at, rows_of, set_count, whole_row};
 use fare_rules::{FaresState, PrintedRow, end_fares, start_fares, take_set};
-use verdicts::Verdict;
+use rule_verdicts::Verdict;
 
 /// The lines of the head whose number no count fixes: `riders`, `places`, `flag`, the legs from the origin, `who` and `at`.
 const FIXED_LINES: usize = 6;
-/// The place of the line `places` among those of the head.
-const PLACES: usize = 1;
-/// The place of the line `flag`.
-const FLAG: usize = 2;
-/// The place of the first line of legs.
-const LEGS: usize = 3;
 /// The most lines of the head.
 const HEAD_LINES: usize = 5 + LEG_ROW_ROOM;
-/// The lines behind the sets: `route` and `fares`.
-const LAST_LINES: usize = 2;
 
 /// The lines of the head, as they are gathered.
 type HeadLines = ArrayVec<LineNumbers, HEAD_LINES>;
@@ -49,7 +45,7 @@ pub(crate) struct TableLines {
     /// How many lines of sets are still to come.
     left: u32,
     /// The lines behind them.
-    last: ArrayVec<LineNumbers, LAST_LINES>,
+    last: ArrayVec<LineNumbers, FARES_LAST_LINES>,
 }
 
 impl FaresLines {
@@ -109,16 +105,16 @@ fn is_whole(lines: &[LineNumbers]) -> bool
     requires { (view : FaresView) × (rest : List Said) × IsWhole view × (head_said view ≡ map line_said lines.now ++ rest) }
     ensures { (view : FaresView) (rest : List Said) → IsWhole view → head_said view ≡ map line_said lines.now ++ rest → IsTrue result ↔ length lines.now ≡ view.places + 6 }
 {
-    lines.len() > PLACES && lines.len() == FIXED_LINES + places_of(lines)
+    lines.len() > FARES_PLACES && lines.len() == FIXED_LINES + places_of(lines)
 }
 
 /// How many places the head counts.
 fn places_of(lines: &[LineNumbers]) -> usize
     requires head { (view : FaresView) × (rest : List Said) × IsWhole view × (head_said view ≡ map line_said lines.now ++ rest) }
-    requires counted { PLACES < length lines.now }
+    requires counted { FARES_PLACES < length lines.now }
     ensures { (view : FaresView) (rest : List Said) → IsWhole view → head_said view ≡ map line_said lines.now ++ rest → result ≡ view.places }
 {
-    number_at(lines, PLACES) as usize
+    number_at(lines, FARES_PLACES) as usize
 }
 
 /// Begins with the sets behind the lines of a head.
@@ -128,12 +124,12 @@ fn begin(lines: &[LineNumbers]) -> TableLines
 {
     let at = lines.len() - 1;
     let who = at - 1;
-    let legs: ArrayVec<PrintedRow, LEG_ROW_ROOM> = rows_of(&lines[LEGS..who]);
+    let legs: ArrayVec<PrintedRow, LEG_ROW_ROOM> = rows_of(&lines[FARES_LEGS..who]);
     let members: ArrayVec<i128, RIDER_ROOM> = row_at(lines, who);
     let stops: ArrayVec<i128, RIDER_ROOM> = row_at(lines, at);
     let state = start_fares(
         places_of(lines) as u8,
-        number_at(lines, FLAG),
+        number_at(lines, FARES_FLAG),
         legs.as_slice(),
         members.as_slice(),
         stops.as_slice(),
@@ -166,7 +162,11 @@ impl TableLines {
         requires { (view : FaresView) × (said : List Said) × IsWhole view × (fares_said view ≡ said ++ says [] ∷ []) × IsBehindHead view said self.now }
         ensures { (view : FaresView) (said : List Said) → IsWhole view → fares_said view ≡ said ++ says [] ∷ [] → IsBehindHead view said self.now → IsVerdictOf (rules_of_fares view) result }
     {
-        let route: ArrayVec<i128, RIDER_ROOM> = row_at(self.last.as_slice(), 0);
-        end_fares(&self.state, route.as_slice(), self.last[1].as_slice())
+        let route: ArrayVec<i128, RIDER_ROOM> = row_at(self.last.as_slice(), FARES_ROUTE);
+        end_fares(
+            &self.state,
+            route.as_slice(),
+            self.last[FARES_FARES].as_slice(),
+        )
     }
 }

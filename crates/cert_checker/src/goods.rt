@@ -10,26 +10,17 @@ ghost use Rattle.cert_reader.specs.Views.{says};
 ghost use Rattle.goods_rules.specs.Rules.{rules_of_goods};
 ghost use Rattle.goods_rules.specs.State.{IsState, StandsFor};
 ghost use Rattle.split_frac.specs.Frac.{fraction_of};
-ghost use Rattle.verdicts.specs.Verdicts.{IsVerdictOf};
+ghost use Rattle.rule_verdicts.specs.Verdicts.{IsVerdictOf};
 
 use arrayvec::ArrayVec;
 use bid_rules::limits::{ITEM_ROOM, MEMBER_ROOM};
+use cert_reader::places::{GOODS_COUNT, GOODS_LAST_LINES, GOODS_LIMIT, GOODS_VALUES, GOODS_WHO};
 use cert_reader::{LineNumbers, number_at, row_at, rows_of};
 use goods_rules::{GoodsState, PrintedRow, end_goods, start_goods, take_mark};
-use verdicts::Verdict;
+use rule_verdicts::Verdict;
 
 /// The lines before the tree whose number no count fixes: `players`, `goods`, `limit`, `who`, `owners` and `steps`.
 const FIXED_LINES: usize = 6;
-/// The place of the line `goods` among those before the tree.
-const GOODS: usize = 1;
-/// The place of the line `limit`.
-const LIMIT: usize = 2;
-/// The place of the line `who`.
-const WHO: usize = 3;
-/// The place of the first line of points.
-const VALUES: usize = 4;
-/// The lines between the points and the tree: `owners` and `steps`.
-const LAST_LINES: usize = 2;
 /// The most lines before the tree.
 const HEAD_LINES: usize = FIXED_LINES + MEMBER_ROOM;
 
@@ -111,13 +102,13 @@ fn begin(lines: &[LineNumbers]) -> GoodsState
     ensures state { IsState result }
     ensures stands { (view : GoodsView) → IsWholeGoods view → before_tree view ≡ map line_said lines.now → StandsFor view [] result }
 {
-    let last = lines.len() - LAST_LINES;
-    let who: ArrayVec<i128, MEMBER_ROOM> = row_at(lines, WHO);
-    let values: ArrayVec<PrintedRow, MEMBER_ROOM> = rows_of(&lines[VALUES..last]);
+    let last = lines.len() - GOODS_LAST_LINES;
+    let who: ArrayVec<i128, MEMBER_ROOM> = row_at(lines, GOODS_WHO);
+    let values: ArrayVec<PrintedRow, MEMBER_ROOM> = rows_of(&lines[GOODS_VALUES..last]);
     let owners: ArrayVec<i128, ITEM_ROOM> = row_at(lines, last);
     start_goods(
-        number_at(lines, GOODS) as u8,
-        number_at(lines, LIMIT),
+        number_at(lines, GOODS_COUNT) as u8,
+        number_at(lines, GOODS_LIMIT),
         who.as_slice(),
         values.as_slice(),
         owners.as_slice(),

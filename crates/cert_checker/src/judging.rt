@@ -3,15 +3,16 @@ ghost use Rattle.std.specs.Prelude.{◌≡◌, ℕ, ◌++◌, List, ◌≤◌, I
 ghost use Rattle.std.specs.Io.KnownBytes.{Consumes};
 ghost use Rattle.cert_checker.specs.Judged.{IsCertificate, IsJudgement, PrintsBest};
 ghost use Rattle.cert_checker.specs.Lines.{IsGoneOn, IsUpTo};
+ghost use Rattle.cert_reader.specs.Ends.{OfAnswer};
 ghost use Rattle.cert_reader.specs.Stream.{faults_after};
 ghost use Rattle.cert_reader.specs.declared.limits.TheConstants.{MOST_BYTES};
 ghost use Rattle.split_base.specs.Faults.{HasRisen};
 
 use crate::laws::certificate_verdict_law;
 use crate::lines::Lines;
-use cert_reader::{Piece, Pieces, ReadEnd, text_law};
+use cert_reader::{Piece, Pieces, ReadEnd, TextEnd, read_answer, text_law};
+use rule_verdicts::Verdict;
 use split_base::Source;
-use verdicts::Verdict;
 
 /// Reads certificate text to the end of the input, in one pass and in fixed memory, and judges it: whether all rules of its kind hold, or the first
 /// that does not.
@@ -19,20 +20,18 @@ use verdicts::Verdict;
 /// - `NotText` comes exactly where the input has at most 4,000,000 bytes and is no certificate text, with its first broken line. It was read to its end.
 /// - `TooLong` comes exactly where it has more, whatever its lines. 4,000,001 bytes were read.
 /// - `ReadFault` comes only where the source's count of faults has risen, and at once: the failed read is not tried again.
-/// - `NoMemory` never comes.
-pub fn judge<S: Source>(source: &mut S) -> Result<Verdict, ReadEnd>
+pub fn judge_text<S: Source>(source: &mut S) -> Result<Verdict, TextEnd>
     ensures judged { (taken : List ℕ) × Consumes (S.left source.old) (S.left source.new) taken × IsJudgement (S.left source.new) taken result }
     ensures best { result ≡ Ok Verdict.Yes → (taken : List ℕ) × Consumes (S.left source.old) (S.left source.new) taken × IsCertificate taken × PrintsBest taken }
-    ensures memory { IsErrOf result ReadEnd.NoMemory → ⊥ }
     ensures faults { S.faults source.new ≡ faults_after (S.faults source.old) result }
-    ensures fault { IsErrOf result ReadEnd.ReadFault → HasRisen (S.faults source.old) (S.faults source.new) }
+    ensures fault { IsErrOf result TextEnd.ReadFault → HasRisen (S.faults source.old) (S.faults source.new) }
     ensures count { S.faults source.old ≤ S.faults source.new }
     ensures beside { S.beside source.new ≡ S.beside source.old }
 {
     certificate_verdict_law();
     text_law();
     let mut pieces = Pieces::new();
-    let kind = match pieces.next(source) {
+    let kind = match pieces.next_piece(source) {
         Err(end) => return Err(end),
         Ok(Piece::Kind { kind }) => kind,
         Ok(Piece::Line { .. }) => unreachable!(),
@@ -41,7 +40,7 @@ pub fn judge<S: Source>(source: &mut S) -> Result<Verdict, ReadEnd>
     };
     let mut lines = Lines::new(kind);
     'lines: loop {
-        match pieces.next(source) {
+        match pieces.next_piece(source) {
             Err(end) => return Err(end),
             Ok(Piece::Line { numbers }) => lines.take(numbers),
             Ok(Piece::Mark { mark }) => {
@@ -57,21 +56,33 @@ pub fn judge<S: Source>(source: &mut S) -> Result<Verdict, ReadEnd>
     }
 }
 
+/// Judges certificate text as `judge_text` does, and answers with the reasons of a reader who keeps what it reads. `NoMemory` never comes.
+pub fn judge<S: Source>(source: &mut S) -> Result<Verdict, ReadEnd>
+    ensures judged { (taken : List ℕ) × Consumes (S.left source.old) (S.left source.new) taken × OfAnswer (IsJudgement (S.left source.new) taken) result }
+    ensures best { result ≡ Ok Verdict.Yes → (taken : List ℕ) × Consumes (S.left source.old) (S.left source.new) taken × IsCertificate taken × PrintsBest taken }
+    ensures memory { IsErrOf result ReadEnd.NoMemory → ⊥ }
+    ensures faults { OfAnswer (λ answer. S.faults source.new ≡ faults_after (S.faults source.old) answer) result }
+    ensures fault { IsErrOf result ReadEnd.ReadFault → HasRisen (S.faults source.old) (S.faults source.new) }
+    ensures count { S.faults source.old ≤ S.faults source.new }
+    ensures beside { S.beside source.new ≡ S.beside source.old }
+{
+    read_answer(judge_text(source))
+}
+
 /// Takes the other marks of a tree that is being read, to the end of its line, where any are left. A mark is read alone, since a piece has room for a line.
 fn take_marks<S: Source>(
     pieces: &mut Pieces,
     source: &mut S,
     lines: &mut Lines,
-) -> Result<(), ReadEnd>
+) -> Result<(), TextEnd>
     requires known { (taken : List ℕ) × IsUpTo pieces.old lines.old taken }
     requires few { pieces.old.given ≤ MOST_BYTES }
     ensures marks { (more : List ℕ) × Consumes (S.left source.old) (S.left source.new) more
         × ((taken : List ℕ) → IsUpTo pieces.old lines.old taken → IsGoneOn pieces.new lines.new (S.left source.new) (taken ++ more) result) }
     ensures later { OnOk result (pieces.old.given ≤ pieces.new.given) }
     ensures few { pieces.new.given ≤ MOST_BYTES }
-    ensures memory { IsErrOf result ReadEnd.NoMemory → ⊥ }
     ensures faults { S.faults source.new ≡ faults_after (S.faults source.old) result }
-    ensures fault { IsErrOf result ReadEnd.ReadFault → HasRisen (S.faults source.old) (S.faults source.new) }
+    ensures fault { IsErrOf result TextEnd.ReadFault → HasRisen (S.faults source.old) (S.faults source.new) }
     ensures count { S.faults source.old ≤ S.faults source.new }
     ensures beside { S.beside source.new ≡ S.beside source.old }
 {

@@ -8,12 +8,12 @@ ghost use Rattle.cert_reader.specs.declared.certificate.Certificate.{Certificate
 ghost use Rattle.cert_reader.specs.declared.forms.Counts.{Counts};
 ghost use Rattle.cert_reader.specs.GoodsViews.{GoodsView};
 ghost use Rattle.cert_reader.specs.Text.{IsBrokenText, IsText, Said};
-ghost use Rattle.cert_reader.specs.Views.{View, counts_of, said_of, view_of};
+ghost use Rattle.cert_reader.specs.Views.{CertificateView, counts_of, said_of, view_of};
 ghost use Rattle.goods_rules.specs.Printed.{printed_case};
 ghost use Rattle.goods_rules.specs.Rules.{goods_rule};
 ghost use Rattle.nash_bounds.specs.LeftOut.{may_be_left};
-ghost use Rattle.verdicts.specs.declared.verdict.Verdict.{Verdict};
-ghost use Rattle.verdicts.specs.declared.verdict.Verdict.TheVariants.{Yes};
+ghost use Rattle.rule_verdicts.specs.declared.verdict.Verdict.{Verdict};
+ghost use Rattle.rule_verdicts.specs.declared.verdict.Verdict.TheVariants.{Yes};
 
 use cert_reader::text_law;
 use fare_rules::fares_certificate_law;
@@ -27,13 +27,13 @@ use rent_rules::rent_certificate_law;
 pub fn certificate_verdict_law()
     ensures one { (bytes : List ℕ) (verdict other : Verdict) → IsJudged bytes verdict → IsJudged bytes other → other ≡ verdict }
     ensures whole { (bytes : List ℕ) (verdict : Verdict) (line : ℕ) → IsJudged bytes verdict → IsBrokenText bytes line → ⊥ }
-    ensures said { (bytes : List ℕ) (counts : Counts) (said : List Said) → IsText bytes counts said → (view : View) × SaysView bytes view }
-    ensures verdict { (bytes : List ℕ) (view : View) (verdict : Verdict) → SaysView bytes view → IsJudged bytes verdict ↔ GivesVerdict view verdict }
+    ensures said { (bytes : List ℕ) (counts : Counts) (said : List Said) → IsText bytes counts said → (view : CertificateView) × SaysView bytes view }
+    ensures verdict { (bytes : List ℕ) (view : CertificateView) (verdict : Verdict) → SaysView bytes view → IsJudged bytes verdict ↔ GivesVerdict view verdict }
     ensures some { (bytes : List ℕ) → HasNoVerdict bytes → IsNoText bytes }
     ensures checked { (bytes : List ℕ) (certificate : Certificate) (verdict : Verdict) → IsText bytes (counts_of (view_of certificate)) (said_of (view_of certificate))
         → IsJudged bytes verdict ↔ GivesVerdict (view_of certificate) verdict }
     ensures best { (bytes : List ℕ) → IsCertificate bytes → PrintsBest bytes }
-    ensures kept { (bytes : List ℕ) (view : View) → IsText bytes (counts_of view) (said_of view) → GivesVerdict view Yes → IsCertificate bytes }
+    ensures kept { (bytes : List ℕ) (view : CertificateView) → IsText bytes (counts_of view) (said_of view) → GivesVerdict view Yes → IsCertificate bytes }
 {
     text_law();
     rent_certificate_law();

@@ -10,5 +10,5 @@ mod lines;
 mod rent;
 
 pub use checking::check;
-pub use judging::judge;
+pub use judging::{judge, judge_text};
 pub use laws::{certificate_verdict_law, goods_leaves_law};

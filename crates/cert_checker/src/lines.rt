@@ -11,12 +11,8 @@ use crate::fares::FaresLines;
 use crate::goods::GoodsLines;
 use crate::rent::RentLines;
 use cert_reader::LineNumbers;
-use verdicts::Verdict;
-
-/// The number of the kind of rents.
-const RENT: u8 = 1;
-/// The number of the kind of goods. That of fares is 3.
-const GOODS: u8 = 2;
+use cert_reader::places::{GOODS, RENT};
+use rule_verdicts::Verdict;
 
 /// What the judge knows of a text behind some of its lines.
 #[derive(Drop)]

@@ -11,7 +11,7 @@ use arrayvec::ArrayVec;
 use bid_rules::limits::MEMBER_ROOM;
 use cert_reader::{LineNumbers, rent_text};
 use rent_rules::check_rent;
-use verdicts::Verdict;
+use rule_verdicts::Verdict;
 
 /// The lines whose number no count fixes: `members`, `rent`, and six lists behind the values.
 const LIST_LINES: usize = 8;

@@ -2,7 +2,7 @@
 use Rattle.std.proofs.Common.{◌≡◌, ℕ, pos, zero, suc, ◌<◌, ◌≤◌, List, [], ◌∷◌, ◌++◌, length, get_or, take, arith, refl, sym, ap, ◌∙◌, subst, length-take, append-nil, true}
 use Rattle.std.proofs.lemmas.List.{append_cancel_left, get_or-take}
 use Rattle.bid_rules.specs.Fractions.{Fraction}
-use Rattle.split_text.specs.Texts.{line, numbers_text}
+use Rattle.split_frac.specs.Texts.{line, numbers_text}
 use Rattle.cert_reader.specs.declared.forms.Counts.{Counts}
 use Rattle.cert_reader.specs.declared.forms.Counts.TheVariants.{Fares, Goods, Pair, Rent}
 use Rattle.cert_reader.specs.declared.forms.Word.{Word}

@@ -10,6 +10,7 @@ use Rattle.std.proofs.lemmas.Fmt.{decimal_is_IsNumeral_wide}
 use Rattle.std.proofs.lemmas.Bool.{cases_lt}
 use Rattle.std.proofs.lemmas.List.{take_at, drop_at, get_or-append_right}
 use Rattle.std.proofs.Math.ListN.{get_or-append}
+use Rattle.cert_reader.specs.declared.limits.TheConstants.{MOST_PRINTED_DENOMINATOR}
 use Rattle.bid_rules.specs.Fractions.{Fraction}
 use Rattle.split_frac.specs.declared.frac.Frac.{Frac}
 use Rattle.split_frac.specs.Frac.{fraction_of, pair_text}
@@ -115,7 +116,7 @@ plain_found (Some f) num token small e h = (
 )
 
 -- a numerator and a denominator as a fraction
-pub fraction_found : (r : Option Frac) (num : ℤ) (den : ℕ) (front back : List ℕ) → unsigned_abs num < 10 ^ 25 → 2 ≤ den → den ≤ 4294967295 → front ≡ signed_decimal num → back ≡ decimal den
+pub fraction_found : (r : Option Frac) (num : ℤ) (den : ℕ) (front back : List ℕ) → unsigned_abs num < 10 ^ 25 → 2 ≤ den → den ≤ MOST_PRINTED_DENOMINATOR → front ≡ signed_decimal num → back ≡ decimal den
     → MatchOption r (IsGcd (unsigned_abs num) den 1 → ⊥) (λ f. (f.num ≡ num) × (f.den ≡ den) × IsGcd (unsigned_abs num) den 1)
     → MatchOption r ((number : Fraction) → IsNumber false number → 2 ≤ number.1 → front ≡ signed_decimal number.0 → back ≡ decimal number.1 → ⊥)
     (λ f. IsNumber false (fraction_of f) × (2 ≤ f.den) × (front ≡ signed_decimal f.num) × (back ≡ decimal f.den))

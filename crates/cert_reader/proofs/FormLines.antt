@@ -9,7 +9,7 @@ use Rattle.arrayvec.specs.declared.array_vec.ArrayVec.{ArrayVec}
 use Rattle.bid_rules.specs.Fractions.{Fraction}
 use Rattle.split_frac.specs.declared.frac.Frac.{Frac}
 use Rattle.split_frac.specs.Frac.{fraction_of, pair_text}
-use Rattle.split_text.specs.Texts.{line, numbers_text}
+use Rattle.split_frac.specs.Texts.{line, numbers_text}
 use Rattle.cert_reader.specs.declared.forms.LineForm.{LineForm}
 use Rattle.cert_reader.specs.declared.forms.Word.{Word}
 use Rattle.cert_reader.specs.declared.forms.Word.TheVariants as word

@@ -4,6 +4,7 @@ use Rattle.std.proofs.Math.Nat.{pow-le-pow_right}
 use Rattle.std.proofs.lemmas.List.{get_or-append_right, length-map, get_or-map, length-replicate}
 use Rattle.std.proofs.lemmas.List.FromFn.{length-range_with_len, get_or-range_with_len}
 use Rattle.std.proofs.Math.ListN.{get_or-append}
+use Rattle.bid_rules.specs.declared.limits.TheConstants.{MOST_RIDERS}
 use Rattle.cert_reader.specs.declared.forms.Counts.{Counts}
 use Rattle.cert_reader.specs.declared.forms.Counts.TheVariants as count
 use Rattle.cert_reader.specs.declared.forms.Word.TheVariants as word
@@ -150,9 +151,9 @@ fares_in_sets n places i set d e low high =
 pub fares_in_tail : (n places i j : ℕ) (d : Form) → 8 + places + (2 ^ n - 1) + j ≡ i → get_or (fares_forms n places) i d ≡ get_or (fares_tail n) j d
 fares_in_tail n places i j d e = in_behind_who n places i (2 ^ n - 1 + j) d (omega arith) ∙ skip (map (set_form n) (sets_of n)) (fares_tail n) (2 ^ n - 1 + j) j d (omega (arith, length_sets n))
 
--- ten riders have 1023 sets
-pub sets_few : (n : ℕ) → n ≤ 10 → 2 ^ n ≤ 1024
-sets_few n h = pow-le-pow_right {n = 2} (omega arith) {i = n} {j = 10} h
+-- riders have no more sets than the most of them
+pub sets_few : (n : ℕ) → n ≤ MOST_RIDERS → 2 ^ n ≤ 2 ^ MOST_RIDERS
+sets_few n h = pow-le-pow_right {n = 2} (omega arith) {i = n} {j = MOST_RIDERS} h
 
 -- the text of a pair has nine lines
 pub length_pair : (goods : ℕ) → length (pair_forms goods) ≡ 9

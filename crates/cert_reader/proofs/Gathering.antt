@@ -8,13 +8,17 @@ use Rattle.std.proofs.Math.Seq.{get_or-append_seam}
 use Rattle.cert_reader.specs.declared.certificate.Certificate.{Certificate}
 use Rattle.cert_reader.specs.declared.ends.ReadEnd.{ReadEnd}
 use Rattle.cert_reader.specs.declared.ends.ReadEnd.TheVariants.{NoMemory}
+use Rattle.cert_reader.specs.declared.ends.TextEnd.{TextEnd}
+use Rattle.cert_reader.specs.declared.ends.TextEnd.TheVariants.{NotText, ReadFault, TooLong}
 use Rattle.cert_reader.specs.declared.pieces.Piece.TheVariants.{Done, Kind, Line, Mark}
 use Rattle.cert_reader.specs.declared.forms.Counts.{Counts}
 use Rattle.cert_reader.specs.declared.limits.TheConstants.{MOST_BYTES}
+use Rattle.cert_reader.specs.Ends.{OfReading, read_end}
 use Rattle.cert_reader.specs.Gathered.{Gathered, gathered_said, line_said, marks_said, whole_said}
 use Rattle.cert_reader.specs.Reading.{Goes, IsAnswer, IsOpen, IsRead, Reading, with_mark}
 use Rattle.cert_reader.specs.Forms.{Form, Tree, forms_of}
 use Rattle.cert_reader.specs.Order.{form_in}
+use Rattle.cert_reader.specs.Stream.{faults_after}
 use Rattle.cert_reader.specs.Text.{CanSay, IsText, Marks, Said}
 use Rattle.cert_reader.specs.Views.{counts_of, said_of, says, view_of}
 use Rattle.cert_reader.specs.Whole.{IsGathering, IsReadWhole}
@@ -105,27 +109,39 @@ gathering_done a b f x y taken lines marks before h answer =
     (λ all none p. absurd (let last = p.0 in let zero = none.0 in let some = lines_some b.counts in omega (arith, zero, last, some)))
     (λ all some p. (p.2, p.3, p.4))
 
+-- what reading a whole certificate answers of all bytes that were taken
+abbrev pub IsAnswered : Option (List ℕ) → List ℕ → Result Certificate ReadEnd → Type 0
+IsAnswered left taken result = OfReading (IsReadWhole left taken) (length taken ≤ MOST_BYTES) result
+
 -- no piece was read
-pub gathering_end : (a b : Reading) (f x y : Option (List ℕ)) (taken : List ℕ) (lines : List Gathered) (marks : List ℕ) (end : ReadEnd) → Consumes f x taken → IsGathering a taken lines marks → Goes a x y (λ taken said. IsAnswer a b y taken said (Err end))
-    → Took f y (λ all. IsReadWhole y all (Err end))
-gathering_end a b f x y taken lines marks end before h answer =
-    so_far a f x y taken lines marks (λ taken said. IsAnswer a b y taken said (Err end)) (λ all. IsReadWhole y all (Err end)) before h answer (λ all none p. p) (λ all some p. p)
+pub gathering_end : (a b : Reading) (f x y : Option (List ℕ)) (taken : List ℕ) (lines : List Gathered) (marks : List ℕ) (end : TextEnd) (same : ReadEnd) → same ≡ read_end end → Consumes f x taken → IsGathering a taken lines marks
+    → Goes a x y (λ taken said. IsAnswer a b y taken said (Err end)) → Took f y (λ all. IsAnswered y all (Err same))
+gathering_end a b f x y taken lines marks end same e before h answer =
+    so_far a f x y taken lines marks (λ taken said. IsAnswer a b y taken said (Err end)) (λ all. IsAnswered y all (Err same)) before h answer
+    (λ all none p. inl (Err end, ap Err e, p))
+    (λ all some p. inl (Err end, ap Err e, p))
 
 -- there was no memory for a line
-pub gathering_full : (b : Reading) (f y : Option (List ℕ)) (lines : List Gathered) (marks : List ℕ) → b.given + length b.ahead ≤ MOST_BYTES → Took f y (λ all. IsGathering b all lines marks) → Took f y (λ all. IsReadWhole y all (Err NoMemory))
-gathering_full b f y lines marks held (all, took, inl (none, empty, bare, read)) = (all, took, (let total = read.total in omega (arith, total, held)))
-gathering_full b f y lines marks held (all, took, inr (some, read)) = (all, took, (let total = read.total in omega (arith, total, held)))
+pub gathering_full : (b : Reading) (f y : Option (List ℕ)) (lines : List Gathered) (marks : List ℕ) → b.given + length b.ahead ≤ MOST_BYTES → Took f y (λ all. IsGathering b all lines marks) → Took f y (λ all. IsAnswered y all (Err NoMemory))
+gathering_full b f y lines marks held (all, took, inl (none, empty, bare, read)) = (all, took, inr (refl, (let total = read.total in omega (arith, total, held))))
+gathering_full b f y lines marks held (all, took, inr (some, read)) = (all, took, inr (refl, (let total = read.total in omega (arith, total, held))))
 
 -- or none for the table
-pub whole_full : (f y : Option (List ℕ)) (counts : Counts) (said : List Said) → Took f y (λ all. IsText all counts said × (length all ≤ MOST_BYTES) × IsAtEnd y) → Took f y (λ all. IsReadWhole y all (Err NoMemory))
-whole_full f y counts said (all, took, (text, few, end)) = (all, took, few)
+pub whole_full : (f y : Option (List ℕ)) (counts : Counts) (said : List Said) → Took f y (λ all. IsText all counts said × (length all ≤ MOST_BYTES) × IsAtEnd y) → Took f y (λ all. IsAnswered y all (Err NoMemory))
+whole_full f y counts said (all, took, (text, few, end)) = (all, took, inr (refl, few))
 
 -- the certificate says what the text does
 pub whole_read : (f y : Option (List ℕ)) (counts : Counts) (said : List Said) (certificate : Certificate) → counts_of (view_of certificate) ≡ counts → said_of (view_of certificate) ≡ said
-    → Took f y (λ all. IsText all counts said × (length all ≤ MOST_BYTES) × IsAtEnd y) → Took f y (λ all. IsReadWhole y all (Ok certificate))
+    → Took f y (λ all. IsText all counts said × (length all ≤ MOST_BYTES) × IsAtEnd y) → Took f y (λ all. IsAnswered y all (Ok certificate))
 whole_read f y counts said certificate e g (all, took, (text, few, end)) =
-    (all, took, (subst (λ c. IsText all c (said_of (view_of certificate))) (sym e) (subst (IsText all counts) (sym g) text), few, end))
+    (all, took, inl (Ok certificate, refl, (subst (λ c. IsText all c (said_of (view_of certificate))) (sym e) (subst (IsText all counts) (sym g) text), few, end)))
 
 -- an answer is what it is
-pub answer_is : (f y : Option (List ℕ)) (a b : Result Certificate ReadEnd) → a ≡ b → Took f y (λ all. IsReadWhole y all b) → Took f y (λ all. IsReadWhole y all a)
-answer_is f y a b e h = subst (λ (r : Result Certificate ReadEnd). Took f y (λ all. IsReadWhole y all r)) (sym e) h
+pub answer_is : (f y : Option (List ℕ)) (a b : Result Certificate ReadEnd) → a ≡ b → Took f y (λ all. IsAnswered y all b) → Took f y (λ all. IsAnswered y all a)
+answer_is f y a b e h = subst (λ (r : Result Certificate ReadEnd). Took f y (λ all. IsAnswered y all r)) (sym e) h
+
+-- a reading that stopped counts the same faults, whatever it was to give
+pub stopped_faults : (T : Type 0) (before : ℕ) (end : TextEnd) → faults_after {T = T} before (Err end) ≡ faults_after {T = Certificate} before (Err end)
+stopped_faults T before (NotText line) = refl
+stopped_faults T before ReadFault = refl
+stopped_faults T before TooLong = refl

@@ -6,7 +6,7 @@ use Rattle.std.proofs.KnownBytes.{Consumes-nil, Consumes-trans}
 use Rattle.std.proofs.lemmas.Bool.{cases_lt}
 use Rattle.std.proofs.Math.ListN.{get_or-append}
 use Rattle.std.proofs.Math.Seq.{get_or-append_seam}
-use Rattle.cert_reader.specs.declared.ends.ReadEnd.{ReadEnd}
+use Rattle.cert_reader.specs.declared.ends.TextEnd.{TextEnd}
 use Rattle.cert_reader.specs.Stream.{Hands, Held, IsPlain, IsStopAt, IsStopped, taken_count}
 
 -- nothing was handed out
@@ -32,7 +32,7 @@ hands_trans a b c x y z first second p q = record {
 }
 
 -- the reading stops behind bytes that were handed out
-pub stops_after : (a b : Held) (x y z : Option (List ℕ)) (handed : List ℕ) (stop : ReadEnd) → Hands a b x y handed → IsStopped b y z stop → IsStopped a x z stop
+pub stops_after : (a b : Held) (x y z : Option (List ℕ)) (handed : List ℕ) (stop : TextEnd) → Hands a b x y handed → IsStopped b y z stop → IsStopped a x z stop
 stops_after a b x y z handed stop p (more, took, at) = (p.more ++ more, Consumes-trans x y z p.more more p.took took, subst (IsStopAt stop) same at)
   where
     same : taken_count b + length more ≡ taken_count a + length (p.more ++ more)

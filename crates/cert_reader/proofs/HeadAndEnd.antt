@@ -5,7 +5,7 @@ use Rattle.std.proofs.Math.Seq.{get_or-append_seam}
 use Rattle.arrayvec.specs.declared.array_vec.ArrayVec.{ArrayVec}
 use Rattle.split_frac.specs.declared.frac.Frac.{Frac}
 use Rattle.split_frac.specs.Frac.{fraction_of}
-use Rattle.cert_reader.specs.declared.ends.ReadEnd.{ReadEnd}
+use Rattle.cert_reader.specs.declared.ends.TextEnd.{TextEnd}
 use Rattle.cert_reader.specs.declared.forms.Counts.{Counts}
 use Rattle.cert_reader.specs.declared.forms.Counts.TheVariants.{Fares, Goods, Pair, Rent}
 use Rattle.cert_reader.specs.declared.forms.Word.{Word}
@@ -87,7 +87,7 @@ kind_read a b c x y z first second kind none two is p q =
     both said = (said ++ Numbers (map fraction_of first.items) ∷ []) ++ Numbers (map fraction_of second.items) ∷ []
 
 -- the second wasn't
-pub kind_unread : (a b c : Reading) (x y z : Option (List ℕ)) (first : ArrayVec Frac 24 (Unit {0})) (end : ReadEnd)
+pub kind_unread : (a b c : Reading) (x y z : Option (List ℕ)) (first : ArrayVec Frac 24 (Unit {0})) (end : TextEnd)
     → Goes a x y (λ taken said. IsLineRead Certificates a b y taken said (Ok first)) → Goes b y z (λ taken said. IsLineRead Certificates b c z taken said (Err end)) → Goes a x z (λ taken said. IsEnd end z taken)
 kind_unread a b c x y z first end p q =
     goes_after a b x y z (λ said. said ++ Numbers (map fraction_of first.items) ∷ []) (λ taken said. IsEnd end z taken)
@@ -109,7 +109,7 @@ done_read a b c x y z last all same p q =
     )
 
 -- or something does
-pub done_unread : (a b : Reading) (x y z : Option (List ℕ)) (last : ArrayVec Frac 24 (Unit {0})) (end : ReadEnd)
+pub done_unread : (a b : Reading) (x y z : Option (List ℕ)) (last : ArrayVec Frac 24 (Unit {0})) (end : TextEnd)
     → Goes a x y (λ taken said. IsLineRead Certificates a b y taken said (Ok last)) → Goes b y z (λ taken said. IsEnd end z taken) → Goes a x z (λ taken said. IsEnd end z taken)
 done_unread a b x y z last end p q =
     goes_after a b x y z (λ said. said ++ Numbers (map fraction_of last.items) ∷ []) (λ taken said. IsEnd end z taken)

@@ -9,7 +9,7 @@ use Rattle.std.proofs.Math.ListN.{get_or-append}
 use Rattle.std.proofs.lemmas.List.Elements.{All-cons, All-head, All-tail}
 use Rattle.bid_rules.specs.Fractions.{Fraction}
 use Rattle.split_frac.specs.Frac.{pair_text}
-use Rattle.split_text.specs.Texts.{numbers_text}
+use Rattle.split_frac.specs.Texts.{numbers_text}
 use Rattle.cert_reader.specs.Cuts.{IsFront}
 use Rattle.cert_reader.specs.Numbers.{IsNumber}
 use Rattle.cert_reader.proofs.Cuts.{Avoids, Stops, cut, den_cases, text_whole, text_parts, signed_avoids, signed_apart, decimal_apart}

@@ -14,13 +14,13 @@ use Rattle.cert_reader.specs.Layout.{FaresView, PairView, RentView}
 use Rattle.cert_reader.specs.Pairs.{IsPairText, pair_said}
 use Rattle.cert_reader.specs.Shapes.{HasRows}
 use Rattle.cert_reader.specs.Text.{CanSay, CanSayAll, IsBrokenTextOf, IsText, IsTextOf, Marks, Numbers, Said, said_text, text_of, wholes}
-use Rattle.cert_reader.specs.Views.{OfFares, OfGoods, OfRent, View, counts_of, said_of, says}
+use Rattle.cert_reader.specs.Views.{OfFares, OfGoods, OfRent, CertificateView, counts_of, said_of, says}
 use Rattle.cert_reader.proofs.Agreeing.{agree_whole, begins_once, in_range}
 use Rattle.cert_reader.proofs.Beginnings.{begins_less, text_begins}
 use Rattle.cert_reader.proofs.FormPlaces.{lines_some}
 use Rattle.cert_reader.proofs.Fronts.{can-append}
 use Rattle.split_frac.specs.Frac.{pair_text}
-use Rattle.split_text.specs.Texts.{line}
+use Rattle.split_frac.specs.Texts.{line}
 use Rattle.std.proofs.lemmas.Fmt.{decimal_digit}
 use Rattle.cert_reader.proofs.Cuts.{text_whole}
 use Rattle.cert_reader.specs.declared.forms.Word.TheVariants as word
@@ -208,7 +208,7 @@ second_count (Fares n places) = places
 second_count (Pair goods) = goods
 
 -- a text has one view
-pub view_once : (bytes : List ℕ) (a b : View) → HasRows a → HasRows b → IsText bytes (counts_of a) (said_of a) → IsText bytes (counts_of b) (said_of b) → b ≡ a
+pub view_once : (bytes : List ℕ) (a b : CertificateView) → HasRows a → HasRows b → IsText bytes (counts_of a) (said_of a) → IsText bytes (counts_of b) (said_of b) → b ≡ a
 unfolding first_count second_count
 view_once bytes (OfRent a) (OfRent b) p q h g = ap OfRent (sym (rent_once a b (sym (text_once bytes (counts_of (OfRent a)) (counts_of (OfRent b)) (said_of (OfRent a)) (said_of (OfRent b)) h g).1)))
 view_once bytes (OfGoods a) (OfGoods b) p q h g =

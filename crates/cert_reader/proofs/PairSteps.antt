@@ -4,7 +4,7 @@ use Rattle.std.specs.Prelude.{Option, Ok, Err}
 use Rattle.std.specs.Io.KnownBytes.{Consumes, IsAtEnd}
 use Rattle.std.proofs.KnownBytes.{Consumes-trans}
 use Rattle.std.proofs.lemmas.List.{length-map, map-append}
-use Rattle.cert_reader.specs.declared.ends.ReadEnd.{ReadEnd}
+use Rattle.cert_reader.specs.declared.ends.TextEnd.{TextEnd}
 use Rattle.cert_reader.specs.declared.forms.Counts.TheVariants.{Pair}
 use Rattle.cert_reader.specs.declared.limits.TheConstants.{MOST_BYTES}
 use Rattle.cert_reader.specs.declared.pair.PairText.{PairText}
@@ -26,12 +26,12 @@ pair_line a b f x y taken lines line before h (more, took, then) =
     (taken ++ more, Consumes-trans f x y taken more before took, subst (IsReadOf Pairs b (taken ++ more)) (sym (map-append line_said lines (line ∷ []))) (then taken (map line_said lines) h).2)
 
 -- none was, and the reading ends
-pub pair_end : (a b : Reading) (f x y : Option (List ℕ)) (taken : List ℕ) (lines : List Gathered) (end : ReadEnd) → Consumes f x taken → IsReadOf Pairs a taken (map line_said lines)
+pub pair_end : (a b : Reading) (f x y : Option (List ℕ)) (taken : List ℕ) (lines : List Gathered) (end : TextEnd) → Consumes f x taken → IsReadOf Pairs a taken (map line_said lines)
     → GoesOf Pairs a x y (λ taken said. IsLineRead Pairs a b y taken said (Err end)) → Took f y (λ all. IsReadPair y all (Err end))
 pair_end a b f x y taken lines end before h (more, took, then) = (taken ++ more, Consumes-trans f x y taken more before took, then taken (map line_said lines) h)
 
 -- something stands behind the last line
-pub pair_behind : (b c : Reading) (f y z : Option (List ℕ)) (lines : List Gathered) (end : ReadEnd) → Took f y (λ all. IsReadOf Pairs b all (map line_said lines))
+pub pair_behind : (b c : Reading) (f y z : Option (List ℕ)) (lines : List Gathered) (end : TextEnd) → Took f y (λ all. IsReadOf Pairs b all (map line_said lines))
     → GoesOf Pairs b y z (λ taken said. IsFinished Pairs c z taken said (Err end)) → Took f z (λ all. IsReadPair z all (Err end))
 pair_behind b c f y z lines end (all, before, h) (more, took, then) = (all ++ more, Consumes-trans f y z all more before took, then all (map line_said lines) h)
 

@@ -2,11 +2,12 @@
 use Rattle.std.proofs.Common.{◌≡◌, ℕ, ◌+◌, ◌<◌, ◌≤◌, List, [], ◌∷◌, ◌++◌, length, map, take, Bool, false, arith, refl, sym, ap, ◌∙◌, subst, length-append, append_assoc, append-nil}
 use Rattle.std.specs.Prelude.{Option, Ok, Err}
 use Rattle.std.proofs.KnownBytes.{Consumes-trans}
+use Rattle.cert_reader.specs.declared.limits.TheConstants.{MOST_BYTES}
 use Rattle.arrayvec.specs.declared.array_vec.ArrayVec.{ArrayVec}
 use Rattle.split_frac.specs.declared.frac.Frac.{Frac}
 use Rattle.split_frac.specs.Frac.{fraction_of}
-use Rattle.cert_reader.specs.declared.ends.ReadEnd.{ReadEnd}
-use Rattle.cert_reader.specs.declared.ends.ReadEnd.TheVariants.{NoMemory, NotText, ReadFault, TooLong}
+use Rattle.cert_reader.specs.declared.ends.TextEnd.{TextEnd}
+use Rattle.cert_reader.specs.declared.ends.TextEnd.TheVariants.{NotText, ReadFault, TooLong}
 use Rattle.cert_reader.specs.declared.forms.Counts.{Counts}
 use Rattle.cert_reader.specs.Forms.{AreInRange, Series, forms_of}
 use Rattle.cert_reader.specs.Order.{AgreeUpTo, HasNoLine, form_in}
@@ -62,14 +63,13 @@ line_read {series} a b x y lines known counts last taken said are agree within c
     (total_of a b x y (said_text (form_in counts lines) last) taken p h.total)
 
 -- the reading stopped
-pub stop_end : {series : Series} → (a : Held) (x y : Option (List ℕ)) (lines : ℕ) (known : Counts) (in_tree : Bool) (end : ReadEnd) → IsStopped a x y end → GoesOf series (reading_at a lines known in_tree) x y (λ taken said. IsEndOf series end y taken)
+pub stop_end : {series : Series} → (a : Held) (x y : Option (List ℕ)) (lines : ℕ) (known : Counts) (in_tree : Bool) (end : TextEnd) → IsStopped a x y end → GoesOf series (reading_at a lines known in_tree) x y (λ taken said. IsEndOf series end y taken)
 stop_end {series} a x y lines known in_tree (NotText line) (more, took, at) = absurd at
-stop_end {series} a x y lines known in_tree NoMemory (more, took, at) = absurd at
 stop_end {series} a x y lines known in_tree TooLong (more, took, at) = (more, took, λ taken said h. (let total = h.total in let all : length (taken ++ more) ≡ length taken + length more = length-append taken more in omega (arith, total, all, at)))
 stop_end {series} a x y lines known in_tree ReadFault (more, took, at) = (more, took, λ taken said h. (let total = h.total in let all : length (taken ++ more) ≡ length taken + length more = length-append taken more in omega (arith, total, all, at)))
 
 -- a line is broken
-pub refused_end : {series : Series} → (a b : Held) (x y : Option (List ℕ)) (lines : ℕ) (known : Counts) (none : List ℕ → Type 0) (end : ReadEnd) → taken_count b ≤ 4000000
+pub refused_end : {series : Series} → (a b : Held) (x y : Option (List ℕ)) (lines : ℕ) (known : Counts) (none : List ℕ → Type 0) (end : TextEnd) → taken_count b ≤ MOST_BYTES
     → ((text : List ℕ) → none text → HasNoLine lines known text × (lines ≡ length (forms_of known) → text ≡ [] → ⊥))
     → IsRefused a b x y (lines + 1) none end → GoesOf series (reading_of a lines known) x y (λ taken said. IsEndOf series end y taken)
 refused_end {series} a b x y lines known none (NotText line) few never (is, (text, p, ahead, at, no_line)) = (
@@ -86,7 +86,6 @@ refused_end {series} a b x y lines known none (NotText line) few never (is, (tex
 )
 refused_end {series} a b x y lines known none TooLong few never stop = stop_end a x y lines known false TooLong stop
 refused_end {series} a b x y lines known none ReadFault few never stop = stop_end a x y lines known false ReadFault stop
-refused_end {series} a b x y lines known none NoMemory few never stop = stop_end a x y lines known false NoMemory stop
 
 -- one line more, or a broken one
 pub settled_line : {series : Series} → (a b : Held) (x y : Option (List ℕ)) (lines : ℕ) (known counts : Counts) (numbers : ArrayVec Frac 24 (Unit {0})) → IsSettled a b x y lines known (Ok (counts, numbers))
@@ -95,7 +94,7 @@ settled_line {series} a b x y lines known counts numbers (are, agree, within, ca
     (p.more, p.took, λ taken said h. (refl, agree, line_read a b x y lines known counts (Numbers (map fraction_of numbers.items)) taken said are agree within can p h))
 
 -- where no line that may follow was settled, the answer is the end that was met
-pub settled_end : {series : Series} → (a b : Held) (x y : Option (List ℕ)) (lines : ℕ) (known : Counts) (end : ReadEnd) → taken_count b ≤ 4000000 → lines < length (forms_of known) → IsSettled a b x y lines known (Err end)
+pub settled_end : {series : Series} → (a b : Held) (x y : Option (List ℕ)) (lines : ℕ) (known : Counts) (end : TextEnd) → taken_count b ≤ MOST_BYTES → lines < length (forms_of known) → IsSettled a b x y lines known (Err end)
     → GoesOf series (reading_of a lines known) x y (λ taken said. IsEndOf series end y taken)
 settled_end {series} a b x y lines known end few within stop = refused_end a b x y lines known (HasNoLine lines known) end few (λ text no_line. (no_line, λ all none. omega arith)) stop
 
@@ -117,14 +116,13 @@ line_given a b x y lines known counts numbers (are, agree, within, can, p) =
     omega (arith, given, long, length-append line.front (10 ∷ []))
 
 -- a byte behind the last line breaks the text
-pub refused_behind_all : {series : Series} → (a b c : Held) (x y z : Option (List ℕ)) (lines : ℕ) (known : Counts) (byte : ℕ) (end : ReadEnd) → taken_count c ≤ 4000000 → lines ≡ length (forms_of known) → Hands a b x y (byte ∷ [])
+pub refused_behind_all : {series : Series} → (a b c : Held) (x y z : Option (List ℕ)) (lines : ℕ) (known : Counts) (byte : ℕ) (end : TextEnd) → taken_count c ≤ MOST_BYTES → lines ≡ length (forms_of known) → Hands a b x y (byte ∷ [])
     → IsRefused b c y z (lines + 1) (λ _. Unit {0}) end → GoesOf series (reading_of a lines known) x z (λ taken said. IsEndOf series end z taken)
 refused_behind_all {series} a b c x y z lines known byte (NotText line) few all p (is, (text, q, ahead, at, _)) =
     refused_end a c x z lines known (λ bytes. bytes ≡ byte ∷ text) (NotText line) few (λ bytes e. (none_behind lines known bytes all, λ _ none. cc (e, none)))
     (is, (byte ∷ text, hands_trans a b c x y z (byte ∷ []) text p q, ahead, at, refl))
 refused_behind_all {series} a b c x y z lines known byte TooLong few all p stop = stop_end a x z lines known false TooLong (stops_after a b x y z (byte ∷ []) TooLong p stop)
 refused_behind_all {series} a b c x y z lines known byte ReadFault few all p stop = stop_end a x z lines known false ReadFault (stops_after a b x y z (byte ∷ []) ReadFault p stop)
-refused_behind_all {series} a b c x y z lines known byte NoMemory few all p stop = stop_end a x z lines known false NoMemory (stops_after a b x y z (byte ∷ []) NoMemory p stop)
 
 -- a line was settled: a reading that is given by its fields has read it
 pub settled_line_at : {series : Series} → (r : Reading) (a b : Held) (x y : Option (List ℕ)) (lines : ℕ) (known counts : Counts) (in_tree : Bool) (numbers : ArrayVec Frac 24 (Unit {0})) → reading_at a lines known in_tree ≡ r → r.in_tree ≡ false
@@ -134,13 +132,13 @@ settled_line_at {series} r a b x y lines known counts in_tree numbers e whole se
     (subst (λ s. GoesOf series s x y (λ taken said. IsLineRead series s (reading_of b (lines + 1) counts) y taken said (Ok numbers))) (reading_is r a lines known in_tree false e whole) (settled_line a b x y lines known counts numbers settled))
 
 -- where no line was settled, a reading that is given by its fields ends so
-pub settled_end_at : {series : Series} → (r : Reading) (a b : Held) (x y : Option (List ℕ)) (lines : ℕ) (known : Counts) (in_tree : Bool) (end : ReadEnd) → reading_at a lines known in_tree ≡ r → r.in_tree ≡ false → taken_count b ≤ 4000000
+pub settled_end_at : {series : Series} → (r : Reading) (a b : Held) (x y : Option (List ℕ)) (lines : ℕ) (known : Counts) (in_tree : Bool) (end : TextEnd) → reading_at a lines known in_tree ≡ r → r.in_tree ≡ false → taken_count b ≤ MOST_BYTES
     → lines < length (forms_of known) → IsSettled a b x y lines known (Err end) → GoesOf series r x y (λ taken said. IsEndOf series end y taken)
 settled_end_at {series} r a b x y lines known in_tree end e whole few within stop =
     subst (λ s. GoesOf series s x y (λ taken said. IsEndOf series end y taken)) (reading_is r a lines known in_tree false e whole) (settled_end a b x y lines known end few within stop)
 
 -- a byte behind the last line ends a reading that is given by its fields
-pub refused_behind_all_at : {series : Series} → (r : Reading) (a b c : Held) (x y z : Option (List ℕ)) (lines : ℕ) (known : Counts) (in_tree : Bool) (byte : ℕ) (end : ReadEnd) → reading_at a lines known in_tree ≡ r → r.in_tree ≡ false
-    → taken_count c ≤ 4000000 → lines ≡ length (forms_of known) → Hands a b x y (byte ∷ []) → IsRefused b c y z (lines + 1) (λ _. Unit {0}) end → GoesOf series r x z (λ taken said. IsEndOf series end z taken)
+pub refused_behind_all_at : {series : Series} → (r : Reading) (a b c : Held) (x y z : Option (List ℕ)) (lines : ℕ) (known : Counts) (in_tree : Bool) (byte : ℕ) (end : TextEnd) → reading_at a lines known in_tree ≡ r → r.in_tree ≡ false
+    → taken_count c ≤ MOST_BYTES → lines ≡ length (forms_of known) → Hands a b x y (byte ∷ []) → IsRefused b c y z (lines + 1) (λ _. Unit {0}) end → GoesOf series r x z (λ taken said. IsEndOf series end z taken)
 refused_behind_all_at {series} r a b c x y z lines known in_tree byte end e whole few all p stop =
     subst (λ s. GoesOf series s x z (λ taken said. IsEndOf series end z taken)) (reading_is r a lines known in_tree false e whole) (refused_behind_all a b c x y z lines known byte end few all p stop)

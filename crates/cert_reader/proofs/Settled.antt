@@ -1,8 +1,8 @@
 -- The next line may follow, or no line that may follow stands there.
 use Rattle.std.proofs.Common.{◌≡◌, ℕ, ◌<◌, List, [], ◌∷◌, ◌++◌, length, arith, refl, sym, ap, ◌∙◌, subst, append_assoc}
 use Rattle.std.specs.Prelude.{Option}
-use Rattle.cert_reader.specs.declared.ends.ReadEnd.{ReadEnd}
-use Rattle.cert_reader.specs.declared.ends.ReadEnd.TheVariants.{NoMemory, NotText, ReadFault, TooLong}
+use Rattle.cert_reader.specs.declared.ends.TextEnd.{TextEnd}
+use Rattle.cert_reader.specs.declared.ends.TextEnd.TheVariants.{NotText, ReadFault, TooLong}
 use Rattle.cert_reader.specs.declared.forms.Counts.{Counts}
 use Rattle.cert_reader.specs.Forms.{AreInRange, Tree, forms_of}
 use Rattle.cert_reader.specs.Order.{AgreeUpTo, HasNoLine, IsLineOf, form_in}
@@ -49,16 +49,15 @@ no_line_unended index known text plain counts said more are agree within can e =
     unended (x ∷ xs) = ap (λ ys. x ∷ ys) (unended xs)
 
 -- bytes that were handed out, and a refusal of those behind them
-pub refused_after : (a b c : Held) (x y z : Option (List ℕ)) (line : ℕ) (text : List ℕ) (before none : List ℕ → Type 0) (end : ReadEnd) → Hands a b x y text
+pub refused_after : (a b c : Held) (x y z : Option (List ℕ)) (line : ℕ) (text : List ℕ) (before none : List ℕ → Type 0) (end : TextEnd) → Hands a b x y text
     → ((rest : List ℕ) → before rest → none (text ++ rest)) → IsRefused b c y z line before end → IsRefused a c x z line none end
 refused_after a b c x y z line text before none (NotText broken) p never (is, (rest, q, ahead, at, so)) =
     (is, (text ++ rest, hands_trans a b c x y z text rest p q, ahead, at, never rest so))
 refused_after a b c x y z line text before none TooLong p never stop = stops_after a b x y z text TooLong p stop
 refused_after a b c x y z line text before none ReadFault p never stop = stops_after a b x y z text ReadFault p stop
-refused_after a b c x y z line text before none NoMemory p never stop = stops_after a b x y z text NoMemory p stop
 
 -- a broken line, and what was read behind it
-pub refused_behind : (a b c : Held) (x y z : Option (List ℕ)) (line : ℕ) (text : List ℕ) (none : List ℕ → Type 0) (end : ReadEnd) → Hands a b x y (text ++ 10 ∷ [])
+pub refused_behind : (a b c : Held) (x y z : Option (List ℕ)) (line : ℕ) (text : List ℕ) (none : List ℕ → Type 0) (end : TextEnd) → Hands a b x y (text ++ 10 ∷ [])
     → ((rest : List ℕ) → none (text ++ 10 ∷ rest)) → IsRefused b c y z line (λ _. Unit {0}) end → IsRefused a c x z line none end
 refused_behind a b c x y z line text none end p never =
     refused_after a b c x y z line (text ++ 10 ∷ []) (λ _. Unit {0}) none end p (λ rest _. subst none (sym (append_assoc text (10 ∷ []) rest)) (never rest))

@@ -7,13 +7,13 @@ use Rattle.cert_reader.specs.Forms.{AreCountsOf, AreInRange, Certificates, Form,
 use Rattle.cert_reader.specs.Pairs.{IsPairText, pair_said}
 use Rattle.cert_reader.specs.Layout.{PairView}
 use Rattle.cert_reader.specs.Text.{CanSay, CanSayAll, IsText, Marks, Numbers, Said, said_text, text_of}
-use Rattle.cert_reader.specs.Views.{OfFares, OfGoods, OfRent, View, counts_of, marks_of, said_of, says}
+use Rattle.cert_reader.specs.Views.{OfFares, OfGoods, OfRent, CertificateView, counts_of, marks_of, said_of, says}
 use Rattle.cert_reader.specs.Words.{word_text}
 use Rattle.cert_reader.specs.declared.forms.Word.TheVariants as word
 use Rattle.cert_reader.proofs.FormLines.{line_short, said_line}
 use Rattle.cert_reader.proofs.FormPlaces.{length_pair, lines_few}
 use Rattle.cert_reader.proofs.UsualForms.{AreUsual, count_in, usual_forms}
-use Rattle.split_text.specs.Texts.{line}
+use Rattle.split_frac.specs.Texts.{line}
 
 -- how many marks a line says, and lines one after another
 abbrev marks_in : Said → ℕ
@@ -69,7 +69,7 @@ sets_count first [] more = refl
 sets_count first (row ∷ rows) more = sets_count (first + 1) rows more
 
 -- a view says its marks
-view_count : (view : View) → mark_count (said_of view) ≡ length (marks_of view)
+view_count : (view : CertificateView) → mark_count (said_of view) ≡ length (marks_of view)
 unfolding mark_count
 view_count (OfRent view) = rows_count view.values _
 view_count (OfGoods view) = rows_count view.values _ ∙ (let none : length view.marks + 0 ≡ length view.marks = omega arith in none)
@@ -80,13 +80,13 @@ unfolding mark_count
 pair_count view = rows_count view.values _
 
 -- the counts of a text are in range
-in_range : (view : View) → AreCountsOf Certificates (counts_of view) → AreInRange (counts_of view)
+in_range : (view : CertificateView) → AreCountsOf Certificates (counts_of view) → AreInRange (counts_of view)
 in_range (OfRent view) h = h
 in_range (OfGoods view) h = h
 in_range (OfFares view) h = h
 
 -- a text is short but for its marks
-pub text_size : (bytes : List ℕ) (view : View) → IsText bytes (counts_of view) (said_of view) → length bytes ≤ 1072150 + length (marks_of view)
+pub text_size : (bytes : List ℕ) (view : CertificateView) → IsText bytes (counts_of view) (said_of view) → length bytes ≤ 1072150 + length (marks_of view)
 text_size bytes view text =
     let are = in_range view text.are_counts in
     let short = lines_size (forms_of (counts_of view)) (said_of view) (usual_forms (counts_of view) are) text.fits in

@@ -4,7 +4,7 @@ use Rattle.std.proofs.lemmas.List.{length-replicate, take_at}
 use Rattle.std.proofs.lemmas.List.Elements.{All-head, All-tail}
 use Rattle.std.proofs.Math.ListN.{get_or-append}
 use Rattle.std.proofs.Math.Seq.{get_or-append_seam}
-use Rattle.split_text.specs.Texts.{line}
+use Rattle.split_frac.specs.Texts.{line}
 use Rattle.cert_reader.specs.declared.forms.Counts.{Counts}
 use Rattle.cert_reader.specs.declared.forms.Counts.TheVariants.{Fares, Goods, Pair, Rent}
 use Rattle.cert_reader.specs.declared.forms.Word.TheVariants as word

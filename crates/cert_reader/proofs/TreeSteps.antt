@@ -3,9 +3,10 @@ use Rattle.std.proofs.Common.{◌≡◌, ℕ, ◌+◌, ◌-◌, ◌<◌, ◌≤�
 use Rattle.std.specs.Prelude.{Option, Some, None, Result, Ok, Err}
 use Rattle.std.proofs.lemmas.List.{append_cancel_right}
 use Rattle.std.proofs.lemmas.List.Elements.{All-append, All-cons, All-nil}
-use Rattle.split_text.specs.Texts.{line}
-use Rattle.cert_reader.specs.declared.ends.ReadEnd.{ReadEnd}
-use Rattle.cert_reader.specs.declared.ends.ReadEnd.TheVariants.{NoMemory, NotText, ReadFault, TooLong}
+use Rattle.cert_reader.specs.declared.limits.TheConstants.{MOST_BYTES}
+use Rattle.split_frac.specs.Texts.{line}
+use Rattle.cert_reader.specs.declared.ends.TextEnd.{TextEnd}
+use Rattle.cert_reader.specs.declared.ends.TextEnd.TheVariants.{NotText, ReadFault, TooLong}
 use Rattle.cert_reader.specs.declared.forms.Counts.{Counts}
 use Rattle.cert_reader.specs.declared.pieces.Piece.{Piece}
 use Rattle.cert_reader.specs.declared.pieces.Piece.TheVariants.{Done, Kind, Line, Mark}
@@ -118,7 +119,7 @@ first_read a b x y lines known mark within tree (is, p) = (p.more, p.took, λ ta
         }))
 
 -- no line of a tree stands where one is due
-pub first_unread : (a b : Held) (x y : Option (List ℕ)) (lines : ℕ) (known : Counts) (end : ReadEnd) → taken_count b ≤ 4000000 → lines < length (forms_of known) → form_in known lines ≡ Tree
+pub first_unread : (a b : Held) (x y : Option (List ℕ)) (lines : ℕ) (known : Counts) (end : TextEnd) → taken_count b ≤ MOST_BYTES → lines < length (forms_of known) → form_in known lines ≡ Tree
     → IsFirstMark a b x y (lines + 1) (Err end) → Goes (reading_of a lines known) x y (λ taken said. IsEnd end y taken)
 first_unread a b x y lines known end few within tree stop = refused_end a b x y lines known HasNoTree end few (λ text none. (no_tree lines known text tree none, λ all rest. omega arith)) stop
 
@@ -163,7 +164,7 @@ tree_closed a b x y k known tree p = (p.more, p.took, λ taken said h. read take
         (total_of a b x y (10 ∷ []) taken p h.part.total)
 
 -- the tree goes on otherwise
-pub tree_unread : (a b : Held) (x y : Option (List ℕ)) (k : ℕ) (known : Counts) (end : ReadEnd) → taken_count b ≤ 4000000 → form_in known k ≡ Tree → IsNextMark a b x y (k + 1) (Err end)
+pub tree_unread : (a b : Held) (x y : Option (List ℕ)) (k : ℕ) (known : Counts) (end : TextEnd) → taken_count b ≤ MOST_BYTES → form_in known k ≡ Tree → IsNextMark a b x y (k + 1) (Err end)
     → Goes (reading_at a (k + 1) known true) x y (λ taken said. IsEnd end y taken)
 tree_unread a b x y k known (NotText line) few tree (is, (text, p, ahead, at, never)) = (
   p.more,
@@ -187,7 +188,6 @@ tree_unread a b x y k known (NotText line) few tree (is, (text, p, ahead, at, ne
         (λ all none. omega arith) (no_tree k known (tree_front ++ (marks ++ text)) tree (no_more marks text h.part.each never)))
 tree_unread a b x y k known TooLong few tree stop = stop_end a x y (k + 1) known true TooLong stop
 tree_unread a b x y k known ReadFault few tree stop = stop_end a x y (k + 1) known true ReadFault stop
-tree_unread a b x y k known NoMemory few tree stop = stop_end a x y (k + 1) known true NoMemory stop
 
 -- the first mark was handed out: a reading that is given by its fields has read it
 pub first_read_at : (r : Reading) (a b : Held) (x y : Option (List ℕ)) (lines : ℕ) (known : Counts) (in_tree : Bool) (mark : ℕ) → reading_at a lines known in_tree ≡ r → r.in_tree ≡ false → lines < length (forms_of known)
@@ -197,7 +197,7 @@ first_read_at r a b x y lines known in_tree mark e whole within tree first =
     (first_read a b x y lines known mark within tree first)
 
 -- where no first mark was handed out, a reading that is given by its fields ends so
-pub first_unread_at : (r : Reading) (a b : Held) (x y : Option (List ℕ)) (lines : ℕ) (known : Counts) (in_tree : Bool) (end : ReadEnd) → reading_at a lines known in_tree ≡ r → r.in_tree ≡ false → taken_count b ≤ 4000000
+pub first_unread_at : (r : Reading) (a b : Held) (x y : Option (List ℕ)) (lines : ℕ) (known : Counts) (in_tree : Bool) (end : TextEnd) → reading_at a lines known in_tree ≡ r → r.in_tree ≡ false → taken_count b ≤ MOST_BYTES
     → lines < length (forms_of known) → form_in known lines ≡ Tree → IsFirstMark a b x y (lines + 1) (Err end) → Goes r x y (λ taken said. IsEnd end y taken)
 first_unread_at r a b x y lines known in_tree end e whole few within tree stop =
     subst (λ s. Goes s x y (λ taken said. IsEnd end y taken)) (reading_is r a lines known in_tree false e whole) (first_unread a b x y lines known end few within tree stop)
@@ -224,8 +224,8 @@ tree_closed_at r a b x y lines known in_tree e within (some, tree) next =
     (tree_closed a b x y (lines - 1) known tree (subst (λ n. IsNextMark a b x y n (Ok None)) (sym (lines_back lines some)) next)))
 
 -- where the tree goes on otherwise, a reading that is given by its fields ends so
-pub tree_unread_at : (r : Reading) (a b : Held) (x y : Option (List ℕ)) (lines : ℕ) (known : Counts) (in_tree : Bool) (end : ReadEnd) → reading_at a lines known in_tree ≡ r → r.in_tree ≡ true → EndsInTree lines known
-    → taken_count b ≤ 4000000 → IsNextMark a b x y lines (Err end) → Goes r x y (λ taken said. IsEnd end y taken)
+pub tree_unread_at : (r : Reading) (a b : Held) (x y : Option (List ℕ)) (lines : ℕ) (known : Counts) (in_tree : Bool) (end : TextEnd) → reading_at a lines known in_tree ≡ r → r.in_tree ≡ true → EndsInTree lines known
+    → taken_count b ≤ MOST_BYTES → IsNextMark a b x y lines (Err end) → Goes r x y (λ taken said. IsEnd end y taken)
 tree_unread_at r a b x y lines known in_tree end e within (some, tree) few stop =
     subst (λ s. Goes s x y (λ taken said. IsEnd end y taken)) (reading_is r a lines known in_tree true e within)
     (subst (λ n. Goes (reading_at a n known true) x y (λ taken said. IsEnd end y taken)) (lines_back lines some)
@@ -236,7 +236,7 @@ pub mark_piece : (a b : Reading) (x y : Option (List ℕ)) (mark : ℕ) → 0 < 
 mark_piece a b x y mark some p = goes_so a x y (λ taken said. IsTreeRead a b y taken said (Ok (Some mark))) (λ taken said. IsAnswer a b y taken said (Ok (Mark mark))) (λ taken said h. (some, h.0, h.1)) p
 
 -- an answer stays one where the lines and counts before it are the same
-answer_same : (a b c : Reading) (z : Option (List ℕ)) (taken : List ℕ) (said : List Said) (r : Result Piece ReadEnd) → b.lines ≡ a.lines → b.counts ≡ a.counts → IsAnswer b c z taken said r → IsAnswer a c z taken said r
+answer_same : (a b c : Reading) (z : Option (List ℕ)) (taken : List ℕ) (said : List Said) (r : Result Piece TextEnd) → b.lines ≡ a.lines → b.counts ≡ a.counts → IsAnswer b c z taken said r → IsAnswer a c z taken said r
 answer_same a b c z taken said (Ok (Kind kind)) lines counts h = (sym lines ∙ h.0, h.1, h.2, h.3)
 answer_same a b c z taken said (Ok (Line numbers)) lines counts h =
     (subst (λ n. 0 < n) lines h.0, h.1 ∙ ap (λ n. n + 1) lines, subst (λ n. AgreeUpTo n a.counts c.counts) lines (subst (λ k. AgreeUpTo b.lines k c.counts) counts h.2), h.3)
@@ -245,7 +245,7 @@ answer_same a b c z taken said (Ok Done) lines counts h = (ap (λ n. n + 1) (sym
 answer_same a b c z taken said (Err end) lines counts h = h
 
 -- what follows a tree whose line ended is an answer to the reading before it, too
-pub answer_behind_tree : (a b c : Reading) (x y z : Option (List ℕ)) (r : Result Piece ReadEnd) → b.lines ≡ a.lines → b.counts ≡ a.counts → Goes a x y (λ taken said. IsTreeRead a b y taken said (Ok None))
+pub answer_behind_tree : (a b c : Reading) (x y z : Option (List ℕ)) (r : Result Piece TextEnd) → b.lines ≡ a.lines → b.counts ≡ a.counts → Goes a x y (λ taken said. IsTreeRead a b y taken said (Ok None))
     → Goes b y z (λ taken said. IsAnswer b c z taken said r) → Goes a x z (λ taken said. IsAnswer a c z taken said r)
 answer_behind_tree a b c x y z r lines counts p q =
     goes_so a x z (λ taken said. IsAnswer b c z taken said r) (λ taken said. IsAnswer a c z taken said r) (λ taken said h. answer_same a b c z taken said r lines counts h)

@@ -5,6 +5,7 @@ use Rattle.std.proofs.Math.Nat.{one-dvd}
 use Rattle.std.proofs.lemmas.Int.{ints}
 use Rattle.std.proofs.lemmas.List.{length-replicate}
 use Rattle.std.proofs.lemmas.List.Elements.{All-cons, All-nil, All-replicate}
+use Rattle.bid_rules.specs.declared.limits.TheConstants.{MOST_RIDERS}
 use Rattle.bid_rules.specs.Fractions.{Fraction}
 use Rattle.cert_reader.specs.declared.forms.Counts.{Counts}
 use Rattle.cert_reader.specs.declared.forms.Counts.TheVariants.{Fares, Goods, Pair, Rent}
@@ -83,7 +84,7 @@ usual_tree : Usual Tree
 usual_tree = record { short = omega arith; said = Marks (43 ∷ []); can = (omega arith, All-cons IsMark 43 [] (inl refl) (All-nil IsMark)) }
 
 -- the lines of sets
-usual_sets : (n first many : ℕ) → n ≤ 10 → first + many ≤ 1024 → AreUsual (map (set_form n) (range_with_len first many))
+usual_sets : (n first many : ℕ) → n ≤ MOST_RIDERS → first + many ≤ 2 ^ MOST_RIDERS → AreUsual (map (set_form n) (range_with_len first many))
 unfolding AreUsual
 usual_sets n first zero few small = tt
 usual_sets n first (suc many) few small = (

@@ -1,7 +1,7 @@
 -- How bytes are cut: at the first byte of a kind, and into lines without their LF.
 use Rattle.std.specs.Prelude.{◌≡◌, ◌≢◌, ℕ, ◌<◌, ◌≤◌, List, ◌++◌, length, slice_index}
 use Rattle.bid_rules.specs.Fractions.{Fraction}
-use Rattle.split_text.specs.Texts.{numbers_text}
+use Rattle.split_frac.specs.Texts.{numbers_text}
 use Rattle.cert_reader.specs.declared.forms.LineForm.{LineForm}
 use Rattle.cert_reader.specs.Text.{HasNumbers}
 use Rattle.cert_reader.specs.Words.{word_text}

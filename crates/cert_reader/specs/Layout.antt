@@ -5,6 +5,7 @@ use Rattle.bid_rules.specs.Fractions.{Fraction}
 use Rattle.cert_reader.specs.declared.forms.Word.{Word}
 use Rattle.cert_reader.specs.declared.forms.Word.TheVariants as word
 use Rattle.cert_reader.specs.GoodsViews.{GoodsView}
+use Rattle.bid_rules.specs.declared.limits.TheConstants.{PAIR}
 
 -- a certificate of a rent: the values by member and room, rooms by member, dual numbers by member and by room, walks, ranks by member, prices by room
 pub record RentView : Type 0 where
@@ -74,6 +75,6 @@ fares_layout n places = Fixed word.Fairsplit 1 ∷ Bare word.KindFares ∷ Fixed
 
 -- what adjusted winner gives two players
 abbrev pub pair_layout : ℕ → List (Part PairView)
-pair_layout goods = Fixed word.FairsplitPair 1 ∷ Fixed word.Goods goods ∷ Whole word.Who 2 (λ view. view.who)
-    ∷ Rows 2 word.Values goods (λ view. view.values)
-    ∷ Fractions word.Shares goods (λ view. view.shares) ∷ Whole word.Weights 2 (λ view. view.weights) ∷ Fractions word.Total 1 (λ view. view.total ∷ []) ∷ Bare word.End ∷ []
+pair_layout goods = Fixed word.FairsplitPair 1 ∷ Fixed word.Goods goods ∷ Whole word.Who PAIR (λ view. view.who)
+    ∷ Rows PAIR word.Values goods (λ view. view.values)
+    ∷ Fractions word.Shares goods (λ view. view.shares) ∷ Whole word.Weights PAIR (λ view. view.weights) ∷ Fractions word.Total 1 (λ view. view.total ∷ []) ∷ Bare word.End ∷ []

@@ -11,6 +11,7 @@ pub mod Pairs
 pub mod Shapes
 pub mod Order
 pub mod TreeLines
+pub mod Ends
 pub mod Steps
 pub mod Reading
 pub mod GoodsViews

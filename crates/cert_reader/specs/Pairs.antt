@@ -2,7 +2,7 @@
 use Rattle.std.specs.Prelude.{ℕ, ◌≤◌, List, length, map, Option, Result, Ok, Err}
 use Rattle.std.specs.Io.KnownBytes.{IsAtEnd}
 use Rattle.split_frac.specs.Frac.{fraction_of}
-use Rattle.cert_reader.specs.declared.ends.ReadEnd.{ReadEnd}
+use Rattle.cert_reader.specs.declared.ends.TextEnd.{TextEnd}
 use Rattle.cert_reader.specs.declared.forms.Counts.TheVariants as count
 use Rattle.cert_reader.specs.declared.limits.TheConstants.{MOST_BYTES}
 use Rattle.cert_reader.specs.declared.pair.PairText.{PairText}
@@ -32,6 +32,6 @@ pair_view text = record {
 }
 
 -- all bytes of the source are the text of a pair that says this; or why they are none
-abbrev pub IsReadPair : Option (List ℕ) → List ℕ → Result PairText ReadEnd → Type 0
+abbrev pub IsReadPair : Option (List ℕ) → List ℕ → Result PairText TextEnd → Type 0
 IsReadPair left taken (Ok text) = IsPairText taken (pair_view text) × (length taken ≤ MOST_BYTES) × IsAtEnd left
 IsReadPair left taken (Err end) = IsEndOf Pairs end left taken

@@ -2,8 +2,8 @@
 use Rattle.std.specs.Prelude.{◌≡◌, ℕ, pos, ◌+◌, ◌-◌, ◌<◌, ◌≤◌, List, [], ◌∷◌, ◌++◌, length, map, take, Bool, cond, Option, Some, None, Result, Ok, Err, ⊤}
 use Rattle.std.specs.Io.KnownBytes.{Consumes, IsAtEnd}
 use Rattle.split_frac.specs.Frac.{fraction_of}
-use Rattle.cert_reader.specs.declared.ends.ReadEnd.{ReadEnd}
-use Rattle.cert_reader.specs.declared.ends.ReadEnd.TheVariants.{NoMemory, NotText, ReadFault, TooLong}
+use Rattle.cert_reader.specs.declared.ends.TextEnd.{TextEnd}
+use Rattle.cert_reader.specs.declared.ends.TextEnd.TheVariants.{NotText, ReadFault, TooLong}
 use Rattle.cert_reader.specs.declared.forms.Counts.{Counts}
 use Rattle.cert_reader.specs.declared.limits.TheConstants.{MOST_BYTES}
 use Rattle.cert_reader.specs.declared.pieces.Piece.{Piece}
@@ -60,13 +60,12 @@ abbrev pub IsOpen : Reading → Type 0
 IsOpen reading = reading.lines < length (forms_of reading.counts)
 
 -- why there is no text of the series, of all bytes that were taken
-abbrev pub IsEndOf : Series → ReadEnd → Option (List ℕ) → List ℕ → Type 0
+abbrev pub IsEndOf : Series → TextEnd → Option (List ℕ) → List ℕ → Type 0
 IsEndOf series (NotText line) left taken = IsBrokenTextOf series taken line × (length taken ≤ MOST_BYTES) × IsAtEnd left
 IsEndOf series TooLong left taken = length taken ≡ MOST_BYTES + 1
 IsEndOf series ReadFault left taken = length taken ≤ MOST_BYTES
-IsEndOf series NoMemory left taken = length taken ≤ MOST_BYTES
 
-abbrev pub IsEnd : ReadEnd → Option (List ℕ) → List ℕ → Type 0
+abbrev pub IsEnd : TextEnd → Option (List ℕ) → List ℕ → Type 0
 IsEnd end left taken = IsEndOf Certificates end left taken
 
 -- the source gave more bytes, and this holds of all that were taken and what the lines before say
@@ -87,28 +86,28 @@ IsPiece old new left taken said (Mark mark) = (0 < old.lines) × (new.counts ≡
 IsPiece old new left taken said Done =
     (old.lines + 1 ≡ length (forms_of new.counts)) × AgreeUpTo old.lines old.counts new.counts × IsText taken new.counts (said ++ says [] ∷ []) × (length taken ≤ MOST_BYTES) × IsAtEnd left
 
-abbrev pub IsAnswer : Reading → Reading → Option (List ℕ) → List ℕ → List Said → Result Piece ReadEnd → Type 0
+abbrev pub IsAnswer : Reading → Reading → Option (List ℕ) → List ℕ → List Said → Result Piece TextEnd → Type 0
 IsAnswer old new left taken said (Ok piece) = IsPiece old new left taken said piece
 IsAnswer old new left taken said (Err end) = IsEnd end left taken
 
 -- a line was read, or none of any text can follow
-abbrev pub IsLineRead : Series → Reading → Reading → Option (List ℕ) → List ℕ → List Said → Result Gathered ReadEnd → Type 0
+abbrev pub IsLineRead : Series → Reading → Reading → Option (List ℕ) → List ℕ → List Said → Result Gathered TextEnd → Type 0
 IsLineRead series old new left taken said (Ok numbers) =
     (new.lines ≡ old.lines + 1) × AgreeUpTo old.lines old.counts new.counts × IsReadOf series new taken (said ++ Numbers (map fraction_of numbers.items) ∷ [])
 IsLineRead series old new left taken said (Err end) = IsEndOf series end left taken
 
 -- a mark was read of a tree, whether its first or one more, or no line of any text goes on so
-abbrev pub IsMarkRead : Reading → Reading → Option (List ℕ) → List ℕ → List Said → Result ℕ ReadEnd → Type 0
+abbrev pub IsMarkRead : Reading → Reading → Option (List ℕ) → List ℕ → List Said → Result ℕ TextEnd → Type 0
 IsMarkRead old new left taken said (Ok mark) = (new.counts ≡ old.counts) × IsRead new taken (with_mark said mark)
 IsMarkRead old new left taken said (Err end) = IsEnd end left taken
 
 -- a mark more was read of a tree, or the LF behind its marks
-abbrev pub IsTreeRead : Reading → Reading → Option (List ℕ) → List ℕ → List Said → Result (Option ℕ) ReadEnd → Type 0
+abbrev pub IsTreeRead : Reading → Reading → Option (List ℕ) → List ℕ → List Said → Result (Option ℕ) TextEnd → Type 0
 IsTreeRead old new left taken said (Ok (Some mark)) = (new.counts ≡ old.counts) × IsRead new taken (with_mark said mark)
 IsTreeRead old new left taken said (Ok None) = IsRead new taken said
 IsTreeRead old new left taken said (Err end) = IsEnd end left taken
 
 -- all lines were read: nothing follows them, and they are a text; or it does
-abbrev pub IsFinished : Series → Reading → Option (List ℕ) → List ℕ → List Said → Result ⊤ ReadEnd → Type 0
+abbrev pub IsFinished : Series → Reading → Option (List ℕ) → List ℕ → List Said → Result ⊤ TextEnd → Type 0
 IsFinished series reading left taken said (Ok done) = IsTextOf series taken reading.counts said × (length taken ≤ MOST_BYTES) × IsAtEnd left
 IsFinished series reading left taken said (Err end) = IsEndOf series end left taken

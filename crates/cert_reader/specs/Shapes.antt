@@ -1,9 +1,9 @@
 -- Which views are those of texts.
 use Rattle.std.specs.Prelude.{◌≡◌, ◌+◌, length}
-use Rattle.cert_reader.specs.Views.{OfFares, OfGoods, OfRent, View}
+use Rattle.cert_reader.specs.Views.{OfFares, OfGoods, OfRent, CertificateView}
 
 -- a row of values for each member or player, or of legs from the origin and from each place
-abbrev pub HasRows : View → Type 0
+abbrev pub HasRows : CertificateView → Type 0
 HasRows (OfRent view) = length view.values ≡ length view.rooms
 HasRows (OfGoods view) = length view.values ≡ length view.who
 HasRows (OfFares view) = length view.legs ≡ view.places + 1

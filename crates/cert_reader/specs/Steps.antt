@@ -2,8 +2,8 @@
 use Rattle.std.specs.Prelude.{◌≡◌, ℕ, ◌+◌, ◌<◌, List, [], length, map, Option, Result, Ok, Err}
 use Rattle.std.specs.Io.KnownBytes.{IsAtEnd}
 use Rattle.split_frac.specs.Frac.{fraction_of}
-use Rattle.cert_reader.specs.declared.ends.ReadEnd.{ReadEnd}
-use Rattle.cert_reader.specs.declared.ends.ReadEnd.TheVariants.{NoMemory, NotText, ReadFault, TooLong}
+use Rattle.cert_reader.specs.declared.ends.TextEnd.{TextEnd}
+use Rattle.cert_reader.specs.declared.ends.TextEnd.TheVariants.{NotText, ReadFault, TooLong}
 use Rattle.cert_reader.specs.declared.forms.Counts.{Counts}
 use Rattle.cert_reader.specs.Forms.{AreInRange, forms_of}
 use Rattle.cert_reader.specs.Gathered.{Gathered}
@@ -12,14 +12,13 @@ use Rattle.cert_reader.specs.Stream.{Hands, Held, IsStopped}
 use Rattle.cert_reader.specs.Text.{CanSay, Numbers, said_text}
 
 -- all bytes were handed out, and no line that may follow stands at their front; or the reading stopped before
-abbrev pub IsRefused : Held → Held → Option (List ℕ) → Option (List ℕ) → ℕ → (List ℕ → Type 0) → ReadEnd → Type 0
+abbrev pub IsRefused : Held → Held → Option (List ℕ) → Option (List ℕ) → ℕ → (List ℕ → Type 0) → TextEnd → Type 0
 IsRefused before after left left_after line none (NotText broken) = (broken ≡ line) × ((text : List ℕ) × Hands before after left left_after text × (after.ahead ≡ []) × IsAtEnd left_after × none text)
 IsRefused before after left left_after line none TooLong = IsStopped before left left_after TooLong
 IsRefused before after left left_after line none ReadFault = IsStopped before left left_after ReadFault
-IsRefused before after left left_after line none NoMemory = IsStopped before left left_after NoMemory
 
 -- a line was handed out that may follow for these counts, and says these numbers; or none stands there
-abbrev pub IsSettled : Held → Held → Option (List ℕ) → Option (List ℕ) → ℕ → Counts → Result (Counts × Gathered) ReadEnd → Type 0
+abbrev pub IsSettled : Held → Held → Option (List ℕ) → Option (List ℕ) → ℕ → Counts → Result (Counts × Gathered) TextEnd → Type 0
 IsSettled before after left left_after index known (Ok found) =
     AreInRange found.0 × AgreeUpTo index known found.0 × (index < length (forms_of found.0)) × CanSay (form_in found.0 index) (Numbers (map fraction_of found.1.items))
     × Hands before after left left_after (said_text (form_in found.0 index) (Numbers (map fraction_of found.1.items)))

@@ -3,8 +3,8 @@ use Rattle.std.specs.Prelude.{◌≡◌, ◌≢◌, ℕ, ◌+◌, ◌<◌, ◌�
 use Rattle.std.specs.Io.KnownBytes.{Consumes, IsAtEnd}
 use Rattle.split_base.specs.Faults.{counted}
 use Rattle.cert_reader.specs.declared.limits.TheConstants.{LONGEST_LINE, MOST_BYTES}
-use Rattle.cert_reader.specs.declared.ends.ReadEnd.{ReadEnd}
-use Rattle.cert_reader.specs.declared.ends.ReadEnd.TheVariants.{NoMemory, NotText, ReadFault, TooLong}
+use Rattle.cert_reader.specs.declared.ends.TextEnd.{TextEnd}
+use Rattle.cert_reader.specs.declared.ends.TextEnd.TheVariants.{NotText, ReadFault, TooLong}
 use Rattle.cert_reader.specs.declared.stream.Cut.{Cut}
 use Rattle.cert_reader.specs.declared.stream.Cut.TheVariants.{Line, Long, Unended}
 use Rattle.cert_reader.specs.declared.stream.Front.{Front}
@@ -28,23 +28,21 @@ pub record Hands (before after : Held) (left_before left_after : Option (List �
   pub given : after.given ≡ before.given + length handed
 
 -- how many bytes in all may have been taken where the reading stops: exactly one more than a text has where it is too long, never more after a fault
-abbrev pub IsStopAt : ReadEnd → ℕ → Type 0
+abbrev pub IsStopAt : TextEnd → ℕ → Type 0
 IsStopAt TooLong total = total ≡ MOST_BYTES + 1
 IsStopAt ReadFault total = total ≤ MOST_BYTES
 IsStopAt (NotText line) total = ⊥
-IsStopAt NoMemory total = ⊥
 
 -- the reading stopped for this reason
-abbrev pub IsStopped : Held → Option (List ℕ) → Option (List ℕ) → ReadEnd → Type 0
+abbrev pub IsStopped : Held → Option (List ℕ) → Option (List ℕ) → TextEnd → Type 0
 IsStopped held before after stop = (more : List ℕ) × Consumes before after more × IsStopAt stop (taken_count held + length more)
 
 -- what the source's count of faults is then: one more after a failed read, which is not tried again, and else the same
-abbrev pub faults_after : {T : Type 0} → ℕ → Result T ReadEnd → ℕ
+abbrev pub faults_after : {T : Type 0} → ℕ → Result T TextEnd → ℕ
 faults_after before (Ok answer) = before
 faults_after before (Err ReadFault) = counted before
 faults_after before (Err TooLong) = before
 faults_after before (Err (NotText line)) = before
-faults_after before (Err NoMemory) = before
 
 -- no LF
 pub record IsPlain (text : List ℕ) : Type 0 where

@@ -1,7 +1,7 @@
 -- Texts: the lines of their forms, with what they say; and the first broken line of bytes that are none.
 use Rattle.std.specs.Prelude.{◌≡◌, ◌≢◌, ℕ, ℤ, pos, ◌<◌, ◌≤◌, ◌⊎◌, List, [], ◌∷◌, ◌++◌, length, map, take, All, IfSome}
 use Rattle.bid_rules.specs.Fractions.{Fraction}
-use Rattle.split_text.specs.Texts.{line, numbers_text}
+use Rattle.split_frac.specs.Texts.{line, numbers_text}
 use Rattle.cert_reader.specs.declared.forms.Counts.{Counts}
 use Rattle.cert_reader.specs.declared.forms.LineForm.{LineForm}
 use Rattle.cert_reader.specs.declared.forms.Word.TheVariants as word

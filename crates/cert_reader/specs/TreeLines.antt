@@ -1,6 +1,6 @@
 -- The line of a tree, read character by character.
 use Rattle.std.specs.Prelude.{◌≡◌, ◌≢◌, ℕ, ◌≤◌, List, [], ◌∷◌, ◌++◌, length, All, Option, Some, None, Result, Ok, Err}
-use Rattle.cert_reader.specs.declared.ends.ReadEnd.{ReadEnd}
+use Rattle.cert_reader.specs.declared.ends.TextEnd.{TextEnd}
 use Rattle.cert_reader.specs.declared.forms.Word.TheVariants as word
 use Rattle.cert_reader.specs.Steps.{IsRefused}
 use Rattle.cert_reader.specs.Stream.{Hands, Held}
@@ -21,12 +21,12 @@ GoesNotOn [] = Unit {0}
 GoesNotOn (byte ∷ bytes) = (IsMark byte → ⊥) × (byte ≢ 10)
 
 -- the first mark of a tree was handed out behind what stands before it, or no line of a tree stands there
-abbrev pub IsFirstMark : Held → Held → Option (List ℕ) → Option (List ℕ) → ℕ → Result ℕ ReadEnd → Type 0
+abbrev pub IsFirstMark : Held → Held → Option (List ℕ) → Option (List ℕ) → ℕ → Result ℕ TextEnd → Type 0
 IsFirstMark before after left left_after line (Ok mark) = IsMark mark × Hands before after left left_after (tree_front ++ mark ∷ [])
 IsFirstMark before after left left_after line (Err end) = IsRefused before after left left_after line HasNoTree end
 
 -- a mark more was handed out, or the LF behind the last; or the line goes on otherwise
-abbrev pub IsNextMark : Held → Held → Option (List ℕ) → Option (List ℕ) → ℕ → Result (Option ℕ) ReadEnd → Type 0
+abbrev pub IsNextMark : Held → Held → Option (List ℕ) → Option (List ℕ) → ℕ → Result (Option ℕ) TextEnd → Type 0
 IsNextMark before after left left_after line (Ok (Some mark)) = IsMark mark × Hands before after left left_after (mark ∷ [])
 IsNextMark before after left left_after line (Ok None) = Hands before after left left_after (10 ∷ [])
 IsNextMark before after left left_after line (Err end) = IsRefused before after left left_after line GoesNotOn end

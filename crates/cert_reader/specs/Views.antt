@@ -15,10 +15,10 @@ use Rattle.cert_reader.specs.Sets.{set_sizes}
 use Rattle.cert_reader.specs.Text.{Marks, Numbers, Said, wholes}
 
 -- a certificate of some kind
-pub data View : Type 0 where
-  OfRent : RentView → View
-  OfGoods : GoodsView → View
-  OfFares : FaresView → View
+pub data CertificateView : Type 0 where
+  OfRent : RentView → CertificateView
+  OfGoods : GoodsView → CertificateView
+  OfFares : FaresView → CertificateView
 
 -- a line that says whole numbers
 abbrev pub says : List ℤ → Said
@@ -45,19 +45,19 @@ goods_said view = said_in view (goods_layout (length view.who) view.goods)
 abbrev pub fares_said : FaresView → List Said
 fares_said view = said_in view (fares_layout (length view.who) view.places)
 
-abbrev pub said_of : View → List Said
+abbrev pub said_of : CertificateView → List Said
 said_of (OfRent view) = rent_said view
 said_of (OfGoods view) = goods_said view
 said_of (OfFares view) = fares_said view
 
 -- the marks of the tree, where there is one
-abbrev pub marks_of : View → List ℕ
+abbrev pub marks_of : CertificateView → List ℕ
 marks_of (OfRent view) = []
 marks_of (OfGoods view) = view.marks
 marks_of (OfFares view) = []
 
 -- what the head of the text counts
-abbrev pub counts_of : View → Counts
+abbrev pub counts_of : CertificateView → Counts
 counts_of (OfRent view) = count.Rent (length view.rooms)
 counts_of (OfGoods view) = count.Goods (length view.who) view.goods
 counts_of (OfFares view) = count.Fares (length view.who) view.places
@@ -103,7 +103,7 @@ fares_view text = record {
   fares = map fraction_of text.fares.items;
 }
 
-abbrev pub view_of : Certificate → View
+abbrev pub view_of : Certificate → CertificateView
 view_of (certificate.Rent text) = OfRent (rent_view text)
 view_of (certificate.Goods text) = OfGoods (goods_view text)
 view_of (certificate.Fares text) = OfFares (fares_view text)

@@ -2,7 +2,7 @@
 use Rattle.std.specs.Prelude.{◌≡◌, ℕ, ◌<◌, ◌≤◌, ◌⊎◌, List, [], length, Option, Result, Ok, Err}
 use Rattle.std.specs.Io.KnownBytes.{IsAtEnd}
 use Rattle.cert_reader.specs.declared.certificate.Certificate.{Certificate}
-use Rattle.cert_reader.specs.declared.ends.ReadEnd.{ReadEnd}
+use Rattle.cert_reader.specs.declared.ends.TextEnd.{TextEnd}
 use Rattle.cert_reader.specs.declared.limits.TheConstants.{MOST_BYTES}
 use Rattle.cert_reader.specs.Gathered.{Gathered, gathered_said}
 use Rattle.cert_reader.specs.Reading.{IsEnd, IsRead, Reading}
@@ -10,7 +10,7 @@ use Rattle.cert_reader.specs.Text.{IsText}
 use Rattle.cert_reader.specs.Views.{counts_of, said_of, view_of}
 
 -- all bytes of the source are the text that says what the certificate does; or why there is none
-abbrev pub IsReadWhole : Option (List ℕ) → List ℕ → Result Certificate ReadEnd → Type 0
+abbrev pub IsReadWhole : Option (List ℕ) → List ℕ → Result Certificate TextEnd → Type 0
 IsReadWhole left taken (Ok certificate) = IsText taken (counts_of (view_of certificate)) (said_of (view_of certificate)) × (length taken ≤ MOST_BYTES) × IsAtEnd left
 IsReadWhole left taken (Err end) = IsEnd end left taken
 

@@ -11,6 +11,11 @@ use crate::certificate::{Certificate, FaresText, GoodsText, RentText};
 use crate::forms::Counts;
 use crate::line::LineNumbers;
 use crate::order::set_count;
+use crate::places::{
+    FARES_AT, FARES_FARES, FARES_FLAG, FARES_LEGS, FARES_SETS, GOODS_LIMIT, GOODS_STEPS,
+    GOODS_VALUES, GOODS_WHO, RENT_AMOUNT, RENT_LEFT, RENT_PRICES, RENT_RANKS, RENT_RIGHT,
+    RENT_VALUES, RENT_WALKS,
+};
 use crate::rows::{fractions_at, number_at, push_rows, row_at, rows_of};
 use crate::table::Table;
 use crate::tree::Tree;
@@ -24,15 +29,15 @@ pub fn rent_text(members: u8, lines: &[LineNumbers]) -> RentText
     ensures said { rent_said (rent_view result) ≡ text_said lines.now }
     ensures members { length result.rooms.items ≡ members }
 {
-    let first = 2 + members as usize;
-    let rent = number_at(lines, 1);
-    let values = rows_of(&lines[2..first]);
+    let first = RENT_VALUES + members as usize;
+    let rent = number_at(lines, RENT_AMOUNT);
+    let values = rows_of(&lines[RENT_VALUES..first]);
     let rooms = row_at(lines, first);
-    let left = row_at(lines, first + 1);
-    let right = row_at(lines, first + 2);
-    let walks = row_at(lines, first + 3);
-    let ranks = row_at(lines, first + 4);
-    let prices = fractions_at(lines, first + 5);
+    let left = row_at(lines, first + RENT_LEFT);
+    let right = row_at(lines, first + RENT_RIGHT);
+    let walks = row_at(lines, first + RENT_WALKS);
+    let ranks = row_at(lines, first + RENT_RANKS);
+    let prices = fractions_at(lines, first + RENT_PRICES);
     RentText {
         rent,
         values,
@@ -53,12 +58,12 @@ pub(crate) fn goods_text(players: u8, goods: u8, lines: &[LineNumbers], marks: V
     ensures players { length result.who.items ≡ players }
     ensures goods { result.goods ≡ goods }
 {
-    let first = 4 + players as usize;
-    let limit = number_at(lines, 2);
-    let who = row_at(lines, 3);
-    let values = rows_of(&lines[4..first]);
+    let first = GOODS_VALUES + players as usize;
+    let limit = number_at(lines, GOODS_LIMIT);
+    let who = row_at(lines, GOODS_WHO);
+    let values = rows_of(&lines[GOODS_VALUES..first]);
     let owners = row_at(lines, first);
-    let steps = number_at(lines, first + 1);
+    let steps = number_at(lines, first + GOODS_STEPS);
     GoodsText {
         goods,
         limit,
@@ -83,17 +88,17 @@ pub(crate) fn fares_text(
     ensures riders { IfOk result (λ text. length text.who.items ≡ riders) }
     ensures places { IfOk result (λ text. text.places ≡ places) }
 {
-    let first = 4 + places as usize;
-    let sets = first + 2;
+    let first = FARES_LEGS + 1 + places as usize;
+    let sets = first + FARES_SETS;
     let last = sets + set_count(riders) as usize;
     let mut numbers = Vec::new(alloc);
     push_rows(&mut numbers, &lines[sets..last])?;
-    let flag = number_at(lines, 2);
-    let legs = rows_of(&lines[3..first]);
+    let flag = number_at(lines, FARES_FLAG);
+    let legs = rows_of(&lines[FARES_LEGS..first]);
     let who = row_at(lines, first);
-    let at = row_at(lines, first + 1);
+    let at = row_at(lines, first + FARES_AT);
     let route = row_at(lines, last);
-    let fares = fractions_at(lines, last + 1);
+    let fares = fractions_at(lines, last + FARES_FARES);
     Ok(FaresText {
         places,
         flag,

@@ -3,6 +3,8 @@ ghost use Rattle.std.specs.Prelude.{◌≡◌};
 ghost use Rattle.cert_reader.specs.Kinds.{kind_of};
 ghost use Rattle.cert_reader.specs.Words.{word_text};
 
+use crate::places::{FARES, GOODS, RENT};
+
 /// The word with which a line begins. The line of a kind has no numbers, so the kind is part of its word, and `pair` is part of the first word of the text of a pair.
 #[derive(Clone, Copy, Debug, PartialEq, Eq)]
 pub enum Word {
@@ -132,9 +134,9 @@ impl Counts {
         ensures { result ≡ kind_of self }
     {
         match self {
-            Counts::Rent { .. } => 1,
-            Counts::Goods { .. } => 2,
-            Counts::Fares { .. } => 3,
+            Counts::Rent { .. } => RENT,
+            Counts::Goods { .. } => GOODS,
+            Counts::Fares { .. } => FARES,
             Counts::Pair { .. } => 0,
         }
     }

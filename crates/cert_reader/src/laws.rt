@@ -9,7 +9,7 @@ ghost use Rattle.cert_reader.specs.Pairs.{IsPairText};
 ghost use Rattle.cert_reader.specs.Reading.{IsRead, Reading};
 ghost use Rattle.cert_reader.specs.Shapes.{HasRows};
 ghost use Rattle.cert_reader.specs.Text.{CanSayAll, IsBrokenText, IsBrokenTextOf, IsText, Said};
-ghost use Rattle.cert_reader.specs.Views.{View, counts_of, marks_of, said_of, view_of};
+ghost use Rattle.cert_reader.specs.Views.{CertificateView, counts_of, marks_of, said_of, view_of};
 
 /// One text has one meaning: its counts and what its lines say are one, and two certificates, or views with all rows, that say it are the same. No text has a
 /// broken line, other bytes have one first broken line, and what was read of a text so far has lines that would complete it. But for the marks of a tree a text is short.
@@ -17,11 +17,11 @@ pub fn text_law()
     ensures once { (bytes : List ℕ) (counts other : Counts) (said more : List Said) → IsText bytes counts said → IsText bytes other more → (other ≡ counts) × (more ≡ said) }
     ensures fields { (bytes : List ℕ) (certificate other : Certificate) → IsText bytes (counts_of (view_of certificate)) (said_of (view_of certificate))
         → IsText bytes (counts_of (view_of other)) (said_of (view_of other)) → view_of other ≡ view_of certificate }
-    ensures views { (bytes : List ℕ) (view other : View) → HasRows view → HasRows other → IsText bytes (counts_of view) (said_of view) → IsText bytes (counts_of other) (said_of other)
+    ensures views { (bytes : List ℕ) (view other : CertificateView) → HasRows view → HasRows other → IsText bytes (counts_of view) (said_of view) → IsText bytes (counts_of other) (said_of other)
         → other ≡ view }
     ensures whole { (bytes : List ℕ) (counts : Counts) (said : List Said) (line : ℕ) → IsText bytes counts said → IsBrokenText bytes line → ⊥ }
     ensures broken { (bytes : List ℕ) (line other : ℕ) → IsBrokenText bytes line → IsBrokenText bytes other → other ≡ line }
-    ensures short { (bytes : List ℕ) (view : View) → IsText bytes (counts_of view) (said_of view) → length bytes ≤ MOST_BESIDE_MARKS + length (marks_of view) }
+    ensures short { (bytes : List ℕ) (view : CertificateView) → IsText bytes (counts_of view) (said_of view) → length bytes ≤ MOST_BESIDE_MARKS + length (marks_of view) }
     ensures completed { (reading : Reading) (taken : List ℕ) (said : List Said) → IsRead reading taken said → (rest : List Said) × CanSayAll (forms_of reading.counts) (said ++ rest) }
 {}
 

@@ -15,6 +15,7 @@ mod pair;
 mod pair_building;
 mod pair_lines;
 mod pieces;
+pub mod places;
 mod read;
 mod rows;
 mod step;
@@ -25,7 +26,7 @@ mod tree_line;
 
 pub use building::rent_text;
 pub use certificate::{Certificate, FaresText, GoodsText, RentText};
-pub use ends::ReadEnd;
+pub use ends::{ReadEnd, TextEnd, read_answer};
 pub use forms::{Counts, LineForm, Word};
 pub use laws::{pair_law, text_law};
 pub use line::LineNumbers;

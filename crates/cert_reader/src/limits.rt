@@ -1,6 +1,7 @@
 // The limits of certificate texts and of the text of a pair. What they count, members, riders and places, has its limits in `bid_rules`.
 
 use bid_rules::limits::{MOST_GOODS, MOST_PLACES, MOST_RIDERS};
+use split_frac::limits::MOST_DENOMINATOR;
 
 /// The most bytes of a certificate text.
 pub const MOST_BYTES: usize = 4_000_000;
@@ -21,11 +22,17 @@ pub(crate) const MOST_LINES: u32 = 11 + MOST_PLACES as u32 + (1 << MOST_RIDERS) 
 pub(crate) const MOST_CHOICES: u8 = MOST_GOODS;
 /// The most bytes of a text but for the marks of a tree: of so many lines of the longest, each with its LF.
 pub const MOST_BESIDE_MARKS: usize = (LONGEST_LINE + 1) * MOST_LINES as usize;
-/// How many players a pair is.
-pub const PAIR: u8 = 2;
-/// As many as the length of a list.
-pub const PAIR_ROOM: usize = PAIR as usize;
 /// How many lines the text of a pair has.
 pub(crate) const PAIR_LINES: u32 = 9;
 /// How many of them stand before `end`.
 pub(crate) const PAIR_LINE_ROOM: usize = PAIR_LINES as usize - 1;
+
+// What the other limits ask of these: a fraction can be printed; a line has room for a good each, and for the number of a set with a cost a place of departure, of
+// which there is one more than riders; and a text of no tree fits.
+const _: () = prove!(MOST_DENOMINATOR <= MOST_PRINTED_DENOMINATOR);
+
+const _: () = prove!(MOST_GOODS as usize <= MOST_NUMBERS);
+
+const _: () = prove!(MOST_RIDERS as usize + 2 <= MOST_NUMBERS);
+
+const _: () = prove!(MOST_BESIDE_MARKS <= MOST_BYTES);

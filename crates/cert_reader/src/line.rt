@@ -4,7 +4,7 @@ ghost use Rattle.std.specs.Bool.{MatchBool};
 ghost use Rattle.arrayvec.specs.ArrayVec.{array_vec_len};
 ghost use Rattle.bid_rules.specs.Fractions.{Fraction};
 ghost use Rattle.split_frac.specs.Frac.{fraction_of};
-ghost use Rattle.split_text.specs.Texts.{numbers_text};
+ghost use Rattle.split_frac.specs.Texts.{numbers_text};
 ghost use Rattle.cert_reader.specs.Cuts.{IsLine};
 ghost use Rattle.cert_reader.specs.Numbers.{IsNumber};
 ghost use Rattle.cert_reader.specs.Text.{Leads};

@@ -11,9 +11,9 @@ ghost use Rattle.cert_reader.specs.Sets.{starts};
 ghost use Rattle.cert_reader.specs.Text.{Numbers, Said};
 
 use crate::forms::{Counts, LineForm, Word};
-use crate::limits::{PAIR, PAIR_LINES};
+use crate::limits::PAIR_LINES;
 use crate::line::{LineNumbers, read_line};
-use bid_rules::limits::{MOST_GOODS, MOST_MEMBERS, MOST_PLACES, MOST_RIDERS};
+use bid_rules::limits::{MOST_GOODS, MOST_MEMBERS, MOST_PLACES, MOST_RIDERS, PAIR};
 
 /// From how many starts the routes of a set of riders may go: so many numbers the line of the set has behind its own.
 pub fn start_count(riders: u8, set: u32) -> usize

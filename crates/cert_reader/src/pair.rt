@@ -1,13 +1,12 @@
 // The text of a pair: what adjusted winner gives two players.
 ghost use Rattle.std.specs.Prelude.{◌≡◌, ◌≤◌, [], ◌∷◌, ◌++◌, All, length, map};
 ghost use Rattle.std.proofs.Props.{props};
-ghost use Rattle.bid_rules.specs.declared.limits.TheConstants.{MOST_GOODS};
+ghost use Rattle.bid_rules.specs.declared.limits.TheConstants.{MOST_GOODS, PAIR};
 ghost use Rattle.cert_reader.specs.declared.limits.TheConstants.{MOST_PRINTED_DENOMINATOR};
 ghost use Rattle.cert_reader.specs.Numbers.{AreShort, AreSmall, IsSmall};
 
-use crate::limits::PAIR_ROOM;
 use arrayvec::ArrayVec;
-use bid_rules::limits::ITEM_ROOM;
+use bid_rules::limits::{ITEM_ROOM, PAIR_ROOM};
 use split_frac::Frac;
 
 /// What the text of a pair says: two players, their points by player and good, what of each good goes to player 1, the weights of the two, and the points that
@@ -24,11 +23,11 @@ pub struct PairText {
     pub total: Frac,
     pub ghost goods_low: { 1 ≤ goods },
     pub ghost goods_high: { goods ≤ MOST_GOODS },
-    pub ghost two: { length who.items ≡ 2 },
-    pub ghost rows: { length values.items ≡ 2 },
+    pub ghost two: { length who.items ≡ PAIR },
+    pub ghost rows: { length values.items ≡ PAIR },
     pub ghost columns: { All (λ row. length row.items ≡ goods) values.items } by { Prim.hlevel props },
     pub ghost each_share: { length shares.items ≡ goods },
-    pub ghost both: { length weights.items ≡ 2 },
+    pub ghost both: { length weights.items ≡ PAIR },
     pub ghost who_small: { AreSmall who.items } by { Prim.hlevel props },
     pub ghost values_small: { All (λ row. AreSmall row.items) values.items } by { Prim.hlevel props },
     pub ghost shares_short: { AreShort shares.items } by { Prim.hlevel props },

@@ -9,7 +9,7 @@ ghost use Rattle.cert_reader.specs.Pairs.{IsReadPair};
 ghost use Rattle.cert_reader.specs.Reading.{GoesOf, IsFinished, IsLineRead, IsOpen, IsReadOf};
 ghost use Rattle.cert_reader.specs.Stream.{faults_after};
 
-use crate::ends::ReadEnd;
+use crate::ends::TextEnd;
 use crate::forms::Counts;
 use crate::limits::PAIR_LINE_ROOM;
 use crate::line::LineNumbers;
@@ -74,14 +74,13 @@ impl PairLines {
     }
 
     /// Takes the next line, where one may follow, and gives its numbers.
-    fn next_line<S: Source>(&mut self, source: &mut S) -> Result<LineNumbers, ReadEnd>
+    fn next_line<S: Source>(&mut self, source: &mut S) -> Result<LineNumbers, TextEnd>
         requires { IsOpen self.old }
         ensures line { GoesOf Pairs self.old (S.left source.old) (S.left source.new) (λ taken said. IsLineRead Pairs self.old self.new (S.left source.new) taken said result) }
         ensures lines { OnOk result (self.new.lines ≡ self.old.lines + 1) }
         ensures within { self.new.lines ≤ length (forms_of self.new.counts) }
-        ensures memory { IsErrOf result ReadEnd.NoMemory → ⊥ }
         ensures faults { S.faults source.new ≡ faults_after (S.faults source.old) result }
-        ensures fault { IsErrOf result ReadEnd.ReadFault → HasRisen (S.faults source.old) (S.faults source.new) }
+        ensures fault { IsErrOf result TextEnd.ReadFault → HasRisen (S.faults source.old) (S.faults source.new) }
         ensures count { S.faults source.old ≤ S.faults source.new }
         ensures beside { S.beside source.new ≡ S.beside source.old }
     {
@@ -96,13 +95,12 @@ impl PairLines {
     }
 
     /// Finds the end of the input behind all lines, or reads on to it.
-    fn finish<S: Source>(&mut self, source: &mut S) -> Result<(), ReadEnd>
+    fn finish<S: Source>(&mut self, source: &mut S) -> Result<(), TextEnd>
         requires { self.old.lines ≡ length (forms_of self.old.counts) }
         ensures finish { GoesOf Pairs self.old (S.left source.old) (S.left source.new) (λ taken said. IsFinished Pairs self.new (S.left source.new) taken said result) }
         ensures same { self.new.counts ≡ self.old.counts }
-        ensures memory { IsErrOf result ReadEnd.NoMemory → ⊥ }
         ensures faults { S.faults source.new ≡ faults_after (S.faults source.old) result }
-        ensures fault { IsErrOf result ReadEnd.ReadFault → HasRisen (S.faults source.old) (S.faults source.new) }
+        ensures fault { IsErrOf result TextEnd.ReadFault → HasRisen (S.faults source.old) (S.faults source.new) }
         ensures count { S.faults source.old ≤ S.faults source.new }
         ensures beside { S.beside source.new ≡ S.beside source.old }
     {
@@ -119,11 +117,10 @@ impl PairLines {
 /// - `NotText` comes exactly where the input has at most 4,000,000 bytes and is not the text of a pair, with its first broken line. It was read to its end.
 /// - `TooLong` comes exactly where it has more, whatever its lines. 4,000,001 bytes were read.
 /// - `ReadFault` comes only where the source's count of faults has risen, and at once: the failed read is not tried again.
-pub fn read_pair<S: Source>(source: &mut S) -> Result<PairText, ReadEnd>
+pub fn read_pair<S: Source>(source: &mut S) -> Result<PairText, TextEnd>
     ensures read { (taken : List ℕ) × Consumes (S.left source.old) (S.left source.new) taken × IsReadPair (S.left source.new) taken result }
-    ensures memory { IsErrOf result ReadEnd.NoMemory → ⊥ }
     ensures faults { S.faults source.new ≡ faults_after (S.faults source.old) result }
-    ensures fault { IsErrOf result ReadEnd.ReadFault → HasRisen (S.faults source.old) (S.faults source.new) }
+    ensures fault { IsErrOf result TextEnd.ReadFault → HasRisen (S.faults source.old) (S.faults source.new) }
     ensures count { S.faults source.old ≤ S.faults source.new }
     ensures beside { S.beside source.new ≡ S.beside source.old }
 {

@@ -2,6 +2,7 @@
 ghost use Rattle.std.specs.Prelude.{◌≡◌, ◌↔◌, ◌+◌, ◌<◌, ◌≤◌, [], ℕ, List, length, map, IfOk, IsErrOf, IsTrue, OnOk, Ok, None, false, true};
 ghost use Rattle.split_base.specs.Faults.{HasRisen};
 ghost use Rattle.split_frac.specs.Frac.{fraction_of};
+ghost use Rattle.cert_reader.specs.Ends.{OfAnswer};
 ghost use Rattle.cert_reader.specs.Forms.{Certificates, Tree, forms_of};
 ghost use Rattle.cert_reader.specs.Kinds.{kind_of};
 ghost use Rattle.cert_reader.specs.Order.{AgreeUpTo, form_in};
@@ -10,7 +11,7 @@ ghost use Rattle.cert_reader.specs.Stream.{IsPlain, faults_after, taken_count};
 ghost use Rattle.cert_reader.specs.Text.{Numbers, Said};
 ghost use Rattle.cert_reader.specs.declared.limits.TheConstants.{MOST_BYTES};
 
-use crate::ends::ReadEnd;
+use crate::ends::{ReadEnd, TextEnd, read_answer};
 use crate::forms::Counts;
 use crate::line::LineNumbers;
 use crate::order::{is_tree, line_count};
@@ -122,7 +123,7 @@ impl Pieces {
     }
 
     /// Takes the next line of numbers, where one of a text may follow, and gives them.
-    fn next_line<S: Source>(&mut self, source: &mut S) -> Result<LineNumbers, ReadEnd>
+    fn next_line<S: Source>(&mut self, source: &mut S) -> Result<LineNumbers, TextEnd>
         requires open { IsOpen self.old }
         requires whole { self.old.in_tree ≡ false }
         requires line { form_in self.old.counts self.old.lines ≡ Tree → ⊥ }
@@ -133,9 +134,8 @@ impl Pieces {
         ensures takes { OnOk result (self.old.given < self.new.given) }
         ensures few { self.new.given ≤ MOST_BYTES }
         ensures held { self.new.given + length self.new.ahead ≤ MOST_BYTES }
-        ensures memory { IsErrOf result ReadEnd.NoMemory → ⊥ }
         ensures faults { S.faults source.new ≡ faults_after (S.faults source.old) result }
-        ensures fault { IsErrOf result ReadEnd.ReadFault → HasRisen (S.faults source.old) (S.faults source.new) }
+        ensures fault { IsErrOf result TextEnd.ReadFault → HasRisen (S.faults source.old) (S.faults source.new) }
         ensures count { S.faults source.old ≤ S.faults source.new }
         ensures beside { S.beside source.new ≡ S.beside source.old }
     {
@@ -150,16 +150,15 @@ impl Pieces {
     }
 
     /// Finds the end of the input behind all lines, or reads on to it.
-    fn finish<S: Source>(&mut self, source: &mut S) -> Result<(), ReadEnd>
+    fn finish<S: Source>(&mut self, source: &mut S) -> Result<(), TextEnd>
         requires lines { self.old.lines ≡ length (forms_of self.old.counts) }
         requires whole { self.old.in_tree ≡ false }
         ensures finish { Goes self.old (S.left source.old) (S.left source.new) (λ taken said. IsFinished Certificates self.new (S.left source.new) taken said result) }
         ensures same { (self.new.lines ≡ self.old.lines) × (self.new.counts ≡ self.old.counts) }
         ensures few { self.new.given ≤ MOST_BYTES }
         ensures held { self.new.given + length self.new.ahead ≤ MOST_BYTES }
-        ensures memory { IsErrOf result ReadEnd.NoMemory → ⊥ }
         ensures faults { S.faults source.new ≡ faults_after (S.faults source.old) result }
-        ensures fault { IsErrOf result ReadEnd.ReadFault → HasRisen (S.faults source.old) (S.faults source.new) }
+        ensures fault { IsErrOf result TextEnd.ReadFault → HasRisen (S.faults source.old) (S.faults source.new) }
         ensures count { S.faults source.old ≤ S.faults source.new }
         ensures beside { S.beside source.new ≡ S.beside source.old }
     {
@@ -171,7 +170,7 @@ impl Pieces {
     }
 
     /// Takes the first two lines, and tells the kind.
-    fn next_kind<S: Source>(&mut self, source: &mut S) -> Result<Piece, ReadEnd>
+    fn next_kind<S: Source>(&mut self, source: &mut S) -> Result<Piece, TextEnd>
         requires lines { self.old.lines ≡ 0 }
         requires whole { self.old.in_tree ≡ false }
         ensures piece { Goes self.old (S.left source.old) (S.left source.new) (λ taken said. IsAnswer self.old self.new (S.left source.new) taken said result) }
@@ -179,9 +178,8 @@ impl Pieces {
         ensures more { OnOk result (IsOpen self.new) }
         ensures few { self.new.given ≤ MOST_BYTES }
         ensures held { self.new.given + length self.new.ahead ≤ MOST_BYTES }
-        ensures memory { IsErrOf result ReadEnd.NoMemory → ⊥ }
         ensures faults { S.faults source.new ≡ faults_after (S.faults source.old) result }
-        ensures fault { IsErrOf result ReadEnd.ReadFault → HasRisen (S.faults source.old) (S.faults source.new) }
+        ensures fault { IsErrOf result TextEnd.ReadFault → HasRisen (S.faults source.old) (S.faults source.new) }
         ensures count { S.faults source.old ≤ S.faults source.new }
         ensures beside { S.beside source.new ≡ S.beside source.old }
     {
@@ -195,7 +193,7 @@ impl Pieces {
     }
 
     /// Takes the first character of a tree, with what stands before it.
-    fn begin_tree<S: Source>(&mut self, source: &mut S) -> Result<u8, ReadEnd>
+    fn begin_tree<S: Source>(&mut self, source: &mut S) -> Result<u8, TextEnd>
         requires open { IsOpen self.old }
         requires whole { self.old.in_tree ≡ false }
         requires tree { form_in self.old.counts self.old.lines ≡ Tree }
@@ -204,9 +202,8 @@ impl Pieces {
         ensures takes { OnOk result (self.old.given < self.new.given) }
         ensures few { self.new.given ≤ MOST_BYTES }
         ensures held { self.new.given + length self.new.ahead ≤ MOST_BYTES }
-        ensures memory { IsErrOf result ReadEnd.NoMemory → ⊥ }
         ensures faults { S.faults source.new ≡ faults_after (S.faults source.old) result }
-        ensures fault { IsErrOf result ReadEnd.ReadFault → HasRisen (S.faults source.old) (S.faults source.new) }
+        ensures fault { IsErrOf result TextEnd.ReadFault → HasRisen (S.faults source.old) (S.faults source.new) }
         ensures count { S.faults source.old ≤ S.faults source.new }
         ensures beside { S.beside source.new ≡ S.beside source.old }
     {
@@ -225,7 +222,7 @@ impl Pieces {
     /// A reader of long trees calls it in place of `next`, whose piece has room for a line of numbers.
     ///
     /// - `NotText`, `TooLong` and `ReadFault` come as in `next`.
-    pub fn next_in_tree<S: Source>(&mut self, source: &mut S) -> Result<Option<u8>, ReadEnd>
+    pub fn next_in_tree<S: Source>(&mut self, source: &mut S) -> Result<Option<u8>, TextEnd>
         requires { self.old.in_tree ≡ true }
         ensures mark { Goes self.old (S.left source.old) (S.left source.new) (λ taken said. IsTreeRead self.old self.new (S.left source.new) taken said result) }
         ensures same { (self.new.lines ≡ self.old.lines) × (self.new.counts ≡ self.old.counts) }
@@ -234,9 +231,8 @@ impl Pieces {
         ensures takes { OnOk result (self.old.given < self.new.given) }
         ensures few { self.new.given ≤ MOST_BYTES }
         ensures held { self.new.given + length self.new.ahead ≤ MOST_BYTES }
-        ensures memory { IsErrOf result ReadEnd.NoMemory → ⊥ }
         ensures faults { S.faults source.new ≡ faults_after (S.faults source.old) result }
-        ensures fault { IsErrOf result ReadEnd.ReadFault → HasRisen (S.faults source.old) (S.faults source.new) }
+        ensures fault { IsErrOf result TextEnd.ReadFault → HasRisen (S.faults source.old) (S.faults source.new) }
         ensures count { S.faults source.old ≤ S.faults source.new }
         ensures beside { S.beside source.new ≡ S.beside source.old }
     {
@@ -251,7 +247,7 @@ impl Pieces {
     }
 
     /// The next piece where a line begins, behind the first two.
-    fn next_at_line<S: Source>(&mut self, source: &mut S) -> Result<Piece, ReadEnd>
+    fn next_at_line<S: Source>(&mut self, source: &mut S) -> Result<Piece, TextEnd>
         requires open { IsOpen self.old }
         requires some { 0 < self.old.lines }
         requires whole { self.old.in_tree ≡ false }
@@ -259,9 +255,8 @@ impl Pieces {
         ensures more { IfOk result (λ piece. (piece ≡ Piece.Done → ⊥) → IsOpen self.new × (self.old.given < self.new.given)) }
         ensures few { self.new.given ≤ MOST_BYTES }
         ensures held { self.new.given + length self.new.ahead ≤ MOST_BYTES }
-        ensures memory { IsErrOf result ReadEnd.NoMemory → ⊥ }
         ensures faults { S.faults source.new ≡ faults_after (S.faults source.old) result }
-        ensures fault { IsErrOf result ReadEnd.ReadFault → HasRisen (S.faults source.old) (S.faults source.new) }
+        ensures fault { IsErrOf result TextEnd.ReadFault → HasRisen (S.faults source.old) (S.faults source.new) }
         ensures count { S.faults source.old ≤ S.faults source.new }
         ensures beside { S.beside source.new ≡ S.beside source.old }
     {
@@ -294,15 +289,14 @@ impl Pieces {
     /// - `NotText` comes exactly where the input has at most 4,000,000 bytes and is no certificate text, with its first broken line. It was read to its end.
     /// - `TooLong` comes exactly where it has more, whatever its lines. 4,000,001 bytes were read.
     /// - `ReadFault` comes only where the source's count of faults has risen, and at once: the failed read is not tried again.
-    pub fn next<S: Source>(&mut self, source: &mut S) -> Result<Piece, ReadEnd>
+    pub fn next_piece<S: Source>(&mut self, source: &mut S) -> Result<Piece, TextEnd>
         requires { IsOpen self.old }
         ensures piece { Goes self.old (S.left source.old) (S.left source.new) (λ taken said. IsAnswer self.old self.new (S.left source.new) taken said result) }
         ensures more { IfOk result (λ piece. (piece ≡ Piece.Done → ⊥) → IsOpen self.new × (self.old.given < self.new.given)) }
         ensures few { self.new.given ≤ MOST_BYTES }
         ensures held { self.new.given + length self.new.ahead ≤ MOST_BYTES }
-        ensures memory { IsErrOf result ReadEnd.NoMemory → ⊥ }
         ensures faults { S.faults source.new ≡ faults_after (S.faults source.old) result }
-        ensures fault { IsErrOf result ReadEnd.ReadFault → HasRisen (S.faults source.old) (S.faults source.new) }
+        ensures fault { IsErrOf result TextEnd.ReadFault → HasRisen (S.faults source.old) (S.faults source.new) }
         ensures count { S.faults source.old ≤ S.faults source.new }
         ensures beside { S.beside source.new ≡ S.beside source.old }
     {
@@ -317,5 +311,21 @@ impl Pieces {
             return self.next_kind(source);
         }
         self.next_at_line(source)
+    }
+
+    /// The next piece of the text, as `next_piece` gives it. `NoMemory` never comes.
+    pub fn next<S: Source>(&mut self, source: &mut S) -> Result<Piece, ReadEnd>
+        requires { IsOpen self.old }
+        ensures piece { Goes self.old (S.left source.old) (S.left source.new) (λ taken said. OfAnswer (IsAnswer self.old self.new (S.left source.new) taken said) result) }
+        ensures more { IfOk result (λ piece. (piece ≡ Piece.Done → ⊥) → IsOpen self.new × (self.old.given < self.new.given)) }
+        ensures few { self.new.given ≤ MOST_BYTES }
+        ensures held { self.new.given + length self.new.ahead ≤ MOST_BYTES }
+        ensures memory { IsErrOf result ReadEnd.NoMemory → ⊥ }
+        ensures faults { OfAnswer (λ answer. S.faults source.new ≡ faults_after (S.faults source.old) answer) result }
+        ensures fault { IsErrOf result ReadEnd.ReadFault → HasRisen (S.faults source.old) (S.faults source.new) }
+        ensures count { S.faults source.old ≤ S.faults source.new }
+        ensures beside { S.beside source.new ≡ S.beside source.old }
+    {
+        read_answer(self.next_piece(source))
     }
 }

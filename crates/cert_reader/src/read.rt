@@ -1,9 +1,11 @@
 // A whole certificate, read from a source.
-ghost use Rattle.std.specs.Prelude.{◌≡◌, ◌≤◌, ℕ, List, IsErrOf};
+ghost use Rattle.std.specs.Prelude.{◌≡◌, ◌≤◌, ℕ, List, length, IsErrOf};
 ghost use Rattle.std.specs.Io.KnownBytes.{Consumes};
 ghost use Rattle.split_base.specs.Faults.{HasRisen};
 ghost use Rattle.cert_reader.specs.Stream.{faults_after};
+ghost use Rattle.cert_reader.specs.Ends.{OfReading};
 ghost use Rattle.cert_reader.specs.Whole.{IsReadWhole};
+ghost use Rattle.cert_reader.specs.declared.limits.TheConstants.{MOST_BYTES};
 
 use crate::building::certificate_of;
 use crate::certificate::Certificate;
@@ -19,8 +21,8 @@ use std::alloc::Global;
 /// - `ReadFault` comes only where the source's count of faults has risen, and at once: the failed read is not tried again.
 /// - `NoMemory` comes for want of memory alone.
 pub fn read_certificate<S: Source>(alloc: Global, source: &mut S) -> Result<Certificate, ReadEnd>
-    ensures read { (taken : List ℕ) × Consumes (S.left source.old) (S.left source.new) taken × IsReadWhole (S.left source.new) taken result }
-    ensures faults { S.faults source.new ≡ faults_after (S.faults source.old) result }
+    ensures read { (taken : List ℕ) × Consumes (S.left source.old) (S.left source.new) taken × OfReading (IsReadWhole (S.left source.new) taken) (length taken ≤ MOST_BYTES) result }
+    ensures faults { OfReading (λ answer. S.faults source.new ≡ faults_after (S.faults source.old) answer) (S.faults source.new ≡ S.faults source.old) result }
     ensures fault { IsErrOf result ReadEnd.ReadFault → HasRisen (S.faults source.old) (S.faults source.new) }
     ensures count { S.faults source.old ≤ S.faults source.new }
     ensures beside { S.beside source.new ≡ S.beside source.old }
@@ -29,8 +31,8 @@ pub fn read_certificate<S: Source>(alloc: Global, source: &mut S) -> Result<Cert
     let mut lines = Vec::new(alloc);
     let mut marks = Vec::new(alloc);
     'pieces: loop {
-        match pieces.next(source) {
-            Err(end) => return Err(end),
+        match pieces.next_piece(source) {
+            Err(end) => return Err(ReadEnd::from(end)),
             Ok(Piece::Kind { .. }) => {}
             Ok(Piece::Line { numbers }) => {
                 if lines.push(numbers).is_err() {

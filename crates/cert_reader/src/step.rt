@@ -7,7 +7,7 @@ ghost use Rattle.cert_reader.specs.Steps.{IsRefused, IsSettled};
 ghost use Rattle.cert_reader.specs.Stream.{faults_after, taken_count};
 ghost use Rattle.cert_reader.specs.declared.limits.TheConstants.{MOST_BYTES};
 
-use crate::ends::ReadEnd;
+use crate::ends::TextEnd;
 use crate::forms::Counts;
 use crate::line::LineNumbers;
 use crate::order::settle;
@@ -15,17 +15,16 @@ use crate::stream::{Bytes, Cut};
 use split_base::Source;
 
 /// Reads on to the end behind a broken line.
-pub(crate) fn refuse<S: Source>(bytes: &mut Bytes, source: &mut S, line: u32) -> ReadEnd
+pub(crate) fn refuse<S: Source>(bytes: &mut Bytes, source: &mut S, line: u32) -> TextEnd
     ensures end { IsRefused bytes.old bytes.new (S.left source.old) (S.left source.new) line (λ _. Unit {0}) result }
     ensures few { taken_count bytes.new ≤ MOST_BYTES }
-    ensures memory { result ≡ ReadEnd.NoMemory → ⊥ }
     ensures faults { S.faults source.new ≡ faults_after {T = ℕ} (S.faults source.old) (Err result) }
-    ensures fault { result ≡ ReadEnd.ReadFault → HasRisen (S.faults source.old) (S.faults source.new) }
+    ensures fault { result ≡ TextEnd.ReadFault → HasRisen (S.faults source.old) (S.faults source.new) }
     ensures count { S.faults source.old ≤ S.faults source.new }
     ensures beside { S.beside source.new ≡ S.beside source.old }
 {
     match bytes.drain(source) {
-        Ok(()) => ReadEnd::NotText { line },
+        Ok(()) => TextEnd::NotText { line },
         Err(stop) => stop,
     }
 }
@@ -36,15 +35,14 @@ pub(crate) fn next_settled<S: Source>(
     source: &mut S,
     index: u32,
     known: Counts,
-) -> Result<(Counts, LineNumbers), ReadEnd>
+) -> Result<(Counts, LineNumbers), TextEnd>
     requires known { AreInRange known }
     requires index { index < length (forms_of known) }
     requires line { form_in known index ≡ Tree → ⊥ }
     ensures line { IsSettled bytes.old bytes.new (S.left source.old) (S.left source.new) index known result }
     ensures few { taken_count bytes.new ≤ MOST_BYTES }
-    ensures memory { IsErrOf result ReadEnd.NoMemory → ⊥ }
     ensures faults { S.faults source.new ≡ faults_after (S.faults source.old) result }
-    ensures fault { IsErrOf result ReadEnd.ReadFault → HasRisen (S.faults source.old) (S.faults source.new) }
+    ensures fault { IsErrOf result TextEnd.ReadFault → HasRisen (S.faults source.old) (S.faults source.new) }
     ensures count { S.faults source.old ≤ S.faults source.new }
     ensures beside { S.beside source.new ≡ S.beside source.old }
 {
@@ -55,6 +53,6 @@ pub(crate) fn next_settled<S: Source>(
             None => Err(refuse(bytes, source, index + 1)),
         },
         Ok(Cut::Long) => Err(refuse(bytes, source, index + 1)),
-        Ok(Cut::Unended) => Err(ReadEnd::NotText { line: index + 1 }),
+        Ok(Cut::Unended) => Err(TextEnd::NotText { line: index + 1 }),
     }
 }

@@ -6,7 +6,7 @@ ghost use Rattle.split_base.specs.Faults.{HasRisen};
 ghost use Rattle.cert_reader.specs.Stream.{Hands, IsCut, IsFrontTaken, IsStopped, faults_after, taken_count};
 ghost use Rattle.cert_reader.specs.declared.limits.TheConstants.{LONGEST_LINE, MOST_BYTES};
 
-use crate::ends::ReadEnd;
+use crate::ends::TextEnd;
 use crate::limits::{LONGEST_LINE, MOST_BYTES, PIECE_BYTES};
 use arrayvec::ArrayVec;
 use split_base::Source;
@@ -75,7 +75,7 @@ impl Bytes {
     }
 
     /// Takes the next bytes from the source, where none are held.
-    fn refill<S: Source>(&mut self, source: &mut S) -> Result<(), ReadEnd>
+    fn refill<S: Source>(&mut self, source: &mut S) -> Result<(), TextEnd>
         requires { self.old.ahead ≡ [] }
         ensures bytes { OnOk result (Consumes (S.left source.old) (S.left source.new) self.new.ahead) }
         ensures end { OnOk result (self.new.ahead ≡ [] → IsAtEnd (S.left source.new)) }
@@ -83,20 +83,19 @@ impl Bytes {
         ensures line { OnOk result (self.new.line ≡ self.old.line) }
         ensures few { taken_count self.new ≤ MOST_BYTES }
         ensures stopped { IfErr result (λ stop. IsStopped self.old (S.left source.old) (S.left source.new) stop) }
-        ensures memory { IsErrOf result ReadEnd.NoMemory → ⊥ }
         ensures faults { S.faults source.new ≡ faults_after (S.faults source.old) result }
-        ensures fault { IsErrOf result ReadEnd.ReadFault → HasRisen (S.faults source.old) (S.faults source.new) }
+        ensures fault { IsErrOf result TextEnd.ReadFault → HasRisen (S.faults source.old) (S.faults source.new) }
         ensures count { S.faults source.old ≤ S.faults source.new }
         ensures beside { S.beside source.new ≡ S.beside source.old }
     {
         let room = self.piece.len().min(MOST_BYTES + 1 - self.total);
         let Ok(count) = source.read(&mut self.piece[..room]) else {
-            return Err(ReadEnd::ReadFault);
+            return Err(TextEnd::ReadFault);
         };
         self.from = 0;
         self.to = 0;
         if self.total + count > MOST_BYTES {
-            return Err(ReadEnd::TooLong);
+            return Err(TextEnd::TooLong);
         }
         self.to = count;
         self.total += count;
@@ -119,15 +118,14 @@ impl Bytes {
     }
 
     /// The next byte, or none at the end.
-    pub(crate) fn next_byte<S: Source>(&mut self, source: &mut S) -> Result<Option<u8>, ReadEnd>
+    pub(crate) fn next_byte<S: Source>(&mut self, source: &mut S) -> Result<Option<u8>, TextEnd>
         ensures byte { IfOk result (λ byte. Hands self.old self.new (S.left source.old) (S.left source.new) (option_to_list byte)) }
         ensures end { IfOk result (λ byte. IfNone byte ((self.new.ahead ≡ []) × IsAtEnd (S.left source.new))) }
         ensures line { OnOk result (self.new.line ≡ self.old.line) }
         ensures few { taken_count self.new ≤ MOST_BYTES }
         ensures stopped { IfErr result (λ stop. IsStopped self.old (S.left source.old) (S.left source.new) stop) }
-        ensures memory { IsErrOf result ReadEnd.NoMemory → ⊥ }
         ensures faults { S.faults source.new ≡ faults_after (S.faults source.old) result }
-        ensures fault { IsErrOf result ReadEnd.ReadFault → HasRisen (S.faults source.old) (S.faults source.new) }
+        ensures fault { IsErrOf result TextEnd.ReadFault → HasRisen (S.faults source.old) (S.faults source.new) }
         ensures count { S.faults source.old ≤ S.faults source.new }
         ensures beside { S.beside source.new ≡ S.beside source.old }
     {
@@ -166,13 +164,12 @@ impl Bytes {
     }
 
     /// Reads a line, and keeps it without its LF.
-    pub(crate) fn next_line<S: Source>(&mut self, source: &mut S) -> Result<Cut, ReadEnd>
+    pub(crate) fn next_line<S: Source>(&mut self, source: &mut S) -> Result<Cut, TextEnd>
         ensures cut { IfOk result (λ cut. IsCut self.old self.new (S.left source.old) (S.left source.new) cut) }
         ensures few { taken_count self.new ≤ MOST_BYTES }
         ensures stopped { IfErr result (λ stop. IsStopped self.old (S.left source.old) (S.left source.new) stop) }
-        ensures memory { IsErrOf result ReadEnd.NoMemory → ⊥ }
         ensures faults { S.faults source.new ≡ faults_after (S.faults source.old) result }
-        ensures fault { IsErrOf result ReadEnd.ReadFault → HasRisen (S.faults source.old) (S.faults source.new) }
+        ensures fault { IsErrOf result TextEnd.ReadFault → HasRisen (S.faults source.old) (S.faults source.new) }
         ensures count { S.faults source.old ≤ S.faults source.new }
         ensures beside { S.beside source.new ≡ S.beside source.old }
     {
@@ -199,13 +196,12 @@ impl Bytes {
         &mut self,
         source: &mut S,
         front: &[u8],
-    ) -> Result<Front, ReadEnd>
+    ) -> Result<Front, TextEnd>
         ensures front { IfOk result (λ taken. IsFrontTaken self.old self.new (S.left source.old) (S.left source.new) front.now taken) }
         ensures few { 1 ≤ length front.now → taken_count self.new ≤ MOST_BYTES }
         ensures stopped { IfErr result (λ stop. IsStopped self.old (S.left source.old) (S.left source.new) stop) }
-        ensures memory { IsErrOf result ReadEnd.NoMemory → ⊥ }
         ensures faults { S.faults source.new ≡ faults_after (S.faults source.old) result }
-        ensures fault { IsErrOf result ReadEnd.ReadFault → HasRisen (S.faults source.old) (S.faults source.new) }
+        ensures fault { IsErrOf result TextEnd.ReadFault → HasRisen (S.faults source.old) (S.faults source.new) }
         ensures count { S.faults source.old ≤ S.faults source.new }
         ensures beside { S.beside source.new ≡ S.beside source.old }
     {
@@ -224,13 +220,12 @@ impl Bytes {
     }
 
     /// Reads to the end, and drops what is read.
-    pub(crate) fn drain<S: Source>(&mut self, source: &mut S) -> Result<(), ReadEnd>
+    pub(crate) fn drain<S: Source>(&mut self, source: &mut S) -> Result<(), TextEnd>
         ensures end { OnOk result ((text : List ℕ) × Hands self.old self.new (S.left source.old) (S.left source.new) text × (self.new.ahead ≡ []) × IsAtEnd (S.left source.new)) }
         ensures few { taken_count self.new ≤ MOST_BYTES }
         ensures stopped { IfErr result (λ stop. IsStopped self.old (S.left source.old) (S.left source.new) stop) }
-        ensures memory { IsErrOf result ReadEnd.NoMemory → ⊥ }
         ensures faults { S.faults source.new ≡ faults_after (S.faults source.old) result }
-        ensures fault { IsErrOf result ReadEnd.ReadFault → HasRisen (S.faults source.old) (S.faults source.new) }
+        ensures fault { IsErrOf result TextEnd.ReadFault → HasRisen (S.faults source.old) (S.faults source.new) }
         ensures count { S.faults source.old ≤ S.faults source.new }
         ensures beside { S.beside source.new ≡ S.beside source.old }
     {

@@ -6,7 +6,7 @@ ghost use Rattle.cert_reader.specs.Text.{IsMark};
 ghost use Rattle.cert_reader.specs.TreeLines.{IsFirstMark, IsNextMark, tree_front};
 ghost use Rattle.cert_reader.specs.declared.limits.TheConstants.{MOST_BYTES};
 
-use crate::ends::ReadEnd;
+use crate::ends::TextEnd;
 use crate::marks::{ANSWER_LEAF, INNER_NODE, LEFT_OUT};
 use crate::step::refuse;
 use crate::stream::{Bytes, Front};
@@ -31,18 +31,17 @@ pub(crate) fn next_mark<S: Source>(
     bytes: &mut Bytes,
     source: &mut S,
     line: u32,
-) -> Result<Option<u8>, ReadEnd>
+) -> Result<Option<u8>, TextEnd>
     ensures mark { IsNextMark bytes.old bytes.new (S.left source.old) (S.left source.new) line result }
     ensures few { taken_count bytes.new ≤ MOST_BYTES }
-    ensures memory { IsErrOf result ReadEnd.NoMemory → ⊥ }
     ensures faults { S.faults source.new ≡ faults_after (S.faults source.old) result }
-    ensures fault { IsErrOf result ReadEnd.ReadFault → HasRisen (S.faults source.old) (S.faults source.new) }
+    ensures fault { IsErrOf result TextEnd.ReadFault → HasRisen (S.faults source.old) (S.faults source.new) }
     ensures count { S.faults source.old ≤ S.faults source.new }
     ensures beside { S.beside source.new ≡ S.beside source.old }
 {
     match bytes.next_byte(source) {
         Err(stop) => Err(stop),
-        Ok(None) => Err(ReadEnd::NotText { line }),
+        Ok(None) => Err(TextEnd::NotText { line }),
         Ok(Some(byte)) => {
             if is_mark(byte) {
                 return Ok(Some(byte));
@@ -60,18 +59,17 @@ pub(crate) fn first_mark<S: Source>(
     bytes: &mut Bytes,
     source: &mut S,
     line: u32,
-) -> Result<u8, ReadEnd>
+) -> Result<u8, TextEnd>
     ensures mark { IsFirstMark bytes.old bytes.new (S.left source.old) (S.left source.new) line result }
     ensures few { taken_count bytes.new ≤ MOST_BYTES }
-    ensures memory { IsErrOf result ReadEnd.NoMemory → ⊥ }
     ensures faults { S.faults source.new ≡ faults_after (S.faults source.old) result }
-    ensures fault { IsErrOf result ReadEnd.ReadFault → HasRisen (S.faults source.old) (S.faults source.new) }
+    ensures fault { IsErrOf result TextEnd.ReadFault → HasRisen (S.faults source.old) (S.faults source.new) }
     ensures count { S.faults source.old ≤ S.faults source.new }
     ensures beside { S.beside source.new ≡ S.beside source.old }
 {
     match bytes.take_front(source, before_marks()) {
         Err(stop) => Err(stop),
-        Ok(Front::Ended) => Err(ReadEnd::NotText { line }),
+        Ok(Front::Ended) => Err(TextEnd::NotText { line }),
         Ok(Front::Other) => Err(refuse(bytes, source, line)),
         Ok(Front::Whole) => match next_mark(bytes, source, line) {
             Err(end) => Err(end),

@@ -1,7 +1,7 @@
-//! Tests of certificates, and of the texts of pairs, that are read and judged from sources whose calls fail. There is no code here but tests.
+//! Tests of certificates that are read from sources whose calls fail.
 #![tactic(auto)]
 
 #[cfg(test)]
-mod pairs;
+mod printed;
 #[cfg(test)]
 mod sources;

@@ -1,12 +1,12 @@
 // Three printed certificates, in pieces, with each call failing in turn.
+use crate::printed::{ESTATE, FLAT, TAXI};
 use cert_checker::{check, judge};
 use cert_reader::{ReadEnd, read_certificate};
-use printed_certificates::{ESTATE, FLAT, TAXI};
+use rule_verdicts::Verdict;
 use split_base::MemSource;
 use std::alloc::Global;
 use std::process::Abort;
 use std::test::Fail;
-use verdicts::Verdict;
 
 /// A source that gives a text in four pieces, the third of one byte, and whose call of this number fails.
 pub(crate) fn source_of(alloc: Global, text: &str, call: u64) -> Result<MemSource, Fail> {

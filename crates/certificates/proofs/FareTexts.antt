@@ -9,8 +9,10 @@ use Rattle.std.proofs.lemmas.List.Elements.{All-cons, All-from_get_or, All-head,
 use Rattle.std.proofs.lemmas.List.FromFn.{length-range_with_len}
 use Rattle.arrayvec.specs.declared.array_vec.ArrayVec.{ArrayVec}
 use Rattle.bid_rules.specs.declared.cases.FareCase.{FareCase}
+use Rattle.bid_rules.specs.declared.limits.TheConstants.{MOST_FARE_CENTS, MOST_RIDERS, PLACE_ROOM}
 use Rattle.bid_rules.specs.Coalitions.{riders_in, start_of}
 use Rattle.bid_rules.specs.Facts.{IsValidFareCase}
+use Rattle.bid_rules.specs.FareLimits.{most_cost, most_orders}
 use Rattle.bid_rules.specs.Fares.{riders_of, route_cost}
 use Rattle.cert_reader.specs.declared.forms.Word.TheVariants as word
 use Rattle.cert_reader.specs.Forms.{fares_forms, fares_tail, led_by, numbers_of, set_form}
@@ -20,8 +22,8 @@ use Rattle.cert_reader.specs.Text.{CanSay, CanSayAll, IsText, Numbers, Said}
 use Rattle.cert_reader.specs.Views.{OfFares, counts_of, fares_said, said_of, says}
 use Rattle.certificates.specs.Canonical.{text_saying}
 use Rattle.certificates.proofs.Fits.{can-append, fractions_fit, lead_fits, led_fits, none_fits, numbers_fit, one_fits, rows_fit, small_again}
-use Rattle.fare_laws.specs.Entries.{costs_from}
-use Rattle.fare_lines.specs.Lines.{canonical_fares, cost_line}
+use Rattle.best_laws.specs.Entries.{costs_from}
+use Rattle.certificates.specs.FareLines.{canonical_fares, cost_line}
 use Rattle.shapley_core.specs.Division.{IsFareDivision, IsFareInRange}
 use Rattle.shapley_core.specs.declared.division.FareDivision.{FareDivision}
 use Rattle.split_frac.specs.declared.frac.Frac.{Frac}
@@ -52,17 +54,17 @@ zip_length P (x ∷ xs) (y ∷ ys) h = let rest = zip_length P xs ys h.1 in omeg
 fares_short : (n : ℕ) (fares : List Frac) → All (IsFareInRange n) fares → AreShort fares
 fares_short n fares ranges k d l =
     let range = ranges k d l in
-    let parts : (get_or fares k d).den ≤ 3628800 = range.few_parts in
-    let size : unsigned_abs (get_or fares k d).num ≤ 11000000 * (get_or fares k d).den = range.size in
+    let parts : (get_or fares k d).den ≤ most_orders = range.few_parts in
+    let size : unsigned_abs (get_or fares k d).num ≤ most_cost * (get_or fares k d).den = range.size in
     (omega (arith, parts, size), omega (arith, parts))
 
 -- what is known of costs and sets
 pub record CostFacts (case : FareCase) : Type 0 where
-  pub low : (from : ℕ) (riders : List ℕ) → route_cost case from riders ≤ 1000000 * length riders
+  pub low : (from : ℕ) (riders : List ℕ) → route_cost case from riders ≤ MOST_FARE_CENTS * length riders
   pub few : (n set : ℕ) → set < 2 ^ n → length (riders_in set) ≤ n
 
 -- the costs of a set are small
-costs_small : (case : FareCase) → CostFacts case → length case.at.items ≤ 10 → (set : ℕ) → set < 2 ^ length case.at.items → AreSmall (cost_line case set)
+costs_small : (case : FareCase) → CostFacts case → length case.at.items ≤ MOST_RIDERS → (set : ℕ) → set < 2 ^ length case.at.items → AreSmall (cost_line case set)
 costs_small case facts most set within = All-map IsSmall (λ at. pos (costs_from case at set)) (starts (length case.at.items) set) (λ k d l.
     let from : ℕ = start_of case (get_or (starts (length case.at.items) set) k d) in
     let low = facts.low from (riders_in set) in
@@ -92,11 +94,11 @@ fits n case division facts valid is order same =
     let high = valid.facts.shape.places_high in
     let members = valid.facts.shape.members_high in
     let cents = valid.facts.cents in
-    let flag : case.facts.flag ≤ 1000000 = All-head (λ x. x ≤ 1000000) case.facts.flag (flat_map (λ row. row.items) case.facts.legs.items) cents in
-    let each = parts_hold (λ x. x ≤ 1000000) (λ (row : ArrayVec ℕ 12 (Unit {0})). row.items) case.facts.legs.items (All-tail (λ x. x ≤ 1000000) case.facts.flag (flat_map (λ row. row.items) case.facts.legs.items) cents) in
+    let flag : case.facts.flag ≤ MOST_FARE_CENTS = All-head (λ x. x ≤ MOST_FARE_CENTS) case.facts.flag (flat_map (λ row. row.items) case.facts.legs.items) cents in
+    let each = parts_hold (λ x. x ≤ MOST_FARE_CENTS) (λ (row : ArrayVec ℕ PLACE_ROOM (Unit {0})). row.items) case.facts.legs.items (All-tail (λ x. x ≤ MOST_FARE_CENTS) case.facts.flag (flat_map (λ row. row.items) case.facts.legs.items) cents) in
     let legs : CanSayAll (replicate (places + 1) (numbers_of word.Legs places)) (map says view.legs) =
     subst (λ (k : ℕ). CanSayAll (replicate k (numbers_of word.Legs places)) (map says view.legs)) valid.facts.shape.table.rows
-    (rows_fit word.Legs places (λ (row : ArrayVec ℕ 12 (Unit {0})). map pos row.items) case.facts.legs.items
+    (rows_fit word.Legs places (λ (row : ArrayVec ℕ PLACE_ROOM (Unit {0})). map pos row.items) case.facts.legs.items
     (λ k d l. length-map (get_or case.facts.legs.items k d).items pos ∙ valid.facts.shape.table.columns k d l)
     (λ k d l. small_again (get_or case.facts.legs.items k d).items (λ j e m. let low = each k d l j e m in omega (arith, low)))) in
     let who_count : length view.who ≡ n = length-map case.who.items pos ∙ sym valid.each ∙ same in
@@ -104,7 +106,7 @@ fits n case division facts valid is order same =
     let route_long : length division.route.items ≡ length case.at.items = rooms_length (length case.at.items) division.route.items order in
     let route_count : length view.route ≡ n = length-map division.route.items pos ∙ route_long ∙ same in
     let fare_count : length division.fares.items ≡ n = sym (length-map division.fares.items fraction_of) ∙ sym (zip_length _ (riders_of case) (map fraction_of division.fares.items) is.best.mean) ∙ length-range_with_len 1 (length case.at.items) ∙ same in
-    let power : 2 ^ length case.at.items ≤ 1024 = pow-le-pow_right (omega arith) most in
+    let power : 2 ^ length case.at.items ≤ 2 ^ MOST_RIDERS = pow-le-pow_right (omega arith) most in
     let sets : CanSayAll (map (set_form n) (sets_of n)) (map (λ numbered. says (pos numbered.0 ∷ numbered.1)) (enumerate_from 1 view.sets)) =
     subst (λ (k : ℕ). CanSayAll (map (set_form k) (sets_of k)) (map (λ numbered. says (pos numbered.0 ∷ numbered.1)) (enumerate_from 1 view.sets))) same
     (sets_fit (length case.at.items) (cost_line case) 1 (2 ^ length case.at.items - 1) (λ set low up.

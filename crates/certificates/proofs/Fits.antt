@@ -4,6 +4,7 @@ use Rattle.std.proofs.Math.Nat.{one-dvd}
 use Rattle.std.proofs.lemmas.Int.{ints}
 use Rattle.std.proofs.lemmas.List.{length-map}
 use Rattle.std.proofs.lemmas.List.Elements.{All-cons, All-head, All-map, All-nil, All-tail}
+use Rattle.cert_reader.specs.declared.limits.TheConstants.{MOST_PRINTED_DENOMINATOR}
 use Rattle.cert_reader.specs.declared.forms.Word.{Word}
 use Rattle.cert_reader.specs.Forms.{Form, fractions_of, led_by, numbers_of}
 use Rattle.cert_reader.specs.Numbers.{AreShort, AreSmall, IsNumber, IsSmall}
@@ -63,7 +64,7 @@ fractions_fit word count fractions long short = record {
   first = tt;
 }
   where
-    one : (f : Frac) → IsSmall f.num × (f.den ≤ 4294967295) → IsNumber false (fraction_of f)
+    one : (f : Frac) → IsSmall f.num × (f.den ≤ MOST_PRINTED_DENOMINATOR) → IsNumber false (fraction_of f)
     one f h = record { size = h.0; positive = f.positive; small = h.1; lowest = f.lowest; is_whole = λ t. absurd (cc) }
 
 -- rows of so many numbers with one word

@@ -13,7 +13,7 @@ use Rattle.cert_reader.specs.Views.{OfGoods, counts_of, goods_said, said_of, say
 use Rattle.certificates.specs.Canonical.{text_saying}
 use Rattle.certificates.proofs.Fits.{can-append, lead_fits, none_fits, numbers_fit, one_fits, rows_fit, small_again}
 use Rattle.certificates.proofs.RentTexts.{row_small}
-use Rattle.goods_lines.specs.Lines.{canonical_goods, canonical_tree}
+use Rattle.certificates.specs.GoodsLines.{canonical_goods, canonical_tree}
 use Rattle.nash_bounds.specs.declared.limits.TheConstants.{MOST_SHORTER}
 use Rattle.nash_search.specs.Division.{IsGoodsDivision}
 use Rattle.nash_search.specs.declared.division.GoodsDivision.{GoodsDivision}

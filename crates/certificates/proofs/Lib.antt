@@ -1,3 +1,15 @@
+pub mod MarkRuns
+pub mod TreeMarks
+pub mod TreeSizes
+pub mod BestAnswer
+pub mod TreeRules
+pub mod GoodsPasses
+pub mod FareMembers
+pub mod FareCosts
+pub mod FarePasses
+pub mod RentPasses
+pub mod MemberPrices
+mod OneDivision
 pub mod Rows
 pub mod SetLists
 pub mod Tables

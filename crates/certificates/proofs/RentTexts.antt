@@ -12,7 +12,7 @@ use Rattle.cert_reader.specs.Text.{CanSay, CanSayAll, IsText, Numbers}
 use Rattle.cert_reader.specs.Views.{OfRent, counts_of, rent_said, said_of, says}
 use Rattle.certificates.specs.Canonical.{text_saying}
 use Rattle.certificates.proofs.Fits.{can-append, fractions_fit, lead_fits, none_fits, numbers_fit, one_fits, rows_fit, small_again}
-use Rattle.rent_lines.specs.Lines.{canonical_rent}
+use Rattle.certificates.specs.RentLines.{canonical_rent}
 use Rattle.rent_maximin.specs.Division.{IsRentDivision}
 use Rattle.rent_maximin.specs.declared.division.RentDivision.{RentDivision}
 use Rattle.split_frac.specs.Frac.{fraction_of}

@@ -7,7 +7,7 @@ use Rattle.cert_reader.specs.Forms.{Form, numbers_of}
 use Rattle.cert_reader.specs.Text.{Said, said_text, text_of, wholes}
 use Rattle.cert_reader.specs.Views.{says}
 use Rattle.certificates.specs.Lines.{number_line}
-use Rattle.split_text.specs.Texts.{numbers_text, spaced}
+use Rattle.split_frac.specs.Texts.{numbers_text, spaced}
 
 -- natural numbers are whole numbers
 wholes_are : (numbers : List ℕ) → map (λ number. (pos number, 1)) numbers ≡ wholes (map pos numbers)

@@ -2,18 +2,18 @@
 use Rattle.std.specs.Prelude.{◌≡◌, ℕ, List, []}
 use Rattle.bid_rules.specs.declared.cases.Case.{Case}
 use Rattle.bid_rules.specs.declared.cases.Case.TheVariants as case
-use Rattle.divisions.specs.declared.division.Division.{Division}
-use Rattle.divisions.specs.declared.division.Division.TheVariants.{Rent, Goods, Fares}
-use Rattle.divisions.specs.Division.{IsDivisionOf}
+use Rattle.certificates.specs.declared.division.Division.{Division}
+use Rattle.certificates.specs.declared.division.Division.TheVariants.{Rent, Goods, Fares}
+use Rattle.certificates.specs.Division.{IsDivisionOf}
 use Rattle.cert_reader.specs.Forms.{forms_of}
 use Rattle.cert_reader.specs.Text.{text_of}
-use Rattle.cert_reader.specs.Views.{OfFares, OfGoods, OfRent, View, counts_of, said_of}
-use Rattle.fare_lines.specs.Lines.{canonical_fares}
-use Rattle.goods_lines.specs.Lines.{canonical_goods}
-use Rattle.rent_lines.specs.Lines.{canonical_rent}
+use Rattle.cert_reader.specs.Views.{OfFares, OfGoods, OfRent, CertificateView, counts_of, said_of}
+use Rattle.certificates.specs.FareLines.{canonical_fares}
+use Rattle.certificates.specs.GoodsLines.{canonical_goods}
+use Rattle.certificates.specs.RentLines.{canonical_rent}
 
 -- the text whose lines say this
-abbrev pub text_saying : View → List ℕ
+abbrev pub text_saying : CertificateView → List ℕ
 text_saying view = text_of (forms_of (counts_of view)) (said_of view)
 
 -- the text that says the case and the division of it, with the numbers that show the division best

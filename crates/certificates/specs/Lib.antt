@@ -1,2 +1,9 @@
+pub mod GoodsLines
+pub mod Marks
+pub mod Nodes
+pub mod Waiting
+pub mod FareLines
+pub mod RentLines
+pub mod Division
 pub mod Canonical
 pub mod Lines

@@ -6,7 +6,7 @@ ghost use Rattle.cert_reader.specs.Text.{wholes};
 ghost use Rattle.cert_reader.specs.Views.{OfFares};
 ghost use Rattle.certificates.specs.Canonical.{text_saying};
 ghost use Rattle.certificates.specs.Lines.{number_line};
-ghost use Rattle.fare_lines.specs.Lines.{canonical_fares};
+ghost use Rattle.certificates.specs.FareLines.{canonical_fares};
 ghost use Rattle.shapley_core.specs.Division.{IsFareDivision};
 ghost use Rattle.split_frac.specs.Frac.{fraction_of};
 

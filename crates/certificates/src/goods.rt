@@ -7,13 +7,13 @@ ghost use Rattle.cert_reader.specs.Text.{Marks, said_text, wholes};
 ghost use Rattle.cert_reader.specs.Views.{OfGoods};
 ghost use Rattle.certificates.specs.Canonical.{text_saying};
 ghost use Rattle.certificates.specs.Lines.{number_line};
-ghost use Rattle.goods_lines.specs.Lines.{canonical_goods, canonical_tree};
+ghost use Rattle.certificates.specs.GoodsLines.{canonical_goods, canonical_tree};
 ghost use Rattle.nash_search.specs.Division.{IsGoodsDivision};
 
 use crate::lines::{push_amounts, push_rows, push_small, push_text};
+use crate::push_marks;
 use bid_rules::{Goods, GoodsCase};
 use cert_reader::Word;
-use goods_lines::push_marks;
 use nash_bounds::players;
 use nash_search::GoodsDivision;
 use split_base::NoMemory;

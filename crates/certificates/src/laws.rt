@@ -6,14 +6,11 @@ ghost use Rattle.cert_checker.specs.Judged.{IsCertificate};
 ghost use Rattle.cert_reader.specs.declared.limits.TheConstants.{MOST_BYTES};
 ghost use Rattle.certificates.specs.Canonical.{IsCanonical};
 
+use crate::{fare_lines_law, goods_lines_law, rent_lines_law};
+use best_laws::{coalition_law, orders_law, players_law, route_cost_law};
 use cert_checker::certificate_verdict_law;
 use cert_reader::text_law;
-use fare_laws::{coalition_law, orders_law, route_cost_law};
-use fare_lines::fare_lines_law;
-use goods_laws::players_law;
-use goods_lines::goods_lines_law;
 use nash_search::step_count_law;
-use rent_lines::rent_lines_law;
 use rent_maximin::{division_range_law, one_rent_division_law};
 use shapley_core::division_law;
 

@@ -7,8 +7,7 @@ ghost use Rattle.split_frac.specs.Frac.{fraction_of};
 use arrayvec::ArrayVec;
 use cert_reader::Word;
 use split_base::NoMemory;
-use split_frac::Frac;
-use split_text::{number_law, push_numbers};
+use split_frac::{Frac, number_law, push_numbers};
 
 /// Appends some text.
 pub(crate) fn push_text(text: &mut String, more: &str) -> Result<(), NoMemory>

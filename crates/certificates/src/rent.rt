@@ -6,14 +6,14 @@ ghost use Rattle.cert_reader.specs.Text.{wholes};
 ghost use Rattle.cert_reader.specs.Views.{OfRent};
 ghost use Rattle.certificates.specs.Canonical.{text_saying};
 ghost use Rattle.certificates.specs.Lines.{number_line};
-ghost use Rattle.rent_lines.specs.Lines.{canonical_rent};
+ghost use Rattle.certificates.specs.RentLines.{canonical_rent};
 ghost use Rattle.rent_maximin.specs.Division.{IsRentDivision};
 ghost use Rattle.split_frac.specs.Frac.{fraction_of};
 
 use crate::lines::{push_amounts, push_fractions, push_rows, push_signed, push_small};
+use best_laws::assignment_law;
 use bid_rules::RentCase;
 use cert_reader::Word;
-use rent_laws::assignment_law;
 use rent_maximin::RentDivision;
 use split_base::NoMemory;
 

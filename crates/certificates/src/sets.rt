@@ -5,7 +5,7 @@ ghost use Rattle.cert_reader.specs.declared.forms.Word.TheVariants as word;
 ghost use Rattle.cert_reader.specs.Sets.{sets_of};
 ghost use Rattle.cert_reader.specs.Text.{wholes};
 ghost use Rattle.certificates.specs.Lines.{number_line};
-ghost use Rattle.fare_lines.specs.Lines.{cost_line};
+ghost use Rattle.certificates.specs.FareLines.{cost_line};
 
 use crate::lines::push_amounts;
 use arrayvec::ArrayVec;

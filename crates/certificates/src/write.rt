@@ -4,14 +4,14 @@ ghost use Rattle.bid_rules.specs.Facts.{IsValidCase};
 ghost use Rattle.cert_checker.specs.Judged.{IsCertificate};
 ghost use Rattle.cert_reader.specs.declared.limits.TheConstants.{MOST_BYTES};
 ghost use Rattle.certificates.specs.Canonical.{IsCanonical, canonical_text};
-ghost use Rattle.divisions.specs.Division.{IsDivisionOf};
+ghost use Rattle.certificates.specs.Division.{IsDivisionOf};
 
+use crate::Division;
 use crate::fares::push_fares;
 use crate::goods::push_goods;
 use crate::laws::certificate_law;
 use crate::rent::push_rent;
 use bid_rules::Case;
-use divisions::Division;
 use split_base::NoMemory;
 use std::alloc::Global;
 

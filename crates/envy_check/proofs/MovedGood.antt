@@ -7,7 +7,7 @@ use Rattle.bid_rules.specs.declared.goods.GoodsCase.{GoodsCase}
 use Rattle.bid_rules.specs.Goods.{IsAllocation, order_of, pair_of, player_count, points, utility}
 use Rattle.bid_rules.specs.Pairs.{IsLess}
 use Rattle.split_lemmas.proofs.PairOrder.{less_not, same_pair}
-use Rattle.goods_laws.specs.MaximumWelfare.{HasMaximumWelfare}
+use Rattle.best_laws.specs.MaximumWelfare.{HasMaximumWelfare}
 use Rattle.envy_check.proofs.GoodsByNumber.{HasSearchOrder}
 use Rattle.envy_check.proofs.GreaterPair.{pair_with, rises_pair}
 use Rattle.envy_check.proofs.LeastRatio.{low_there}

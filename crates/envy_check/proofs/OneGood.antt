@@ -11,7 +11,7 @@ use Rattle.bid_rules.specs.declared.goods.GoodsCase.{GoodsCase}
 use Rattle.bid_rules.specs.Goods.{order_of, owners_by_good, player_count, points}
 use Rattle.envy_check.specs.Goods.{EndsEnvy, IsEf1, IsEf1Table, IsMostValued, goods_of, goods_without, points_for}
 use Rattle.envy_check.proofs.GoodsEnvy.{points_without}
-use Rattle.goods_laws.specs.MaximumWelfare.{HasMaximumWelfare}
+use Rattle.best_laws.specs.MaximumWelfare.{HasMaximumWelfare}
 use Rattle.envy_check.specs.Fairness.{HasNoFails, IsEnvyFreeUpToOneGood}
 use Rattle.envy_check.proofs.GoodsByNumber.{HasSearchOrder, good_there, points_same}
 use Rattle.envy_check.proofs.MostValued.{most_there}

@@ -6,9 +6,9 @@ ghost use Rattle.envy_check.specs.Goods.{IsEf1, IsEf1Row, IsEf1Table, IsMostValu
 
 use crate::laws::one_good_law;
 use arrayvec::ArrayVec;
+use best_laws::best_goods_law;
 use bid_rules::GoodsCase;
 use bid_rules::limits::{MEMBER_ROOM, MOST_GOODS, WHOLE_POINTS};
-use goods_laws::best_goods_law;
 
 /// Whether a player envies another, and what would end it (Budish 2011).
 #[derive(Clone, Copy, Debug, PartialEq, Eq)]

@@ -8,14 +8,14 @@ ghost use Rattle.bid_rules.specs.Cents.{IsCentPlan, amount_at, cent_plan, cents_
 ghost use Rattle.bid_rules.specs.Fractions.{Fraction, IsQuotient, sum_of_fractions};
 ghost use Rattle.bid_rules.specs.Goods.{owners_by_good};
 ghost use Rattle.bid_rules.specs.Rent.{HasParts, IsAssignment, IsEnvyFree, room_count, value};
-ghost use Rattle.goods_laws.specs.MaximumWelfare.{HasMaximumWelfare};
-ghost use Rattle.goods_laws.specs.WorkedGoods.{contested_good};
+ghost use Rattle.best_laws.specs.MaximumWelfare.{HasMaximumWelfare};
+ghost use Rattle.best_laws.specs.WorkedGoods.{contested_good};
 ghost use Rattle.arrayvec.specs.declared.array_vec.ArrayVec.{ArrayVec};
 ghost use Rattle.envy_check.specs.declared.goods.Ef1.{Ef1};
 ghost use Rattle.envy_check.specs.Fairness.{HasNoFails, IsEnvyFreeUpToOneGood};
 ghost use Rattle.envy_check.specs.Goods.{EndsEnvy, Envies, IsEf1Table, IsMostValued, goods_of};
 
-use goods_laws::worked_goods_law;
+use best_laws::worked_goods_law;
 use nash_bounds::{owners_by_good_law, search_order_law};
 
 /// The floor is the greatest whole number that is not above the amount. As many places get a cent as cents are left over, and a

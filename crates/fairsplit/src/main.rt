@@ -1,9 +1,9 @@
 //! The program: the commands over the journal's file, TCP, the system's clock and the standard streams.
 #![tactic(auto)]
 
-use adapters::{Reading, Started, Writing, words_of};
-use host_adapters::{
-    JournalFile, LinkLimits, StandardDescriptors, SystemClock, TcpDialer, TcpPort,
+use adapters::{
+    JournalFile, LinkLimits, PortLimits, Reading, StandardDescriptors, Started, SystemClock,
+    TcpDialer, TcpPort, Writing, words_of,
 };
 use split_base::{NoMemory, Quiet, write_all};
 use split_top::{Stop, run};
@@ -32,17 +32,19 @@ fn main(rt: HostRuntime) -> ExitCode {
             return ExitCode::from(owed.status);
         }
     };
+    let mut port = TcpPort::new(rt.alloc(), &rt, PortLimits::usual());
     let status = run(
         rt.alloc(),
         &rt,
         &words,
         &mut JournalFile::new(&rt, JOURNAL, FOLDER),
-        &mut TcpPort::new(&rt, LinkLimits::usual()),
+        &mut port,
         &mut SystemClock::new(&rt),
         &mut Reading::new(rt.reader()),
         &mut output,
         &Quiet,
         &mut TcpDialer::new(&rt, LinkLimits::usual()),
     );
+    port.finish();
     ExitCode::from(status.code)
 }

@@ -5,7 +5,7 @@ use Rattle.bid_rules.specs.declared.cases.FareCase.{FareCase}
 use Rattle.bid_rules.specs.Coalitions.{riders_in}
 use Rattle.shapley_core.specs.declared.division.FareDivision.{FareDivision}
 use Rattle.split_frac.specs.Frac.{frac_text, fraction_of}
-use Rattle.split_text.specs.Texts.{line_of, spaced}
+use Rattle.split_frac.specs.Texts.{line_of, spaced}
 use Rattle.fare_audit.specs.Excesses.{IsFareAudit, group_count}
 use Rattle.fare_audit.specs.declared.audit.FareAudit.{FareAudit}
 use Rattle.fare_audit.specs.declared.audit.Worst.{Worst}

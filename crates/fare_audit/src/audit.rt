@@ -8,9 +8,9 @@ ghost use Rattle.fare_audit.specs.Excesses.{IsFareAudit};
 ghost use Rattle.fare_audit.specs.Parts.{IsFirstGreatest, IsSmallPart, count_below, excess_in_parts};
 
 use crate::parts::{excess_of, parts_of};
+use best_laws::coalition_law;
 use bid_rules::FareCase;
 use bid_rules::limits::{MOST_FARE_CENTS, MOST_RIDERS};
-use fare_laws::coalition_law;
 use fare_routes::Costs;
 use set_costs::{all_riders, factorial};
 use shapley_core::FareDivision;

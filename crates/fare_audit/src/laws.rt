@@ -11,7 +11,7 @@ ghost use Rattle.fare_audit.specs.declared.audit.FareAudit.{FareAudit};
 ghost use Rattle.fare_audit.specs.Excesses.{IsFareAudit, excess_of, group_count, overpays};
 ghost use Rattle.fare_audit.specs.Texts.{IsFareAuditText};
 
-use fare_laws::{best_fares_law, coalition_law};
+use best_laws::{best_fares_law, coalition_law};
 use shapley_core::division_law;
 use split_frac::value_law;
 

@@ -9,8 +9,8 @@ ghost use Rattle.split_frac.specs.Frac.{fraction_of};
 ghost use Rattle.fare_audit.specs.Parts.{IsInParts, IsSmallPart, excess_in_parts, part_at};
 
 use arrayvec::ArrayVec;
+use best_laws::coalition_law;
 use bid_rules::limits::{MOST_FARE_CENTS, MOST_RIDERS, RIDER_ROOM};
-use fare_laws::coalition_law;
 use fare_routes::Costs;
 use set_costs::riders_of_set;
 use split_frac::Frac;

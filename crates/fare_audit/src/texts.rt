@@ -7,13 +7,13 @@ ghost use Rattle.fare_audit.specs.Texts.{IsFareAuditText, groups_line, members_i
 
 use crate::audit::{Worst, audit_fares};
 use arrayvec::ArrayVec;
+use best_laws::coalition_law;
 use bid_rules::FareCase;
 use bid_rules::limits::{MOST_RIDERS, RIDER_ROOM};
-use fare_laws::coalition_law;
 use set_costs::{all_riders, riders_of_set};
 use shapley_core::FareDivision;
 use split_base::NoMemory;
-use split_text::{Numbers, push_line};
+use split_frac::{Numbers, push_line};
 use std::alloc::Global;
 
 /// The numbers of the members who are the riders of a group.

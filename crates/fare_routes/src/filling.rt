@@ -5,8 +5,8 @@ ghost use Rattle.set_costs.specs.Table.{HoldsCosts};
 
 use crate::riders::copied;
 use crate::table::Costs;
+use best_laws::coalition_law;
 use bid_rules::FareCase;
-use fare_laws::coalition_law;
 use set_costs::{Row, next_row, rows_law};
 use split_base::NoMemory;
 use std::alloc::Global;

@@ -8,7 +8,7 @@ use Rattle.bid_rules.specs.Coalitions.{riders_in}
 use Rattle.bid_rules.specs.Fares.{IsLeastRoute, riders_of, sum_of_marginal_costs}
 use Rattle.bid_rules.specs.Fractions.{Fraction, IsQuotient}
 use Rattle.bid_rules.specs.Orders.{factorial}
-use Rattle.fare_laws.specs.Entries.{AreEntries, IsLowestRoute, without}
+use Rattle.best_laws.specs.Entries.{AreEntries, IsLowestRoute, without}
 use Rattle.cert_reader.specs.Layout.{FaresView}
 use Rattle.fare_rules.specs.Entries.{HasLines, entry_of}
 use Rattle.fare_rules.specs.Head.{cost_line}
@@ -16,9 +16,9 @@ use Rattle.fare_rules.specs.State.{StandsFor}
 use Rattle.fare_rules.specs.declared.state.FaresState.TheVariants.{Broken}
 use Rattle.fare_rules.specs.Printed.{printed_case, printed_route}
 use Rattle.fare_rules.specs.Rules.{AreMeans, HasCase, HasRoute, fares_rule, rules_of_fares}
-use Rattle.verdicts.specs.declared.verdict.Verdict.TheVariants.{Yes, No}
-use Rattle.verdicts.specs.Verdicts.{AreKept, IsVerdictOf}
-use Rattle.verdicts.proofs.Order.{none_asked, one_asked}
+use Rattle.rule_verdicts.specs.declared.verdict.Verdict.TheVariants.{Yes, No}
+use Rattle.rule_verdicts.specs.Verdicts.{AreKept, IsVerdictOf}
+use Rattle.split_lemmas.proofs.AskedInOrder.{none_asked, one_asked}
 
 -- the lowest riders go one way
 pub one_way : (nobody : riders_in 0 ≡ []) (case : FareCase) (entry : ℕ → ℕ → ℕ) (at set : ℕ) (xs ys : List ℕ) → IsLowestRoute case entry at set xs → IsLowestRoute case entry at set ys → xs ≡ ys

@@ -9,7 +9,7 @@ use Rattle.bid_rules.specs.Coalitions.{riders_in, start_of}
 use Rattle.bid_rules.specs.Facts.{leg}
 use Rattle.bid_rules.specs.Fares.{least, place_of, route_cost}
 use Rattle.cert_reader.specs.Sets.{starts}
-use Rattle.fare_laws.specs.Entries.{AreEntries, IsDeparture, cost_by, costs_from, entry_by, without}
+use Rattle.best_laws.specs.Entries.{AreEntries, IsDeparture, cost_by, costs_from, entry_by, without}
 use Rattle.fare_rules.specs.Entries.{HasLines, entry_of, line_of}
 use Rattle.fare_rules.specs.Head.{AreCostLines, cost_line}
 use Rattle.split_lemmas.proofs.FilteredLists.{placed}

@@ -5,6 +5,8 @@ use Rattle.std.proofs.lemmas.Bool.{cases_lt}
 use Rattle.std.proofs.lemmas.List.{length-append, length-map, get_or_append_left, get_or-append-add}
 use Rattle.std.proofs.lemmas.List.Elements.{All-head, All-tail}
 use Rattle.std.proofs.lemmas.List.FromFn.{get_or-map-range_with_len, length-range_with_len}
+use Rattle.set_costs.specs.declared.sums.TheConstants.{SET_ROOM}
+use Rattle.set_costs.specs.declared.rows.TheConstants.{DEPARTURE_ROOM}
 use Rattle.bid_rules.specs.declared.cases.FareCase.{FareCase}
 use Rattle.bid_rules.specs.Coalitions.{riders_in, start_of}
 use Rattle.bid_rules.specs.Fares.{route_cost}
@@ -75,13 +77,13 @@ pub rider_count : (view : FaresView) (case : FareCase) → case ≡ printed_case
 rider_count view case is = ap (λ (k : FareCase). length k.at.items) is ∙ length-map view.at unsigned_abs
 
 -- the next line is not as it is to be
-pub stands_broken : (view : FaresView) (taken : List (List ℤ)) (line : List ℤ) (case : FareCase) (rows : ArrayVec (ArrayVec ℕ 11 (Unit {0})) 1024 (Unit {0})) → StandsFor view taken (Filling case rows)
+pub stands_broken : (view : FaresView) (taken : List (List ℤ)) (line : List ℤ) (case : FareCase) (rows : ArrayVec (ArrayVec ℕ DEPARTURE_ROOM (Unit {0})) SET_ROOM (Unit {0})) → StandsFor view taken (Filling case rows)
     → (line ≡ cost_line case (length case.at.items) (length rows.items) → ⊥) → StandsFor view (taken ++ line ∷ []) (Broken 2)
 stands_broken view taken line case rows stands other =
     inr (refl, stands.0, other_last (printed_case view) (length view.at) taken line (λ e. other (e ∙ sym (due_line view case (length rows.items) (length taken) stands.1 stands.3))))
 
 -- it is
-pub stands_more : (view : FaresView) (taken : List (List ℤ)) (line : List ℤ) (case : FareCase) (rows new : ArrayVec (ArrayVec ℕ 11 (Unit {0})) 1024 (Unit {0})) → StandsFor view taken (Filling case rows)
+pub stands_more : (view : FaresView) (taken : List (List ℤ)) (line : List ℤ) (case : FareCase) (rows new : ArrayVec (ArrayVec ℕ DEPARTURE_ROOM (Unit {0})) SET_ROOM (Unit {0})) → StandsFor view taken (Filling case rows)
     → line ≡ cost_line case (length case.at.items) (length rows.items) → ListsCosts case (map (λ row. row.items) new.items) → length new.items ≡ length rows.items + 1
     → StandsFor view (taken ++ line ∷ []) (Filling case new)
 stands_more view taken line case rows new stands is lists more = (

@@ -9,7 +9,7 @@ use Rattle.std.proofs.lemmas.List.Elements.{All-cons, All-filter, filter-append,
 use Rattle.std.proofs.lemmas.List.FromFn.{get_or-range_with_len, length-range_with_len}
 use Rattle.cert_reader.specs.Sets.{starts}
 use Rattle.bid_rules.specs.Coalitions.{has_rider, riders_in}
-use Rattle.fare_laws.specs.Entries.{IsDeparture}
+use Rattle.best_laws.specs.Entries.{IsDeparture}
 use Rattle.split_lemmas.proofs.FilteredLists.{kept}
 use Rattle.split_lemmas.proofs.RangeSteps.{range_next}
 

@@ -5,7 +5,7 @@ use Rattle.bid_rules.specs.declared.cases.FareCase.{FareCase}
 use Rattle.bid_rules.specs.Coalitions.{riders_in}
 use Rattle.bid_rules.specs.Fares.{least}
 use Rattle.cert_reader.specs.Sets.{starts}
-use Rattle.fare_laws.specs.Entries.{entry_by}
+use Rattle.best_laws.specs.Entries.{entry_by}
 
 -- the entry of a start and a set in the lines of the sets from 1 on, 0 for the empty set
 abbrev pub entry_of : ℕ → List (List ℤ) → ℕ → ℕ → ℕ

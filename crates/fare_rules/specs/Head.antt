@@ -3,7 +3,7 @@ use Rattle.std.specs.Prelude.{◌≡◌, ◌≢◌, ℕ, ℤ, pos, ◌-◌, ◌<
 use Rattle.bid_rules.specs.declared.cases.FareCase.{FareCase}
 use Rattle.cert_reader.specs.Sets.{starts}
 use Rattle.cert_reader.specs.Layout.{FaresView}
-use Rattle.fare_laws.specs.Entries.{costs_from}
+use Rattle.best_laws.specs.Entries.{costs_from}
 
 -- the numbers of the head, of a text whose further lines are not looked at
 abbrev pub head_of : ℕ → ℤ → List (List ℤ) → List ℤ → List ℤ → FaresView

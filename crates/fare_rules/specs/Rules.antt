@@ -6,11 +6,11 @@ use Rattle.bid_rules.specs.Facts.{IsValidFareCase}
 use Rattle.bid_rules.specs.Fares.{riders_of, sum_of_marginal_costs}
 use Rattle.bid_rules.specs.Fractions.{IsQuotient}
 use Rattle.bid_rules.specs.Orders.{factorial}
-use Rattle.fare_laws.specs.Entries.{IsLowestRoute}
+use Rattle.best_laws.specs.Entries.{IsLowestRoute}
 use Rattle.fare_rules.specs.Entries.{HasLines, entry_of}
 use Rattle.cert_reader.specs.Layout.{FaresView}
 use Rattle.fare_rules.specs.Printed.{printed_case, printed_route}
-use Rattle.verdicts.specs.Verdicts.{rule_at}
+use Rattle.rule_verdicts.specs.Verdicts.{rule_at}
 
 -- the numbers are 0 or more, and a case: flag and legs in range, a place to itself 0, rising members up to 10, each with a place
 pub record HasCase (view : FaresView) : Type 0 where

@@ -3,14 +3,14 @@ ghost use Rattle.std.specs.Prelude.{◌≡◌, pos, ◌≤◌, ◌≤ℤ◌, All
 ghost use Rattle.fare_rules.specs.Head.{head_of};
 ghost use Rattle.fare_rules.specs.Rules.{HasCase};
 ghost use Rattle.fare_rules.specs.Printed.{printed_case};
-ghost use Rattle.verdicts.specs.Ranges.{AreBetween};
+ghost use Rattle.rule_verdicts.specs.Ranges.{AreBetween};
 
 use arrayvec::ArrayVec;
 use bid_rules::limits::{
     LEG_ROW_ROOM, MOST_FARE_CENTS, MOST_MEMBERS, MOST_PLACES, MOST_RIDERS, PLACE_ROOM, RIDER_ROOM,
 };
 use bid_rules::{FareCase, Fares};
-use verdicts::{members_between, rows_of_amounts};
+use rule_verdicts::{members_between, rows_of_amounts};
 
 /// A row of printed legs.
 pub type PrintedRow = ArrayVec<i128, PLACE_ROOM>;

@@ -7,15 +7,15 @@ ghost use Rattle.fare_rules.specs.Printed.{printed_case};
 ghost use Rattle.fare_rules.specs.Rules.{HasCase, rules_of_fares};
 ghost use Rattle.set_costs.specs.Table.{HoldsCosts};
 ghost use Rattle.split_frac.specs.Frac.{fraction_of};
-ghost use Rattle.verdicts.specs.Verdicts.{IsVerdictOf};
+ghost use Rattle.rule_verdicts.specs.Verdicts.{IsVerdictOf};
 
 use crate::fares::are_means;
 use crate::route::order_of;
+use best_laws::{coalition_law, lowest_route_law, route_set_law, without_rider_law};
 use bid_rules::FareCase;
-use fare_laws::{coalition_law, lowest_route_law, route_set_law, without_rider_law};
+use rule_verdicts::Verdict;
 use set_costs::{Row, SetCosts, rows_law};
 use split_frac::Frac;
-use verdicts::Verdict;
 
 /// Whether two lists of riders are the same.
 fn are_same(riders: &[u8], others: &[u8]) -> bool

@@ -5,14 +5,14 @@ ghost use Rattle.bid_rules.specs.Facts.{IsValidFareCase};
 ghost use Rattle.bid_rules.specs.Fares.{FareBest};
 ghost use Rattle.cert_reader.specs.Sets.{starts};
 ghost use Rattle.cert_reader.specs.Layout.{FaresView};
-ghost use Rattle.fare_laws.specs.Entries.{IsDeparture};
+ghost use Rattle.best_laws.specs.Entries.{IsDeparture};
 ghost use Rattle.fare_rules.specs.Printed.{printed_case, printed_route};
 ghost use Rattle.fare_rules.specs.Rules.{rules_of_fares};
-ghost use Rattle.verdicts.specs.declared.verdict.Verdict.{Verdict};
-ghost use Rattle.verdicts.specs.declared.verdict.Verdict.TheVariants.{Yes};
-ghost use Rattle.verdicts.specs.Verdicts.{IsVerdictOf};
+ghost use Rattle.rule_verdicts.specs.declared.verdict.Verdict.{Verdict};
+ghost use Rattle.rule_verdicts.specs.declared.verdict.Verdict.TheVariants.{Yes};
+ghost use Rattle.rule_verdicts.specs.Verdicts.{IsVerdictOf};
 
-use fare_laws::{coalition_law, lowest_route_law, route_set_law, without_rider_law};
+use best_laws::{coalition_law, lowest_route_law, route_set_law, without_rider_law};
 
 /// Where all rules hold, the printed case is one, and the printed fares and route are best for it (Shapley 1953). A text has one verdict.
 pub fn fares_certificate_law()

@@ -1,4 +1,4 @@
-//! The rules of a certificate of fares, judged line by line in fixed memory: where all hold, the printed fares are the Shapley
+//! The five rules of a certificate of fares, judged line by line in fixed memory. Where all hold, the printed fares are the Shapley
 //! value and the printed route is the least of the cheapest.
 #![tactic(auto)]
 

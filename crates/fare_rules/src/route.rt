@@ -4,7 +4,7 @@ ghost use Rattle.std.specs.List.{range_with_len};
 ghost use Rattle.std.specs.List.Sorted.{IsPermutation};
 
 use bid_rules::limits::{MOST_RIDERS, RiderList};
-use verdicts::{has_each, members_between};
+use rule_verdicts::{has_each, members_between};
 
 /// The riders of a printed route, where they are all riders in some order.
 pub(crate) fn order_of(route: &[i128], count: u8) -> Option<RiderList>

@@ -10,18 +10,18 @@ ghost use Rattle.fare_rules.specs.State.{IsState, StandsFor};
 ghost use Rattle.fare_rules.specs.Printed.{printed_case};
 ghost use Rattle.set_costs.specs.Table.{HoldsCosts, ListsCosts};
 ghost use Rattle.split_frac.specs.Frac.{fraction_of};
-ghost use Rattle.verdicts.specs.Verdicts.{IsVerdictOf};
+ghost use Rattle.rule_verdicts.specs.Verdicts.{IsVerdictOf};
 
 use crate::case::{PrintedRow, case_of};
 use crate::ending::verdict_of;
 use crate::lines::is_line;
 use arrayvec::ArrayVec;
+use best_laws::{coalition_law, route_set_law, without_rider_law};
 use bid_rules::FareCase;
 use bid_rules::limits::{LEG_ROW_ROOM, RIDER_ROOM};
-use fare_laws::{coalition_law, route_set_law, without_rider_law};
+use rule_verdicts::Verdict;
 use set_costs::{Row, SET_ROOM, next_row, rows_law};
 use split_frac::Frac;
-use verdicts::Verdict;
 
 /// What routes of sets of riders cost, row by row.
 type Rows = ArrayVec<Row, SET_ROOM>;

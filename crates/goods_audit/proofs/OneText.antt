@@ -13,10 +13,10 @@ use Rattle.bid_rules.specs.Goods.{in_search_order, owners_by_good, pair_of, play
 use Rattle.envy_check.specs.declared.goods.Ef1.{Ef1}
 use Rattle.envy_check.specs.declared.goods.Ef1.TheVariants.{Content, Without, Fails}
 use Rattle.envy_check.specs.Goods.{IsEf1, IsEf1Table, IsMostValued, goods_of}
-use Rattle.player_lines.specs.Lines.{lines_to}
-use Rattle.player_lines.specs.Names.{NamesData}
-use Rattle.player_lines.specs.Players.{player_line, player_member}
-use Rattle.split_text.specs.Texts.{line_of}
+use Rattle.split_reports.specs.Parts.{lines_to}
+use Rattle.split_reports.specs.Names.{NamesData}
+use Rattle.split_reports.specs.Players.{player_line, player_member}
+use Rattle.split_frac.specs.Texts.{line_of}
 use Rattle.split_lemmas.proofs.ListOrder.{same_from_neither}
 use Rattle.goods_audit.specs.Domination.{IsBetterDivision, OwnersByGood}
 use Rattle.goods_audit.specs.Texts.{IsAuditText, answer_at, answers, audit_title, better_line, ef1_text, envy_line, envy_lines, welfare_line}

@@ -11,10 +11,10 @@ use Rattle.envy_check.specs.declared.goods.Ef1.TheVariants.{Content, Without, Fa
 use Rattle.envy_check.specs.Fairness.{HasNoFails}
 use Rattle.envy_check.specs.Goods.{IsEf1Table}
 use Rattle.nash_search.specs.declared.division.GoodsDivision.{GoodsDivision}
-use Rattle.player_lines.specs.Lines.{lines_to}
-use Rattle.player_lines.specs.Names.{NamesData}
-use Rattle.player_lines.specs.Players.{player_line, player_member}
-use Rattle.split_text.specs.Texts.{line_of, spaced}
+use Rattle.split_reports.specs.Parts.{lines_to}
+use Rattle.split_reports.specs.Names.{NamesData}
+use Rattle.split_reports.specs.Players.{player_line, player_member}
+use Rattle.split_frac.specs.Texts.{line_of, spaced}
 
 -- the line of the title
 abbrev pub audit_title : NamesData → List ℕ

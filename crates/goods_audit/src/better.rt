@@ -10,9 +10,9 @@ use crate::paths::Path;
 use crate::walk::search;
 use crate::whole::whole_prefix;
 use arrayvec::ArrayVec;
+use best_laws::players_law;
 use bid_rules::GoodsCase;
 use bid_rules::limits::ITEM_ROOM;
-use goods_laws::players_law;
 use nash_bounds::{
     Lanes, PointTable, empty_prefix, extend_by, lanes_of, owner_lists_law, owners_by_good,
     owners_by_good_law, owners_in_order, search_order, search_order_law,

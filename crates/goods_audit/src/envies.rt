@@ -3,16 +3,16 @@ ghost use Rattle.std.specs.Prelude.{◌≡◌, ◌≤◌, ◌++◌, length, All,
 ghost use Rattle.std.proofs.Props.{props};
 ghost use Rattle.bid_rules.specs.Goods.{IsValidGoodsCase, player_count};
 ghost use Rattle.envy_check.specs.declared.goods.Ef1.{Ef1};
-ghost use Rattle.player_lines.specs.Lines.{lines_to};
+ghost use Rattle.split_reports.specs.Parts.{lines_to};
 ghost use Rattle.goods_audit.specs.Texts.{answers, ef1_text, envy_line, envy_lines};
 
 use arrayvec::ArrayVec;
 use bid_rules::GoodsCase;
 use bid_rules::limits::MEMBER_ROOM;
 use envy_check::Ef1;
-use player_lines::lines_law;
 use split_base::NoMemory;
-use split_text::push_line;
+use split_frac::push_line;
+use split_reports::lines_law;
 use std::fmt;
 
 /// An answer on envy up to one good, as a line says it.

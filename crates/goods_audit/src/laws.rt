@@ -6,12 +6,12 @@ ghost use Rattle.bid_rules.specs.Goods.{Dominates, IsAllocation, in_search_order
 ghost use Rattle.envy_check.specs.Fairness.{AreBestOwners};
 ghost use Rattle.nash_search.specs.declared.division.GoodsDivision.{GoodsDivision};
 ghost use Rattle.nash_search.specs.Division.{IsGoodsDivision};
-ghost use Rattle.player_lines.specs.Names.{NamesData};
+ghost use Rattle.split_reports.specs.Names.{NamesData};
 ghost use Rattle.goods_audit.specs.Domination.{IsBetterDivision, OwnersByGood};
 ghost use Rattle.goods_audit.specs.Texts.{IsAuditText, IsDivisionAudit, SaysFair};
 
+use best_laws::best_goods_law;
 use envy_check::one_good_law;
-use goods_laws::best_goods_law;
 use nash_bounds::owners_by_good_law;
 use nash_search::step_count_law;
 

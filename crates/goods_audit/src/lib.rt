@@ -1,5 +1,5 @@
-//! The audit of a division of goods, the published one or a proposal: whether an allocation gives everybody as much and somebody more, and
-//! whether anybody envies another past one good.
+//! The audit of a division of goods: whether another allocation dominates it, and who envies another past one good. The division is
+//! the published one or a proposal.
 #![tactic(auto)]
 
 mod better;

@@ -6,8 +6,8 @@ ghost use Rattle.bid_rules.specs.declared.pair.Pair.{Pair};
 ghost use Rattle.bid_rules.specs.Facts.{case_of};
 ghost use Rattle.bid_rules.specs.Goods.{AreOwners, IsValidGoodsCase};
 ghost use Rattle.nash_search.specs.Division.{IsGoodsDivision};
-ghost use Rattle.player_lines.specs.Names.{names_of, shown_names};
-ghost use Rattle.player_lines.specs.Players.{player_member};
+ghost use Rattle.split_reports.specs.Names.{names_of, shown_names};
+ghost use Rattle.split_reports.specs.Players.{player_member};
 ghost use Rattle.split_json.specs.Reading.{IsReady, shown};
 ghost use Rattle.goods_audit.specs.Texts.{IsAuditText, IsDivisionAudit, SaysFair, answers, audit_lines, audit_title, better_line, welfare_line};
 
@@ -19,10 +19,10 @@ use bid_rules::limits::ITEM_ROOM;
 use bid_rules::{GoodsCase, Pair, case_law};
 use envy_check::ef1_table;
 use nash_search::GoodsDivision;
-use player_lines::{Names, PlayerLines};
 use split_base::NoMemory;
+use split_frac::{Numbers, push_line};
 use split_json::CaseInput;
-use split_text::{Numbers, push_line};
+use split_reports::{Names, PlayerLines};
 use std::alloc::Global;
 
 /// Appends the line of the title.

@@ -7,7 +7,7 @@ use Rattle.cert_reader.specs.declared.marks.TheConstants.{ANSWER_LEAF, LEFT_OUT}
 use Rattle.nash_bounds.specs.LeftOut.{may_be_left}
 use Rattle.goods_rules.specs.Printed.{printed_answer, printed_case}
 use Rattle.goods_rules.specs.Tree.{IsTree}
-use Rattle.verdicts.specs.Verdicts.{rule_at}
+use Rattle.rule_verdicts.specs.Verdicts.{rule_at}
 
 -- the numbers are 0 or more, and a case: the limit in range, rising members up to 12, and points that sum to 1000
 pub record HasCase (view : GoodsView) : Type 0 where

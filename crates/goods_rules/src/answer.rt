@@ -6,9 +6,9 @@ ghost use Rattle.nash_bounds.specs.LeftOut.{is_after};
 ghost use Rattle.nash_bounds.specs.Tables.{IsTable};
 
 use arrayvec::ArrayVec;
+use best_laws::players_law;
 use bid_rules::GoodsCase;
 use bid_rules::limits::ITEM_ROOM;
-use goods_laws::players_law;
 use nash_bounds::{
     Goal, LaneTable, Pair, PointTable, bound, empty_prefix, extend_by, lane_table,
     owners_by_good_law, owners_in_order, point_table, search_order, search_order_law,

@@ -7,7 +7,7 @@ ghost use Rattle.goods_rules.specs.Rules.{HasCase};
 use arrayvec::ArrayVec;
 use bid_rules::limits::{ITEM_ROOM, MOST_MEMBERS, MOST_STEPS, WHOLE_POINTS};
 use bid_rules::{Goods, GoodsCase};
-use verdicts::{members_between, rows_of_amounts};
+use rule_verdicts::{members_between, rows_of_amounts};
 
 /// A row of printed points, by good.
 pub type PrintedRow = ArrayVec<i128, ITEM_ROOM>;

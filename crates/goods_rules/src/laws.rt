@@ -4,9 +4,9 @@ ghost use Rattle.bid_rules.specs.Goods.{GoodsBest, IsValidGoodsCase, owners_by_g
 ghost use Rattle.cert_reader.specs.GoodsViews.{GoodsView};
 ghost use Rattle.goods_rules.specs.Printed.{printed_answer, printed_case, printed_owners};
 ghost use Rattle.goods_rules.specs.Rules.{rules_of_goods};
-ghost use Rattle.verdicts.specs.declared.verdict.Verdict.{Verdict};
-ghost use Rattle.verdicts.specs.declared.verdict.Verdict.TheVariants.{Yes};
-ghost use Rattle.verdicts.specs.Verdicts.{IsVerdictOf};
+ghost use Rattle.rule_verdicts.specs.declared.verdict.Verdict.{Verdict};
+ghost use Rattle.rule_verdicts.specs.declared.verdict.Verdict.TheVariants.{Yes};
+ghost use Rattle.rule_verdicts.specs.Verdicts.{IsVerdictOf};
 
 use nash_bounds::{bound_law, open_prefixes_law, owners_by_good_law};
 

@@ -1,4 +1,4 @@
-//! The six rules of a certificate of goods, judged mark by mark in fixed memory: where all hold, the printed owners have the greatest
+//! The six rules of a certificate of goods, judged mark by mark in fixed memory. Where all hold, the printed owners have the greatest
 //! Nash welfare (Caragiannis and others 2016), the first of equals.
 #![tactic(auto)]
 

@@ -4,12 +4,12 @@ ghost use Rattle.bid_rules.specs.declared.limits.TheConstants.{ITEM_ROOM, MEMBER
 ghost use Rattle.cert_reader.specs.GoodsViews.{GoodsView};
 ghost use Rattle.goods_rules.specs.Rules.{rules_of_goods};
 ghost use Rattle.goods_rules.specs.State.{IsState, StandsFor, walk_rule};
-ghost use Rattle.verdicts.specs.Verdicts.{IsVerdict, IsVerdictOf};
+ghost use Rattle.rule_verdicts.specs.Verdicts.{IsVerdict, IsVerdictOf};
 
 use crate::answer::{Answer, answer_of};
 use crate::case::{PrintedRow, case_of, owners_of};
 use crate::walk::Walk;
-use verdicts::Verdict;
+use rule_verdicts::Verdict;
 
 /// Where the judge of a certificate of goods stands, after the lines before the tree and some marks of it.
 #[derive(Drop)]

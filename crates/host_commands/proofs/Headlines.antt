@@ -1,12 +1,11 @@
 -- The main theorem, from the laws of whole runs.
 use Rattle.std.proofs.Common.{◌≡◌, ◌⊎◌, ℕ, ◌≤◌, List, [], ◌∷◌, Result, Ok, refl, sym, subst, inl, inr, ⊎_elim, le_trans, Contains}
-use Rattle.endings.specs.declared.stop.Stop.{Stop}
+use Rattle.command_results.specs.declared.stop.Stop.{Stop}
 use Rattle.host_journal.specs.Journal.{HasEvents}
-use Rattle.host_keeper.specs.declared.serving.Serving.{Serving}
-use Rattle.host_keeper.specs.Leading.{files_of}
-use Rattle.host_keeper.specs.States.{IsFile, Passes, State, lists_of}
-use Rattle.link_runs.specs.Exchanges.{Answered, Exchange, IsExchange}
-use Rattle.link_runs.specs.Served.{LinkTells}
+use Rattle.host_journal.specs.declared.serving.Serving.{Serving}
+use Rattle.host_journal.specs.States.{HasState, IsFile, Passes, State, lists_of}
+use Rattle.serving.specs.Exchanges.{Answered, Exchange, IsExchange}
+use Rattle.serving.specs.Served.{LinkTells}
 use Rattle.sealed_core.specs.declared.commands.What.{What}
 use Rattle.sealed_core.specs.Host.{EventView}
 use Rattle.serving.specs.Serving.{host_service}
@@ -23,7 +22,7 @@ use Rattle.host_commands.specs.Files.{Opens, state_of}
 use Rattle.host_commands.specs.Headline.{HasHeadline, HasNoRun, Headline}
 use Rattle.host_commands.specs.Publishing.{AsksFor, Publishes}
 use Rattle.host_commands.specs.Serves.{HasNoLink, RunEnds, Runs, Serves, ServesOpened, served_line}
-use Rattle.host_commands.proofs.Links.{every_step, links_answered, one_machine}
+use Rattle.host_commands.proofs.Links.{Exchanges, Joined, every_step, links_answered, one_machine}
 use Rattle.host_commands.proofs.Published.{CaseLaws, publishes}
 use Rattle.host_commands.proofs.Sound.{IsSound, sound_response, sound_state}
 
@@ -32,6 +31,9 @@ pub record RunLaws {D : Type 0} (d : Ghosts D) : Type 0 where
   pub seen : (disk : D) → d.is_honest disk → d.images disk (d.seen disk)
   pub one_meaning : (v other : ℕ) (secret word : List ℕ) (events others : List EventView) (file : List ℕ) → HasEvents v secret events file → HasEvents other word others file
       → (v ≡ other) × (secret ≡ word) × (events ≡ others)
+  pub files : (serving : Serving) (disk : D) (s : State) → HasState d serving disk s → d.is_honest disk → Each (d.images disk) (IsFile s)
+  pub exchanges : Exchanges (host_service d)
+  pub joined : Joined (host_service d)
   pub crash : (w : D × State) (run : List (Exchange (D × State))) (new : D × State) → Answered (host_service d) w run new → d.is_honest w.0 → Each (d.images w.0) (IsFile w.1) → Since d new.0 w run
   pub acknowledged : (w : D × State) (run : List (Exchange (D × State))) (new : D × State) → Answered (host_service d) w run new → d.is_honest w.0 → Each (d.images w.0) (IsFile w.1) → Acknowledges d new.0 w run
   pub accepted : (w : D × State) (run : List (Exchange (D × State))) (new : D × State) → Answered (host_service d) w run new → d.is_honest w.0 → Accepts run w.1 new.1
@@ -66,8 +68,8 @@ module _ {D P L C : Type 0} (d : Ghosts D) (p : PortSide P L) (tells : LinkTells
     headline : Headline d p tells c disk (between, state_of opens.opened) after port port_after clock clock_after number
     headline =
         let served = runs.served in
-        let (run, written) = links_answered (host_service d) tells served.links served.answers (between, state_of opens.opened) served.new served.run in
-        let machine = one_machine (host_service d) tells served.links served.answers (between, state_of opens.opened) run served.new written in
+        let (run, written) = links_answered (host_service d) laws.exchanges laws.joined tells served.links served.answers (between, state_of opens.opened) served.new served.run in
+        let machine = one_machine (host_service d) laws.exchanges laws.joined tells served.links served.answers (between, state_of opens.opened) run served.new written in
         record {
           links = served.links;
           answers = served.answers;
@@ -93,13 +95,13 @@ module _ {D P L C : Type 0} (d : Ghosts D) (p : PortSide P L) (tells : LinkTells
               (λ x step sound. sound_response d x step.responds.0 sound)
               (λ x step sound asked asks success. publishes case_laws d x (sound_state x.after.1 (sound_response d x step.responds.0 sound)) asked success asks step.responds.0)
               (between, state_of opens.opened) run served.new machine opens.opened.stands.host.may_apply;
-          crash = λ h. laws.crash (between, state_of opens.opened) run served.new machine (opens.honest.0 h) (files_of d serving between (state_of opens.opened) opens.opened.stands (opens.honest.0 h));
+          crash = λ h. laws.crash (between, state_of opens.opened) run served.new machine (opens.honest.0 h) (laws.files serving between (state_of opens.opened) opens.opened.stands (opens.honest.0 h));
           any_moment = λ h s each file left.
               let leaves = opens.any_moment h s each in
               ⊎_elim (λ start. inl (leaves.each file start)) (λ one. inr one)
               (before_run d (between, state_of opens.opened) run served.new machine (opens.honest.0 h) (d.moment disk) leaves.later file left);
           acknowledged = λ h. laws.acknowledged (between, state_of opens.opened) run served.new machine (opens.honest.0 h)
-              (files_of d serving between (state_of opens.opened) opens.opened.stands (opens.honest.0 h));
+              (laws.files serving between (state_of opens.opened) opens.opened.stands (opens.honest.0 h));
         }
 
   pub told_headline : (count : ℕ) (text : List ℕ) → Serves d p tells c disk after port port_after clock clock_after count (Ok text)

@@ -1,13 +1,21 @@
 -- From the run of a port to the requests of its links.
 use Rattle.std.proofs.Common.{ℕ, List, [], ◌∷◌, ◌++◌, Option, refl, sym, subst}
-use Rattle.link_runs.specs.declared.limits.TheConstants.{MAX_REQUESTS}
-use Rattle.link_runs.specs.Ends.{Ending}
-use Rattle.link_runs.specs.Exchanges.{Answered, EndsLink, Exchange, IsExchange, LinkExchanges}
-use Rattle.link_runs.specs.Joining.{answered_join, exchanges_of}
-use Rattle.link_runs.specs.Ports.{PortRun}
-use Rattle.link_runs.specs.Runs.{Service}
-use Rattle.link_runs.specs.Served.{LinkTells}
+use Rattle.serving.specs.declared.limits.TheConstants.{MAX_REQUESTS}
+use Rattle.serving.specs.Ends.{Ending}
+use Rattle.serving.specs.Exchanges.{Answered, EndsLink, Exchange, IsExchange, LinkExchanges}
+use Rattle.serving.specs.Ports.{PortRun}
+use Rattle.serving.specs.Runs.{LinkRun, Service}
+use Rattle.serving.specs.Served.{LinkTells}
 use Rattle.host_commands.specs.Links.{Every, LinksAnswered, last_request, requests_of}
+
+-- the run of a link is a list of its requests, and requests behind others are one list with them
+abbrev pub Exchanges : {W : Type 0} → Service W → Type 0
+Exchanges {W} service = (n : ℕ) (all : List ℕ) (answers : List (Option ℕ)) (w : W) (out : List ℕ) (new : W) (end : Ending) → LinkRun service n all answers w out new end
+    → LinkExchanges service all answers w out new end
+
+abbrev pub Joined : {W : Type 0} → Service W → Type 0
+Joined {W} service = (w : W) (first : List (Exchange W)) (between : W) (second : List (Exchange W)) (new : W) → Answered service w first between → Answered service between second new
+    → Answered service w (first ++ second) new
 
 module _ {W : Type 0} (service : Service W) where
   -- each request of a run is a step, from a world of which this is so as it is of the first
@@ -23,46 +31,47 @@ module _ {W : Type 0} (service : Service W) where
   last_answered w rest answers out new end (EndsLink.refused left answer refusal bodiless bytes why clock still are how) = still
   last_answered w rest answers out new end (EndsLink.quiet stops still) = still
 
-  link_answered : (all : List ℕ) (answers : List (Option ℕ)) (w : W) (out : List ℕ) (new : W) (end : Ending) (link : LinkExchanges service all answers w out new end) → Answered service w (requests_of link) new
-  link_answered all answers w out new end link =
-      answered_join service w link.exchanges link.mid (last_request link.ends) new link.answered (last_answered link.mid link.rest link.late link.behind new end link.ends)
+  module _ (exchanges : Exchanges service) (joined : Joined service) where
+    link_answered : (all : List ℕ) (answers : List (Option ℕ)) (w : W) (out : List ℕ) (new : W) (end : Ending) (link : LinkExchanges service all answers w out new end) → Answered service w (requests_of link) new
+    link_answered all answers w out new end link =
+        joined w link.exchanges link.mid (last_request link.ends) new link.answered (last_answered link.mid link.rest link.late link.behind new end link.ends)
 
-  module _ {L : Type 0} (tells : LinkTells L) where
-    pub links_answered : (links : List (L × L)) (answers : List (Option ℕ)) (w new : W) → PortRun service tells links answers w new
-        → (run : List (Exchange W)) × LinksAnswered service tells links answers w run new
-    links_answered [] answers w new (none, same) = ([], (none, refl, same))
-    links_answered (l ∷ links) answers w new (now, later, mid, is, served, rest) =
-        let link = exchanges_of service MAX_REQUESTS served.input now w served.out mid served.ending served.run in
-        let (behind, others) = links_answered links later mid new rest in (
-          requests_of link ++ behind,
-          (
-            now,
-            later,
-            requests_of link,
-            behind,
-            mid,
-            is,
-            refl,
-            record {
-              input = served.input;
-              out = served.out;
-              ending = served.ending;
-              told = served.told;
-              wrote = served.wrote;
-              counts = served.counts;
-              run = served.run;
-              link = link;
-              all = refl;
-            },
-            others,
-          ),
-        )
+    module _ {L : Type 0} (tells : LinkTells L) where
+      pub links_answered : (links : List (L × L)) (answers : List (Option ℕ)) (w new : W) → PortRun service tells links answers w new
+          → (run : List (Exchange W)) × LinksAnswered service tells links answers w run new
+      links_answered [] answers w new (none, same) = ([], (none, refl, same))
+      links_answered (l ∷ links) answers w new (now, later, mid, is, served, rest) =
+          let link = exchanges MAX_REQUESTS served.input now w served.out mid served.ending served.run in
+          let (behind, others) = links_answered links later mid new rest in (
+            requests_of link ++ behind,
+            (
+              now,
+              later,
+              requests_of link,
+              behind,
+              mid,
+              is,
+              refl,
+              record {
+                input = served.input;
+                out = served.out;
+                ending = served.ending;
+                told = served.told;
+                wrote = served.wrote;
+                counts = served.counts;
+                run = served.run;
+                link = link;
+                all = refl;
+              },
+              others,
+            ),
+          )
 
-    -- the requests of all links are answered one after the other
-    pub one_machine : (links : List (L × L)) (answers : List (Option ℕ)) (w : W) (run : List (Exchange W)) (new : W) → LinksAnswered service tells links answers w run new → Answered service w run new
-    one_machine [] answers w run new (none, empty, same) = subst (λ (r : List (Exchange W)). Answered service w r new) (sym empty) same
-    one_machine (l ∷ links) answers w run new (now, later, here, behind, mid, is, all, first, others) =
-        subst (λ (r : List (Exchange W)). Answered service w r new) (sym all)
-        (answered_join service w here mid behind new
-        (subst (λ (r : List (Exchange W)). Answered service w r mid) (sym first.all) (link_answered first.input now w first.out mid first.ending first.link))
-        (one_machine links later mid behind new others))
+      -- the requests of all links are answered one after the other
+      pub one_machine : (links : List (L × L)) (answers : List (Option ℕ)) (w : W) (run : List (Exchange W)) (new : W) → LinksAnswered service tells links answers w run new → Answered service w run new
+      one_machine [] answers w run new (none, empty, same) = subst (λ (r : List (Exchange W)). Answered service w r new) (sym empty) same
+      one_machine (l ∷ links) answers w run new (now, later, here, behind, mid, is, all, first, others) =
+          subst (λ (r : List (Exchange W)). Answered service w r new) (sym all)
+          (joined w here mid behind new
+          (subst (λ (r : List (Exchange W)). Answered service w r mid) (sym first.all) (link_answered first.input now w first.out mid first.ending first.link))
+          (one_machine links later mid behind new others))

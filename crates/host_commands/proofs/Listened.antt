@@ -1,10 +1,10 @@
 -- A port that is listened on, and its links that are served.
 use Rattle.std.proofs.Common.{◌≡◌, ◌⊎◌, ℕ, ◌<◌, ◌≤◌, List, Option, Result, Ok, Err, IsErr, is_err, inl, inr, refl, ap, ◌∙◌, subst}
-use Rattle.endings.specs.declared.stop.Stop.TheVariants as stop
-use Rattle.host_keeper.specs.declared.serving.Serving.{Serving}
-use Rattle.host_keeper.specs.States.{State}
-use Rattle.link_runs.specs.Ports.{PortServed}
-use Rattle.link_runs.specs.Served.{LinkTells}
+use Rattle.command_results.specs.declared.stop.Stop.TheVariants as stop
+use Rattle.host_journal.specs.declared.serving.Serving.{Serving}
+use Rattle.host_journal.specs.States.{State}
+use Rattle.serving.specs.Ports.{PortServed}
+use Rattle.serving.specs.Served.{LinkTells}
 use Rattle.serving.specs.Serving.{StandsAt, host_service}
 use Rattle.split_base.specs.Clocks.{ClockRun}
 use Rattle.split_base.specs.declared.clock.Clock.{Ghosts as ClockSide}

@@ -7,14 +7,13 @@ use Rattle.bid_rules.specs.declared.cases.Case.TheVariants as case
 use Rattle.bid_rules.specs.Facts.{IsCheckedBid, IsCheckedFacts, IsValidCase, case_of, member_count}
 use Rattle.cert_checker.specs.Judged.{IsCertificate, PrintsBest}
 use Rattle.certificates.specs.Canonical.{IsCanonical}
-use Rattle.divisions.specs.declared.division.Division.{Division}
-use Rattle.divisions.specs.declared.division.Division.TheVariants as divided
-use Rattle.divisions.specs.Division.{IsDivisionOf}
-use Rattle.host_keeper.specs.States.{State, host_in}
-use Rattle.link_runs.specs.Dues.{SaidView}
-use Rattle.link_runs.specs.Exchanges.{Exchange}
-use Rattle.publications.specs.Contents.{ContentView}
-use Rattle.publications.specs.Publications.{IsPublication, TellsBest, TellsEnd, case_data, refusal_of}
+use Rattle.certificates.specs.declared.division.Division.{Division}
+use Rattle.certificates.specs.declared.division.Division.TheVariants as divided
+use Rattle.certificates.specs.Division.{IsDivisionOf}
+use Rattle.host_journal.specs.States.{State, host_in}
+use Rattle.serving.specs.Exchanges.{Exchange}
+use Rattle.host_results.specs.Contents.{ContentView}
+use Rattle.host_results.specs.Publications.{IsPublication, TellsBest, TellsEnd, case_data, refusal_of}
 use Rattle.reply_texts.specs.declared.refusals.ServiceRefusal.{ServiceRefusal}
 use Rattle.reply_texts.specs.declared.refusals.ServiceRefusal.TheVariants as service
 use Rattle.reply_texts.specs.Refusals.{is_refusal_status, refusal_row, service_row}
@@ -22,7 +21,7 @@ use Rattle.reply_texts.specs.Replies.{status_of, text_of}
 use Rattle.requests.specs.Cases.{Responds, Settles, Steps}
 use Rattle.requests.specs.Commands.{command_of}
 use Rattle.requests.specs.Replies.{Replies, Shows}
-use Rattle.requests.specs.Said.{content_said, refused_said}
+use Rattle.requests.specs.Said.{SaidView, content_said, refused_said}
 use Rattle.sealed_core.specs.declared.commands.Ask.TheVariants as asks
 use Rattle.sealed_core.specs.declared.commands.What.{What}
 use Rattle.sealed_core.specs.declared.commands.What.TheVariants as what

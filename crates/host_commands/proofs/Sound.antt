@@ -5,9 +5,8 @@ use Rattle.std.proofs.lemmas.List.Elements.{All-push, All-replicate, All-set}
 use Rattle.std.proofs.lemmas.Option.{slice_get_within, get_or_from_slice_get}
 use Rattle.bid_rules.specs.declared.bids.Bid.{Bid}
 use Rattle.bid_rules.specs.Facts.{IsCheckedBid}
-use Rattle.host_keeper.specs.States.{State, host_in}
-use Rattle.link_runs.specs.Dues.{SaidView}
-use Rattle.link_runs.specs.Exchanges.{Exchange}
+use Rattle.host_journal.specs.States.{State, host_in}
+use Rattle.serving.specs.Exchanges.{Exchange}
 use Rattle.requests.specs.Cases.{Responds, Settles, Steps}
 use Rattle.requests.specs.Commands.{command_of}
 use Rattle.split_base.specs.declared.disk.Disk.{Ghosts}
@@ -16,6 +15,7 @@ use Rattle.sealed_core.specs.Host.{AreCheckedInstances, BidKept, CanApply, Close
 use Rattle.sealed_core.specs.Runs.{CanApplyAll, apply_all}
 use Rattle.sealed_core.specs.Sealed.{empty}
 use Rattle.sealed_core.specs.Step.{CommandView}
+use Rattle.requests.specs.Said.{SaidView}
 
 sound_fresh : (c : CreationView) → IsCheckedCreation c → IsCheckedInstance (fresh c)
 sound_fresh c right = record {

@@ -1,17 +1,17 @@
 -- What the commands do with the file of a host: it is made, or opened and told.
 use Rattle.std.specs.Prelude.{◌≡◌, ◌≢◌, ◌↔◌, ℕ, ◌+◌, ◌<◌, ◌≤◌, List, [], ◌∷◌, ◌++◌, length, Result, Ok, Err, IfOk, IfErr}
-use Rattle.dumps.specs.Rows.{dump_text}
-use Rattle.endings.specs.declared.stop.Stop.{Stop}
-use Rattle.endings.specs.declared.stop.Stop.TheVariants as stop
+use Rattle.split_reports.specs.DumpRows.{dump_text}
+use Rattle.command_results.specs.declared.stop.Stop.{Stop}
+use Rattle.command_results.specs.declared.stop.Stop.TheVariants as stop
 use Rattle.gate_log.specs.Calls.{faults_after}
 use Rattle.gate_log.specs.declared.fault.LogFault.{LogFault}
 use Rattle.gate_log.specs.declared.fault.LogFault.TheVariants as fault
 use Rattle.gate_log.specs.declared.limits.TheConstants.{EMPTY_SIZE, VERSION_GATE}
 use Rattle.gate_log.specs.Records.{header}
 use Rattle.host_journal.specs.Journal.{HasEvents, IsFirstFault}
-use Rattle.host_keeper.specs.Calls.{Opened}
-use Rattle.host_keeper.specs.declared.serving.Serving.{Serving}
-use Rattle.host_keeper.specs.States.{IsFile, State, host_in, ready_with}
+use Rattle.host_journal.specs.Calls.{Opened}
+use Rattle.host_journal.specs.declared.serving.Serving.{Serving}
+use Rattle.host_journal.specs.States.{IsFile, State, host_in, ready_with}
 use Rattle.split_base.specs.declared.disk.Disk.{Ghosts}
 use Rattle.split_base.specs.Disk.{Each, LeavesOnly, Only, Rests, Tears}
 use Rattle.split_base.specs.Faults.{HasRisen, counted}

@@ -1,11 +1,11 @@
 -- The main theorem: what holds of a whole run of the host, whatever its port, its links and its clock gave.
 use Rattle.std.specs.Prelude.{◌≡◌, ◌⊎◌, ℕ, List, Option, length, map, take, Contains}
-use Rattle.host_keeper.specs.Calls.{IsFound}
-use Rattle.host_keeper.specs.declared.serving.Serving.{Serving}
-use Rattle.host_keeper.specs.States.{IsFile, State, lists_of}
-use Rattle.link_runs.specs.Exchanges.{Answered, Exchange}
-use Rattle.link_runs.specs.Ports.{GivesBack, HandsOut}
-use Rattle.link_runs.specs.Served.{LinkTells}
+use Rattle.host_journal.specs.Calls.{IsFound}
+use Rattle.host_journal.specs.declared.serving.Serving.{Serving}
+use Rattle.host_journal.specs.States.{IsFile, State, lists_of}
+use Rattle.serving.specs.Exchanges.{Answered, Exchange}
+use Rattle.serving.specs.Ports.{GivesBack, HandsOut}
+use Rattle.serving.specs.Served.{LinkTells}
 use Rattle.sealed_core.specs.declared.commands.What.{What}
 use Rattle.serving.specs.Serving.{StandsAt, host_service}
 use Rattle.serving_laws.specs.Accepting.{Accepts}

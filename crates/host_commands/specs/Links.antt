@@ -1,12 +1,12 @@
 -- The links of a port in order, with the requests that were answered on them.
 use Rattle.std.specs.Prelude.{◌≡◌, ℕ, List, [], ◌∷◌, ◌++◌, Option}
 use Rattle.std.specs.Io.KnownBytes.{Appends}
-use Rattle.link_runs.specs.declared.limits.TheConstants.{MAX_REQUESTS}
-use Rattle.link_runs.specs.Ends.{Ending}
-use Rattle.link_runs.specs.Exchanges.{EndsLink, Exchange, LinkExchanges}
-use Rattle.link_runs.specs.Runs.{LinkRun, Service}
-use Rattle.link_runs.specs.Served.{CountsEnd, LinkTells, link_view}
-use Rattle.split_http.specs.Turns.{Told}
+use Rattle.serving.specs.declared.limits.TheConstants.{MAX_REQUESTS}
+use Rattle.serving.specs.Ends.{Ending}
+use Rattle.serving.specs.Exchanges.{EndsLink, Exchange, LinkExchanges}
+use Rattle.serving.specs.Runs.{LinkRun, Service}
+use Rattle.serving.specs.Served.{CountsEnd, LinkTells, link_view}
+use Rattle.split_http.specs.Turns.{IsToldAs}
 
 -- P holds of each
 abbrev pub Every : {A : Type 0} → (A → Type 0) → List A → Type 0
@@ -32,7 +32,7 @@ pub record LinkAnswered {L W : Type 0} (service : Service W) (tells : LinkTells 
   pub input : List ℕ
   pub out : List ℕ
   pub ending : Ending
-  pub told : Told (tells.left begun) input
+  pub told : IsToldAs (tells.left begun) input
   pub wrote : Appends (tells.written begun) (tells.written ended) out
   pub counts : CountsEnd (link_view tells begun) (link_view tells ended) ending
   pub run : LinkRun service MAX_REQUESTS input answers w out new ending

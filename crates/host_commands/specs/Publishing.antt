@@ -7,14 +7,14 @@ use Rattle.bid_rules.specs.Fares.{FareBest}
 use Rattle.bid_rules.specs.Rent.{RentBest}
 use Rattle.cert_checker.specs.Judged.{IsJudged, PrintsBest}
 use Rattle.certificates.specs.Canonical.{IsCanonical}
-use Rattle.divisions.specs.declared.division.Division.{Division}
-use Rattle.divisions.specs.declared.division.Division.TheVariants as divided
-use Rattle.divisions.specs.Division.{IsDivisionOf}
-use Rattle.host_keeper.specs.States.{State, host_in}
-use Rattle.link_runs.specs.Exchanges.{Exchange}
+use Rattle.certificates.specs.declared.division.Division.{Division}
+use Rattle.certificates.specs.declared.division.Division.TheVariants as divided
+use Rattle.certificates.specs.Division.{IsDivisionOf}
+use Rattle.host_journal.specs.States.{State, host_in}
+use Rattle.serving.specs.Exchanges.{Exchange}
 use Rattle.nash_search.specs.Division.{HasBestOwners}
-use Rattle.publications.specs.Contents.{ContentView}
-use Rattle.publications.specs.Publications.{IsPublication, IsPublished, case_data}
+use Rattle.host_results.specs.Contents.{ContentView}
+use Rattle.host_results.specs.Publications.{IsPublication, IsPublished, case_data}
 use Rattle.requests.specs.Commands.{command_of}
 use Rattle.requests.specs.Said.{content_said}
 use Rattle.sealed_core.specs.declared.commands.Ask.TheVariants as asks
@@ -25,7 +25,7 @@ use Rattle.sealed_core.specs.Step.{To}
 use Rattle.split_frac.specs.Frac.{fraction_of}
 use Rattle.split_http.specs.declared.routes.Route.{Route}
 use Rattle.split_http.specs.Places.{IsRouted}
-use Rattle.verdicts.specs.declared.verdict.Verdict.TheVariants.{Yes}
+use Rattle.rule_verdicts.specs.declared.verdict.Verdict.TheVariants.{Yes}
 
 -- the request asks what is published of an instance: this
 abbrev pub AsksFor : {W : Type 0} → Exchange W → What → Type 0

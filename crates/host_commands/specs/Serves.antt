@@ -1,19 +1,19 @@
 -- What the serving of a port does with file, port and clock.
 use Rattle.std.specs.Prelude.{◌≡◌, ◌↔◌, ℕ, ◌<◌, ◌≤◌, List, [], ◌∷◌, Result, Ok, Err, codes}
 use Rattle.std.specs.Fmt.{decimal}
-use Rattle.endings.specs.declared.stop.Stop.{Stop}
-use Rattle.endings.specs.declared.stop.Stop.TheVariants as stop
+use Rattle.command_results.specs.declared.stop.Stop.{Stop}
+use Rattle.command_results.specs.declared.stop.Stop.TheVariants as stop
 use Rattle.gate_log.specs.declared.fault.LogFault.{LogFault}
-use Rattle.host_keeper.specs.declared.serving.Serving.{Serving}
-use Rattle.host_keeper.specs.States.{State}
-use Rattle.link_runs.specs.Ports.{PortServed}
-use Rattle.link_runs.specs.Served.{LinkTells}
+use Rattle.host_journal.specs.declared.serving.Serving.{Serving}
+use Rattle.host_journal.specs.States.{State}
+use Rattle.serving.specs.Ports.{PortServed}
+use Rattle.serving.specs.Served.{LinkTells}
 use Rattle.serving.specs.Serving.{StandsAt, host_service}
 use Rattle.split_base.specs.Clocks.{ClockRun}
 use Rattle.split_base.specs.declared.clock.Clock.{Ghosts as ClockSide}
 use Rattle.split_base.specs.declared.disk.Disk.{Ghosts}
 use Rattle.split_base.specs.declared.port.Port.{Ghosts as PortSide}
-use Rattle.split_text.specs.Texts.{word_line}
+use Rattle.split_frac.specs.Texts.{word_line}
 use Rattle.host_commands.specs.Files.{FailedOnce, Opens, state_of, stop_of}
 
 -- the port handed out no link and took none back

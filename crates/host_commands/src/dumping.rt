@@ -1,12 +1,12 @@
 // The dump of a file.
 ghost use Rattle.std.specs.Prelude.{◌≤◌, ◌↔◌};
-ghost use Rattle.endings.specs.Endings.{ending_of};
+ghost use Rattle.command_results.specs.Endings.{ending_of};
 ghost use Rattle.host_commands.specs.Files.{Dumps};
 
 use crate::opening::{open_file, stop_of};
-use dumps::dump_rows;
-use endings::{Stop, Text};
+use command_results::{Stop, Text};
 use split_base::{Disk, NoMemory};
+use split_reports::dump_rows;
 use std::alloc::Global;
 
 /// Opens the file of a host and gives the rows of its instances. A file of version 1 is raised to version 2.

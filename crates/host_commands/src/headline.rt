@@ -1,17 +1,18 @@
 // The main theorem, as the contract of a function that does nothing.
 ghost use Rattle.std.specs.Prelude.{◌≡◌, ◌⊎◌, ℕ, List, Ok, Result};
-ghost use Rattle.endings.specs.declared.stop.Stop.{Stop};
-ghost use Rattle.link_runs.specs.Served.{tells_of};
+ghost use Rattle.command_results.specs.declared.stop.Stop.{Stop};
+ghost use Rattle.serving.specs.Served.{tells_of};
 ghost use Rattle.host_commands.specs.Headline.{HasHeadline, HasNoRun};
 ghost use Rattle.host_commands.specs.Serves.{Serves, served_line};
 
 use bid_rules::case_law;
 use cert_checker::certificate_verdict_law;
 use certificates::certificate_law;
-use host_journal::events_law;
-use publications::{instance_law, one_publication_law};
+use host_journal::{events_law, files_law};
+use host_results::{instance_law, one_publication_law};
 use reply_texts::refusal_status_law;
 use sealed_core::{machine_law, publication_law};
+use serving::link_law;
 use serving_laws::{accepted_law, acknowledged_law, answered_law, crash_law, moved_law};
 use split_base::{Clock, Disk, Port};
 
@@ -38,7 +39,9 @@ pub fn headline_law<D: Disk, P: Port, C: Clock>()
     certificate_verdict_law();
     crash_law::<D>();
     events_law();
+    files_law::<D>();
     instance_law();
+    link_law::<D>();
     machine_law();
     moved_law::<D>();
     one_publication_law();

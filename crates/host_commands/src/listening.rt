@@ -1,18 +1,19 @@
 // Serving the links of a port from the file of a host.
 ghost use Rattle.std.specs.Prelude.{◌≤◌, ◌↔◌};
-ghost use Rattle.endings.specs.Endings.{ending_of};
-ghost use Rattle.host_keeper.specs.States.{State};
-ghost use Rattle.link_runs.specs.Served.{tells_of};
+ghost use Rattle.command_results.specs.Endings.{ending_of};
+ghost use Rattle.host_journal.specs.States.{State};
+ghost use Rattle.serving.specs.Served.{tells_of};
 ghost use Rattle.search_workers.specs.declared.limits.TheConstants.{MOST_WORKERS};
 ghost use Rattle.serving.specs.Serving.{StandsAt};
 ghost use Rattle.host_commands.specs.Serves.{Serves, ServesOpened};
 
 use crate::opening::{open_file, stop_of};
-use endings::{Stop, Text};
-use host_keeper::Serving;
+use command_results::{Stop, Text};
+use host_journal::Serving;
 use serving::serve;
 use split_base::{Clock, Disk, Failed, Gate, NoMemory, Port};
 use split_http::Routes;
+use split_solve::KeptSearches;
 use std::alloc::Global;
 use std::thread::Threads;
 
@@ -25,8 +26,8 @@ use std::thread::Threads;
 /// - `PortFault` comes only where the port's count of faults has risen, by one: it failed to listen, or to hand out one more link.
 /// - `NoMemory` comes for want of memory alone, and only before the port listens.
 ///
-/// No other stop comes. Before the file is opened neither the port nor the clock is called. Goods are searched by 1 to `MOST_WORKERS` workers, who
-/// take no part in what is written.
+/// No other stop comes. Before the file is opened neither the port nor the clock is called. Goods are searched by 1 to `MOST_WORKERS` workers, and
+/// the last searches are kept, so that a closed round is not searched for each request. Neither takes part in what is written.
 #[allow(clippy::too_many_arguments)]
 pub fn serve_port<D: Disk, P: Port, C: Clock, R: Threads + Sync, G: Gate + Sync>(
     alloc: Global,
@@ -80,6 +81,7 @@ fn serve_opened<D: Disk, P: Port, C: Clock, R: Threads + Sync, G: Gate + Sync>(
     ensures port { P.faults port.old ≤ P.faults port.new }
     ensures clock { C.faults clock.old ≤ C.faults clock.new }
 {
+    let mut searches = KeptSearches::new(alloc);
     match port.listen(number) {
         Err(Failed) => Err(Stop::PortFault),
         Ok(()) => match serve(
@@ -91,6 +93,7 @@ fn serve_opened<D: Disk, P: Port, C: Clock, R: Threads + Sync, G: Gate + Sync>(
             clock,
             routes,
             count,
+            &mut searches,
             workers,
             gate,
         ) {

@@ -1,10 +1,10 @@
 // Making the file of a host.
 ghost use Rattle.std.specs.Prelude.{◌≤◌, ◌↔◌};
-ghost use Rattle.endings.specs.Endings.{ending_of};
+ghost use Rattle.command_results.specs.Endings.{ending_of};
 ghost use Rattle.host_commands.specs.Files.{Makes};
 
 use crate::opening::stop_of;
-use endings::{Stop, Text};
+use command_results::{Stop, Text};
 use gate_log::{SECRET_SIZE, create_log};
 use split_base::Disk;
 

@@ -2,9 +2,9 @@
 ghost use Rattle.std.specs.Prelude.{◌≡◌};
 ghost use Rattle.host_commands.specs.Files.{Opens, stop_of};
 
-use endings::Stop;
+use command_results::Stop;
 use gate_log::LogFault;
-use host_keeper::{Serving, open};
+use host_journal::{Serving, open};
 use split_base::Disk;
 use std::alloc::Global;
 

@@ -1,7 +1,7 @@
 // Hosts that wait, and are handed a damaged file.
 use crate::disks::STORE_FAULT;
 use crate::dues::Dues;
-use crate::hosts::{Fault, Host, disk_of, fault_in};
+use crate::hosts::{Host, disk_of, fault_in};
 use crate::reports::{Report, is_refusal};
 use std::alloc::Global;
 use std::io;
@@ -33,7 +33,7 @@ pub(crate) fn try_damages<R: Threads + Sync>(
 // The file behind the whole round.
 fn whole_file<R: Threads + Sync>(alloc: Global, rt: &R, dues: &Dues) -> io::Result<Vec<u8>> {
     let mut host = Host::of_file(alloc, &dues.file)?;
-    host.talk(alloc, rt, &dues.round, usize::MAX, Fault::Nowhere)?;
+    host.talk(alloc, rt, &dues.round, usize::MAX, None)?;
     Ok(host.into_disk().bytes().to_vec(alloc)?)
 }
 
@@ -51,12 +51,12 @@ fn place_told<R: Threads + Sync>(
         &[],
         Some(1),
     )?);
-    let refused = waiting.talk(alloc, rt, first, usize::MAX, Fault::Nowhere)?;
+    let refused = waiting.talk(alloc, rt, first, usize::MAX, None)?;
     if !is_refusal(&refused.bytes, dues.is_bodiless(0), STORE_FAULT) {
         return Ok(None);
     }
     let mut damaged = waiting.handed(disk_of(alloc, file, &[], None)?);
-    let reply = damaged.talk(alloc, rt, first, usize::MAX, Fault::Nowhere)?;
+    let reply = damaged.talk(alloc, rt, first, usize::MAX, None)?;
     Ok(place_in(&reply.bytes))
 }
 

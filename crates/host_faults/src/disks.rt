@@ -1,6 +1,6 @@
 // Rounds in which calls of the disk fail.
 use crate::dues::Dues;
-use crate::hosts::{Fault, Host, disk_of, host_on};
+use crate::hosts::{Host, disk_of, host_on};
 use crate::reports::{Report, is_refusal};
 use split_base::MemDisk;
 use std::alloc::Global;
@@ -155,7 +155,7 @@ pub(crate) fn asked<R: Threads + Sync>(
 ) -> io::Result<Answer> {
     let before = host.events(alloc)?;
     let one = dues.one(place);
-    let reply = host.talk(alloc, rt, one, usize::MAX, Fault::Nowhere)?.bytes;
+    let reply = host.talk(alloc, rt, one, usize::MAX, None)?.bytes;
     let kept = host.events(alloc)?.as_slice() == dues.events_behind(place.saturating_add(1));
     if reply.as_slice() == dues.reply_at(place, &before) {
         return Ok(Answer::Due { kept });

@@ -1,8 +1,8 @@
 // What the requests of a round get without a fault.
-use crate::hosts::{Fault, Host, disk_of, events_of, made};
+use crate::hosts::{Host, disk_of, events_of, made};
 use crate::rounds::Sent;
 use gate_log::create_log;
-use link_runs::LinkEnd;
+use serving::LinkEnd;
 use std::alloc::Global;
 use std::io;
 use std::io::ErrorKind;
@@ -64,13 +64,9 @@ fn due_of<R: Threads + Sync>(
     host: &mut Host,
     asked: &[Sent],
 ) -> io::Result<Due> {
-    let reply = host
-        .talk(alloc, rt, asked, usize::MAX, Fault::Nowhere)?
-        .bytes;
+    let reply = host.talk(alloc, rt, asked, usize::MAX, None)?.bytes;
     let events = host.events(alloc)?;
-    let again = host
-        .talk(alloc, rt, asked, usize::MAX, Fault::Nowhere)?
-        .bytes;
+    let again = host.talk(alloc, rt, asked, usize::MAX, None)?.bytes;
     if host.events(alloc)? != events {
         return Err(io::Error::from(ErrorKind::InvalidData));
     }
@@ -154,7 +150,7 @@ impl Dues {
         for later in self.each.iter().skip(from.saturating_add(1)) {
             due.extend_from_slice(&later.reply)?;
         }
-        let got = host.talk(alloc, rt, &self.round[from..], usize::MAX, Fault::Nowhere)?;
+        let got = host.talk(alloc, rt, &self.round[from..], usize::MAX, None)?;
         let events = host.events(alloc)?;
         Ok(
             got.bytes == due

@@ -1,12 +1,12 @@
 // A host in memory, and what its links get.
 use crate::rounds::Sent;
 use gate_log::{Log, LogFault};
-use host_keeper::{Serving, open};
-use link_runs::LinkEnd;
-use serving::serve_one;
+use host_journal::{Serving, open};
+use serving::{LinkEnd, serve_one};
 use split_base::limits::LAST_MOMENT;
 use split_base::{MemClock, MemDisk, MemLink, MemSink, MemSource, NoMemory, Quiet};
 use split_http::Routes;
+use split_solve::KeptSearches;
 use std::alloc::Global;
 use std::io;
 use std::io::ErrorKind;
@@ -15,21 +15,41 @@ use std::thread::Threads;
 /// Room for a journal, for the list of its calls, and for the replies of a round.
 pub(crate) const ROOM: usize = 20_000;
 
-/// The call of a link or of its clock that fails, by its number from 1.
-#[derive(Clone, Copy)]
-pub(crate) enum Fault {
-    Nowhere,
-    Read(u64),
-    Write(u64),
-    Clock(u64),
+/// A kind of calls of a link, or those of its clock.
+#[derive(Clone, Copy, PartialEq, Eq)]
+pub(crate) enum Call {
+    Read,
+    Write,
+    Clock,
 }
 
-/// A host, its disk and its routes.
+/// The call that fails: its kind, and its number from 1.
+#[derive(Clone, Copy)]
+pub(crate) struct Fault {
+    pub(crate) call: Call,
+    pub(crate) number: u64,
+}
+
+impl Fault {
+    // The number of the failing call, where it is of this kind, as a list.
+    fn listed(alloc: Global, fault: Option<Fault>, call: Call) -> io::Result<Vec<u64>> {
+        let mut numbers = Vec::new(alloc);
+        if let Some(fault) = fault {
+            if fault.call == call {
+                numbers.push(fault.number)?;
+            }
+        }
+        Ok(numbers)
+    }
+}
+
+/// A host, its disk, its routes, and the searches that it keeps.
 #[derive(Drop)]
 pub(crate) struct Host {
     disk: MemDisk,
     serving: Serving,
     routes: Routes,
+    searches: KeptSearches,
 }
 
 /// What a link got, how it ended, and whether one of its calls failed.
@@ -97,6 +117,7 @@ impl Host {
             disk,
             serving,
             routes,
+            searches: KeptSearches::new(alloc),
         })
     }
 
@@ -116,7 +137,7 @@ impl Host {
         rt: &R,
         round: &[Sent],
         piece: usize,
-        fault: Fault,
+        fault: Option<Fault>,
     ) -> io::Result<Got> {
         let mut link = link_of(alloc, round, piece, fault)?;
         let mut clock = clock_of(alloc, round, fault)?;
@@ -128,6 +149,7 @@ impl Host {
             &mut link,
             &mut clock,
             &self.routes,
+            &mut self.searches,
             1,
             &Quiet,
         );
@@ -144,6 +166,7 @@ impl Host {
             disk,
             serving: self.serving,
             routes: self.routes,
+            searches: self.searches,
         }
     }
 
@@ -158,36 +181,28 @@ impl Host {
     }
 }
 
-// The number of a failing call, as a list.
-fn listed(alloc: Global, number: Option<u64>) -> io::Result<Vec<u64>> {
-    let mut numbers = Vec::new(alloc);
-    if let Some(number) = number {
-        numbers.push(number)?;
-    }
-    Ok(numbers)
-}
-
-fn link_of(alloc: Global, round: &[Sent], piece: usize, fault: Fault) -> io::Result<MemLink> {
+fn link_of(
+    alloc: Global,
+    round: &[Sent],
+    piece: usize,
+    fault: Option<Fault>,
+) -> io::Result<MemLink> {
     let mut bytes = Vec::new(alloc);
     for sent in round {
         bytes.extend_from_slice(&sent.bytes)?;
     }
-    let (read, write) = match fault {
-        Fault::Read(number) => (Some(number), None),
-        Fault::Write(number) => (None, Some(number)),
-        _ => (None, None),
-    };
     let pieces = vec![in alloc; piece; bytes.len()]?;
     if !pieces.iter().all(|size| *size > 0) {
         return Err(io::Error::from(ErrorKind::InvalidInput));
     }
-    let output = made(MemSink::new(alloc, ROOM, listed(alloc, write)?))?;
-    let input = MemSource::new(bytes, pieces, listed(alloc, read)?);
+    let writes = Fault::listed(alloc, fault, Call::Write)?;
+    let output = made(MemSink::new(alloc, ROOM, writes))?;
+    let input = MemSource::new(bytes, pieces, Fault::listed(alloc, fault, Call::Read)?);
     Ok(MemLink::new(input, output))
 }
 
 // A clock that tells the moments of these requests in order.
-fn clock_of(alloc: Global, round: &[Sent], fault: Fault) -> io::Result<MemClock> {
+fn clock_of(alloc: Global, round: &[Sent], fault: Option<Fault>) -> io::Result<MemClock> {
     let mut moments = Vec::new(alloc);
     for sent in round {
         moments.push(sent.moment)?;
@@ -195,11 +210,7 @@ fn clock_of(alloc: Global, round: &[Sent], fault: Fault) -> io::Result<MemClock>
     if moments.is_empty() || !moments.iter().all(|moment| *moment <= LAST_MOMENT) {
         return Err(io::Error::from(ErrorKind::InvalidData));
     }
-    let number = match fault {
-        Fault::Clock(number) => Some(number),
-        _ => None,
-    };
-    Ok(MemClock::new(moments, listed(alloc, number)?))
+    Ok(MemClock::new(moments, Fault::listed(alloc, fault, Call::Clock)?))
 }
 
 /// The events that a file keeps: the bodies of its records, each behind its length.

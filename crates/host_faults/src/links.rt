@@ -1,8 +1,8 @@
 // Rounds over one link, in pieces and with a call of the link or the clock that fails.
 use crate::dues::{Dues, INTERIM};
-use crate::hosts::{Fault, Got, Host};
+use crate::hosts::{Call, Fault, Got, Host};
 use crate::reports::{Report, is_refusal};
-use link_runs::LinkEnd;
+use serving::LinkEnd;
 use std::alloc::Global;
 use std::io;
 use std::thread::Threads;
@@ -28,7 +28,7 @@ pub(crate) fn try_pieces<R: Threads + Sync>(
     let mut report = Report::new();
     for piece in PIECES {
         let mut host = Host::of_file(alloc, &dues.file)?;
-        let got = host.talk(alloc, rt, &dues.round, piece, Fault::Nowhere)?;
+        let got = host.talk(alloc, rt, &dues.round, piece, None)?;
         let right = got.end == LinkEnd::Ended && got.bytes == dues.whole;
         let kept = dues.has_all(&host.events(alloc)?);
         report.add(piece as u64, right && kept);
@@ -36,15 +36,16 @@ pub(crate) fn try_pieces<R: Threads + Sync>(
     Ok(report)
 }
 
-/// Each read fails in turn.
-pub(crate) fn try_reads<R: Threads + Sync>(
+/// Each call of this kind fails in turn, up to one that is never made.
+pub(crate) fn try_calls<R: Threads + Sync>(
     alloc: Global,
     rt: &R,
     dues: &Dues,
+    call: Call,
 ) -> io::Result<Report> {
     let mut report = Report::new();
     for number in 1..MOST_CALLS {
-        match try_link(alloc, rt, dues, Fault::Read(number))? {
+        match try_fault(alloc, rt, dues, Fault { call, number })? {
             Some(right) => report.add(number, right),
             None => break,
         }
@@ -52,39 +53,33 @@ pub(crate) fn try_reads<R: Threads + Sync>(
     Ok(report)
 }
 
-/// Each write fails in turn.
-pub(crate) fn try_writes<R: Threads + Sync>(
-    alloc: Global,
-    rt: &R,
-    dues: &Dues,
-) -> io::Result<Report> {
-    let mut report = Report::new();
-    for number in 1..MOST_CALLS {
-        match try_link(alloc, rt, dues, Fault::Write(number))? {
-            Some(right) => report.add(number, right),
-            None => break,
-        }
-    }
-    Ok(report)
-}
-
-// Whether a round with this fault of its link is as it must be. None where no call failed.
-fn try_link<R: Threads + Sync>(
+// Whether a round with this fault is as it must be. None where no call failed.
+fn try_fault<R: Threads + Sync>(
     alloc: Global,
     rt: &R,
     dues: &Dues,
     fault: Fault,
 ) -> io::Result<Option<bool>> {
     let mut host = Host::of_file(alloc, &dues.file)?;
-    let got = host.talk(alloc, rt, &dues.round, PIECE, fault)?;
-    if !got.failed {
-        return Ok(None);
-    }
+    let got = host.talk(alloc, rt, &dues.round, PIECE, Some(fault))?;
     let events = host.events(alloc)?;
-    let (count, _) = dues.replies_in(got.bytes.len());
-    let right = ends_there(dues, &got, &events, fault);
-    let on = dues.goes_on(alloc, rt, &mut host, count)?;
+    let Some((right, from)) = judged(dues, &got, &events, fault) else {
+        return Ok(None);
+    };
+    let on = dues.goes_on(alloc, rt, &mut host, from)?;
     Ok(Some(right && on))
+}
+
+// Whether a link with this fault ended as it must, and the first request that is sent again. The clock is called once a request.
+fn judged(dues: &Dues, got: &Got, events: &[u8], fault: Fault) -> Option<(bool, usize)> {
+    if fault.call == Call::Clock {
+        let place = (fault.number as usize).saturating_sub(1);
+        let right = ends_refused(dues, got, place) && events == dues.events_behind(place);
+        return (place < dues.round.len()).then_some((right, place));
+    }
+    let (count, _) = dues.replies_in(got.bytes.len());
+    got.failed
+        .then_some((ends_there(dues, got, events, fault), count))
 }
 
 // Whether a link ended at its fault: a request whose reply was being written is kept, and no later one.
@@ -94,42 +89,12 @@ fn ends_there(dues: &Dues, got: &Got, events: &[u8], fault: Fault) -> bool {
     };
     let (count, whole) = dues.replies_in(got.bytes.len());
     let torn = got.bytes.len().saturating_sub(whole);
-    let (kept, first_part) = match fault {
-        Fault::Write(_) if !missing.starts_with(INTERIM) => (count.saturating_add(1), true),
-        Fault::Write(_) => (count, torn == 0),
+    let (kept, first_part) = match fault.call {
+        Call::Write if !missing.starts_with(INTERIM) => (count.saturating_add(1), true),
+        Call::Write => (count, torn == 0),
         _ => (count, torn == 0 || torn == INTERIM.len()),
     };
     got.end == LinkEnd::LinkFault && first_part && events == dues.events_behind(kept)
-}
-
-/// Each call of the clock fails in turn: one a request.
-pub(crate) fn try_clocks<R: Threads + Sync>(
-    alloc: Global,
-    rt: &R,
-    dues: &Dues,
-) -> io::Result<Report> {
-    let mut report = Report::new();
-    for place in 0..dues.round.len() {
-        let right = try_clock(alloc, rt, dues, place)?;
-        report.add(place as u64, right);
-    }
-    Ok(report)
-}
-
-// Whether a round is as it must be in which the clock fails at the request at this place.
-fn try_clock<R: Threads + Sync>(
-    alloc: Global,
-    rt: &R,
-    dues: &Dues,
-    place: usize,
-) -> io::Result<bool> {
-    let mut host = Host::of_file(alloc, &dues.file)?;
-    let number = (place as u64).saturating_add(1);
-    let got = host.talk(alloc, rt, &dues.round, PIECE, Fault::Clock(number))?;
-    let events = host.events(alloc)?;
-    let refused = ends_refused(dues, &got, place) && events.as_slice() == dues.events_behind(place);
-    let on = dues.goes_on(alloc, rt, &mut host, place)?;
-    Ok(refused && on)
 }
 
 // Whether a link ended by the refusal of the request at this place, behind the replies to those before.

@@ -29,7 +29,8 @@ use crate::crashes::tell_crashes;
 use crate::damages::try_damages;
 use crate::disks::{tell_pairs, try_disks};
 use crate::dues::dues_of;
-use crate::links::{try_clocks, try_pieces, try_reads, try_writes};
+use crate::hosts::Call;
+use crate::links::{try_calls, try_pieces};
 use crate::rounds::take_line;
 use std::io;
 
@@ -46,9 +47,9 @@ fn main(rt: HostRuntime) -> io::Result<()> {
         dues.whole.len()
     )?;
     try_pieces(alloc, &rt, &dues)?.tell(&rt, "pieces of 1, 2, 7 and 4096 bytes")?;
-    try_reads(alloc, &rt, &dues)?.tell(&rt, "a read fails")?;
-    try_writes(alloc, &rt, &dues)?.tell(&rt, "a write fails")?;
-    try_clocks(alloc, &rt, &dues)?.tell(&rt, "the clock fails")?;
+    try_calls(alloc, &rt, &dues, Call::Read)?.tell(&rt, "a read fails")?;
+    try_calls(alloc, &rt, &dues, Call::Write)?.tell(&rt, "a write fails")?;
+    try_calls(alloc, &rt, &dues, Call::Clock)?.tell(&rt, "the clock fails")?;
     try_disks(alloc, &rt, &dues)?.tell(&rt, "a call of the disk fails")?;
     tell_pairs(alloc, &rt, &dues)?;
     try_damages(alloc, &rt, &dues)?.tell(&rt, "a waiting host is handed a damaged file")?;

@@ -1,10 +1,13 @@
 -- Whether a body spells an event that may be applied can be told by computing.
-use Rattle.std.proofs.Common.{◌≡◌, ◌≢◌, ◌⊎◌, inl, inr, ⊎_elim, ℕ, ◌+◌, ◌≤◌, ◌<◌, Bool, true, false, List, [], ◌∷◌, length, All, Option, Some, None, IsSome, IsSomeAnd, refl, sym, ◌∙◌, ap, subst, arith}
+use Rattle.std.proofs.Common.{◌≡◌, ◌≢◌, ◌⊎◌, inl, inr, ⊎_elim, ℕ, ◌+◌, ◌≤◌, ◌<◌, Bool, true, false, List, [], ◌∷◌, length, All, Option, Some, None, IsSome, IsSomeAnd, refl, sym, ◌∙◌, ap, subst, arith, true≢false}
+use Rattle.std.specs.Bool.{Decides}
 use Rattle.std.proofs.lemmas.Bool.{cases_lt, cases_eq}
 use Rattle.std.proofs.lemmas.List.Elements.{All-nil, All-cons, All-head, All-tail}
-use Rattle.bid_rules.specs.Decisions.{Decision, holds, fails, is_checked_bid, is_checked_facts}
+use Rattle.bid_rules.specs.declared.bids.Facts.{Facts}
+use Rattle.bid_rules.specs.Checks.{passes_bid, passes_facts}
+use Rattle.split_lemmas.proofs.Checks.{bid_decided, facts_decided}
 use Rattle.bid_rules.specs.declared.bids.Bid.{Bid}
-use Rattle.bid_rules.specs.Facts.{IsCheckedBid, member_count}
+use Rattle.bid_rules.specs.Facts.{IsCheckedBid, IsCheckedFacts, member_count}
 use Rattle.sealed_core.specs.Host.{CreationView, InstanceView, HostView, EventView, Created, BidKept, Closed, Withdrawn, CanApply, IsAllowed, IsCheckedCreation, IsName, IsNextTurn, instance_at, item_count, kept_bid, kept_turn, moment_of}
 use Rattle.case_fields.specs.Rules.{is_name, is_tag}
 use Rattle.case_fields.specs.declared.limits.TheConstants.{LAST_DEADLINE}
@@ -14,6 +17,22 @@ use Rattle.host_journal.specs.Spelling.{IsOfVersion, Spells}
 use Rattle.host_journal.specs.Journal.{IsNoEvent}
 use Rattle.host_journal.proofs.Events.{never, same_event, whole_takes}
 use Rattle.host_journal.proofs.Fields.{IsBytes}
+
+-- whether a fact holds, with a reason
+data Decision (P : Type 0) : Type 0 where
+  holds : P → Decision P
+  fails : (P → ⊥) → Decision P
+
+-- by a test of it
+tested : {P : Type 0} (test : Bool) → Decides test P → Decision P
+tested true decides = holds (decides.0 refl)
+tested false decides = fails (λ p. absurd (true≢false (sym (decides.1 p))))
+
+is_checked_facts : (given : Facts) → Decision (IsCheckedFacts given)
+is_checked_facts given = tested (passes_facts given) (facts_decided given)
+
+is_checked_bid : (given : Facts) (one : Bid) → Decision (IsCheckedBid given one)
+is_checked_bid given one = tested (passes_bid given one) (bid_decided given one)
 
 same : {P Q : Type 0} → (P → Q) → (Q → P) → Decision P → Decision Q
 same there back (holds p) = holds (there p)

@@ -12,3 +12,7 @@ mod Sizes
 mod Raised
 mod Decisions
 mod Total
+mod KeptEvents
+mod OpenedFiles
+mod Passing
+mod StateFiles

@@ -1,8 +1,7 @@
 -- What an opening makes of the file, and what a crash may leave of it.
 use Rattle.std.proofs.Common.{◌≡◌, ◌⊎◌, inl, inr, ℕ, ◌+◌, List, [], ◌∷◌, ap, subst, ◌∙◌, arith, Result, Ok, Err, OnOk}
 use Rattle.split_base.specs.Disk.{AddsNone, Each, Rests, LeavesOnly, IsWritten, Tears}
-use Rattle.split_base.specs.Moments.{joined, rests_leave, started}
-use Rattle.split_base.specs.PastLaws.{torn_none}
+use Rattle.split_lemmas.proofs.Moments.{joined, rests_leave, started, untorn}
 use Rattle.gate_log.specs.Log.{LogView}
 use Rattle.sealed_core.specs.Host.{HostView, EventView}
 use Rattle.host_journal.specs.Journal.{HasEvents, HasRaised, IsReplayed, LeftAlone}
@@ -15,19 +14,19 @@ ok_both (Err e) A B C a b f = tt
 -- no call at all tears nothing
 pub still_writes : {D : Type 0} (images : D → List ℕ → Type 0) (moment : D → ℕ) (left_since : D → ℕ → List ℕ → Type 0) (disk : D) → ((c : List ℕ) → left_since disk (moment disk) c → images disk c)
     → LeavesOnly moment left_since disk disk (Tears (images disk) 48 1)
-still_writes images moment left_since disk only = started moment left_since disk (Tears (images disk) 48 1) (λ f left. (f, only f left, torn_none 48 1 f))
+still_writes images moment left_since disk only = started moment left_since disk (Tears (images disk) 48 1) (λ f left. (f, only f left, untorn 48 1 f))
 
 pub still_torn : (images : List ℕ → Type 0) → Each images (Tears images 48 1)
-still_torn images f now = (f, now, torn_none 48 1 f)
+still_torn images f now = (f, now, untorn 48 1 f)
 
 -- calls that change no byte
 pub rests_writes : {D : Type 0} (seen : D → List ℕ) (images : D → List ℕ → Type 0) (moment : D → ℕ) (left_since : D → ℕ → List ℕ → Type 0) (old new : D) → Rests seen images moment left_since old new
     → ((c : List ℕ) → left_since old (moment old) c → images old c) → LeavesOnly moment left_since old new (Tears (images old) 48 1)
 rests_writes seen images moment left_since old new rests only =
-    rests_leave moment left_since seen images old new (Tears (images old) 48 1) rests only (λ f now. (f, now, torn_none 48 1 f))
+    rests_leave moment left_since seen images old new (Tears (images old) 48 1) rests only (λ f now. (f, now, untorn 48 1 f))
 
 pub rests_torn : (old new : List ℕ → Type 0) → AddsNone old new → Each new (Tears old 48 1)
-rests_torn old new adds_none f now = (f, adds_none f now, torn_none 48 1 f)
+rests_torn old new adds_none f now = (f, adds_none f now, untorn 48 1 f)
 
 -- and then a write of that byte
 pub then_writes : {D : Type 0} (seen : D → List ℕ) (images : D → List ℕ → Type 0) (moment : D → ℕ) (left_since : D → ℕ → List ℕ → Type 0) (old mid new : D) → Rests seen images moment left_since old mid

@@ -1,4 +1,4 @@
-// Keeping an event.
+// An event in host and journal.
 ghost use Rattle.std.specs.Prelude.{◌≡◌, ◌⊎◌, ◌↔◌, ◌≤◌, ◌+◌, ◌++◌, [], ◌∷◌, List, ℕ, IfErr, OnOk, OnErr, MatchResult, IsTrue, IsFalse};
 ghost use Rattle.split_base.specs.Faults.{HasRisen};
 ghost use Rattle.split_base.specs.Disk.{Each, LeavesOnly};

@@ -1,17 +1,28 @@
-//! The journal of a host: each event has one spelling as a body of the journal's records.
+//! The journal of a host, and a host before a disk that may fail. Each event has one spelling as a body of the journal's records, and an event
+//! is kept in the journal before it changes the host. Where that fails the host waits until its file is opened again.
+//!
+//! On an honest disk a crash at any moment of a call leaves the events kept before it, with or without the call's own.
 #![tactic(auto)]
 
 mod commits;
+mod keeping;
 mod laws;
 mod opening;
 mod reading;
+mod reopening;
+mod serving;
+mod state_laws;
 mod writing;
 
 pub use commits::{CommitFault, commit};
+pub use keeping::keep;
 pub use laws::{
     BID_MOST, CLOSE_SIZE, CREATION_MOST, FARES_MOST, JOURNAL_MOST, WITHDRAWAL_SIZE, events_law,
     file_law, size_law, spelling_law,
 };
 pub use opening::open_host;
 pub use reading::read_event;
+pub use reopening::{open, reopen};
+pub use serving::Serving;
+pub use state_laws::{files_law, passing_law};
 pub use writing::write_event;

@@ -1,10 +1,10 @@
 ghost use Rattle.sealed_core.specs.Step.{IsCheckedCommand, command_view};
 
-use crate::creations::{DEADLINE, NOW, SECRET, flat, taxi_for_two};
+use crate::creations::{DEADLINE, NOW, SECRET, flat};
 use arrayvec::ArrayVec;
 use sealed_core::{
-    Answered, BidBody, BodyFault, Command, Creation, FieldName, Host, Key, Refusal, Reply, What,
-    answer, apply, can_apply, key_of, reserve,
+    Answered, BidBody, BodyFault, Command, Creation, FieldName, Host, Refusal, Reply, What, answer,
+    apply, can_apply, key_of, reserve,
 };
 use std::alloc::Global;
 use std::process::Abort;
@@ -13,11 +13,8 @@ use std::process::Abort;
 #[derive(Clone, Copy)]
 enum Asked {
     Bid { turn: u32, values: [u32; 2] },
-    Withdraw { turn: u32 },
     Close,
     Division,
-    Status,
-    Own,
 }
 
 fn body(turn: u32, values: [u32; 2]) -> BidBody {
@@ -42,19 +39,12 @@ fn command(member: u8, asked: Asked) -> Command
             key,
             body: Ok(body(turn, values)),
         },
-        Asked::Withdraw { turn } => Command::Withdraw {
-            id: 1,
-            key,
-            body: Ok(body(turn, [0, 0])),
-        },
         Asked::Close => Command::Close { id: 1, key },
         Asked::Division => Command::Publish {
             id: 1,
             key,
             what: What::Division,
         },
-        Asked::Status => Command::Status { id: 1, key },
-        Asked::Own => Command::Own { id: 1, key },
     }
 }
 
@@ -118,129 +108,6 @@ const DIVISION: Reply = Reply::Publish {
 };
 
 #[test]
-fn keys_are_digests(rt: HostRuntime) {
-    let mut secret = [0u8; 32];
-    for place in 0..32u8 {
-        secret[place as usize] = place;
-    }
-    assert_eq!(rt;
-        key_of(&secret, 1, 2).as_slice(),
-        b"5da88de44ea3cd4e95be9953ae5ac30159be5052bf772c96597f0257244879be".as_slice()
-    );
-    assert_eq!(rt;
-        key_of(&[0; 32], 1000, 12).as_slice(),
-        b"df6b043171d44a81bc8fe9714a1ee9fd1b55c4e665274be8d0820f8f9e7ef9b2".as_slice()
-    );
-}
-
-#[test]
-fn bids_are_kept_and_withdrawn_by_turns(rt: HostRuntime) {
-    let mut host = opened(&rt, rt.alloc());
-    let other = [500, 500];
-    let turns: [Turn; 12] = [
-        (
-            NOW,
-            1,
-            Asked::Withdraw { turn: 0 },
-            refused(Refusal::Turn { kept: 0 }),
-            false,
-        ),
-        (NOW, 1, BID, Reply::Kept { turn: 1 }, true),
-        (NOW, 1, BID, Reply::Kept { turn: 1 }, false),
-        (
-            NOW,
-            1,
-            Asked::Bid {
-                turn: 1,
-                values: other,
-            },
-            refused(Refusal::Turn { kept: 1 }),
-            false,
-        ),
-        (
-            NOW,
-            1,
-            Asked::Bid {
-                turn: 3,
-                values: other,
-            },
-            refused(Refusal::Turn { kept: 1 }),
-            false,
-        ),
-        (
-            NOW,
-            1,
-            Asked::Bid {
-                turn: 2,
-                values: [600, 401],
-            },
-            refused(Refusal::BadField {
-                name: FieldName::Values,
-            }),
-            false,
-        ),
-        (
-            NOW,
-            1,
-            Asked::Withdraw { turn: 2 },
-            Reply::Kept { turn: 2 },
-            true,
-        ),
-        (
-            NOW,
-            1,
-            Asked::Withdraw { turn: 2 },
-            Reply::Kept { turn: 2 },
-            false,
-        ),
-        (
-            NOW,
-            1,
-            Asked::Withdraw { turn: 3 },
-            refused(Refusal::NoBid),
-            false,
-        ),
-        (
-            NOW,
-            1,
-            Asked::Bid {
-                turn: 3,
-                values: other,
-            },
-            Reply::Kept { turn: 3 },
-            true,
-        ),
-        (0, 2, Asked::Status, Reply::Status { id: 1, you: 2 }, false),
-        (0, 2, Asked::Own, Reply::Own { id: 1, member: 2 }, false),
-    ];
-    assert_answers(&rt, &mut host, &turns);
-    for turn in 4..=20u8 {
-        let bid = Asked::Bid {
-            turn: u32::from(turn),
-            values: other,
-        };
-        assert_answers(&rt, &mut host, &[(NOW, 1, bid, Reply::Kept { turn }, true)]);
-    }
-    let last: [Turn; 2] = [
-        (
-            NOW,
-            1,
-            Asked::Withdraw { turn: 21 },
-            refused(Refusal::TurnsUsed),
-            false,
-        ),
-        (
-            NOW,
-            1,
-            Asked::Withdraw { turn: 22 },
-            refused(Refusal::Turn { kept: 20 }),
-            false,
-        ),
-    ];
-    assert_answers(&rt, &mut host, &last);
-}
-
-#[test]
 fn an_instance_is_closed_once(rt: HostRuntime) {
     let mut host = opened(&rt, rt.alloc());
     let by_deadline: [Turn; 9] = [
@@ -287,26 +154,8 @@ fn an_instance_is_closed_once(rt: HostRuntime) {
 }
 
 #[test]
-fn refusals_come_in_order(rt: HostRuntime) {
+fn a_late_request_closes_before_its_body_is_refused(rt: HostRuntime) {
     let mut host = opened(&rt, rt.alloc());
-    let mut upper = key_of(host.secret(), 1, 1);
-    for place in 0..64 {
-        upper[place] = upper[place].to_ascii_uppercase();
-    }
-    let cases: [(u32, Option<Key>, Refusal); 7] = [
-        (0, Some(upper), Refusal::NoInstance),
-        (2, None, Refusal::NoInstance),
-        (1, None, Refusal::NoKey),
-        (1, Some(upper), Refusal::WrongKey),
-        (1, Some(key_of(&SECRET, 1, 3)), Refusal::WrongKey),
-        (1, Some(key_of(&SECRET, 1, 0)), Refusal::Role),
-        (1, Some(key_of(&SECRET, 1, 1)), Refusal::BadJson),
-    ];
-    for (id, key, refusal) in cases {
-        let body = Err(BodyFault::Json);
-        let (reply, event) = told(&rt, &mut host, NOW, Command::Bid { id, key, body });
-        assert!(rt; reply == Reply::Refused(refusal) && !event);
-    }
     let late = Command::Withdraw {
         id: 1,
         key: Some(key_of(&SECRET, 1, 1)),
@@ -316,86 +165,4 @@ fn refusals_come_in_order(rt: HostRuntime) {
         told(&rt, &mut host, DEADLINE, late),
         (Reply::Refused(Refusal::BadJson), true)
     );
-}
-
-#[test]
-fn a_host_holds_a_thousand_tags(rt: HostRuntime) {
-    let mut host = Host::new(rt.alloc(), SECRET);
-    let mut tag = *b"flat-2026-000000";
-    for id in 1..=1000u32 {
-        tag[15] = b'0' + (id % 10) as u8;
-        tag[14] = b'0' + (id / 10 % 10) as u8;
-        tag[13] = b'0' + (id / 100 % 10) as u8;
-        tag[12] = b'0' + (id / 1000) as u8;
-        let Ok(tag) = std::str::from_utf8(&tag) else {
-            panic!(rt; "no text");
-        };
-        assert_eq!(rt;
-            create(&rt, &mut host, flat(&rt, tag)),
-            (Reply::Created { id }, true)
-        );
-    }
-    assert_eq!(rt;
-        create(&rt, &mut host, flat(&rt, "flat-2026-000999")),
-        (Reply::Created { id: 999 }, false)
-    );
-    assert_eq!(rt;
-        create(&rt, &mut host, flat(&rt, "flat-2026-001001")),
-        (Reply::Refused(Refusal::HostFull), false)
-    );
-    let mut other = flat(&rt, "flat-2026-000001");
-    other.deadline = DEADLINE + 1;
-    assert_eq!(rt;
-        create(&rt, &mut host, other),
-        (Reply::Refused(Refusal::TagTaken), false)
-    );
-}
-
-#[test]
-fn a_member_bids_for_a_place(rt: HostRuntime) {
-    let mut host = Host::new(rt.alloc(), SECRET);
-    assert_eq!(rt;
-        create(&rt, &mut host, taxi_for_two(&rt)),
-        (Reply::Created { id: 1 }, true)
-    );
-    let cases: [(Option<u32>, Option<u8>, Reply, bool); 4] = [
-        (
-            None,
-            None,
-            refused(Refusal::BadField {
-                name: FieldName::Turn,
-            }),
-            false,
-        ),
-        (
-            Some(1),
-            None,
-            refused(Refusal::BadField {
-                name: FieldName::Place,
-            }),
-            false,
-        ),
-        (
-            Some(1),
-            Some(2),
-            refused(Refusal::BadField {
-                name: FieldName::Place,
-            }),
-            false,
-        ),
-        (Some(1), Some(1), Reply::Kept { turn: 1 }, true),
-    ];
-    for (turn, place, reply, event) in cases {
-        let bid = Command::Bid {
-            id: 1,
-            key: Some(key_of(&SECRET, 1, 1)),
-            body: Ok(BidBody {
-                turn,
-                values: None,
-                place,
-            }),
-        };
-        assert_eq!(rt; told(&rt, &mut host, NOW, bid), (reply, event));
-    }
-    assert_eq!(rt; FieldName::Place.name(), "place");
 }

@@ -1,6 +1,6 @@
 // The creations that the tests begin with.
 use arrayvec::{ArrayString, ArrayVec};
-use bid_rules::{Facts, Fares, Rent};
+use bid_rules::{Facts, Rent};
 use sealed_core::Creation;
 use std::process::Abort;
 
@@ -36,25 +36,4 @@ pub(crate) fn flat(rt: &impl Abort, tag: &str) -> Creation {
         deadline: DEADLINE,
         tag: text(rt, tag),
     }
-}
-
-// Fares of two members to one place.
-pub(crate) fn taxi_for_two(rt: &impl Abort) -> Creation {
-    let mut creation = flat(rt, "fares-2026-000001");
-    let mut items = ArrayVec::new();
-    assert!(rt; items.try_push(text(rt, "Harbour")).is_ok());
-    let mut legs = ArrayVec::new();
-    for cents in [700, 0] {
-        let mut row = ArrayVec::new();
-        assert!(rt; row.try_push(cents).is_ok());
-        assert!(rt; legs.try_push(row).is_ok());
-    }
-    creation.items = items;
-    creation.facts = Facts::Fares(Fares {
-        members: 2,
-        places: 1,
-        flag: 300,
-        legs,
-    });
-    creation
 }

@@ -1,11 +1,7 @@
-//! Tests of `sealed_core` and `host_journal`, over their public names alone.
+//! Tests of a host at moments that no real clock tells.
 #![tactic(auto)]
 
 #[cfg(test)]
 mod answers;
 #[cfg(test)]
 mod creations;
-#[cfg(test)]
-mod journals;
-#[cfg(test)]
-mod spellings;

@@ -9,20 +9,20 @@ use Rattle.bid_rules.specs.Facts.{case_of}
 use Rattle.bid_rules.specs.Goods.{in_search_order, player_count}
 use Rattle.adjusted_winner.specs.Texts.{IsWinnerText}
 use Rattle.case_fields.specs.declared.fields.BodyFault.{BodyFault}
-use Rattle.divisions.specs.Division.{IsDivisionOf}
-use Rattle.divisions.specs.declared.division.Division.{Division}
-use Rattle.divisions.specs.declared.division.Division.TheVariants as division
-use Rattle.endings.specs.declared.stop.Stop.{Stop}
-use Rattle.endings.specs.declared.stop.Stop.TheVariants.{Void, OverLimit, NotTwo, BrokenRule, BadCase, BrokenLine}
-use Rattle.endings.specs.Endings.{yes_line}
+use Rattle.certificates.specs.Division.{IsDivisionOf}
+use Rattle.certificates.specs.declared.division.Division.{Division}
+use Rattle.certificates.specs.declared.division.Division.TheVariants as division
+use Rattle.command_results.specs.declared.stop.Stop.{Stop}
+use Rattle.command_results.specs.declared.stop.Stop.TheVariants.{Void, OverLimit, NotTwo, BrokenRule, BadCase, BrokenLine}
+use Rattle.command_results.specs.Endings.{yes_line}
 use Rattle.goods_audit.specs.Domination.{IsBetterDivision, OwnersByGood}
 use Rattle.goods_audit.specs.Texts.{IsAuditText}
 use Rattle.nash_search.specs.Division.{HasSteps}
-use Rattle.player_lines.specs.Names.{NamesData, names_of}
+use Rattle.split_reports.specs.Names.{NamesData, names_of}
 use Rattle.split_json.specs.Reading.{CaseData}
 use Rattle.split_solve.specs.Solving.{IsAboveLimit}
-use Rattle.verdicts.specs.declared.verdict.Verdict.{Verdict}
-use Rattle.verdicts.specs.declared.verdict.Verdict.TheVariants.{No, Yes}
+use Rattle.rule_verdicts.specs.declared.verdict.Verdict.{Verdict}
+use Rattle.rule_verdicts.specs.declared.verdict.Verdict.TheVariants.{No, Yes}
 use Rattle.input_commands.specs.Answers.{OfBody, OfCase, OfOwners, OfPair, OfProposal, OfVerdict}
 use Rattle.input_commands.specs.Players.{players_of}
 

@@ -11,14 +11,14 @@ use Rattle.cert_checker.specs.Judged.{IsJudged}
 use Rattle.cert_reader.specs.Forms.{Pairs}
 use Rattle.cert_reader.specs.Text.{IsBrokenText, IsBrokenTextOf}
 use Rattle.certificates.specs.Canonical.{IsCanonical}
-use Rattle.divisions.specs.Division.{IsDivisionOf}
-use Rattle.divisions.specs.declared.division.Division.{Division}
-use Rattle.endings.specs.declared.stop.Stop.{Stop}
+use Rattle.certificates.specs.Division.{IsDivisionOf}
+use Rattle.certificates.specs.declared.division.Division.{Division}
+use Rattle.command_results.specs.declared.stop.Stop.{Stop}
 use Rattle.nash_search.specs.Division.{HasSteps}
 use Rattle.split_json.specs.Proposals.{goods_case_in, proposal_in}
 use Rattle.split_json.specs.Reading.{CaseData, IsReady, case_in}
 use Rattle.split_reports.specs.Reports.{IsReport}
-use Rattle.verdicts.specs.declared.verdict.Verdict.{Verdict}
+use Rattle.rule_verdicts.specs.declared.verdict.Verdict.{Verdict}
 use Rattle.winner_rules.specs.Judged.{IsPairJudged}
 use Rattle.input_commands.specs.declared.command.InputCommand.{InputCommand}
 use Rattle.input_commands.specs.declared.command.InputCommand.TheVariants.{Solve, Report, Check, Weigh, Winner, CheckWinner}

@@ -4,8 +4,8 @@ use Rattle.bid_rules.specs.declared.cases.Case.TheVariants.{Goods}
 use Rattle.bid_rules.specs.declared.goods.GoodsCase.{GoodsCase}
 use Rattle.bid_rules.specs.Facts.{case_of}
 use Rattle.case_fields.specs.declared.fields.BodyFault.{BodyFault}
-use Rattle.endings.specs.declared.stop.Stop.{Stop}
-use Rattle.endings.specs.declared.stop.Stop.TheVariants.{BadCase, NoMemory}
+use Rattle.command_results.specs.declared.stop.Stop.{Stop}
+use Rattle.command_results.specs.declared.stop.Stop.TheVariants.{BadCase, NoMemory}
 use Rattle.split_json.specs.Reading.{CaseData}
 use Rattle.input_commands.specs.Answers.{OfBody, OfOwners, OfProposal}
 use Rattle.input_commands.specs.Players.{players_of}

@@ -13,24 +13,25 @@ use Rattle.cert_checker.specs.Judged.{IsJudged}
 use Rattle.cert_reader.specs.Forms.{Pairs}
 use Rattle.cert_reader.specs.Text.{IsBrokenText, IsBrokenTextOf}
 use Rattle.certificates.specs.Canonical.{IsCanonical}
-use Rattle.divisions.specs.Division.{IsDivisionOf}
-use Rattle.divisions.specs.declared.division.Division.{Division}
-use Rattle.endings.specs.declared.stop.Stop.{Stop}
-use Rattle.endings.specs.declared.stop.Stop.TheVariants.{Void, OverLimit, NotTwo, BrokenRule, BadCase, BrokenLine}
-use Rattle.endings.specs.Endings.{yes_line}
+use Rattle.certificates.specs.Division.{IsDivisionOf}
+use Rattle.certificates.specs.declared.division.Division.{Division}
+use Rattle.command_results.specs.declared.stop.Stop.{Stop}
+use Rattle.command_results.specs.declared.stop.Stop.TheVariants.{Void, OverLimit, NotTwo, BrokenRule, BadCase, BrokenLine}
+use Rattle.command_results.specs.Endings.{yes_line}
 use Rattle.goods_audit.specs.Domination.{IsBetterDivision, OwnersByGood, open_count}
 use Rattle.goods_audit.specs.Texts.{IsAuditText}
-use Rattle.player_lines.specs.Names.{names_of}
+use Rattle.split_reports.specs.Names.{names_of}
 use Rattle.split_json.specs.Proposals.{goods_case_in, proposal_in}
 use Rattle.split_json.specs.Reading.{CaseData, case_in}
 use Rattle.split_reports.specs.Reports.{IsReport}
 use Rattle.split_solve.specs.Solving.{IsAboveLimit}
-use Rattle.verdicts.specs.declared.verdict.Verdict.{Verdict}
-use Rattle.verdicts.specs.declared.verdict.Verdict.TheVariants.{Yes, No}
+use Rattle.rule_verdicts.specs.declared.verdict.Verdict.{Verdict}
+use Rattle.rule_verdicts.specs.declared.verdict.Verdict.TheVariants.{Yes, No}
 use Rattle.winner_rules.specs.Judged.{IsPairJudged}
 use Rattle.input_commands.specs.declared.command.InputCommand.{InputCommand}
 use Rattle.input_commands.specs.declared.command.InputCommand.TheVariants.{Solve, Report, Check, Weigh, Winner, CheckWinner}
 use Rattle.input_commands.specs.Players.{players_of}
+use Rattle.bid_rules.specs.declared.limits.TheConstants.{PAIR}
 
 -- there is a value, and this is so of it
 abbrev pub Holds : {A E : Type 0} → Result A E → (A → Type 0) → Type 0
@@ -78,7 +79,7 @@ OfProposal proposal ending = MakesGoods proposal.0 (λ case. OfOwners proposal.0
 -- the answer to facts and bids of goods: the text of adjusted winner, where there are two players; or that there are not; or the members for
 -- want of whose bids there is no case
 abbrev pub OfPair : CaseData → Result (List ℕ) Stop → Type 0
-OfPair given (Ok text) = MakesGoods given (λ case. (player_count case ≡ 2) × IsWinnerText case text)
+OfPair given (Ok text) = MakesGoods given (λ case. (player_count case ≡ PAIR) × IsWinnerText case text)
 OfPair given (Err (Void missing)) = IsVoid missing given
 OfPair given (Err NotTwo) = MakesGoods given (λ case. player_count case ≢ 2)
 OfPair given (Err other) = ⊥

@@ -1,14 +1,14 @@
 -- How a command ends on an input, and what its bytes call for.
 use Rattle.std.specs.Prelude.{◌≡◌, ◌⊎◌, ◌<◌, ◌≤◌, ℕ, List, Result, Err, length}
-use Rattle.endings.specs.declared.stop.Stop.{Stop}
-use Rattle.endings.specs.declared.stop.Stop.TheVariants.{TooLong, ReadFault, NoMemory}
-use Rattle.endings.specs.Told.{HasNoFault, HasOneFault, IsPartRead, IsTooLong, IsWhole, Told}
+use Rattle.command_results.specs.declared.stop.Stop.{Stop}
+use Rattle.command_results.specs.declared.stop.Stop.TheVariants.{TooLong, ReadFault, NoMemory}
+use Rattle.command_results.specs.ObjectUse.{HasNoFault, HasOneFault, IsPartRead, IsTooLong, IsWhole, ObjectUse}
 use Rattle.input_commands.specs.declared.command.InputCommand.{InputCommand}
 use Rattle.input_commands.specs.Answers.{Answers}
 use Rattle.input_commands.specs.Commands.{TakesMemory, longest}
 
 -- each ending and its cause: the input is too long; a read failed; memory ran out; or the command answers so to the bytes that were read whole
-abbrev pub EndsOn : InputCommand → Told → Result (List ℕ) Stop → Type 0
+abbrev pub EndsOn : InputCommand → ObjectUse → Result (List ℕ) Stop → Type 0
 EndsOn command input (Err TooLong) = IsTooLong (longest command) input
 EndsOn command input (Err ReadFault) = HasOneFault input × IsPartRead (longest command) input
 EndsOn command input (Err NoMemory) = TakesMemory command × IsPartRead (longest command) input × HasNoFault input

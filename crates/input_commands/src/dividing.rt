@@ -1,17 +1,16 @@
 // The commands that read a case and find its best division.
 ghost use Rattle.std.specs.Prelude.{◌≡◌, Ok, IfOk};
 ghost use Rattle.bid_rules.specs.Facts.{case_of};
-ghost use Rattle.divisions.specs.Division.{IsDivisionOf};
-ghost use Rattle.endings.specs.Endings.{ending_of};
+ghost use Rattle.certificates.specs.Division.{IsDivisionOf};
+ghost use Rattle.command_results.specs.Endings.{ending_of};
 ghost use Rattle.split_json.specs.Reading.{IsReady, case_in, shown};
 ghost use Rattle.input_commands.specs.Answers.{OfBody, OfCase};
 ghost use Rattle.input_commands.specs.Commands.{AreWorkers};
 ghost use Rattle.input_commands.specs.Steps.{IsTextOf, UpToMemory};
 
 use bid_rules::{Case, case_law};
-use certificates::write_certificate;
-use divisions::Division;
-use endings::{Stop, Text};
+use certificates::{Division, write_certificate};
+use command_results::{Stop, Text};
 use split_base::{Gate, NoMemory};
 use split_json::{CaseInput, read_case};
 use split_reports::report;

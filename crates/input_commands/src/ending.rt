@@ -1,7 +1,7 @@
 // How a command ends on its input.
 ghost use Rattle.std.specs.Prelude.{◌≤◌};
-ghost use Rattle.endings.specs.Endings.{ending_of};
-ghost use Rattle.endings.specs.Told.{told};
+ghost use Rattle.command_results.specs.Endings.{ending_of};
+ghost use Rattle.command_results.specs.ObjectUse.{told};
 ghost use Rattle.input_commands.specs.Answers.{Answers};
 ghost use Rattle.input_commands.specs.Commands.{HasWorkers, TakesMemory};
 ghost use Rattle.input_commands.specs.Ends.{EndsOn};
@@ -13,7 +13,7 @@ use crate::judging::check;
 use crate::limits::LONGEST_INPUT;
 use crate::pairing::{check_pair, pair};
 use crate::weighing::weigh;
-use endings::{Stop, Text};
+use command_results::{Stop, Text};
 use split_base::{Gate, ReadStop, Source, read_all};
 use std::alloc::Global;
 use std::thread::Threads;

@@ -1,27 +1,26 @@
 // The command that judges a certificate while it reads it. It takes no memory.
 ghost use Rattle.std.specs.Prelude.{◌≤◌};
-ghost use Rattle.endings.specs.Endings.{ending_of};
-ghost use Rattle.endings.specs.Told.{told};
+ghost use Rattle.command_results.specs.Endings.{ending_of};
+ghost use Rattle.command_results.specs.ObjectUse.{told};
 ghost use Rattle.input_commands.specs.Ends.{EndsOn};
 ghost use Rattle.input_commands.specs.declared.command.InputCommand.TheVariants.{Check};
 
-use cert_checker::judge;
-use cert_reader::ReadEnd;
-use endings::{Stop, Text};
+use cert_checker::judge_text;
+use cert_reader::TextEnd;
+use command_results::{Stop, Text};
+use rule_verdicts::Verdict;
 use split_base::Source;
-use verdicts::Verdict;
 
 /// How `check` ends on an input.
 pub(crate) fn check<I: Source>(input: &mut I) -> Result<Text, Stop>
     ensures ending { EndsOn Check (told I.left I.faults input.old input.new) (ending_of result) }
     ensures count { I.faults input.old ≤ I.faults input.new }
 {
-    match judge(input) {
+    match judge_text(input) {
         Ok(Verdict::Yes) => Ok(Text::yes()),
         Ok(Verdict::No { rule }) => Err(Stop::BrokenRule { rule }),
-        Err(ReadEnd::NotText { line }) => Err(Stop::BrokenLine { line }),
-        Err(ReadEnd::TooLong) => Err(Stop::TooLong),
-        Err(ReadEnd::ReadFault) => Err(Stop::ReadFault),
-        Err(ReadEnd::NoMemory) => unreachable!(),
+        Err(TextEnd::NotText { line }) => Err(Stop::BrokenLine { line }),
+        Err(TextEnd::TooLong) => Err(Stop::TooLong),
+        Err(TextEnd::ReadFault) => Err(Stop::ReadFault),
     }
 }

@@ -1,10 +1,10 @@
 // What holds of the commands' definitions, for all inputs: each law is the contract of a function that does nothing.
 ghost use Rattle.std.specs.Prelude.{◌≡◌, ◌≢◌, ℕ, List, Err, IfSome, Ok, Result};
 ghost use Rattle.cert_checker.specs.Judged.{IsCertificate, PrintsBest};
-ghost use Rattle.endings.specs.Endings.{yes_line};
-ghost use Rattle.endings.specs.Told.{Told};
-ghost use Rattle.endings.specs.declared.stop.Stop.{Stop};
-ghost use Rattle.endings.specs.declared.stop.Stop.TheVariants.{NoMemory, ReadFault};
+ghost use Rattle.command_results.specs.Endings.{yes_line};
+ghost use Rattle.command_results.specs.ObjectUse.{ObjectUse};
+ghost use Rattle.command_results.specs.declared.stop.Stop.{Stop};
+ghost use Rattle.command_results.specs.declared.stop.Stop.TheVariants.{NoMemory, ReadFault};
 ghost use Rattle.winner_rules.specs.Judged.{PrintsFair};
 ghost use Rattle.input_commands.specs.Answers.{Answers};
 ghost use Rattle.input_commands.specs.Commands.{AreAlike};
@@ -30,7 +30,7 @@ use winner_rules::winner_verdict_law;
 pub fn input_answer_law()
     ensures one { (command other : InputCommand) (bytes : List ℕ) (ending another : Result (List ℕ) Stop) → AreAlike command other
         → CallsFor command bytes ending → CallsFor other bytes another → ending ≡ another }
-    ensures ends { (command : InputCommand) (input : Told) (ending : Result (List ℕ) Stop) → ending ≢ Err ReadFault → ending ≢ Err NoMemory
+    ensures ends { (command : InputCommand) (input : ObjectUse) (ending : Result (List ℕ) Stop) → ending ≢ Err ReadFault → ending ≢ Err NoMemory
         → EndsOn command input ending → IfSome input.bytes_before (λ bytes. CallsFor command bytes ending) }
 {
     case_law();

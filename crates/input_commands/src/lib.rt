@@ -1,5 +1,4 @@
-//! The commands that read an input: what each answers to its bytes, whatever the number of workers, and how it ends where a read fails,
-//! where the input is too long, or where memory runs out.
+//! The commands that read an input: what each answers to its bytes, and how it ends. The number of workers never changes it.
 #![tactic(auto)]
 
 mod command;

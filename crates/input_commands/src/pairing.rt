@@ -1,8 +1,8 @@
 // The commands of adjusted winner: the one that divides goods between two players, and its judge, which takes no memory.
 ghost use Rattle.std.specs.Prelude.{◌≤◌};
 ghost use Rattle.bid_rules.specs.Goods.{IsValidGoodsCase};
-ghost use Rattle.endings.specs.Endings.{ending_of};
-ghost use Rattle.endings.specs.Told.{told};
+ghost use Rattle.command_results.specs.Endings.{ending_of};
+ghost use Rattle.command_results.specs.ObjectUse.{told};
 ghost use Rattle.split_json.specs.Proposals.{IsReadyGoods, goods_case_in};
 ghost use Rattle.split_json.specs.Reading.{shown};
 ghost use Rattle.input_commands.specs.Answers.{OfBody, OfPair};
@@ -13,13 +13,14 @@ ghost use Rattle.input_commands.specs.declared.command.InputCommand.TheVariants.
 use crate::goods::goods_case;
 use adjusted_winner::winner_text;
 use bid_rules::GoodsCase;
-use cert_reader::ReadEnd;
-use endings::{Stop, Text};
+use bid_rules::limits::PAIR_ROOM;
+use cert_reader::TextEnd;
+use command_results::{Stop, Text};
+use rule_verdicts::Verdict;
 use split_base::{NoMemory, Source};
 use split_json::{CaseInput, read_goods};
 use std::alloc::Global;
-use verdicts::Verdict;
-use winner_rules::check_winner;
+use winner_rules::check_pair_text;
 
 /// The text of adjusted winner on the case of goods that the bytes hold.
 pub(crate) fn pair(alloc: Global, bytes: &[u8]) -> Result<Text, Stop>
@@ -48,7 +49,7 @@ fn pair_players(alloc: Global, case: &GoodsCase) -> Result<Text, Stop>
     requires { IsValidGoodsCase case.now }
     ensures { UpToMemory (OfPlayers case.now) (ending_of result) }
 {
-    if case.values.len() != 2 {
+    if case.values.len() != PAIR_ROOM {
         return Err(Stop::NotTwo);
     }
     match winner_text(alloc, case) {
@@ -62,12 +63,11 @@ pub(crate) fn check_pair<I: Source>(input: &mut I) -> Result<Text, Stop>
     ensures ending { EndsOn CheckWinner (told I.left I.faults input.old input.new) (ending_of result) }
     ensures count { I.faults input.old ≤ I.faults input.new }
 {
-    match check_winner(input) {
+    match check_pair_text(input) {
         Ok(Verdict::Yes) => Ok(Text::yes()),
         Ok(Verdict::No { rule }) => Err(Stop::BrokenRule { rule }),
-        Err(ReadEnd::NotText { line }) => Err(Stop::BrokenLine { line }),
-        Err(ReadEnd::TooLong) => Err(Stop::TooLong),
-        Err(ReadEnd::ReadFault) => Err(Stop::ReadFault),
-        Err(ReadEnd::NoMemory) => unreachable!(),
+        Err(TextEnd::NotText { line }) => Err(Stop::BrokenLine { line }),
+        Err(TextEnd::TooLong) => Err(Stop::TooLong),
+        Err(TextEnd::ReadFault) => Err(Stop::ReadFault),
     }
 }

@@ -1,4 +1,5 @@
-//! Tests of the program's crates, over what they offer. There is no code here but for those tests.
+//! Tests of the program over objects whose calls fail. They also try its adapters over such a reader and writer, and the refusals that
+//! no request brings about.
 #![tactic(auto)]
 
 #[cfg(test)]
@@ -7,5 +8,7 @@ mod commands;
 mod hosts;
 #[cfg(test)]
 mod outside;
+#[cfg(test)]
+mod refusals;
 #[cfg(test)]
 mod running;

@@ -1,10 +1,12 @@
 // A run of the program over objects in memory, whose calls fail.
-use split_base::{MemClock, MemDial, MemDisk, MemPort, MemSink, MemSource, NoMemory, Quiet};
+use split_base::{MemClock, MemDial, MemDisk, MemPort, MemSink, MemSource, Quiet};
 use split_top::run;
 use std::alloc::Global;
 use std::process::Abort;
-use std::test::Fail;
 use std::thread::Threads;
+
+/// How many bytes the sink takes.
+const ROOM: usize = 64;
 
 /// What a command finds beside its disk: a source, a sink, a port without links, and a dialer without links.
 #[derive(Clone, Copy)]
@@ -17,8 +19,6 @@ pub(crate) struct Outside<'a> {
     pub(crate) bad_reads: &'a [u64],
     /// The numbers of the writes that fail, from 1.
     pub(crate) bad_writes: &'a [u64],
-    /// How many bytes the sink takes.
-    pub(crate) room: usize,
     /// The numbers of the calls of the port that fail, from 1.
     pub(crate) bad_ports: &'a [u64],
 }
@@ -29,16 +29,44 @@ pub(crate) const AMPLE: Outside<'static> = Outside {
     pieces: &[],
     bad_reads: &[],
     bad_writes: &[],
-    room: 1024,
     bad_ports: &[],
 };
 
-/// What was made, but for want of memory.
-pub(crate) fn made<T>(tried: Result<T, NoMemory>) -> Result<T, Fail> {
-    match tried {
-        Ok(object) => Ok(object),
-        Err(NoMemory) => Err(Fail::from("no memory")),
+/// A source, in these pieces, whose listed reads fail.
+fn source_of(rt: &impl Abort, alloc: Global, outside: Outside<'_>) -> MemSource {
+    let pieces = outside.pieces.to_vec(alloc).expect(rt, "no memory");
+    assert!(rt; pieces.iter().all(|size| *size > 0));
+    let bytes = outside.input.as_bytes().to_vec(alloc);
+    let fails = outside.bad_reads.to_vec(alloc).expect(rt, "no memory");
+    MemSource::new(bytes.expect(rt, "no memory"), pieces, fails)
+}
+
+/// A sink whose listed writes fail.
+fn sink_of(rt: &impl Abort, alloc: Global, outside: Outside<'_>) -> MemSink {
+    let fails = outside.bad_writes.to_vec(alloc).expect(rt, "no memory");
+    MemSink::new(alloc, ROOM, fails).expect(rt, "no memory")
+}
+
+/// A port without links whose listed calls fail.
+fn port_of(rt: &impl Abort, alloc: Global, outside: Outside<'_>) -> MemPort {
+    let fails = outside.bad_ports.to_vec(alloc).expect(rt, "no memory");
+    MemPort::new(alloc, Vec::new(alloc), fails).expect(rt, "no memory")
+}
+
+/// A clock that stands at the first second of 1970.
+fn clock_of(rt: &impl Abort, alloc: Global) -> MemClock {
+    let moments = [0].to_vec(alloc).expect(rt, "no memory");
+    MemClock::new(moments, Vec::new(alloc))
+}
+
+/// The words of a command.
+fn words_of(rt: &impl Abort, alloc: Global, words: &[&str]) -> Vec<String> {
+    let mut given = Vec::new(alloc);
+    for word in words {
+        let word = String::from_str(alloc, word).expect(rt, "no memory");
+        given.push(word).expect(rt, "no memory");
     }
+    given
 }
 
 /// Stops unless the command of these words, on this disk, ends with this status and text.
@@ -49,25 +77,17 @@ pub(crate) fn ends(
     words: &[&str],
     outside: Outside<'_>,
     (code, text): (u8, &str),
-) -> Result<(), Fail> {
-    let mut given = Vec::new(alloc);
-    for word in words {
-        given.push(String::from_str(alloc, word)?)?;
-    }
-    let pieces = outside.pieces.to_vec(alloc)?;
-    assert!(rt; pieces.iter().all(|size| *size > 0));
-    let bytes = outside.input.as_bytes().to_vec(alloc)?;
-    let mut source = MemSource::new(bytes, pieces, outside.bad_reads.to_vec(alloc)?);
-    let bad_writes = outside.bad_writes.to_vec(alloc)?;
-    let mut sink = made(MemSink::new(alloc, outside.room, bad_writes))?;
-    let bad_ports = outside.bad_ports.to_vec(alloc)?;
-    let mut port = made(MemPort::new(alloc, Vec::new(alloc), bad_ports))?;
-    let mut dialer = made(MemDial::new(alloc, Vec::new(alloc), Vec::new(alloc)))?;
-    let mut clock = MemClock::new([0].to_vec(alloc)?, Vec::new(alloc));
+) {
+    let words = words_of(rt, alloc, words);
+    let mut source = source_of(rt, alloc, outside);
+    let mut sink = sink_of(rt, alloc, outside);
+    let mut port = port_of(rt, alloc, outside);
+    let mut clock = clock_of(rt, alloc);
+    let mut dialer = MemDial::new(alloc, Vec::new(alloc), Vec::new(alloc)).expect(rt, "no memory");
     let status = run(
         alloc,
         rt,
-        &given,
+        &words,
         disk,
         &mut port,
         &mut clock,
@@ -78,5 +98,4 @@ pub(crate) fn ends(
     );
     assert!(rt; sink.bytes() == text.as_bytes(), "{text}");
     assert_eq!(rt; status.code, code, "{text}");
-    Ok(())
 }

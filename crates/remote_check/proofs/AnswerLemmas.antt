@@ -1,17 +1,17 @@
 -- What the judge says of the body, and what a fetch answers.
 use Rattle.std.proofs.Common.{◌≡◌, ◌≢◌, ℕ, ◌<◌, ◌≤◌, nat_lt, true, false, inl, inr, List, ◌++◌, length, take, replicate, Option, Some, None, Result, Ok, Err, IfSome, refl, sym, ap, ◌∙◌, arith, append-nil, append_assoc, length-append, length-take-le, subst, cond}
+use Rattle.std.proofs.lemmas.Bool.{cases_lt}
 use Rattle.std.proofs.lemmas.Bool.Decides.{nat_tests}
 use Rattle.std.proofs.lemmas.List.{length-replicate}
 use Rattle.std.specs.Io.KnownBytes.{Consumes, Keeps, prepend_known}
 use Rattle.std.proofs.KnownBytes.{Consumes-whole}
 use Rattle.httparse.specs.Grammar.{ResponseHead}
-use Rattle.split_base.specs.PastLaws.{le_or_lt}
-use Rattle.cert_reader.specs.declared.ends.ReadEnd.{ReadEnd}
-use Rattle.cert_reader.specs.declared.ends.ReadEnd.TheVariants as reads
+use Rattle.cert_reader.specs.declared.ends.TextEnd.{TextEnd}
+use Rattle.cert_reader.specs.declared.ends.TextEnd.TheVariants as reads
 use Rattle.cert_reader.specs.declared.limits.TheConstants.{MOST_BYTES}
 use Rattle.cert_checker.specs.Judged.{IsJudged, IsJudgement}
 use Rattle.cert_reader.specs.Text.{IsBrokenText}
-use Rattle.verdicts.specs.declared.verdict.Verdict.{Verdict}
+use Rattle.rule_verdicts.specs.declared.verdict.Verdict.{Verdict}
 use Rattle.remote_check.specs.declared.limits.TheConstants.{FILLER}
 use Rattle.remote_check.specs.declared.ends.FetchEnd.{FetchEnd}
 use Rattle.remote_check.specs.declared.ends.FetchEnd.TheVariants as ends
@@ -21,22 +21,21 @@ use Rattle.remote_check.specs.Heads.{BeginsWith, HasNoHead}
 use Rattle.remote_check.specs.Taken.{Ends, GoesOn}
 
 -- the judge's answer is on all that it was given
-judged : (known now : Option (List ℕ)) (taken : List ℕ) (result : Result Verdict ReadEnd) → Consumes known now taken → IsJudgement now taken result
-    → (result ≡ Err reads.NoMemory → ⊥) → IfSome known (λ given. JudgeSays given result)
-judged known now taken (Ok verdict) took says memory = Consumes-whole known now taken (λ given. JudgeSays given (Ok verdict)) took says.2 (says.0, says.1)
-judged known now taken (Err (reads.NotText line)) took says memory = Consumes-whole known now taken (λ given. JudgeSays given (Err (reads.NotText line))) took says.2 (says.0, says.1)
-judged None now taken (Err reads.TooLong) took says memory = tt
-judged (Some x) None taken (Err reads.TooLong) took says memory = absurd took
-judged (Some x) (Some y) taken (Err reads.TooLong) took says memory = omega (arith, says, ap length took, length-append taken y)
-judged None now taken (Err reads.ReadFault) took says memory = tt
-judged (Some x) now taken (Err reads.ReadFault) took says memory = tt
-judged known now taken (Err reads.NoMemory) took says memory = absurd (memory refl)
+judged : (known now : Option (List ℕ)) (taken : List ℕ) (result : Result Verdict TextEnd) → Consumes known now taken → IsJudgement now taken result
+    → IfSome known (λ given. JudgeSays given result)
+judged known now taken (Ok verdict) took says = Consumes-whole known now taken (λ given. JudgeSays given (Ok verdict)) took says.2 (says.0, says.1)
+judged known now taken (Err (reads.NotText line)) took says = Consumes-whole known now taken (λ given. JudgeSays given (Err (reads.NotText line))) took says.2 (says.0, says.1)
+judged None now taken (Err reads.TooLong) took says = tt
+judged (Some x) None taken (Err reads.TooLong) took says = absurd took
+judged (Some x) (Some y) taken (Err reads.TooLong) took says = omega (arith, says, ap length took, length-append taken y)
+judged None now taken (Err reads.ReadFault) took says = tt
+judged (Some x) now taken (Err reads.ReadFault) took says = tt
 
 -- the same on what it is given of the input
-pub judged_given : (count : ℕ) (input now : Option (List ℕ)) (taken : List ℕ) (result : Result Verdict ReadEnd) → Consumes (given count 0 input) now taken
-    → IsJudgement now taken result → (result ≡ Err reads.NoMemory → ⊥) → IfSome input (λ rest. JudgeSays (given_of count 0 rest) result)
-judged_given count None now taken result took says memory = tt
-judged_given count (Some rest) now taken result took says memory = judged (Some (given_of count 0 rest)) now taken result took says memory
+pub judged_given : (count : ℕ) (input now : Option (List ℕ)) (taken : List ℕ) (result : Result Verdict TextEnd) → Consumes (given count 0 input) now taken
+    → IsJudgement now taken result → IfSome input (λ rest. JudgeSays (given_of count 0 rest) result)
+judged_given count None now taken result took says = tt
+judged_given count (Some rest) now taken result took says = judged (Some (given_of count 0 rest)) now taken result took says
 
 -- where the input ends within the body, it is too long for a certificate
 short : (count : ℕ) (rest : List ℕ) → length rest < count → MOST_BYTES < length (given_of count 0 rest)
@@ -55,9 +54,9 @@ whole count rest enough =
 -- a fact of what the judge was given, which has few enough bytes, is one of the body
 of_body : (P : List ℕ → Type 0) (count : ℕ) (rest : List ℕ) → length (given_of count 0 rest) ≤ MOST_BYTES → P (given_of count 0 rest) → (count ≤ length rest) × P (take count rest)
 of_body P count rest few is =
-    elim (le_or_lt count (length rest)) [
-      | inl enough ↦ (enough, subst P (whole count rest enough) is)
-      | inr less ↦ absurd (omega (arith, few, short count rest less))
+    elim (cases_lt (length rest) count) [
+      | inl less ↦ absurd (omega (arith, few, short count rest less))
+      | inr enough ↦ (enough, subst P (whole count rest enough) is)
     ]
 
 pub answer_verdict : (count : ℕ) (rest : List ℕ) (verdict : Verdict) → JudgeSays (given_of count 0 rest) (Ok verdict) → SaysBody count rest (Ok verdict)
@@ -68,9 +67,9 @@ answer_line count rest line says = inr (of_body (λ body. IsBrokenText body line
 
 pub answer_cut : (count : ℕ) (rest : List ℕ) → count ≤ MOST_BYTES → JudgeSays (given_of count 0 rest) (Err reads.TooLong) → SaysBody count rest (Err ends.Reply)
 answer_cut count rest most says =
-    elim (le_or_lt count (length rest)) [
-      | inl enough ↦ absurd (omega (arith, says, ap length (whole count rest enough), length-take-le count rest enough, most))
-      | inr less ↦ inl (less, refl)
+    elim (cases_lt (length rest) count) [
+      | inl less ↦ inl (less, refl)
+      | inr enough ↦ absurd (omega (arith, says, ap length (whole count rest enough), length-take-le count rest enough, most))
     ]
 
 -- a fact of each input is one of the input, where it is told

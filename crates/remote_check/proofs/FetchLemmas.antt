@@ -2,7 +2,7 @@
 use Rattle.std.proofs.Common.{◌≡◌, ◌≢◌, ℕ, ◌<◌, List, length, take, Option, Result, Ok, Err, refl, sym, ap, ◌∙◌, arith, subst}
 use Rattle.std.proofs.lemmas.List.{take_all}
 use Rattle.std.specs.Io.KnownBytes.{Appends}
-use Rattle.verdicts.specs.declared.verdict.Verdict.{Verdict}
+use Rattle.rule_verdicts.specs.declared.verdict.Verdict.{Verdict}
 use Rattle.remote_check.specs.declared.ends.FetchEnd.{FetchEnd}
 use Rattle.remote_check.specs.declared.ends.FetchEnd.TheVariants as ends
 use Rattle.remote_check.specs.Requests.{Asks, faults_of}

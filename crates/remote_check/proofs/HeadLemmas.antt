@@ -1,17 +1,19 @@
 -- Heads are unique, whatever follows, and what is read so far against all the bytes of a link.
-use Rattle.std.proofs.Common.{◌≡◌, ℕ, ◌+◌, ◌-◌, ◌<◌, ◌≤◌, List, [], ◌++◌, length, take, map, Option, Some, None, IfSome, refl, sym, ap, ◌∙◌, arith, length-append, append-nil, subst}
+use Rattle.std.proofs.Common.{◌≡◌, ℕ, ◌<◌, ◌≤◌, List, [], ◌++◌, length, take, map, Option, Some, None, Result, Ok, Err, IfSome, refl, sym, ap, ◌∙◌, arith, length-append, subst}
 use Rattle.std.proofs.lemmas.Grind.{common_steps}
-use Rattle.std.proofs.lemmas.List.{take_at}
-use Rattle.std.proofs.Math.Seq.{take-append-add}
-use Rattle.std.specs.Io.KnownBytes.{IsAtEnd, Keeps, prepend_known}
+use Rattle.std.specs.Io.KnownBytes.{Keeps, prepend_known}
 use Rattle.httparse.specs.Grammar.{ResponseHead, print_response}
-use Rattle.httparse.specs.Spans.{IsResponseAt, IsResponseOf, header_bytes, name_and_value}
+use Rattle.httparse.specs.Spans.{IsResponseAt, IsResponseOf, IsResponseWithin, header_bytes, name_and_value}
+use Rattle.httparse.specs.Outcome.{IfComplete}
+use Rattle.httparse.specs.declared.Error.{Error}
+use Rattle.httparse.specs.declared.Status.{Status}
+use Rattle.httparse.specs.declared.Status.TheVariants.{Complete, Partial}
 use Rattle.httparse.specs.declared.spans.HeaderSpan.{HeaderSpan}
 use Rattle.httparse.specs.declared.spans.ResponseSpans.{ResponseSpans}
 use Rattle.httparse.proofs.GrammarLemmas.{response_prefix_free, print_response-append}
-use Rattle.remote_check.specs.declared.limits.TheConstants.{MAX_HEAD, MAX_FIELDS}
-use Rattle.remote_check.specs.Heads.{HasNoHead}
-use Rattle.remote_check.specs.Search.{HasNone, NeverHasOne}
+use Rattle.http_heads.specs.declared.limits.TheConstants.{MAX_FIELDS}
+use Rattle.http_heads.specs.Search.{IsBad, NeverHasOne}
+use Rattle.remote_check.specs.Heads.{HasNoHead, IsText}
 
 -- as many fields as were written
 fields_count : (bytes : List ℕ) (headers : List HeaderSpan) (r : ResponseSpans) (h : ResponseHead)
@@ -21,48 +23,45 @@ fields_count bytes headers r h at fits =
     grind (arith, common_steps, same)
 
 -- a head with more fields leaves no room for another
-pub too_many_fields : (bytes : List ℕ) (headers : List HeaderSpan) (r : ResponseSpans)
-    → IsResponseOf bytes headers r → r.headers ≤ length headers → MAX_FIELDS < r.headers → NeverHasOne bytes
-too_many_fields bytes headers r of fits many more k q valid few is =
+too_many_fields : (bytes : List ℕ) (headers : List HeaderSpan) (r : ResponseSpans)
+    → IsResponseOf bytes headers r → r.headers ≤ length headers → MAX_FIELDS < r.headers → NeverHasOne IsText bytes
+too_many_fields bytes headers r of fits many more text rest (k, valid, few, printed) is =
     let h = of.0 in
-    let same = response_prefix_free bytes more h k _ q of.1.reads (valid, is) in
+    let same = response_prefix_free bytes more h k _ rest of.1.reads (valid, is ∙ ap (λ z. z ++ rest) printed) in
     let count : length h.fields ≡ r.headers = fields_count bytes headers r h of.1 fits in
     let eq : length h.fields ≡ length k.fields = ap (λ (z : ResponseHead). length z.fields) same.0 in
     omega arith
 
--- no head of any length, so no head of at most so many bytes
-shorter : (bytes : List ℕ) → HasNone bytes → HasNoHead bytes
-shorter bytes none h rest head is = none h rest head.valid head.few is
+-- the same of what the parser answers
+pub many_fields : (bytes : List ℕ) (headers : List HeaderSpan) (result : Result (Status ResponseSpans) Error)
+    → IfComplete result (IsResponseOf bytes headers) → IfComplete result (IsResponseWithin bytes headers)
+    → IfComplete result (λ spans. MAX_FIELDS < spans.headers → NeverHasOne IsText bytes)
+many_fields bytes headers (Ok (Complete spans)) of within = too_many_fields bytes headers spans of within.section.count_fits
+many_fields bytes headers (Ok Partial) of within = tt
+many_fields bytes headers (Err error) of within = tt
 
--- a head that the first bytes hold is one of all
-full : (bytes more : List ℕ) → length bytes ≡ MAX_HEAD → HasNone bytes → HasNoHead (bytes ++ more)
-full bytes more size none h rest head is =
-    let text = print_response h in
-    let split : MAX_HEAD ≡ length text + (MAX_HEAD - length text) = omega (arith, head.short) in
-    let front : bytes ≡ text ++ take (MAX_HEAD - length text) rest =
-    sym (take_at bytes more MAX_HEAD size) ∙ ap (take MAX_HEAD) is ∙ ap (λ n. take n (text ++ rest)) split ∙ take-append-add text rest (MAX_HEAD - length text) in
-    none h (take (MAX_HEAD - length text) rest) head.valid head.few front
-
--- what is known of the bytes in front of those that are left, of all that were to come
-of_all : (P : List ℕ → Type 0) (bytes : List ℕ) (before left : Option (List ℕ)) → Keeps before (prepend_known bytes left) → ((more : List ℕ) → IfSome left (λ xs. xs ≡ more) → P (bytes ++ more)) → IfSome before P
-of_all P bytes None left same each = tt
-of_all P bytes (Some x) None same each = absurd same
-of_all P bytes (Some x) (Some y) same each = subst P same (each y refl)
-
--- a look that says never
-pub bad_never : (bytes : List ℕ) (before left : Option (List ℕ)) → Keeps before (prepend_known bytes left) → NeverHasOne bytes → IfSome before HasNoHead
-bad_never bytes before left same never = of_all HasNoHead bytes before left same (λ more is. shorter _ (never more))
-
--- as many bytes as a head may have, and no head
-pub bad_full : (bytes : List ℕ) (before left : Option (List ℕ)) → Keeps before (prepend_known bytes left) → length bytes ≡ MAX_HEAD → HasNone bytes → IfSome before HasNoHead
-bad_full bytes before left same size none = of_all HasNoHead bytes before left same (λ more is. full bytes more size none)
-
--- the end of input, and no head before it
-pub bad_end : (bytes : List ℕ) (before left : Option (List ℕ)) → Keeps before (prepend_known bytes left) → IsAtEnd left → HasNone bytes → IfSome before HasNoHead
-bad_end bytes None left same end none = tt
-bad_end bytes (Some x) None same end none = absurd same
-bad_end bytes (Some x) (Some y) same end none = subst HasNoHead (sym (append-nil bytes) ∙ ap (λ z. bytes ++ z) (sym end) ∙ same) (shorter bytes none)
+-- bytes that begin with no text of a head begin with no head
+none_bytes : (bytes : List ℕ) → IsBad IsText bytes → HasNoHead bytes
+none_bytes bytes bad h rest head is = bad.none (print_response h) rest (h, head.valid, head.few, refl) head.short is
 
 -- no head has no bytes
-pub none_empty : HasNone []
-none_empty h rest valid few is = omega (arith, ap length is, ap length (print_response-append h rest), length-append {A = ℕ})
+none_empty : HasNoHead []
+none_empty h rest head is = omega (arith, ap length is, ap length (print_response-append h rest), length-append {A = ℕ})
+
+-- what was read and is left has no head, nor has what was to come
+pub none_to_come : (held : List ℕ) (before now : Option (List ℕ)) → held ≡ [] → Keeps (prepend_known held before) now → IfSome now (IsBad IsText) → IfSome before HasNoHead
+none_to_come held None now empty same bad = tt
+none_to_come held (Some x) None empty same bad = absurd same
+none_to_come held (Some x) (Some y) empty same bad = subst HasNoHead (same ∙ ap (λ z. z ++ x) empty) (none_bytes y bad)
+
+-- nothing was to come
+pub nothing_to_come : (held : List ℕ) (before now : Option (List ℕ)) → held ≡ [] → Keeps (prepend_known held before) now → IfSome now (λ all. all ≡ []) → IfSome before HasNoHead
+nothing_to_come held None now empty same none = tt
+nothing_to_come held (Some x) None empty same none = absurd same
+nothing_to_come held (Some x) (Some y) empty same none = subst HasNoHead (sym none ∙ same ∙ ap (λ z. z ++ x) empty) none_empty
+
+-- what was to come is what was read and what is left
+pub came : (held : List ℕ) (before now : Option (List ℕ)) → held ≡ [] → Keeps (prepend_known held before) now → Keeps before now
+came held None now empty same = tt
+came held (Some x) None empty same = absurd same
+came held (Some x) (Some y) empty same = same ∙ ap (λ z. z ++ x) empty

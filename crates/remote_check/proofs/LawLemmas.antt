@@ -4,8 +4,8 @@ use Rattle.httparse.specs.Grammar.{ResponseHead, status_code}
 use Rattle.httparse.proofs.GrammarLemmas.{response_unique}
 use Rattle.cert_reader.specs.Text.{IsBrokenText}
 use Rattle.cert_checker.specs.Judged.{IsCertificate, IsJudged, PrintsBest}
-use Rattle.verdicts.specs.declared.verdict.Verdict.{Verdict}
-use Rattle.verdicts.specs.declared.verdict.Verdict.TheVariants.{Yes}
+use Rattle.rule_verdicts.specs.declared.verdict.Verdict.{Verdict}
+use Rattle.rule_verdicts.specs.declared.verdict.Verdict.TheVariants.{Yes}
 use Rattle.remote_check.specs.declared.ends.FetchEnd.{FetchEnd}
 use Rattle.remote_check.specs.declared.ends.FetchEnd.TheVariants as ends
 use Rattle.remote_check.specs.Fetched.{FetchSays, Fetched, IsReplyOf, SaysBody, SaysHead, SaysJudge, SaysLength}

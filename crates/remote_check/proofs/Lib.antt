@@ -1,7 +1,6 @@
 mod AnswerLemmas
 mod BodyLemmas
 mod FetchLemmas
-mod FieldLemmas
 mod HeadLemmas
-mod HeldLemmas
 mod LawLemmas
+mod LengthLemmas

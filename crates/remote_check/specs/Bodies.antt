@@ -1,11 +1,11 @@
 -- A body as a source of bytes for the judge.
 use Rattle.std.specs.Prelude.{ℕ, ◌<◌, ◌≤◌, nat_lt, List, [], ◌∷◌, ◌++◌, length, take, replicate, Option, option_map, Some, None, Result, Ok, Err, if◌then◌else◌, ⊤}
-use Rattle.cert_reader.specs.declared.ends.ReadEnd.{ReadEnd}
-use Rattle.cert_reader.specs.declared.ends.ReadEnd.TheVariants.{NoMemory, NotText, ReadFault, TooLong}
+use Rattle.cert_reader.specs.declared.ends.TextEnd.{TextEnd}
+use Rattle.cert_reader.specs.declared.ends.TextEnd.TheVariants.{NotText, ReadFault, TooLong}
 use Rattle.cert_reader.specs.declared.limits.TheConstants.{MOST_BYTES}
 use Rattle.cert_reader.specs.Text.{IsBrokenText}
 use Rattle.cert_checker.specs.Judged.{IsJudged}
-use Rattle.verdicts.specs.declared.verdict.Verdict.{Verdict}
+use Rattle.rule_verdicts.specs.declared.verdict.Verdict.{Verdict}
 use Rattle.remote_check.specs.declared.limits.TheConstants.{FILLER}
 
 -- how many bytes of filler stand behind the awaited ones: more than a certificate has where the input ends within them
@@ -26,9 +26,8 @@ named name (None, faults) = (Some (name ∷ faults ∷ []), 0)
 named name (Some written, faults) = (Some (name ∷ faults ∷ written), 1)
 
 -- what the judge says of what it was given
-abbrev pub JudgeSays : List ℕ → Result Verdict ReadEnd → Type 0
+abbrev pub JudgeSays : List ℕ → Result Verdict TextEnd → Type 0
 JudgeSays given (Ok verdict) = IsJudged given verdict × (length given ≤ MOST_BYTES)
 JudgeSays given (Err (NotText line)) = IsBrokenText given line × (length given ≤ MOST_BYTES)
 JudgeSays given (Err TooLong) = MOST_BYTES < length given
 JudgeSays given (Err ReadFault) = ⊤
-JudgeSays given (Err NoMemory) = ⊥

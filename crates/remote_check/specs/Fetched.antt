@@ -4,7 +4,7 @@ use Rattle.httparse.specs.Grammar.{ResponseHead, status_code}
 use Rattle.cert_reader.specs.declared.limits.TheConstants.{MOST_BYTES}
 use Rattle.cert_reader.specs.Text.{IsBrokenText}
 use Rattle.cert_checker.specs.Judged.{IsJudged}
-use Rattle.verdicts.specs.declared.verdict.Verdict.{Verdict}
+use Rattle.rule_verdicts.specs.declared.verdict.Verdict.{Verdict}
 use Rattle.remote_check.specs.declared.ends.FetchEnd.{FetchEnd}
 use Rattle.remote_check.specs.declared.ends.FetchEnd.TheVariants.{Reply, Status, NotText, TooLong, LinkFault}
 use Rattle.remote_check.specs.declared.limits.TheConstants.{OK_STATUS}

@@ -1,9 +1,11 @@
 -- The head of a response at the front of bytes.
 use Rattle.std.specs.Prelude.{◌≡◌, ◌≢◌, ℕ, ◌≤◌, List, ◌++◌, length, map}
 use Rattle.httparse.specs.Grammar.{ResponseHead, IsResponseHead, print_response}
-use Rattle.httparse.specs.Spans.{name_and_value}
-use Rattle.remote_check.specs.declared.limits.TheConstants.{MAX_HEAD, MAX_FIELDS}
-use Rattle.remote_check.specs.Fields.{Pair}
+use Rattle.httparse.specs.Spans.{IsResponseAt, IsResponseWithin, name_and_value}
+use Rattle.httparse.specs.declared.spans.HeaderSpan.{HeaderSpan}
+use Rattle.httparse.specs.declared.spans.ResponseSpans.{ResponseSpans}
+use Rattle.http_heads.specs.declared.limits.TheConstants.{MAX_HEAD, MAX_FIELDS}
+use Rattle.http_heads.specs.Fields.{Pair}
 
 -- a head by the grammar of `httparse` (RFC 9112), of at most 8,192 bytes and with at most 64 fields
 pub record IsHead (head : ResponseHead) : Type 0 where
@@ -19,6 +21,15 @@ HasNoHead bytes = (head : ResponseHead) (rest : List ℕ) → IsHead head → by
 pub record BeginsWith (bytes : List ℕ) (head : ResponseHead) (rest : List ℕ) : Type 0 where
   pub is_head : IsHead head
   pub text : bytes ≡ print_response head ++ rest
+
+-- the text of such a head, however long
+abbrev pub IsText : List ℕ → Type 0
+IsText text = (head : ResponseHead) × IsResponseHead head × (length head.fields ≤ MAX_FIELDS) × (text ≡ print_response head)
+
+-- the head stands at the front of the bytes, at these spans
+pub record IsFoundAt (bytes : List ℕ) (fields : List HeaderSpan) (spans : ResponseSpans) : Type 0 where
+  pub head : (h : ResponseHead) × IsResponseAt bytes fields spans h × (length h.fields ≤ MAX_FIELDS)
+  pub within : IsResponseWithin bytes fields spans
 
 -- its fields, as names and values
 abbrev pub fields_of : ResponseHead → List Pair

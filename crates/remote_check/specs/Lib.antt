@@ -3,5 +3,4 @@ pub mod Fetched
 pub mod Fields
 pub mod Heads
 pub mod Requests
-pub mod Search
 pub mod Taken

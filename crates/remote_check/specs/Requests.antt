@@ -2,7 +2,7 @@
 use Rattle.std.specs.Prelude.{◌≡◌, ◌⊎◌, ℕ, ◌≤◌, List, ◌++◌, length, take, codes, decimal, Option, Result, Ok, Err}
 use Rattle.std.specs.Io.KnownBytes.{Appends}
 use Rattle.split_base.specs.Faults.{counted}
-use Rattle.verdicts.specs.declared.verdict.Verdict.{Verdict}
+use Rattle.rule_verdicts.specs.declared.verdict.Verdict.{Verdict}
 use Rattle.remote_check.specs.declared.ends.FetchEnd.{FetchEnd}
 use Rattle.remote_check.specs.declared.ends.FetchEnd.TheVariants.{Reply, Status, NotText, TooLong, LinkFault}
 use Rattle.remote_check.specs.declared.request.Words.{Words}

@@ -4,21 +4,21 @@ ghost use Rattle.std.specs.Io.KnownBytes.{Appends, prepend_known};
 ghost use Rattle.split_base.specs.Faults.{HasCause, HasRisen, IsCounted};
 ghost use Rattle.split_base.specs.Links.{LinkHasRisen};
 ghost use Rattle.cert_checker.specs.Judged.{PrintsBest};
-ghost use Rattle.remote_check.specs.declared.limits.TheConstants.{MAX_HEAD};
+ghost use Rattle.http_heads.specs.declared.limits.TheConstants.{MAX_HEAD};
 ghost use Rattle.remote_check.specs.Fetched.{FetchSays, IsReplyOf};
 ghost use Rattle.remote_check.specs.Requests.{Asks, Counts, faults_of, request_of};
-ghost use Rattle.remote_check.specs.Search.{IsFoundAt};
+ghost use Rattle.remote_check.specs.Heads.{IsFoundAt};
 
 use crate::ends::FetchEnd;
 use crate::head::length_of;
-use crate::held::Held;
 use crate::judged::judge_body;
 use crate::laws::fetched_law;
 use crate::request::{Words, request_text};
-use crate::search::{ROOM, Turn, read_head};
+use crate::response_heads::ResponseHeads;
+use http_heads::{Ahead, Carry, ROOM, look_ahead};
 use httparse::spans::{EMPTY_HEADER_SPAN, HeaderSpan, ResponseSpans};
+use rule_verdicts::Verdict;
 use split_base::{Failed, Link, Source, write_all};
-use verdicts::Verdict;
 
 /// Asks a host for the certificate of an instance, and judges it as it comes, in one pass and in fixed memory. One request is written, and nothing else.
 ///
@@ -81,12 +81,13 @@ fn read_reply<S: Source>(source: &mut S) -> Result<Verdict, FetchEnd>
     ensures count { S.faults source.old ≤ S.faults source.new }
     ensures beside { S.beside source.new ≡ S.beside source.old }
 {
-    let mut held = Held::new();
+    let mut held = Carry::new();
     let mut fields = [EMPTY_HEADER_SPAN; ROOM];
-    match read_head(source, &mut held, &mut fields) {
-        Turn::Fault => Err(FetchEnd::LinkFault),
-        Turn::Bad => Err(FetchEnd::Reply),
-        Turn::Found(spans) => read_body(source, held.as_slice(), &fields, &spans),
+    match look_ahead::<ResponseHeads, S>(source, &mut held, &mut fields) {
+        Ahead::Fault => Err(FetchEnd::LinkFault),
+        Ahead::Bad => Err(FetchEnd::Reply),
+        Ahead::End => Err(FetchEnd::Reply),
+        Ahead::Found(spans) => read_body(source, held.as_slice(), &fields, &spans),
     }
 }
 

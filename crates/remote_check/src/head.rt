@@ -1,15 +1,16 @@
 // What the head of a reply says of its body.
 ghost use Rattle.std.specs.Prelude.{◌≤◌, length, MatchResult, drop};
 ghost use Rattle.cert_reader.specs.declared.limits.TheConstants.{MOST_BYTES};
-ghost use Rattle.remote_check.specs.declared.limits.TheConstants.{MAX_HEAD, OK_STATUS};
-ghost use Rattle.remote_check.specs.Search.{IsFoundAt};
+ghost use Rattle.http_heads.specs.declared.limits.TheConstants.{MAX_HEAD};
+ghost use Rattle.remote_check.specs.declared.limits.TheConstants.{OK_STATUS};
+ghost use Rattle.remote_check.specs.Heads.{IsFoundAt};
 ghost use Rattle.remote_check.specs.Taken.{GoesOn, Ends};
 
 use crate::ends::FetchEnd;
 use crate::fields::body_length;
 use crate::limits::OK_STATUS;
-use crate::search::ROOM;
 use cert_reader::limits::MOST_BYTES;
+use http_heads::ROOM;
 use httparse::spans::{HeaderSpan, ResponseSpans};
 
 // The length of the body, or why it isn't judged, whatever follows the bytes.

@@ -11,10 +11,10 @@ ghost use Rattle.remote_check.specs.Requests.{faults_of};
 use crate::ahead::Ahead;
 use crate::body::Body;
 use crate::ends::FetchEnd;
-use cert_checker::judge;
-use cert_reader::ReadEnd;
+use cert_checker::judge_text;
+use cert_reader::TextEnd;
+use rule_verdicts::Verdict;
 use split_base::Source;
-use verdicts::Verdict;
 
 // Judges the body of this length, of which the first bytes, and maybe some behind it, were read ahead.
 pub(crate) fn judge_body<S: Source>(
@@ -31,20 +31,18 @@ pub(crate) fn judge_body<S: Source>(
 {
     match judge_given(link, held, length) {
         Ok(verdict) => Ok(verdict),
-        Err(ReadEnd::NotText { line }) => Err(FetchEnd::NotText { line }),
+        Err(TextEnd::NotText { line }) => Err(FetchEnd::NotText { line }),
         // It was told to be shorter: so the input ended within it.
-        Err(ReadEnd::TooLong) => Err(FetchEnd::Reply),
-        Err(ReadEnd::ReadFault) => Err(FetchEnd::LinkFault),
-        Err(ReadEnd::NoMemory) => unreachable!(),
+        Err(TextEnd::TooLong) => Err(FetchEnd::Reply),
+        Err(TextEnd::ReadFault) => Err(FetchEnd::LinkFault),
     }
 }
 
 // Judges what is given of the input for a body of this length.
-fn judge_given<S: Source>(link: &mut S, held: &[u8], length: usize) -> Result<Verdict, ReadEnd>
+fn judge_given<S: Source>(link: &mut S, held: &[u8], length: usize) -> Result<Verdict, TextEnd>
     ensures says { IfSome (prepend_known held.now (S.left link.old)) (λ rest. JudgeSays (given_of length 0 rest) result) }
-    ensures memory { IsErrOf result ReadEnd.NoMemory → ⊥ }
     ensures faults { S.faults link.new ≡ faults_after (S.faults link.old) result }
-    ensures fault { IsErrOf result ReadEnd.ReadFault → HasRisen (S.faults link.old) (S.faults link.new) }
+    ensures fault { IsErrOf result TextEnd.ReadFault → HasRisen (S.faults link.old) (S.faults link.new) }
     ensures count { S.faults link.old ≤ S.faults link.new }
     ensures beside { S.beside link.new ≡ S.beside link.old }
 {
@@ -53,5 +51,5 @@ fn judge_given<S: Source>(link: &mut S, held: &[u8], length: usize) -> Result<Ve
         awaited: length,
         filler: 0,
     };
-    judge(&mut body)
+    judge_text(&mut body)
 }

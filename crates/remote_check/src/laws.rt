@@ -1,8 +1,8 @@
 // What callers may rest on: the statements of a function whose body only calls other laws.
 ghost use Rattle.std.specs.Prelude.{◌≡◌, ℕ, List, Result, Ok};
 ghost use Rattle.cert_checker.specs.Judged.{IsCertificate, PrintsBest};
-ghost use Rattle.verdicts.specs.declared.verdict.Verdict.{Verdict};
-ghost use Rattle.verdicts.specs.declared.verdict.Verdict.TheVariants.{Yes};
+ghost use Rattle.rule_verdicts.specs.declared.verdict.Verdict.{Verdict};
+ghost use Rattle.rule_verdicts.specs.declared.verdict.Verdict.TheVariants.{Yes};
 ghost use Rattle.remote_check.specs.declared.ends.FetchEnd.{FetchEnd};
 ghost use Rattle.remote_check.specs.Fetched.{Fetched, IsReplyOf};
 

@@ -1,12 +1,6 @@
 // Limits of a reply.
 use cert_reader::limits::MOST_BYTES;
 
-/// The most bytes of a head, with the empty lines before it and the one that ends it.
-pub const MAX_HEAD: usize = 8192;
-
-/// The most fields of a head.
-pub const MAX_FIELDS: usize = 64;
-
 /// The most digits of a Content-Length.
 pub const MAX_LENGTH_DIGITS: usize = 10;
 

@@ -3,9 +3,9 @@ ghost use Rattle.rent_maximin.specs.Division.{IsRentDivision};
 
 use crate::prices::{least_of, prices_of};
 use arrayvec::ArrayVec;
+use best_laws::{best_rent_law, formula_law, price_range_law, shown_rent_law, walk_law};
 use bid_rules::RentCase;
 use bid_rules::limits::MEMBER_ROOM;
-use rent_laws::{best_rent_law, formula_law, price_range_law, shown_rent_law, walk_law};
 use room_assignment::{Rooms, Walks, best_rooms, value_walks};
 use split_frac::{Frac, make, value_law};
 

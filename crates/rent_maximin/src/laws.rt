@@ -7,7 +7,7 @@ ghost use Rattle.rent_maximin.specs.Division.{IsRentDivision};
 ghost use Rattle.rent_maximin.specs.declared.division.RentDivision.{RentDivision};
 ghost use Rattle.split_frac.specs.Frac.{IsWithinLimits};
 
-use rent_laws::{best_rent_law, key_law, walk_law};
+use best_laws::{best_rent_law, key_law, walk_law};
 use split_frac::value_law;
 
 /// The prices and the least utility lie in the ranges that calls on fractions ask for, and within `MOST_AMOUNT` cents of 0.

@@ -3,8 +3,8 @@ use Rattle.std.proofs.Common.{ℕ, ℤ, pos, List, All, arith, ◌≤ℤ◌}
 use Rattle.bid_rules.specs.declared.limits.TheConstants.{ITEM_ROOM, MOST_RENT}
 use Rattle.cert_reader.specs.Layout.{RentView}
 use Rattle.rent_rules.specs.Rules.{HasCase}
-use Rattle.verdicts.specs.Ranges.{AreBetween}
-use Rattle.verdicts.proofs.PrintedNumbers.{rows_bounded}
+use Rattle.rule_verdicts.specs.Ranges.{AreBetween}
+use Rattle.split_lemmas.proofs.PrintedNumbers.{rows_bounded}
 
 -- numbers from 1 to n are 1 or more
 pub positive_from : (n : ℕ) (xs : List ℤ) → AreBetween 1 n xs → All (λ x. pos 1 ≤ℤ x) xs

@@ -6,7 +6,7 @@ use Rattle.bid_rules.specs.Maximin.{value_step}
 use Rattle.bid_rules.specs.Rent.{room_count}
 use Rattle.bid_rules.specs.Walks.{AreShownRanks}
 use Rattle.rent_rules.specs.Rules.{AreRanked}
-use Rattle.verdicts.proofs.PrintedNumbers.{unsigned_at}
+use Rattle.split_lemmas.proofs.PrintedNumbers.{unsigned_at}
 
 -- ranks that keep the rule show their walks attained, without their signs
 pub are_shown : (case : RentCase) (rooms : List ℕ) (walks ranks : List ℤ) → AreRanked case rooms walks ranks

@@ -7,7 +7,7 @@ use Rattle.bid_rules.specs.Rent.{IsAssignment, IsValidRentCase, price_of, room_c
 use Rattle.bid_rules.specs.Walks.{weight_at}
 use Rattle.cert_reader.specs.Layout.{RentView}
 use Rattle.rent_rules.specs.Printed.{printed_case, printed_rooms}
-use Rattle.verdicts.specs.Verdicts.{rule_at}
+use Rattle.rule_verdicts.specs.Verdicts.{rule_at}
 
 -- the rent and the values are 0 or more, and make a case: 2 to 12 members, a rent in range, and values of each member that sum to it
 pub record HasCase (view : RentView) : Type 0 where

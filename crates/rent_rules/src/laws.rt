@@ -4,11 +4,11 @@ ghost use Rattle.bid_rules.specs.Rent.{IsValidRentCase, RentBest};
 ghost use Rattle.cert_reader.specs.Layout.{RentView};
 ghost use Rattle.rent_rules.specs.Printed.{printed_case, printed_rooms};
 ghost use Rattle.rent_rules.specs.Rules.{rules_of_rent};
-ghost use Rattle.verdicts.specs.declared.verdict.Verdict.{Verdict};
-ghost use Rattle.verdicts.specs.declared.verdict.Verdict.TheVariants.{Yes};
-ghost use Rattle.verdicts.specs.Verdicts.{IsVerdictOf};
+ghost use Rattle.rule_verdicts.specs.declared.verdict.Verdict.{Verdict};
+ghost use Rattle.rule_verdicts.specs.declared.verdict.Verdict.TheVariants.{Yes};
+ghost use Rattle.rule_verdicts.specs.Verdicts.{IsVerdictOf};
 
-use rent_laws::{key_law, shown_rent_law, walk_law};
+use best_laws::{key_law, shown_rent_law, walk_law};
 
 /// Where all rules hold, the printed case is valid, and the printed rooms and prices are best for it: the dual numbers show the rooms,
 /// and the walks the prices (Gal, Mash, Procaccia and Zick 2016). A certificate has one verdict.

@@ -8,7 +8,7 @@ ghost use Rattle.rent_rules.specs.Rules.{HasCase, HasRooms};
 use bid_rules::limits::{MOST_RENT, MemberList};
 use bid_rules::{Rent, RentCase};
 use cert_reader::RentText;
-use verdicts::{has_each, members_between, rows_of_amounts};
+use rule_verdicts::{has_each, members_between, rows_of_amounts};
 
 /// The printed case, where it is one.
 pub(crate) fn case_of(text: &RentText) -> Option<RentCase>

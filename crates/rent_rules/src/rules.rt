@@ -1,14 +1,14 @@
 // The rules of a certificate of a rent, asked in order.
 ghost use Rattle.cert_reader.specs.Views.{rent_view};
 ghost use Rattle.rent_rules.specs.Rules.{rules_of_rent};
-ghost use Rattle.verdicts.specs.Verdicts.{IsVerdictOf};
+ghost use Rattle.rule_verdicts.specs.Verdicts.{IsVerdictOf};
 
 use crate::keys::{are_above, are_reached};
 use crate::prices::are_prices;
 use crate::printed::{case_of, rooms_of};
 use crate::walks::{are_ranked, are_settled};
 use cert_reader::RentText;
-use verdicts::Verdict;
+use rule_verdicts::Verdict;
 
 /// Whether the certificate keeps the seven rules of a rent, or the first that it breaks. It takes no memory.
 pub fn check_rent(text: &RentText) -> Verdict

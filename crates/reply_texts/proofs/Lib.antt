@@ -1,6 +1,5 @@
 pub mod After
 pub mod Answered
-pub mod GoodsObjects
 pub mod KeyTexts
 pub mod Literals
 pub mod OneText

@@ -2,8 +2,8 @@
 use Rattle.std.proofs.Common.{◌≡◌, ℕ, List, sym, ◌∙◌}
 use Rattle.bid_rules.specs.declared.cases.Case.{Case}
 use Rattle.bid_rules.specs.declared.cases.Case.TheVariants as case
-use Rattle.divisions.specs.declared.division.Division.{Division}
-use Rattle.divisions.specs.declared.division.Division.TheVariants.{Rent, Goods, Fares}
+use Rattle.certificates.specs.declared.division.Division.{Division}
+use Rattle.certificates.specs.declared.division.Division.TheVariants.{Rent, Goods, Fares}
 use Rattle.reply_texts.specs.Divisions.{IsDivisionText}
 
 pub one_text : (given : Case) (division : Division) (text other : List ℕ) → IsDivisionText given division text → IsDivisionText given division other → text ≡ other

@@ -10,8 +10,8 @@ use Rattle.bid_rules.specs.declared.goods.GoodsCase.{GoodsCase}
 use Rattle.bid_rules.specs.declared.rents.RentCase.{RentCase}
 use Rattle.bid_rules.specs.Cents.{cent_plan, prices_by_member}
 use Rattle.bid_rules.specs.Goods.{player_count}
-use Rattle.divisions.specs.declared.division.Division.{Division}
-use Rattle.divisions.specs.declared.division.Division.TheVariants.{Rent, Goods, Fares}
+use Rattle.certificates.specs.declared.division.Division.{Division}
+use Rattle.certificates.specs.declared.division.Division.TheVariants.{Rent, Goods, Fares}
 use Rattle.envy_check.specs.Goods.{goods_of, points_for}
 use Rattle.nash_search.specs.declared.division.GoodsDivision.{GoodsDivision}
 use Rattle.rent_maximin.specs.declared.division.RentDivision.{RentDivision}

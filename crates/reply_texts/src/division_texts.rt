@@ -1,14 +1,13 @@
 // The texts of divisions.
-ghost use Rattle.std.specs.Prelude.{◌≡◌, ◌≤◌, All, codes, decimal, length, map, pos, IfOk};
+ghost use Rattle.std.specs.Prelude.{◌≡◌, ◌≤◌, All, decimal, length, map, pos, IfOk};
 ghost use Rattle.std.specs.List.{range_with_len};
-ghost use Rattle.serde_json.specs.Data.{object, member, no_members};
 ghost use Rattle.serde_json.specs.View.{view};
 ghost use Rattle.bid_rules.specs.Cents.{cent_plan};
 ghost use Rattle.bid_rules.specs.Facts.{IsValidCase, IsValidFareCase};
 ghost use Rattle.bid_rules.specs.Goods.{AreOwners, IsValidGoodsCase, player_count};
 ghost use Rattle.bid_rules.specs.Rent.{IsValidRentCase};
 ghost use Rattle.bid_rules.specs.declared.limits.TheConstants.{ITEM_ROOM, MEMBER_ROOM};
-ghost use Rattle.divisions.specs.Division.{IsDivisionOf};
+ghost use Rattle.certificates.specs.Division.{IsDivisionOf};
 ghost use Rattle.envy_check.specs.Goods.{goods_of, points_for};
 ghost use Rattle.nash_search.specs.Division.{IsGoodsDivision};
 ghost use Rattle.rent_maximin.specs.Division.{IsRentDivision};
@@ -19,11 +18,11 @@ ghost use Rattle.reply_texts.specs.Values.{list_by, of_number, of_text};
 
 use crate::values::{cents, fraction, fractions, numbers, written};
 use arrayvec::ArrayVec;
+use best_laws::orders_law;
 use bid_rules::limits::{ITEM_ROOM, MEMBER_ROOM};
 use bid_rules::{Case, FareCase, GoodsCase, RentCase};
-use divisions::{Division, rent_pays};
+use certificates::{Division, rent_pays};
 use envy_check::{cent_plan, points_of};
-use fare_laws::orders_law;
 use nash_search::GoodsDivision;
 use rent_maximin::RentDivision;
 use serde_json::{Value, json};
@@ -87,38 +86,13 @@ fn points_value(alloc: Global, case: &GoodsCase, owners: &[u8]) -> Result<Value,
     Ok(Value::Array(list))
 }
 
-/// The lists of a division of goods.
-#[derive(Drop)]
-struct GoodsLists {
-    owners: Value,
-    players: Value,
-    points: Value,
-}
-
-fn goods_object(
-    alloc: Global,
-    count: u8,
-    lists: GoodsLists,
-    product: Value,
-    steps: u32,
-) -> Result<Value, AllocError>
-    ensures { IfOk result (λ v. view v ≡ object (member (codes "count") (of_number count)
-        (member (codes "kind") (of_text (codes "goods"))
-        (member (codes "owners") (view lists.owners)
-        (member (codes "players") (view lists.players)
-        (member (codes "points") (view lists.points)
-        (member (codes "product") (view product)
-        (member (codes "steps") (of_number steps) no_members)))))))) }
+/// By player the points of the goods that a division gives them.
+fn won_value(alloc: Global, case: &GoodsCase, division: &GoodsDivision) -> Result<Value, AllocError>
+    requires case { IsValidGoodsCase case.now }
+    requires each { length division.now.owners.items ≡ case.now.facts.goods }
+    ensures { IfOk result (λ v. view v ≡ list_by (λ player. of_number (points_for case.now player (goods_of division.now.owners.items player))) (range_with_len 1 (player_count case.now))) }
 {
-    let GoodsLists {
-        owners,
-        players,
-        points,
-    } = lists;
-    json!(in alloc; {
-        "count": count, "kind": "goods", "owners": owners, "players": players, "points": points,
-        "product": product, "steps": steps
-    })
+    points_value(alloc, case, division.owners.as_slice())
 }
 
 #[tactic(auto, unfolding(crate::specs::Divisions::of_goods))]
@@ -131,16 +105,12 @@ fn goods_value(
     requires division { IsGoodsDivision case.now division.now }
     ensures { IfOk result (λ v. view v ≡ of_goods case.now division.now) }
 {
-    let owners = members_value(alloc, case.who.as_slice(), division.owners.as_slice())?;
-    let players = numbers(alloc, case.who.as_slice())?;
-    let points = points_value(alloc, case, division.owners.as_slice())?;
-    let product = product_value(alloc, division.pair.product)?;
-    let lists = GoodsLists {
-        owners,
-        players,
-        points,
-    };
-    goods_object(alloc, division.pair.count, lists, product, division.steps)
+    json!(in alloc; {
+        "count": division.pair.count, "kind": "goods",
+        "owners": members_value(alloc, case.who.as_slice(), division.owners.as_slice())?,
+        "players": numbers(alloc, case.who.as_slice())?,
+        "points": won_value(alloc, case, division)?, "product": product_value(alloc, division.pair.product)?, "steps": division.steps
+    })
 }
 
 /// What each rider pays, in whole cents.

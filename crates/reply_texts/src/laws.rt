@@ -2,8 +2,8 @@
 ghost use Rattle.std.specs.Prelude.{◌≡◌, ℕ, List, Option, IsSome, IsTrue, false};
 ghost use Rattle.bid_rules.specs.Facts.{IsValidCase};
 ghost use Rattle.bid_rules.specs.declared.cases.Case.{Case};
-ghost use Rattle.divisions.specs.Division.{IsDivisionOf};
-ghost use Rattle.divisions.specs.declared.division.Division.{Division};
+ghost use Rattle.certificates.specs.Division.{IsDivisionOf};
+ghost use Rattle.certificates.specs.declared.division.Division.{Division};
 ghost use Rattle.sealed_core.specs.declared.commands.Ask.{Ask};
 ghost use Rattle.sealed_core.specs.declared.replies.Refusal.{Refusal};
 ghost use Rattle.sealed_core.specs.declared.replies.Reply.{Reply};
@@ -17,7 +17,7 @@ ghost use Rattle.reply_texts.specs.Sealing.{ShowSame, sealed_told, told, told_al
 ghost use Rattle.reply_texts.specs.Telling.{Tells, is_publication};
 ghost use Rattle.reply_texts.specs.declared.refusals.ServiceRefusal.{ServiceRefusal};
 
-use divisions::division_law;
+use certificates::division_law;
 use sealed_core::{publication_law, sealing_law};
 
 /// Bids are sealed in what is sent, too: where an instance isn't closed after a command on it, the HTTP status and the text of the reply are

@@ -190,8 +190,7 @@ fn with_limit(alloc: Global, code: &str, limit: u32) -> Result<Value, AllocError
 fn with_missing(alloc: Global, code: &str, missing: &Missing) -> Result<Value, AllocError>
     ensures { IfOk result (λ v. view v ≡ object (member (codes "code") (of_text code.now) (member (codes "missing") (list_by of_number missing.now.members.items) no_members))) }
 {
-    let members = numbers(alloc, missing.members.as_slice())?;
-    json!(in alloc; {"code": code, "missing": members})
+    json!(in alloc; {"code": code, "missing": numbers(alloc, missing.members.as_slice())?})
 }
 
 fn with_place(alloc: Global, code: &str, place: u64) -> Result<Value, AllocError>

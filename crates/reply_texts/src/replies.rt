@@ -121,9 +121,9 @@ fn created_value(
 ) -> Result<Value, AllocError>
     ensures { IfOk result (λ v. view v ≡ of_created secret.now id members) }
 {
-    let keys = member_keys(alloc, secret, id, members)?;
-    let organiser = key_value(alloc, secret, id, 0)?;
-    json!(in alloc; {"id": id, "keys": keys, "organiser": organiser})
+    json!(in alloc; {
+        "id": id, "keys": member_keys(alloc, secret, id, members)?, "organiser": key_value(alloc, secret, id, 0)?
+    })
 }
 
 /// How many members the instance has that a reply names as created.

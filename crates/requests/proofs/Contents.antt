@@ -1,8 +1,8 @@
 -- What a publication tells, over the host after the event.
 use Rattle.std.proofs.Common.{◌≡◌, ℕ, List, Option, None, Some, Result, Ok, Err, IfOk, IsSome, inl, inr, max, refl, sym, ap, subst, ◌∙◌, true≢false}
-use Rattle.publications.specs.declared.contents.ContentType.TheVariants.{Json}
-use Rattle.publications.specs.Contents.{ContentView}
-use Rattle.publications.specs.Publications.{IsPublication, case_data}
+use Rattle.host_results.specs.declared.contents.ContentType.TheVariants.{Json}
+use Rattle.host_results.specs.Contents.{ContentView}
+use Rattle.host_results.specs.Publications.{IsPublication, case_data}
 use Rattle.reply_texts.specs.Replies.{status_of, text_of}
 use Rattle.reply_texts.specs.Telling.{IsAnswered}
 use Rattle.sealed_core.specs.declared.commands.Ask.TheVariants as asks

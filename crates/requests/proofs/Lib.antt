@@ -1,5 +1,6 @@
 mod AskedCommands
 mod Contents
+mod Leading
 mod SealedReplies
 mod Settled
 mod Statuses

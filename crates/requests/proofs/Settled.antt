@@ -1,12 +1,12 @@
 -- What the opening of the file of a host that waits says.
-use Rattle.std.proofs.Common.{◌≡◌, ℕ, List, None, Some, Ok, Err, refl, ap, subst, ⊎_elim}
+use Rattle.std.proofs.Common.{◌≡◌, ◌⊎◌, ℕ, List, [], ◌∷◌, ◌++◌, None, Some, Ok, Err, refl, ap, subst, ⊎_elim}
 use Rattle.split_base.specs.declared.disk.Disk.{Ghosts}
 use Rattle.gate_log.specs.declared.fault.LogFault.{LogFault}
 use Rattle.gate_log.specs.declared.fault.LogFault.TheVariants as fault
-use Rattle.host_keeper.specs.Calls.{Reopens}
-use Rattle.host_keeper.specs.Leading.{opened_files}
-use Rattle.host_keeper.specs.States.{IsFile, State}
+use Rattle.host_journal.specs.Calls.{Reopens}
+use Rattle.host_journal.specs.States.{IsFile, State, ready_with}
 use Rattle.reply_texts.specs.declared.refusals.ServiceRefusal.TheVariants as service
+use Rattle.sealed_core.specs.Host.{EventView}
 use Rattle.sealed_core.specs.Runs.{CanApplyAll}
 use Rattle.sealed_core.specs.Sealed.{empty}
 use Rattle.requests.specs.Cases.{Settles}
@@ -46,11 +46,16 @@ module _ {D T : Type 0} (d : Ghosts D) (disk after : D) (s new : State) where
   settled_by (fault.NotALog place) said says p = settled_damaged place said says p
   settled_by fault.NoMemory said says p = settled_memory said says p
 
+-- the files of a host that was opened are those of the one that waited
+abbrev pub OpenedFiles : Type 0
+OpenedFiles = (s : State) (event : EventView) (secret : List ℕ) (kept : List EventView) → s.waiting ≡ Some event → secret ≡ s.secret → (kept ≡ s.kept) ⊎ (kept ≡ s.kept ++ event ∷ [])
+    → (file : List ℕ) → IsFile (ready_with secret kept) file → IsFile s file
+
 -- where the request goes on, the files are those of the state before
-pub settled_files : {D : Type 0} (d : Ghosts D) (disk after : D) (s new : State) → Settles d disk after s new None → (file : List ℕ) → d.is_honest disk → IsFile new file → IsFile s file
-settled_files d disk after s new (Settles.ready waits same is none) file honest here = subst (λ (x : State). IsFile x file) is here
-settled_files d disk after s new (Settles.store_fault e waits count torn is bad) file honest here = absurd (cc)
-settled_files d disk after s new (Settles.damaged e place waits count never is bad) file honest here = absurd (cc)
-settled_files d disk after s new (Settles.opened e secret kept waits count told can is none) file honest here =
-    opened_files s e secret kept waits (told honest).secret_stays (told honest).either file (subst (λ (x : State). IsFile x file) is here)
-settled_files d disk after s new (Settles.memory e waits count rests is bad) file honest here = absurd (cc)
+pub settled_files : OpenedFiles → {D : Type 0} (d : Ghosts D) (disk after : D) (s new : State) → Settles d disk after s new None → d.is_honest disk → (file : List ℕ) → IsFile new file → IsFile s file
+settled_files law d disk after s new (Settles.ready waits same is none) honest file here = subst (λ (x : State). IsFile x file) is here
+settled_files law d disk after s new (Settles.store_fault e waits count torn is bad) honest file here = absurd (cc)
+settled_files law d disk after s new (Settles.damaged e place waits count never is bad) honest file here = absurd (cc)
+settled_files law d disk after s new (Settles.opened e secret kept waits count told can is none) honest file here =
+    law s e secret kept waits (told honest).secret_stays (told honest).either file (subst (λ (x : State). IsFile x file) is here)
+settled_files law d disk after s new (Settles.memory e waits count rests is bad) honest file here = absurd (cc)

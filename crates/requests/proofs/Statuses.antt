@@ -1,6 +1,6 @@
 -- Each reply of the host has a status with which a host replies.
 use Rattle.std.proofs.Common.{◌≡◌, ◌⊎◌, ℕ, ◌||◌, ◌==◌, true, false, Bool, IsTrue, refl, sym, subst, ⊎_elim}
-use Rattle.publications.specs.Contents.{ContentView, refusal_told}
+use Rattle.host_results.specs.Contents.{ContentView, refusal_told}
 use Rattle.reply_texts.specs.declared.refusals.ServiceRefusal.{ServiceRefusal}
 use Rattle.reply_texts.specs.Refusals.{is_refusal_status, refusal_row, service_row}
 use Rattle.reply_texts.specs.Replies.{status_of}

@@ -3,9 +3,9 @@ use Rattle.std.proofs.Common.{◌≡◌, ℕ, Option, Some, Ok, Err, refl, sym, 
 use Rattle.split_base.specs.declared.disk.Disk.{Ghosts}
 use Rattle.gate_log.specs.declared.fault.LogFault.{LogFault}
 use Rattle.gate_log.specs.declared.fault.LogFault.TheVariants as fault
-use Rattle.host_keeper.specs.Calls.{Keeps}
-use Rattle.host_keeper.specs.States.{State, host_in}
-use Rattle.publications.specs.Contents.{ContentView}
+use Rattle.host_journal.specs.Calls.{Keeps}
+use Rattle.host_journal.specs.States.{State, host_in}
+use Rattle.host_results.specs.Contents.{ContentView}
 use Rattle.reply_texts.specs.declared.refusals.ServiceRefusal.TheVariants as service
 use Rattle.sealed_core.specs.Host.{CanApply, EventView, HostView}
 use Rattle.sealed_core.specs.Sealed.{applied}

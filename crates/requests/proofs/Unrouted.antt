@@ -1,7 +1,7 @@
 -- A request that leads nowhere.
 use Rattle.std.proofs.Common.{◌≡◌, ℕ, List, Err, refl}
 use Rattle.split_base.specs.declared.disk.Disk.{Ghosts}
-use Rattle.host_keeper.specs.States.{State}
+use Rattle.host_journal.specs.States.{State}
 use Rattle.split_http.specs.declared.head.Head.{Head}
 use Rattle.split_http.specs.declared.routes.RouteFault.{RouteFault}
 use Rattle.split_http.specs.declared.routes.RouteFault.TheVariants.{NoRoute, Method}

@@ -5,9 +5,9 @@ use Rattle.split_base.specs.declared.disk.Disk.{Ghosts}
 use Rattle.split_base.specs.Disk.{Each, Rests, Tears}
 use Rattle.split_base.specs.Faults.{counted}
 use Rattle.gate_log.specs.declared.limits.TheConstants.{VERSION_GATE}
-use Rattle.host_keeper.specs.Calls.{IsAppended, IsSettled}
-use Rattle.host_keeper.specs.States.{Passes, State, host_in, ready_with, waits_with}
-use Rattle.publications.specs.Contents.{ContentView}
+use Rattle.host_journal.specs.Calls.{IsAppended, IsSettled}
+use Rattle.host_journal.specs.States.{Passes, State, host_in, ready_with, waits_with}
+use Rattle.host_results.specs.Contents.{ContentView}
 use Rattle.reply_texts.specs.declared.refusals.ServiceRefusal.TheVariants as service
 use Rattle.sealed_core.specs.Host.{CanApply, EventView}
 use Rattle.sealed_core.specs.Runs.{CanApplyAll}

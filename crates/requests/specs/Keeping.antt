@@ -4,8 +4,8 @@ use Rattle.gate_log.specs.declared.fault.LogFault.{LogFault}
 use Rattle.gate_log.specs.declared.fault.LogFault.TheVariants as fault
 use Rattle.split_base.specs.declared.disk.Disk.{Ghosts}
 use Rattle.split_base.specs.Faults.{counted}
-use Rattle.host_keeper.specs.Calls.{IsAppended}
-use Rattle.host_keeper.specs.States.{State, ready_with, waits_with}
+use Rattle.host_journal.specs.Calls.{IsAppended}
+use Rattle.host_journal.specs.States.{State, ready_with, waits_with}
 use Rattle.reply_texts.specs.declared.refusals.ServiceRefusal.TheVariants as service
 use Rattle.sealed_core.specs.Host.{EventView}
 use Rattle.split_http.specs.declared.routes.RouteFault.{RouteFault}

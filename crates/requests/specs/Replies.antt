@@ -1,8 +1,8 @@
 -- What the reply to a command tells, over the host after the event.
 use Rattle.std.specs.Prelude.{◌≡◌, ℕ, List, Some}
-use Rattle.publications.specs.declared.contents.ContentType.TheVariants.{Json}
-use Rattle.publications.specs.Contents.{ContentView}
-use Rattle.publications.specs.Publications.{IsPublication, case_data}
+use Rattle.host_results.specs.declared.contents.ContentType.TheVariants.{Json}
+use Rattle.host_results.specs.Contents.{ContentView}
+use Rattle.host_results.specs.Publications.{IsPublication, case_data}
 use Rattle.reply_texts.specs.Replies.{status_of, text_of}
 use Rattle.sealed_core.specs.declared.commands.What.{What}
 use Rattle.sealed_core.specs.declared.replies.Reply.{Reply}

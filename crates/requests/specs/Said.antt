@@ -1,7 +1,6 @@
 -- What is said in reply to a request, whoever asked and when.
-use Rattle.std.specs.Prelude.{ℕ, List, true, false, Some, None}
-pub use Rattle.link_runs.specs.Dues.{SaidView}
-use Rattle.publications.specs.Contents.{ContentView, is_plain}
+use Rattle.std.specs.Prelude.{ℕ, Bool, List, Option, true, false, Some, None}
+use Rattle.host_results.specs.Contents.{ContentView, is_plain}
 use Rattle.reply_texts.specs.declared.refusals.ServiceRefusal.{ServiceRefusal}
 use Rattle.reply_texts.specs.declared.refusals.ServiceRefusal.TheVariants as service
 use Rattle.reply_texts.specs.Refusals.{service_row, service_text}
@@ -9,6 +8,14 @@ use Rattle.requests.specs.declared.said.ReplyText.{ReplyText}
 use Rattle.requests.specs.declared.said.ReplyText.TheVariants as text
 use Rattle.requests.specs.declared.said.Said.{Said}
 use Rattle.split_http.specs.declared.replies.Allow.{Allow}
+
+-- what is said: the status, the kind of the text, the text, the methods that are told, and whether it says that memory ran out
+pub record SaidView : Type 0 where
+  pub status : ℕ
+  pub plain : Bool
+  pub text : List ℕ
+  pub allow : Option Allow
+  pub memory : Bool
 
 abbrev pub bytes_of : ReplyText → List ℕ
 bytes_of (text.Written bytes) = bytes.items

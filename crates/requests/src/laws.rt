@@ -1,6 +1,6 @@
 // What holds of every reply to a step: the contract of a function that does nothing.
 ghost use Rattle.std.specs.Prelude.{◌≡◌, ℕ, List, Option, false};
-ghost use Rattle.publications.specs.Contents.{ContentView};
+ghost use Rattle.host_results.specs.Contents.{ContentView};
 ghost use Rattle.reply_texts.specs.Sealing.{sealed_told};
 ghost use Rattle.requests.specs.Replies.{Replies};
 ghost use Rattle.requests.specs.Sent.{sent};

@@ -1,6 +1,6 @@
 // What the reply of the host tells.
 ghost use Rattle.std.specs.Prelude.{◌≡◌, ◌≤◌, IfOk, IsTrue, false};
-ghost use Rattle.publications.specs.Contents.{content_view};
+ghost use Rattle.host_results.specs.Contents.{content_view};
 ghost use Rattle.reply_texts.specs.Telling.{IsAnswered, is_publication};
 ghost use Rattle.search_workers.specs.declared.limits.TheConstants.{MOST_WORKERS};
 ghost use Rattle.sealed_core.specs.Sealed.{applied};
@@ -8,10 +8,11 @@ ghost use Rattle.sealed_core.specs.Step.{answer_view};
 ghost use Rattle.split_http.specs.Replies.{is_host_status};
 ghost use Rattle.requests.specs.Replies.{Shows};
 
-use publications::{ContentType, ReplyContent, publication, publication_status_law};
+use host_results::{ContentType, ReplyContent, publication, publication_status_law};
 use reply_texts::{refusal_status_law, reply_status, reply_text};
 use sealed_core::{Answered, Host, Reply, instance_at, machine_law, publication_law};
 use split_base::{Gate, NoMemory};
+use split_solve::KeptSearches;
 use std::alloc::Global;
 use std::thread::Threads;
 
@@ -22,6 +23,7 @@ pub(crate) fn content<R: Threads + Sync, G: Gate + Sync>(
     rt: &R,
     host: &Host,
     answered: &Answered,
+    searches: &mut KeptSearches,
     workers: u8,
     gate: &G,
 ) -> Result<ReplyContent, NoMemory>
@@ -39,7 +41,7 @@ pub(crate) fn content<R: Threads + Sync, G: Gate + Sync>(
             let Some(instance) = instance_at(host, id) else {
                 unreachable!();
             };
-            publication(alloc, rt, instance, what, workers, gate)
+            publication(alloc, rt, instance, what, searches, workers, gate)
         }
         _ => own_content(alloc, host, answered),
     }

@@ -1,7 +1,7 @@
 // A request that was read whole.
 ghost use Rattle.std.specs.Prelude.{◌≡◌, ◌≤◌, ◌↔◌, None};
-ghost use Rattle.host_keeper.specs.Calls.{Leads};
-ghost use Rattle.host_keeper.specs.States.{Stands, State};
+ghost use Rattle.host_journal.specs.Calls.{Leads};
+ghost use Rattle.host_journal.specs.States.{HasState, State};
 ghost use Rattle.search_workers.specs.declared.limits.TheConstants.{MOST_WORKERS};
 ghost use Rattle.requests.specs.Cases.{Responds, Steps};
 ghost use Rattle.split_http.specs.Places.{IsRouted};
@@ -13,11 +13,12 @@ use crate::commands::command_of;
 use crate::said::Said;
 use crate::settling::settle;
 use crate::stepping::step;
-use host_keeper::Serving;
+use host_journal::{Serving, passing_law};
 use reply_texts::ServiceRefusal;
 use sealed_core::Key;
 use split_base::{Disk, Gate, NoMemory};
 use split_http::{Head, Route, RouteFault, Routes};
+use split_solve::KeptSearches;
 use std::alloc::Global;
 use std::thread::Threads;
 
@@ -30,7 +31,7 @@ use std::thread::Threads;
 ///
 /// A store fault is said only where a call of the disk failed in this request, which is counted once and not tried again; that the file is
 /// no journal, never on an honest disk. That memory ran out may be said at any point, with no event of the request. On an honest disk a
-/// crash at any moment leaves the events kept before, with or without the one of the request.
+/// crash at any moment leaves the events kept before, with or without the one of the request. The kept searches take no part in what is said.
 #[allow(clippy::too_many_arguments)]
 pub fn respond<D: Disk, R: Threads + Sync, G: Gate + Sync>(
     alloc: Global,
@@ -41,23 +42,25 @@ pub fn respond<D: Disk, R: Threads + Sync, G: Gate + Sync>(
     head: &Head,
     body: &[u8],
     moment: u64,
+    searches: &mut KeptSearches,
     workers: u8,
     gate: &G,
 ) -> Said
     requires { (1 ≤ workers) × (workers ≤ MOST_WORKERS) }
-    ensures responds { (s : State) → Stands D.Disk serving.old disk.old s
+    ensures responds { (s : State) → HasState D.Disk serving.old disk.old s
         → Leads D.Disk serving.new disk.old disk.new s (λ new. Responds D.Disk disk.old disk.new head.now body.now moment s new (said_view result)) }
 
     // Whatever the serving stands for.
     ensures count { D.faults disk.old ≤ D.faults disk.new }
     ensures honest { D.is_honest disk.old ↔ D.is_honest disk.new }
 {
+    passing_law::<D>();
     match route_of(routes, head) {
         Err(fault) => unrouted(fault),
         Ok(route) => match settle(alloc, serving, disk) {
             Some(said) => said,
             None => perform(
-                alloc, rt, serving, disk, route, head.key, body, moment, workers, gate,
+                alloc, rt, serving, disk, route, head.key, body, moment, searches, workers, gate,
             ),
         },
     }
@@ -91,18 +94,22 @@ fn perform<D: Disk, R: Threads + Sync, G: Gate + Sync>(
     key: Option<Key>,
     body: &[u8],
     moment: u64,
+    searches: &mut KeptSearches,
     workers: u8,
     gate: &G,
 ) -> Said
     requires ready { serving.old.waiting ≡ None }
     requires workers { (1 ≤ workers) × (workers ≤ MOST_WORKERS) }
-    ensures performed { (s : State) → Stands D.Disk serving.old disk.old s
+    ensures performed { (s : State) → HasState D.Disk serving.old disk.old s
         → Leads D.Disk serving.new disk.old disk.new s (λ new. Steps D.Disk disk.old disk.new moment (command_at route.place route.id key body.now) s new (said_view result)) }
     ensures count { D.faults disk.old ≤ D.faults disk.new }
     ensures honest { D.is_honest disk.old ↔ D.is_honest disk.new }
 {
+    passing_law::<D>();
     match command_of(alloc, route, key, body) {
-        Ok(command) => step(alloc, rt, serving, disk, moment, command, workers, gate),
+        Ok(command) => step(
+            alloc, rt, serving, disk, moment, command, searches, workers, gate,
+        ),
         Err(NoMemory) => Said::out_of_memory(),
     }
 }

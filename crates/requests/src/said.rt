@@ -2,7 +2,7 @@
 ghost use Rattle.std.specs.Prelude.{IsTrue};
 ghost use Rattle.split_http.specs.Replies.{is_host_status};
 
-use publications::ContentType;
+use host_results::ContentType;
 use split_http::Allow;
 
 /// The text of a reply.

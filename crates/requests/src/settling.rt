@@ -1,24 +1,25 @@
 // A host that waits opens its file again.
 ghost use Rattle.std.specs.Prelude.{◌≡◌, ◌≤◌, ◌↔◌, None, IsSome, option_map};
-ghost use Rattle.host_keeper.specs.Calls.{Leads};
-ghost use Rattle.host_keeper.specs.States.{Stands, State};
+ghost use Rattle.host_journal.specs.Calls.{Leads};
+ghost use Rattle.host_journal.specs.States.{HasState, State};
 ghost use Rattle.requests.specs.Cases.{Settles};
 ghost use Rattle.requests.specs.Said.{said_view};
 
 use crate::said::Said;
 use crate::telling::failure;
-use host_keeper::{Serving, reopen};
+use host_journal::{Serving, passing_law, reopen};
 use split_base::Disk;
 use std::alloc::Global;
 
 /// Opens the file again where the host waits. Where it answers `None` the request goes on, and the host is ready.
 pub(crate) fn settle<D: Disk>(alloc: Global, serving: &mut Serving, disk: &mut D) -> Option<Said>
-    ensures settled { (s : State) → Stands D.Disk serving.old disk.old s
+    ensures settled { (s : State) → HasState D.Disk serving.old disk.old s
         → Leads D.Disk serving.new disk.old disk.new s (λ new. Settles D.Disk disk.old disk.new s new (option_map said_view result)) }
     ensures ready { result ≡ None → serving.new.waiting ≡ None }
     ensures count { D.faults disk.old ≤ D.faults disk.new }
     ensures honest { D.is_honest disk.old ↔ D.is_honest disk.new }
 {
+    passing_law::<D>();
     match serving.waiting {
         None => None,
         Some(_) => open_again(alloc, serving, disk),
@@ -28,7 +29,7 @@ pub(crate) fn settle<D: Disk>(alloc: Global, serving: &mut Serving, disk: &mut D
 /// Opens the file of a host that waits.
 fn open_again<D: Disk>(alloc: Global, serving: &mut Serving, disk: &mut D) -> Option<Said>
     requires { IsSome serving.old.waiting }
-    ensures settled { (s : State) → Stands D.Disk serving.old disk.old s
+    ensures settled { (s : State) → HasState D.Disk serving.old disk.old s
         → Leads D.Disk serving.new disk.old disk.new s (λ new. Settles D.Disk disk.old disk.new s new (option_map said_view result)) }
     ensures ready { result ≡ None → serving.new.waiting ≡ None }
     ensures count { D.faults disk.old ≤ D.faults disk.new }

@@ -1,6 +1,6 @@
 // How it is said, and what is said where the journal has failed.
 ghost use Rattle.std.specs.Prelude.{◌≡◌, IsTrue, true};
-ghost use Rattle.publications.specs.Contents.{content_view};
+ghost use Rattle.host_results.specs.Contents.{content_view};
 ghost use Rattle.reply_texts.specs.Refusals.{is_code_alone, service_row};
 ghost use Rattle.split_http.specs.Replies.{is_host_status};
 ghost use Rattle.requests.specs.Said.{bytes_of, content_said, memory_said, method_said, refused_said, said_view};
@@ -8,7 +8,7 @@ ghost use Rattle.requests.specs.Keeping.{FaultSays};
 
 use crate::said::{ReplyText, Said};
 use gate_log::LogFault;
-use publications::{ContentType, ReplyContent, refusal_content};
+use host_results::{ContentType, ReplyContent, refusal_content};
 use reply_texts::{ServiceRefusal, constant_text, memory_text};
 use split_base::NoMemory;
 use split_http::Allow;

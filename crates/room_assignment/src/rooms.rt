@@ -13,9 +13,9 @@ use crate::limits::{DUAL_LIMIT, MOST_STEP};
 use crate::tree::{assign, holder};
 use crate::walks::{Matrix, Walks, longest_walks, step};
 use arrayvec::ArrayVec;
+use best_laws::{key_law, potential_law, value_cycle_law};
 use bid_rules::RentCase;
 use bid_rules::limits::{MEMBER_ROOM, MOST_MEMBERS};
-use rent_laws::{key_law, potential_law, value_cycle_law};
 
 /// An assignment, and the dual numbers that show that it has the greatest sum of keys.
 #[derive(Drop)]

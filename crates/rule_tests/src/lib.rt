@@ -1,14 +1,16 @@
-//! Tests of `bid_rules`, `split_frac`, `split_text`, `envy_check` and `verdicts`, over their
-//! public names alone.
+//! Tests of rules and solvers: what no command shows. They try fractions, whether a table has no envy, the search for goods against a
+//! plain program, and how its workers share it.
 #![tactic(auto)]
 
 #[cfg(test)]
-mod bids;
-#[cfg(test)]
 mod envies;
-#[cfg(test)]
-mod facts;
 #[cfg(test)]
 mod fractions;
 #[cfg(test)]
-mod texts;
+mod goods;
+#[cfg(test)]
+mod goods_cases;
+#[cfg(test)]
+mod plain_goods;
+#[cfg(test)]
+mod workers;

@@ -26,8 +26,8 @@ use Rattle.sealed_core.proofs.BidRules.{by_rules}
 use Rattle.sealed_core.proofs.Equality.{bids_decide, creations_decide, least_holder, none_found}
 
 -- the answer is this refusal
-abbrev Tells : Answer → Refusal → Type 0
-Tells a r = a.reply ≡ reply.Refused r
+abbrev IsRefusedAs : Answer → Refusal → Type 0
+IsRefusedAs a r = a.reply ≡ reply.Refused r
 
 -- the refusal that a reply tells; of another reply, any
 abbrev refusal_in : Reply → Refusal
@@ -42,34 +42,34 @@ refusal_in (reply.Refused r) = r
 -- ---- chains of tests
 
 -- a refused answer tells its refusal alone
-one : (x r : Refusal) → Tells (refused x) r ↔ (r ≡ x)
+one : (x r : Refusal) → IsRefusedAs (refused x) r ↔ (r ≡ x)
 one x r = (λ told. sym (ap refusal_in told), λ is. ap reply.Refused (sym is))
 
 -- an answer that is no refusal tells none
-told_by : (a : Answer) (r : Refusal) → is_refused a.reply ≡ false → Tells a r → ⊥
+told_by : (a : Answer) (r : Refusal) → is_refused a.reply ≡ false → IsRefusedAs a r → ⊥
 told_by a r is told = true≢false (sym (ap is_refused told) ∙ is)
 
 -- so it tells one exactly where nothing holds
-none : (a : Answer) (r : Refusal) → is_refused a.reply ≡ false → Tells a r ↔ ⊥
+none : (a : Answer) (r : Refusal) → is_refused a.reply ≡ false → IsRefusedAs a r ↔ ⊥
 none a r is = (told_by a r is, λ no. absurd no)
 
 -- where the first test holds, its refusal is told
-first_true : (x r : Refusal) (C : Type 0) → ((true ≡ true) × (r ≡ x)) ⊎ ((true ≡ false) × C) → Tells (refused x) r
+first_true : (x r : Refusal) (C : Type 0) → ((true ≡ true) × (r ≡ x)) ⊎ ((true ≡ false) × C) → IsRefusedAs (refused x) r
 first_true x r C (inl this) = (one x r).1 this.1
 first_true x r C (inr later) = absurd (true≢false later.0)
 
 -- where it does not, that of the rest is
-first_false : (x r : Refusal) (rest : Answer) (C : Type 0) → (C → Tells rest r) → ((false ≡ true) × (r ≡ x)) ⊎ ((false ≡ false) × C) → Tells rest r
+first_false : (x r : Refusal) (rest : Answer) (C : Type 0) → (C → IsRefusedAs rest r) → ((false ≡ true) × (r ≡ x)) ⊎ ((false ≡ false) × C) → IsRefusedAs rest r
 first_false x r rest C back (inl this) = absurd (true≢false (sym this.0))
 first_false x r rest C back (inr later) = back later.1
 
 -- the first test refuses, or the rest does
-first : (test : Bool) (x r : Refusal) (rest : Answer) (C : Type 0) → Tells rest r ↔ C → Tells (if test then refused x else rest) r ↔ (((test ≡ true) × (r ≡ x)) ⊎ ((test ≡ false) × C))
+first : (test : Bool) (x r : Refusal) (rest : Answer) (C : Type 0) → IsRefusedAs rest r ↔ C → IsRefusedAs (if test then refused x else rest) r ↔ (((test ≡ true) × (r ≡ x)) ⊎ ((test ≡ false) × C))
 first true x r rest C is = (λ told. inl (refl, (one x r).0 told), first_true x r C)
 first false x r rest C is = (λ told. inr (refl, is.0 told), first_false x r rest C is.1)
 
 -- where the first test passes nothing is refused
-past : (test : Bool) (a : Answer) (r : Refusal) (rest : Answer) (C : Type 0) → is_refused a.reply ≡ false → Tells rest r ↔ C → Tells (if test then a else rest) r ↔ ((test ≡ false) × C)
+past : (test : Bool) (a : Answer) (r : Refusal) (rest : Answer) (C : Type 0) → is_refused a.reply ≡ false → IsRefusedAs rest r ↔ C → IsRefusedAs (if test then a else rest) r ↔ ((test ≡ false) × C)
 past true a r rest C quiet is = (λ told. absurd (told_by a r quiet told), λ later. absurd (true≢false later.0))
 past false a r rest C quiet is = (λ told. (refl, is.0 told), λ later. is.1 later.1)
 
@@ -136,7 +136,7 @@ BidChain s turn given r =
     (((s.turn == MOST_TURNS) ≡ true) × (r ≡ refusal.TurnsUsed)) ⊎ (((s.turn == MOST_TURNS) ≡ false) × ⊥))))))
 
 -- a bid is refused by the first test that holds
-bid_chain : (now id m : ℕ) (s : Standing) (turn : ℕ) (given : Bid) (r : Refusal) → Tells (bid_turn now id m s turn given) r ↔ BidChain s turn given r
+bid_chain : (now id m : ℕ) (s : Standing) (turn : ℕ) (given : Bid) (r : Refusal) → IsRefusedAs (bid_turn now id m s turn given) r ↔ BidChain s turn given r
 bid_chain now id m s turn given r =
     let kept : Answer = record { event = Some (BidKept now id m turn given); reply = reply.Kept turn } in
     let fourth : Answer = if s.turn == MOST_TURNS then refused refusal.TurnsUsed else kept in
@@ -165,7 +165,7 @@ bid_from s turn given r (inr (inr (opened, next, used, is))) =
     inr (opened, (false_from_ne_true (is_again s turn given) (λ yes. let same = (again s turn given yes).0 in omega (arith, same, next)), inr (is_next turn (s.turn + 1) next, inl (eq-eqb s.turn MOST_TURNS used, is))))
 
 -- a checked bid is refused exactly where the refusal has its cause
-bid_cause : (now id m : ℕ) (s : Standing) (turn : ℕ) (given : Bid) (r : Refusal) → Tells (bid_turn now id m s turn given) r ↔ CauseOfBid s turn given r
+bid_cause : (now id m : ℕ) (s : Standing) (turn : ℕ) (given : Bid) (r : Refusal) → IsRefusedAs (bid_turn now id m s turn given) r ↔ CauseOfBid s turn given r
 bid_cause now id m s turn given r = let chain = bid_chain now id m s turn given r in (λ told. bid_to s turn given r (chain.0 told), λ cause. chain.1 (bid_from s turn given r cause))
 
 -- none is no bid
@@ -188,19 +188,19 @@ form_wrong s turn given r wrong (inl this) = this.1
 form_wrong s turn given r wrong (inr (other, is, right, cause)) = absurd (wrong (subst (λ (b : Bid). IsCheckedBid s.facts b) (sym (ap (λ (o : Option Bid). unwrap_or o given) is)) right))
 
 -- the same of a bid of whatever form
-form_cause : (now id m : ℕ) (s : Standing) (turn : ℕ) (form : Option Bid) (r : Refusal) → Tells (bid_form now id m s turn (checked s.facts form)) r ↔ CauseOfForm s turn form r
+form_cause : (now id m : ℕ) (s : Standing) (turn : ℕ) (form : Option Bid) (r : Refusal) → IsRefusedAs (bid_form now id m s turn (checked s.facts form)) r ↔ CauseOfForm s turn form r
 form_cause now id m s turn None r =
     let x = refusal.BadField (form_field s.facts) in
     (λ told. inl (λ given is right. none_given given is, (one x r).0 told), λ cause. (one x r).1 (form_none s turn r cause))
 form_cause now id m s turn (Some given) r =
     let x = refusal.BadField (form_field s.facts) in
     let bid = bid_cause now id m s turn given r in
-    by_rules s.facts given (λ (chosen : Option Bid). Tells (bid_form now id m s turn chosen) r ↔ CauseOfForm s turn (Some given) r)
+    by_rules s.facts given (λ (chosen : Option Bid). IsRefusedAs (bid_form now id m s turn chosen) r ↔ CauseOfForm s turn (Some given) r)
     (λ right. (λ told. inr (given, refl, right, bid.0 told), λ cause. bid.1 (form_right s turn given r right cause)))
     (λ wrong. (λ told. inl (λ other is right. wrong (subst (λ (b : Bid). IsCheckedBid s.facts b) (sym (ap (λ (o : Option Bid). unwrap_or o given) is)) right), (one x r).0 told), λ cause. (one x r).1 (form_wrong s turn given r wrong cause)))
 
 -- the same of a bid's body
-bid_body_cause : (now id m : ℕ) (s : Standing) (body : BidBody) (turn : Option ℕ) (r : Refusal) → Tells (bid_body now id m s body turn) r ↔ CauseOfBidBody s body turn r
+bid_body_cause : (now id m : ℕ) (s : Standing) (body : BidBody) (turn : Option ℕ) (r : Refusal) → IsRefusedAs (bid_body now id m s body turn) r ↔ CauseOfBidBody s body turn r
 bid_body_cause now id m s body None r = one (refusal.BadField field.Turn) r
 bid_body_cause now id m s body (Some turn) r = form_cause now id m s turn (form_of s.facts body) r
 
@@ -230,7 +230,7 @@ WithdrawalChain s turn r =
     ((is_none s.bid ≡ true) × (r ≡ refusal.NoBid)) ⊎ ((is_none s.bid ≡ false) × ⊥))))))))
 
 -- a withdrawal is refused by the first test that holds
-withdrawal_chain : (now id m : ℕ) (s : Standing) (turn : ℕ) (r : Refusal) → Tells (withdrawal_turn now id m s turn) r ↔ WithdrawalChain s turn r
+withdrawal_chain : (now id m : ℕ) (s : Standing) (turn : ℕ) (r : Refusal) → IsRefusedAs (withdrawal_turn now id m s turn) r ↔ WithdrawalChain s turn r
 withdrawal_chain now id m s turn r =
     let gone : Answer = record { event = Some (Withdrawn now id m turn); reply = reply.Kept turn } in
     let fifth : Answer = if is_none s.bid then refused refusal.NoBid else gone in
@@ -269,11 +269,11 @@ withdrawal_from s turn r (inr (inr (inr (opened, next, left, nothing, is)))) =
     inr (opened, (not_withdrawn s turn next, inr (is_next turn (s.turn + 1) next, inr (ne_eqb s.turn MOST_TURNS left, inl ((none_is s.bid).1 nothing, is)))))
 
 -- a withdrawal is refused exactly where the refusal has its cause
-withdrawal_cause : (now id m : ℕ) (s : Standing) (turn : ℕ) (r : Refusal) → Tells (withdrawal_turn now id m s turn) r ↔ CauseOfWithdrawal s turn r
+withdrawal_cause : (now id m : ℕ) (s : Standing) (turn : ℕ) (r : Refusal) → IsRefusedAs (withdrawal_turn now id m s turn) r ↔ CauseOfWithdrawal s turn r
 withdrawal_cause now id m s turn r = let chain = withdrawal_chain now id m s turn r in (λ told. withdrawal_to s turn r (chain.0 told), λ cause. chain.1 (withdrawal_from s turn r cause))
 
 -- the same of a withdrawal's body
-withdrawal_body_cause : (now id m : ℕ) (s : Standing) (turn : Option ℕ) (r : Refusal) → Tells (withdrawal_body now id m s turn) r ↔ CauseOfWithdrawalBody s turn r
+withdrawal_body_cause : (now id m : ℕ) (s : Standing) (turn : Option ℕ) (r : Refusal) → IsRefusedAs (withdrawal_body now id m s turn) r ↔ CauseOfWithdrawalBody s turn r
 withdrawal_body_cause now id m s None r = one (refusal.BadField field.Turn) r
 withdrawal_body_cause now id m s (Some turn) r = withdrawal_cause now id m s turn r
 
@@ -284,7 +284,7 @@ abbrev CloseChain : Standing → Refusal → Type 0
 CloseChain s r = ((s.closed ≡ true) × (r ≡ refusal.Closed)) ⊎ ((s.closed ≡ false) × ((list_all (λ has. has) s.have_bid ≡ false) × (r ≡ refusal.NotAll)))
 
 -- a close is refused by the first test that holds
-close_chain : (now id : ℕ) (s : Standing) (r : Refusal) → Tells (answer_close now id s) r ↔ CloseChain s r
+close_chain : (now id : ℕ) (s : Standing) (r : Refusal) → IsRefusedAs (answer_close now id s) r ↔ CloseChain s r
 close_chain now id s r =
     let all : Bool = list_all (λ has. has) s.have_bid in
     let shut : Answer = record { event = Some (Closed now id); reply = reply.Closed } in
@@ -302,12 +302,12 @@ close_from s r (inl shut) = inl shut
 close_from s r (inr (opened, some, is)) = inr (opened, (false_from_ne_true (list_all (λ has. has) s.have_bid) (λ all. some (all_true s.have_bid all)), is))
 
 -- a body at fault is refused by its fault
-broken_cause : (fault : BodyFault) (r : Refusal) → Tells (broken fault) r ↔ (r ≡ refusal_of fault)
+broken_cause : (fault : BodyFault) (r : Refusal) → IsRefusedAs (broken fault) r ↔ (r ≡ refusal_of fault)
 broken_cause Json r = one refusal.BadJson r
 broken_cause (Field name) r = one (refusal.BadField name) r
 
 -- whatever a caller may ask is refused exactly where the refusal has its cause
-ask_cause : (now id m : ℕ) (s : Standing) (ask : Ask) (r : Refusal) → Tells (answer_ask now id m s ask) r ↔ CauseOfAsk s ask r
+ask_cause : (now id m : ℕ) (s : Standing) (ask : Ask) (r : Refusal) → IsRefusedAs (answer_ask now id m s ask) r ↔ CauseOfAsk s ask r
 ask_cause now id m s asks.Status r = none (says (reply.Status id m)) r refl
 ask_cause now id m s (asks.Bid (Err fault)) r = broken_cause fault r
 ask_cause now id m s (asks.Bid (Ok body)) r = bid_body_cause now id m s body body.turn r
@@ -328,22 +328,22 @@ over_reply now id m i ask false true e = refl
 over_reply now id m i ask false false e = refl
 
 -- past the test of the role, the rest tells
-role_true : (x r : Refusal) (rest : Answer) (C : Type 0) → (C → Tells rest r) → ((true ≡ false) × (r ≡ x)) ⊎ ((true ≡ true) × C) → Tells rest r
+role_true : (x r : Refusal) (rest : Answer) (C : Type 0) → (C → IsRefusedAs rest r) → ((true ≡ false) × (r ≡ x)) ⊎ ((true ≡ true) × C) → IsRefusedAs rest r
 role_true x r rest C back (inl this) = absurd (true≢false this.0)
 role_true x r rest C back (inr later) = back later.1
 
 -- who may not ask is told so
-role_false : (x r : Refusal) (C : Type 0) → ((false ≡ false) × (r ≡ x)) ⊎ ((false ≡ true) × C) → Tells (refused x) r
+role_false : (x r : Refusal) (C : Type 0) → ((false ≡ false) × (r ≡ x)) ⊎ ((false ≡ true) × C) → IsRefusedAs (refused x) r
 role_false x r C (inl this) = (one x r).1 this.1
 role_false x r C (inr later) = absurd (true≢false (sym later.0))
 
 -- the test of the role before the rest
-role_of : (may : Bool) (x r : Refusal) (rest : Answer) (C : Type 0) → Tells rest r ↔ C → Tells (if not may then refused x else rest) r ↔ (((may ≡ false) × (r ≡ x)) ⊎ ((may ≡ true) × C))
+role_of : (may : Bool) (x r : Refusal) (rest : Answer) (C : Type 0) → IsRefusedAs rest r ↔ C → IsRefusedAs (if not may then refused x else rest) r ↔ (((may ≡ false) × (r ≡ x)) ⊎ ((may ≡ true) × C))
 role_of true x r rest C is = (λ told. inr (refl, is.0 told), role_true x r rest C is.1)
 role_of false x r rest C is = (λ told. inl (refl, (one x r).0 told), role_false x r C)
 
 -- whatever a caller asks is refused exactly where the refusal has its cause
-caller_cause : (now id : ℕ) (ask : Ask) (i : InstanceView) (m : ℕ) (r : Refusal) → Tells (answer_caller now id ask i m) r ↔ CauseOfCaller now i m ask r
+caller_cause : (now id : ℕ) (ask : Ask) (i : InstanceView) (m : ℕ) (r : Refusal) → IsRefusedAs (answer_caller now id ask i m) r ↔ CauseOfCaller now i m ask r
 caller_cause now id ask i m r =
     let after : Answer = record { event = Some (Closed now id); reply = (answer_ask now id m (standing_of i m true) ask).reply } in
     let second : Answer = if is_over now i then after else answer_ask now id m (standing_of i m i.closed) ask in
@@ -375,7 +375,7 @@ key_some now secret id i key ask m r is (inr (k, holds, cause)) =
 
 -- the same of a command under a key
 key_cause : (now : ℕ) (secret : List ℕ) (id : ℕ) (i : InstanceView) (key : List ℕ) (ask : Ask) (r : Refusal) (who : Option ℕ) → holder secret id i key ≡ who
-    → Tells (answer_to now id ask (caller_by i who)) r ↔ CauseOfKey now secret id i key ask r
+    → IsRefusedAs (answer_to now id ask (caller_by i who)) r ↔ CauseOfKey now secret id i key ask r
 key_cause now secret id i key ask r None is = (
   λ told. inl (λ m among. none_found secret key id (length i.creation.members + 1) 0 is m (omega arith) (omega (arith, among)), (one refusal.WrongKey r).0 told),
   λ cause. (one refusal.WrongKey r).1 (key_none now secret id i key ask r is cause),
@@ -386,7 +386,7 @@ key_cause now secret id i key ask r (Some m) is =
 
 -- the same of a command on an instance
 on_cause : (now : ℕ) (secret : List ℕ) (id : ℕ) (found : Option InstanceView) (key : Option (List ℕ)) (ask : Ask) (r : Refusal)
-    → Tells (answer_to now id ask (caller_in secret id found key)) r ↔ CauseOn now secret id found key ask r
+    → IsRefusedAs (answer_to now id ask (caller_in secret id found key)) r ↔ CauseOn now secret id found key ask r
 on_cause now secret id None key ask r = one refusal.NoInstance r
 on_cause now secret id (Some i) None ask r = one refusal.NoKey r
 on_cause now secret id (Some i) (Some key) ask r = key_cause now secret id i key ask r (holder secret id i key) refl
@@ -425,7 +425,7 @@ old_from instances c r id found is (inr (each, full, this)) = absurd (true≢fal
 
 -- a creation is refused exactly where the refusal has its cause
 new_cause : (now : ℕ) (instances : List InstanceView) (c : CreationView) (r : Refusal) (found : Found) → tagged_from 1 instances c.tag ≡ found
-    → Tells (new_creation now (length instances) c found) r ↔ CauseOfCreation instances (Ok c) r
+    → IsRefusedAs (new_creation now (length instances) c found) r ↔ CauseOfCreation instances (Ok c) r
 new_cause now instances c r None is =
     let made : Answer = record { event = Some (Created now c); reply = reply.Created (length instances + 1) } in
     let chain = past (nat_lt (length instances) MOST_INSTANCES) made r (refused refusal.HostFull) _ refl (one refusal.HostFull r) in (
@@ -439,11 +439,11 @@ new_cause now instances c r (Some (id, found)) is =
     )
 
 -- a command is refused exactly where the refusal has its cause
-pub refusal_cause : (h : HostView) (t : ℕ) (command : CommandView) (r : Refusal) → Tells (step h t command) r ↔ Cause h t command r
+pub refusal_cause : (h : HostView) (t : ℕ) (command : CommandView) (r : Refusal) → IsRefusedAs (step h t command) r ↔ Cause h t command r
 refusal_cause h t (Create (Err fault)) r = broken_cause fault r
 refusal_cause h t (Create (Ok c)) r = new_cause (max t h.moment) h.instances c r (tagged_from 1 h.instances c.tag) refl
 refusal_cause h t (To id key ask) r = on_cause (max t h.moment) h.secret id (instance_at h id) key ask r
 
 -- the same of an answer that is the step's
 pub refused_from : (h : HostView) (t : ℕ) (command : CommandView) (a : Answer) → a ≡ step h t command → (r : Refusal) → (a.reply ≡ reply.Refused r) ↔ Cause h t command r
-refused_from h t command a is r = subst (λ (b : Answer). Tells b r ↔ Cause h t command r) (sym is) (refusal_cause h t command r)
+refused_from h t command a is r = subst (λ (b : Answer). IsRefusedAs b r ↔ Cause h t command r) (sym is) (refusal_cause h t command r)

@@ -12,7 +12,7 @@ use Rattle.nash_search.specs.declared.found.Found.{Found}
 use Rattle.search_workers.specs.declared.limits.TheConstants.{LONGEST_PIECE}
 use Rattle.search_workers.specs.declared.view.DeskView.{DeskView}
 use Rattle.search_workers.specs.declared.worker.BlockRule.{BlockRule}
-use Rattle.search_workers.specs.Crews.{Stands}
+use Rattle.search_workers.specs.Crews.{AccountsFor}
 use Rattle.search_workers.specs.Plays.{HasAll}
 use Rattle.search_workers.specs.Views.{joined}
 use Rattle.search_workers.specs.Works.{count_at, count_of_tickets, counted_at, counted_of_tickets}
@@ -20,8 +20,8 @@ use Rattle.search_workers.proofs.Sums.{below_not, below_yes, counted_once, only,
 use Rattle.search_workers.proofs.TicketTasks.{RowLaws, block_best, count_all, count_most}
 
 -- the views of some workers and of others, as one
-pub stands_join : (case : GoodsCase) (rule : BlockRule) (workers a b : ℕ) (x y z : Option Found) (v w : DeskView) → Stands case rule workers a v x → Stands case rule workers b w y
-    → ((xs ys : List (List ℕ)) → IsFoundBest case xs x → IsFoundBest case ys y → IsFoundBest case (xs ++ ys) z) → Stands case rule workers (a + b) (joined v w) z
+pub stands_join : (case : GoodsCase) (rule : BlockRule) (workers a b : ℕ) (x y z : Option Found) (v w : DeskView) → AccountsFor case rule workers a v x → AccountsFor case rule workers b w y
+    → ((xs ys : List (List ℕ)) → IsFoundBest case xs x → IsFoundBest case ys y → IsFoundBest case (xs ++ ys) z) → AccountsFor case rule workers (a + b) (joined v w) z
 stands_join case rule workers a b x y z v w p q better =
     let counts : count_of_tickets case rule.floor rule.above rule.block (v.tickets ++ w.tickets)
     ≡ count_of_tickets case rule.floor rule.above rule.block v.tickets + count_of_tickets case rule.floor rule.above rule.block w.tickets =
@@ -42,7 +42,7 @@ stands_join case rule workers a b x y z v w p q better =
     }
 
 -- where none has stopped, all tasks of the block are walked whole
-pub ended_done : RowLaws → (case : GoodsCase) (rule : BlockRule) (workers last : ℕ) (best : Option Found) (v : DeskView) → Stands case rule workers workers v best → HasAll v last → v.stops ≡ 0
+pub ended_done : RowLaws → (case : GoodsCase) (rule : BlockRule) (workers last : ℕ) (best : Option Found) (v : DeskView) → AccountsFor case rule workers workers v best → HasAll v last → v.stops ≡ 0
     → (v.reported ≤ rule.left) × (v.reported ≡ count_block case rule.floor rule.above rule.block) × IsFoundBest case (counted_of_block case rule.floor rule.above rule.block) best
 ended_done laws case rule workers last best v s all none_stopped =
     let x = s.whole none_stopped in
@@ -67,7 +67,7 @@ ended_done laws case rule workers last best v s all none_stopped =
     )
 
 -- where one has stopped, more are counted than were left
-pub ended_over : RowLaws → (case : GoodsCase) (rule : BlockRule) (workers last : ℕ) (best : Option Found) (v : DeskView) → Stands case rule workers workers v best → HasAll v last → 1 ≤ v.stops
+pub ended_over : RowLaws → (case : GoodsCase) (rule : BlockRule) (workers last : ℕ) (best : Option Found) (v : DeskView) → AccountsFor case rule workers workers v best → HasAll v last → 1 ≤ v.stops
     → (rule.left < v.reported) × (v.reported ≤ rule.left + LONGEST_PIECE * workers) × (v.reported ≤ count_block case rule.floor rule.above rule.block)
 ended_over laws case rule workers last best v s all stopped =
     let over = all.over stopped in

@@ -17,7 +17,7 @@ abbrev pub IsReady : TableId → ℕ → ℕ → Worker → Type 0
 IsReady desk left workers worker = (worker.seat.table_id ≡ desk) × (worker.seat.me.1 ≡ []) × (worker.seat.me.0 ≡ desk_view [] 0 1 0 left workers)
 
 -- what a view stands for that some workers left, and the best that they found: without a stop they have all their tickets' tasks
-pub record Stands (case : GoodsCase) (rule : BlockRule) (workers allot : ℕ) (view : DeskView) (best : Option Found) : Type 0 where
+pub record AccountsFor (case : GoodsCase) (rule : BlockRule) (workers allot : ℕ) (view : DeskView) (best : Option Found) : Type 0 where
   pub allot_is : view.allot ≡ allot
   pub left_is : view.left ≡ rule.left
   pub workers_is : view.workers ≡ workers
@@ -28,7 +28,7 @@ pub record Stands (case : GoodsCase) (rule : BlockRule) (workers allot : ℕ) (v
 pub record HasEnded (case : GoodsCase) (rule : BlockRule) (desk : TableId) (workers allot : ℕ) (worker : Worker) : Type 0 where
   pub seat : worker.seat.table_id ≡ desk
   pub slots : worker.seat.me.1 ≡ []
-  pub stands : Stands case rule workers allot worker.seat.me.0 worker.walked.best
+  pub stands : AccountsFor case rule workers allot worker.seat.me.0 worker.walked.best
   pub reported : worker.seat.me.0.reported ≡ worker.walked.nodes
   pub few : worker.walked.nodes ≤ MOST_REPORTED * allot
   pub going : worker.walked.stopped ≡ false → worker.seat.me.0.stops ≡ 0

@@ -16,7 +16,7 @@ Draws step seat found after = (after ≡ (drawn seat.0 found, seat.1)) × All (�
 
 -- what a report of so many prefixes tells, where the node word was as it was found: no more than is left is reported so far, or no more than
 -- that and a piece for each worker
-pub record Tells (view : DeskView) (count found : ℕ) (after : DeskView) : Type 0 where
+pub record IsReported (view : DeskView) (count found : ℕ) (after : DeskView) : Type 0 where
   pub told : after ≡ told view count found
   pub within : found + count ≤ view.left → after.reported ≤ view.left
   pub most : after.reported ≤ view.left + LONGEST_PIECE * view.workers
@@ -25,7 +25,7 @@ pub record Tells (view : DeskView) (count found : ℕ) (after : DeskView) : Type
 
 -- the operand joins what is reported
 abbrev pub Reports : Step (Unit {0}) → SeatState → ℕ → SeatState → Type 0
-Reports step seat found after = Tells seat.0 step.first found after.0 × (after.1 ≡ seat.1)
+Reports step seat found after = IsReported seat.0 step.first found after.0 × (after.1 ≡ seat.1)
 
 -- the view that stands for all workers has all tickets and reports
 pub record HasAll (view : DeskView) (tickets_drawn : ℕ) : Type 0 where

@@ -1,6 +1,6 @@
 ghost use Rattle.std.specs.Prelude.{◌≡◌, ℕ, ◌+◌, ◌-◌, ◌<◌, ◌≤◌, ◌*◌, length, All, [], IfOk, false, nat_lt};
 ghost use Rattle.search_workers.specs.Desks.{IsAt};
-ghost use Rattle.search_workers.specs.Plays.{HasAll, Tells};
+ghost use Rattle.search_workers.specs.Plays.{HasAll, IsReported};
 ghost use Rattle.search_workers.specs.Views.{drawn, fewer, fresh, joined, whole};
 
 use crate::limits::{LONGEST_PIECE, MOST_TICKETS, MOST_WORKERS};
@@ -51,7 +51,7 @@ pub fn report(desk: &Desk, seat: &mut DeskSeat, count: u16, left: u32) -> bool
     requires room { seat.old.me.0.stops < seat.old.me.0.allot }
     requires left { left ≡ seat.old.me.0.left }
     ensures seat { (seat.new.table_id ≡ seat.old.table_id) × (seat.new.id ≡ seat.old.id) × (seat.new.me.1 ≡ seat.old.me.1) }
-    ensures view { (found : ℕ) × Tells seat.old.me.0 count found seat.new.me.0 × (result ≡ nat_lt left (found + count)) }
+    ensures view { (found : ℕ) × IsReported seat.old.me.0 count found seat.new.me.0 × (result ≡ nat_lt left (found + count)) }
     ensures within { result ≡ false → seat.new.me.0.reported ≤ left }
     ensures most { seat.new.me.0.reported ≤ left + LONGEST_PIECE * seat.new.me.0.workers }
 {

@@ -1,6 +1,6 @@
 -- The last request of a link.
 use Rattle.std.proofs.Common.{◌≡◌, ◌==◌, ◌<◌, ℕ, zero, suc, true, Option, None, is_some, refl, zero-lt-suc}
-use Rattle.link_runs.specs.declared.ends.LinkEnd.{LinkEnd}
+use Rattle.serving.specs.declared.ends.LinkEnd.{LinkEnd}
 
 none_is : (end : Option LinkEnd) → end ≡ None → is_some end ≡ true → ⊥
 none_is end none is = absurd (cc)

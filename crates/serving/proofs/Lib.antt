@@ -1,2 +1,10 @@
-mod Worlds
+mod Beside
+mod EndBehind
+mod Finishing
+mod Going
+mod Hearing
+mod Joining
 mod Lasting
+mod Porting
+mod RefusedHeads
+mod Worlds

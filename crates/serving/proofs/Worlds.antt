@@ -1,13 +1,13 @@
 -- A request at the host's world.
 use Rattle.std.proofs.Common.{◌≡◌, ℕ, List, refl, sym, subst}
 use Rattle.split_base.specs.declared.disk.Disk.{Ghosts}
-use Rattle.host_keeper.specs.Calls.{Leads}
-use Rattle.host_keeper.specs.States.{Passes, State}
-use Rattle.host_keeper.specs.declared.serving.Serving.{Serving}
-use Rattle.link_runs.specs.Dues.{SaidView}
+use Rattle.host_journal.specs.Calls.{Leads}
+use Rattle.host_journal.specs.States.{Passes, State}
+use Rattle.host_journal.specs.declared.serving.Serving.{Serving}
 use Rattle.requests.specs.Cases.{Responds}
 use Rattle.split_http.specs.declared.head.Head.{Head}
 use Rattle.serving.specs.Serving.{StandsAt, host_service}
+use Rattle.requests.specs.Said.{SaidView}
 
 -- the new world, for which the serving stands, and the response that led to it
 pub responded : {D : Type 0} (d : Ghosts D) (serving : Serving) (disk after : D) (w : D × State) (head : Head) (body given : List ℕ) (moment : ℕ) (said : SaidView) → w.0 ≡ disk → given ≡ body

@@ -1,17 +1,17 @@
 -- The host as a service of links.
 use Rattle.std.specs.Prelude.{◌≡◌, ℕ, ◌==◌, Bool, Option, if◌then◌else◌}
 use Rattle.split_base.specs.declared.disk.Disk.{Ghosts}
-use Rattle.host_keeper.specs.States.{Passes, Stands, State}
-use Rattle.host_keeper.specs.declared.serving.Serving.{Serving}
-use Rattle.link_runs.specs.declared.refusals.HeadRefusal.{HeadRefusal}
-use Rattle.link_runs.specs.declared.refusals.HeadRefusal.TheVariants as refusals
-use Rattle.link_runs.specs.Dues.{DueView, SaidView}
-use Rattle.link_runs.specs.Runs.{Service}
+use Rattle.host_journal.specs.States.{HasState, Passes, State}
+use Rattle.host_journal.specs.declared.serving.Serving.{Serving}
+use Rattle.serving.specs.declared.refusals.HeadRefusal.{HeadRefusal}
+use Rattle.serving.specs.declared.refusals.HeadRefusal.TheVariants as refusals
+use Rattle.serving.specs.Dues.{DueView}
+use Rattle.serving.specs.Runs.{Service}
 use Rattle.reply_texts.specs.declared.refusals.ServiceRefusal.{ServiceRefusal}
 use Rattle.reply_texts.specs.declared.refusals.ServiceRefusal.TheVariants as service
 use Rattle.requests.specs.declared.said.Said.{Said}
 use Rattle.requests.specs.Cases.{Responds}
-use Rattle.requests.specs.Said.{memory_said, refused_said, said_view}
+use Rattle.requests.specs.Said.{SaidView, memory_said, refused_said, said_view}
 use Rattle.split_http.specs.declared.limits.TheConstants.{BAD_HOST, BAD_LENGTH, FRAMING, LENGTH_MISSING}
 
 -- the refusal of a head by its number
@@ -40,7 +40,7 @@ host_service {D} d = record {
 
 -- the serving and its disk stand for this world
 abbrev pub StandsAt : {D : Type 0} → Ghosts D → Serving → D → D × State → Type 0
-StandsAt d serving disk w = (w.0 ≡ disk) × Stands d serving disk w.1
+StandsAt d serving disk w = (w.0 ≡ disk) × HasState d serving disk w.1
 
 -- what is due where this is said, in this manner
 abbrev pub due_of : Said → Option ℕ → Bool → Bool → DueView

@@ -1,20 +1,21 @@
 // The heads of a link in order.
 ghost use Rattle.std.specs.Prelude.{◌≡◌, ◌≤◌, ◌↔◌, ◌||◌, ℕ, Option, IsSome, Some, true};
-ghost use Rattle.host_keeper.specs.States.{State};
+ghost use Rattle.host_journal.specs.States.{State};
 ghost use Rattle.search_workers.specs.declared.limits.TheConstants.{MOST_WORKERS};
 ghost use Rattle.split_base.specs.Clocks.{ClockRun};
-ghost use Rattle.link_runs.specs.declared.limits.TheConstants.{MAX_REQUESTS};
-ghost use Rattle.link_runs.specs.Runs.{LinkRun};
-ghost use Rattle.link_runs.specs.Served.{CountsServed, HeadServed, RanTo, carried, link_view, tells_of};
+ghost use Rattle.serving.specs.declared.limits.TheConstants.{MAX_REQUESTS};
+ghost use Rattle.serving.specs.Runs.{LinkRun};
+ghost use Rattle.serving.specs.Served.{CountsServed, HeadServed, RanTo, carried, link_view, tells_of};
 ghost use Rattle.serving.specs.Serving.{StandsAt, host_service};
 
 use crate::replies::{refusal_said, write_said};
-use hearing::{Heard, hear, is_head};
-use host_keeper::Serving;
-use link_runs::{LinkEnd, MAX_REQUESTS};
+use crate::turns::is_head;
+use crate::{Heard, LinkEnd, MAX_REQUESTS, hear};
+use host_journal::Serving;
 use requests::respond;
 use split_base::{Clock, Disk, Gate, Link};
 use split_http::{Carry, Head, Routes};
+use split_solve::KeptSearches;
 use std::alloc::Global;
 use std::thread::Threads;
 
@@ -30,6 +31,7 @@ fn serve_head<D: Disk, L: Link, C: Clock, R: Threads + Sync, G: Gate + Sync>(
     routes: &Routes,
     carry: &mut Carry,
     last: bool,
+    searches: &mut KeptSearches,
     workers: u8,
     gate: &G,
 ) -> Option<LinkEnd>
@@ -54,7 +56,7 @@ fn serve_head<D: Disk, L: Link, C: Clock, R: Threads + Sync, G: Gate + Sync>(
         } => write_said(link, &refusal_said(refusal), answer, bodiless, true),
         Heard::Request { head, body, moment } => {
             let said = respond(
-                alloc, rt, serving, disk, routes, &head, &body, moment, workers, gate,
+                alloc, rt, serving, disk, routes, &head, &body, moment, searches, workers, gate,
             );
             let bodiless = is_head(head.verb);
             write_said(link, &said, Some(moment), bodiless, closes(&head, last))
@@ -77,7 +79,8 @@ fn closes(head: &Head, last: bool) -> bool
 /// - `LinkFault` comes only where one of the link's two counts of faults has risen, by one. The link got a first part of the bytes due.
 /// - `Memory`: a memory reply was the last, and was written.
 ///
-/// Goods are searched by 1 to `MOST_WORKERS` workers, who take no part in what is written.
+/// Goods are searched by 1 to `MOST_WORKERS` workers, unless a kept search is of the same case. Neither they nor the kept searches take part
+/// in what is written.
 #[allow(clippy::too_many_arguments)]
 pub fn serve_one<D: Disk, L: Link, C: Clock, R: Threads + Sync, G: Gate + Sync>(
     alloc: Global,
@@ -87,6 +90,7 @@ pub fn serve_one<D: Disk, L: Link, C: Clock, R: Threads + Sync, G: Gate + Sync>(
     link: &mut L,
     clock: &mut C,
     routes: &Routes,
+    searches: &mut KeptSearches,
     workers: u8,
     gate: &G,
 ) -> LinkEnd
@@ -117,6 +121,7 @@ pub fn serve_one<D: Disk, L: Link, C: Clock, R: Threads + Sync, G: Gate + Sync>(
             routes,
             &mut carry,
             left == 0,
+            searches,
             workers,
             gate,
         ) {

@@ -1,17 +1,18 @@
 // The links of a port in order.
 ghost use Rattle.std.specs.Prelude.{◌≡◌, ◌<◌, ◌≤◌, ◌-◌, ◌⊎◌, ◌↔◌, ℕ, IfOk, IsErr, Ok};
-ghost use Rattle.host_keeper.specs.States.{State};
+ghost use Rattle.host_journal.specs.States.{State};
 ghost use Rattle.split_base.specs.Clocks.{ClockRun};
 ghost use Rattle.split_base.specs.Faults.{HasCause, IsCounted};
 ghost use Rattle.search_workers.specs.declared.limits.TheConstants.{MOST_WORKERS};
-ghost use Rattle.link_runs.specs.Ports.{LinkGone, PortServed};
-ghost use Rattle.link_runs.specs.Served.{tells_of};
+ghost use Rattle.serving.specs.Ports.{LinkGone, PortServed};
+ghost use Rattle.serving.specs.Served.{tells_of};
 ghost use Rattle.serving.specs.Serving.{StandsAt, host_service};
 
 use crate::serve_one;
-use host_keeper::Serving;
+use host_journal::Serving;
 use split_base::{Clock, Disk, Failed, Gate, Port};
 use split_http::Routes;
+use split_solve::KeptSearches;
 use std::alloc::Global;
 use std::thread::Threads;
 
@@ -26,6 +27,7 @@ fn serve_link<D: Disk, P: Port, C: Clock, R: Threads + Sync, G: Gate + Sync>(
     clock: &mut C,
     routes: &Routes,
     mut link: P::Link,
+    searches: &mut KeptSearches,
     workers: u8,
     gate: &G,
 )
@@ -42,7 +44,7 @@ fn serve_link<D: Disk, P: Port, C: Clock, R: Threads + Sync, G: Gate + Sync>(
     ensures honest { D.is_honest disk.old ↔ D.is_honest disk.new }
 {
     let _end = serve_one(
-        alloc, rt, serving, disk, &mut link, clock, routes, workers, gate,
+        alloc, rt, serving, disk, &mut link, clock, routes, searches, workers, gate,
     );
     port.done(link);
 }
@@ -61,6 +63,7 @@ pub fn serve<D: Disk, P: Port, C: Clock, R: Threads + Sync, G: Gate + Sync>(
     clock: &mut C,
     routes: &Routes,
     count: u64,
+    searches: &mut KeptSearches,
     workers: u8,
     gate: &G,
 ) -> Result<u64, Failed>
@@ -84,7 +87,7 @@ pub fn serve<D: Disk, P: Port, C: Clock, R: Threads + Sync, G: Gate + Sync>(
             Err(Failed) => return Err(Failed),
             Ok(None) => return Ok(served),
             Ok(Some(link)) => serve_link(
-                alloc, rt, serving, disk, port, clock, routes, link, workers, gate,
+                alloc, rt, serving, disk, port, clock, routes, link, searches, workers, gate,
             ),
         }
     }

@@ -2,13 +2,12 @@
 ghost use Rattle.std.specs.Prelude.{◌≡◌, ◌≤◌, IfSome, IsSome, true};
 ghost use Rattle.http.specs.StatusCode.{reason_phrase};
 ghost use Rattle.split_base.specs.declared.limits.TheConstants.{LAST_MOMENT};
-ghost use Rattle.link_runs.specs.Dues.{Manner, Tells};
-ghost use Rattle.link_runs.specs.Served.{FinishSays, link_view, tells_of};
+ghost use Rattle.serving.specs.Dues.{Manner, SaysDue};
+ghost use Rattle.serving.specs.Served.{FinishSays, link_view, tells_of};
 ghost use Rattle.requests.specs.Said.{said_view};
 ghost use Rattle.serving.specs.Serving.{due_of, refusal_said as said_of, stated_refusal as stated_by};
 
-use hearing::finish;
-use link_runs::{HeadRefusal, LinkEnd};
+use crate::{HeadRefusal, LinkEnd, finish};
 use reply_texts::ServiceRefusal;
 use requests::Said;
 use split_base::Link;
@@ -66,7 +65,7 @@ pub(crate) fn write_said<L: Link>(
 
 // The reply as it is written.
 fn reply_of(said: &Said, moment: Option<u64>, bodiless: bool, closes: bool) -> HttpReply<'_>
-    ensures tells { Tells (due_of said.now moment bodiless closes) result }
+    ensures tells { SaysDue (due_of said.now moment bodiless closes) result }
 {
     HttpReply {
         status: said.status,

@@ -2,9 +2,8 @@
 use Rattle.std.proofs.Common.{◌≡◌, ℕ, List, [], ◌∷◌, ◌++◌, Option, Some, None, sym, ap, ◌∙◌, subst, ⊎_elim, inl, inr, append_assoc, append-nil, Contains, Ok}
 use Rattle.std.proofs.lemmas.List.Elements.{Contains-append_left, Contains-push}
 use Rattle.split_base.specs.declared.disk.Disk.{Ghosts}
-use Rattle.host_keeper.specs.States.{State, ready_with}
-use Rattle.link_runs.specs.Dues.{SaidView}
-use Rattle.link_runs.specs.Exchanges.{Answered, Exchange}
+use Rattle.host_journal.specs.States.{State, ready_with}
+use Rattle.serving.specs.Exchanges.{Answered, Exchange}
 use Rattle.requests.specs.Cases.{Responds, Settles, Steps}
 use Rattle.requests.specs.Commands.{command_of}
 use Rattle.sealed_core.specs.Host.{EventView}
@@ -13,6 +12,7 @@ use Rattle.split_http.specs.declared.routes.Route.{Route}
 use Rattle.split_http.specs.Places.{IsRouted}
 use Rattle.serving_laws.specs.Accepting.{Accepts, AreMade, IsMade}
 use Rattle.serving_laws.proofs.Chains.{passes_first, responds_first}
+use Rattle.requests.specs.Said.{SaidView}
 
 module _ {W : Type 0} (run : List (Exchange W)) (first : State) where
   -- what came of one state by requests of the run

@@ -8,13 +8,14 @@ use Rattle.split_http.specs.declared.heads.HeadTurn.TheVariants as turns
 use Rattle.split_http.specs.declared.replies.HttpReply.{HttpReply}
 use Rattle.split_http.specs.Replies.{IsDateLine, IsReply, reply_with}
 use Rattle.split_http.specs.Turns.{HeadSays, IsBad, IsHeadDone, interim_of}
-use Rattle.link_runs.specs.declared.refusals.HeadRefusal.{HeadRefusal}
-use Rattle.link_runs.specs.declared.refusals.HeadRefusal.TheVariants as refusals
-use Rattle.link_runs.specs.Dues.{AreBytes, DueView, SaidView, closes, is_head, manner_of}
-use Rattle.link_runs.specs.Ends.{Ending}
-use Rattle.link_runs.specs.Exchanges.{refused_due}
+use Rattle.serving.specs.declared.refusals.HeadRefusal.{HeadRefusal}
+use Rattle.serving.specs.declared.refusals.HeadRefusal.TheVariants as refusals
+use Rattle.serving.specs.Dues.{AreBytes, DueView, closes, is_head, manner_of}
+use Rattle.serving.specs.Ends.{Ending}
+use Rattle.serving.specs.Exchanges.{refused_due}
 use Rattle.serving_laws.specs.Writing.{IsDone}
-use Rattle.link_runs.specs.Runs.{After, Asks, BodyStops, LinkRun, Refuses, Replies, Run, SaysHead, Service, Stops, end_of}
+use Rattle.serving.specs.Runs.{After, Asks, BodyStops, LinkRun, Refuses, Replies, Run, SaysHead, Service, Stops, end_of}
+use Rattle.requests.specs.Said.{SaidView}
 
 -- of the same bytes one turn comes first, and the same is left
 abbrev TurnsOnce : Type 0

@@ -4,12 +4,11 @@ use Rattle.std.proofs.Math.Nat.{min-eq_left, min-eq_right}
 use Rattle.std.proofs.lemmas.Bool.{cases_lt}
 use Rattle.split_base.specs.Faults.{HasRisen, counted}
 use Rattle.split_base.specs.declared.disk.Disk.{Ghosts}
-use Rattle.host_keeper.specs.States.{State, ready_with}
-use Rattle.link_runs.specs.Dues.{SaidView}
-use Rattle.link_runs.specs.Exchanges.{Exchange}
+use Rattle.host_journal.specs.States.{State, ready_with}
+use Rattle.serving.specs.Exchanges.{Exchange}
 use Rattle.requests.specs.Cases.{Responds, Settles, Steps}
 use Rattle.requests.specs.Commands.{command_of}
-use Rattle.requests.specs.Said.{memory_said}
+use Rattle.requests.specs.Said.{SaidView, memory_said}
 use Rattle.sealed_core.specs.Host.{EventView}
 use Rattle.split_http.specs.declared.routes.Route.{Route}
 use Rattle.split_http.specs.Places.{IsRouted}

@@ -4,8 +4,8 @@ use Rattle.std.proofs.lemmas.List.Elements.{Contains-push_cases}
 use Rattle.split_base.specs.declared.disk.Disk.{Ghosts}
 use Rattle.split_base.specs.Disk.{Each}
 use Rattle.host_journal.specs.Journal.{HoldsEvents}
-use Rattle.host_keeper.specs.States.{IsFile, State, lists_of}
-use Rattle.link_runs.specs.Exchanges.{Answered, Exchange}
+use Rattle.host_journal.specs.States.{IsFile, State, lists_of}
+use Rattle.serving.specs.Exchanges.{Answered, Exchange}
 use Rattle.sealed_core.specs.Host.{EventView}
 use Rattle.serving.specs.Serving.{host_service}
 use Rattle.serving_laws.specs.Crashes.{Acknowledges, HoldsKept, IsFileOfOne, Since}

@@ -1,15 +1,15 @@
 -- The events grow.
 use Rattle.std.proofs.Common.{◌≡◌, ℕ, List, [], ◌∷◌, ◌++◌, Option, Some, None, sym, ap, ◌∙◌, ⊎_elim, append_assoc, append-nil}
 use Rattle.split_base.specs.declared.disk.Disk.{Ghosts}
-use Rattle.host_keeper.specs.States.{State}
-use Rattle.link_runs.specs.Dues.{SaidView}
-use Rattle.link_runs.specs.Exchanges.{Answered, Exchange}
+use Rattle.host_journal.specs.States.{State}
+use Rattle.serving.specs.Exchanges.{Answered, Exchange}
 use Rattle.requests.specs.Cases.{Responds, Settles, Steps}
 use Rattle.sealed_core.specs.Host.{EventView}
 use Rattle.sealed_core.specs.Step.{CommandView}
 use Rattle.split_http.specs.declared.head.Head.{Head}
 use Rattle.serving.specs.Serving.{host_service}
 use Rattle.serving_laws.proofs.Chains.{passes_first, responds_first}
+use Rattle.requests.specs.Said.{SaidView}
 
 -- the events of the later state are those of the earlier one, and others behind them
 pub record Grows (s new : State) : Type 0 where

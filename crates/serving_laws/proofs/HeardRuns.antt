@@ -3,15 +3,14 @@ use Rattle.std.proofs.Common.{◌≡◌, ◌⊎◌, ℕ, ◌==◌, ◌&&◌, Boo
 use Rattle.std.specs.Option.{option_to_list}
 use Rattle.split_base.specs.declared.disk.Disk.{Ghosts}
 use Rattle.split_base.specs.Faults.{HasRisen, counted}
-use Rattle.host_keeper.specs.States.{State, host_in}
-use Rattle.link_runs.specs.Dues.{SaidView}
-use Rattle.link_runs.specs.Exchanges.{Answered, Exchange}
-use Rattle.publications.specs.Contents.{ContentView}
+use Rattle.host_journal.specs.States.{State, host_in}
+use Rattle.serving.specs.Exchanges.{Answered, Exchange}
+use Rattle.host_results.specs.Contents.{ContentView}
 use Rattle.reply_texts.specs.Sealing.{told, told_all, told_of}
 use Rattle.requests.specs.Cases.{Responds, Settles, Steps}
 use Rattle.requests.specs.Commands.{command_of}
 use Rattle.requests.specs.Replies.{Replies}
-use Rattle.requests.specs.Said.{content_said, memory_said}
+use Rattle.requests.specs.Said.{SaidView, content_said, memory_said}
 use Rattle.requests.specs.Sent.{sent}
 use Rattle.sealed_core.specs.declared.commands.Ask.{Ask}
 use Rattle.sealed_core.specs.Host.{EventView, HostView, apply}

@@ -1,12 +1,12 @@
 -- From how a link ends to what came last on it.
 use Rattle.std.proofs.Common.{◌≡◌, ◌⊎◌, ◌↔◌, ℕ, Bool, true, false, ◌||◌, List, [], ◌∷◌, ◌++◌, Option, Some, None, refl, sym, ap, ◌∙◌, subst, inl, inr, ⊎_elim, if◌then◌else◌}
 use Rattle.split_base.specs.Faults.{HasRisen}
-use Rattle.link_runs.specs.declared.ends.LinkEnd.TheVariants as ends
-use Rattle.link_runs.specs.Dues.{AreBytes, DueView}
-use Rattle.link_runs.specs.Ends.{Ending, end_as}
-use Rattle.link_runs.specs.Exchanges.{EndsLink, LinkExchanges, refused_due}
-use Rattle.link_runs.specs.Runs.{BodyStops, SaysHead, Service, Stops, end_of}
-use Rattle.link_runs.specs.Served.{CountsEnd, LinkView}
+use Rattle.serving.specs.declared.ends.LinkEnd.TheVariants as ends
+use Rattle.serving.specs.Dues.{AreBytes, DueView}
+use Rattle.serving.specs.Ends.{Ending, end_as}
+use Rattle.serving.specs.Exchanges.{EndsLink, LinkExchanges, refused_due}
+use Rattle.serving.specs.Runs.{BodyStops, SaysHead, Service, Stops, end_of}
+use Rattle.serving.specs.Served.{CountsEnd, LinkView}
 use Rattle.split_http.specs.declared.head.Head.{Head}
 use Rattle.serving_laws.specs.Last.{CameLast, FailsReading, FailsWriting, IsMemoryReply, IsPlainReply, IsWritten, Last, LinkEnds, end_by, ending_by}
 use Rattle.serving_laws.proofs.Answered.{counted_rises}

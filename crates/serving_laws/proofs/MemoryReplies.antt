@@ -1,12 +1,12 @@
 -- A reply of the host that says that memory ran out is the memory reply.
 use Rattle.std.proofs.Common.{◌≡◌, ℕ, true, false, List, Option, Some, refl, sym, ap, ◌∙◌, true≢false}
 use Rattle.split_base.specs.declared.disk.Disk.{Ghosts}
-use Rattle.host_keeper.specs.States.{State}
-use Rattle.link_runs.specs.declared.refusals.HeadRefusal.{HeadRefusal}
-use Rattle.link_runs.specs.declared.refusals.HeadRefusal.TheVariants as refusals
-use Rattle.link_runs.specs.Dues.{DueView, SaidView}
+use Rattle.host_journal.specs.States.{State}
+use Rattle.serving.specs.declared.refusals.HeadRefusal.{HeadRefusal}
+use Rattle.serving.specs.declared.refusals.HeadRefusal.TheVariants as refusals
+use Rattle.serving.specs.Dues.{DueView}
 use Rattle.requests.specs.Cases.{Responds, Settles, Steps}
-use Rattle.requests.specs.Said.{memory_said}
+use Rattle.requests.specs.Said.{SaidView, memory_said}
 use Rattle.sealed_core.specs.Step.{CommandView}
 use Rattle.serving.specs.Serving.{host_service, refusal_said}
 use Rattle.split_http.specs.declared.head.Head.{Head}

@@ -1,14 +1,14 @@
 -- How a request changes the state.
 use Rattle.std.proofs.Common.{◌≡◌, Option, Some, None, refl, inl, inr, Ok}
 use Rattle.split_base.specs.declared.disk.Disk.{Ghosts}
-use Rattle.host_keeper.specs.States.{State}
-use Rattle.link_runs.specs.Dues.{SaidView}
-use Rattle.link_runs.specs.Exchanges.{Exchange}
+use Rattle.host_journal.specs.States.{State}
+use Rattle.serving.specs.Exchanges.{Exchange}
 use Rattle.requests.specs.Cases.{Responds, Settles, Steps}
 use Rattle.requests.specs.Commands.{command_of}
 use Rattle.split_http.specs.declared.routes.Route.{Route}
 use Rattle.split_http.specs.Places.{IsRouted}
 use Rattle.serving_laws.specs.Moving.{IsReopened, Moves}
+use Rattle.requests.specs.Said.{SaidView}
 
 pub settles_reopen : {D : Type 0} (d : Ghosts D) (disk after : D) (s new : State) (result : Option SaidView) → Settles d disk after s new result → IsReopened s new
 settles_reopen d disk after s new result (Settles.ready a b is c) = inl is

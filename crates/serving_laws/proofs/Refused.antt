@@ -1,10 +1,9 @@
 -- What a request without success changes.
 use Rattle.std.proofs.Common.{◌≡◌, ◌⊎◌, ℕ, true, Option, None, Some, refl, sym, ap, subst, inl, inr, ⊎_elim, Ok}
 use Rattle.split_base.specs.declared.disk.Disk.{Ghosts}
-use Rattle.host_keeper.specs.States.{State, host_in}
-use Rattle.link_runs.specs.Dues.{SaidView}
-use Rattle.link_runs.specs.Exchanges.{Exchange}
-use Rattle.publications.specs.Contents.{ContentView}
+use Rattle.host_journal.specs.States.{State, host_in}
+use Rattle.serving.specs.Exchanges.{Exchange}
+use Rattle.host_results.specs.Contents.{ContentView}
 use Rattle.reply_texts.specs.Replies.{status_of}
 use Rattle.requests.specs.Cases.{Responds, Settles, Steps}
 use Rattle.requests.specs.Commands.{command_of}
@@ -19,6 +18,7 @@ use Rattle.split_http.specs.declared.routes.Route.{Route}
 use Rattle.split_http.specs.Places.{IsRouted}
 use Rattle.serving_laws.specs.Refusing.{IsSuccess, StaysBut}
 use Rattle.serving_laws.proofs.Quiet.{quiet_step}
+use Rattle.requests.specs.Said.{SaidView}
 
 -- the event beside a publication is none or such a close
 abbrev PublishesQuietly : Type 0

@@ -1,9 +1,8 @@
 -- What a caller is told of an instance that isn't closed.
 use Rattle.std.proofs.Common.{◌≡◌, ap, sym, ◌∙◌, unwrap_or, []}
-use Rattle.link_runs.specs.Dues.{SaidView}
-use Rattle.publications.specs.Contents.{ContentView}
+use Rattle.host_results.specs.Contents.{ContentView}
 use Rattle.reply_texts.specs.Sealing.{Told}
-use Rattle.requests.specs.Said.{content_said}
+use Rattle.requests.specs.Said.{SaidView, content_said}
 use Rattle.requests.specs.Sent.{sent}
 
 pub same_sent : (said other : SaidView) (a b : ContentView) → said ≡ content_said a → other ≡ content_said b → sent a ≡ sent b → (said.status ≡ other.status) × (said.text ≡ other.text)

@@ -1,7 +1,7 @@
 -- The events that a run keeps.
 use Rattle.std.specs.Prelude.{◌≡◌, ◌⊎◌, ℕ, List, [], ◌∷◌, ◌++◌, Some, Ok, Contains}
-use Rattle.host_keeper.specs.States.{State}
-use Rattle.link_runs.specs.Exchanges.{Exchange}
+use Rattle.host_journal.specs.States.{State}
+use Rattle.serving.specs.Exchanges.{Exchange}
 use Rattle.requests.specs.Commands.{command_of}
 use Rattle.sealed_core.specs.Host.{EventView}
 use Rattle.sealed_core.specs.Runs.{host_of}

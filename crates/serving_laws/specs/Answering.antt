@@ -1,8 +1,8 @@
 -- What a request is answered where no call of the disk failed in it.
 use Rattle.std.specs.Prelude.{◌≡◌, ◌⊎◌, ◌++◌, [], ◌∷◌, Some, Ok, Err}
-use Rattle.host_keeper.specs.States.{State, host_in, ready_with}
-use Rattle.link_runs.specs.Exchanges.{Exchange}
-use Rattle.publications.specs.Contents.{ContentView}
+use Rattle.host_journal.specs.States.{State, host_in, ready_with}
+use Rattle.serving.specs.Exchanges.{Exchange}
+use Rattle.host_results.specs.Contents.{ContentView}
 use Rattle.reply_texts.specs.declared.refusals.ServiceRefusal.TheVariants as service
 use Rattle.requests.specs.Commands.{command_of}
 use Rattle.requests.specs.Replies.{Replies}

@@ -2,8 +2,8 @@
 use Rattle.std.specs.Prelude.{◌⊎◌, ℕ, ◌≤◌, List, [], ◌∷◌, ◌++◌}
 use Rattle.split_base.specs.declared.disk.Disk.{Ghosts}
 use Rattle.host_journal.specs.Journal.{HoldsEvents}
-use Rattle.host_keeper.specs.States.{IsFile, State}
-use Rattle.link_runs.specs.Exchanges.{Exchange}
+use Rattle.host_journal.specs.States.{IsFile, State}
+use Rattle.serving.specs.Exchanges.{Exchange}
 use Rattle.sealed_core.specs.Host.{EventView}
 
 -- a file of one of the states

@@ -1,15 +1,14 @@
 -- What a caller of an instance gets in a run of requests, before the instance is closed.
 use Rattle.std.specs.Prelude.{◌≡◌, ◌⊎◌, ℕ, ◌==◌, ◌&&◌, Bool, false, List, [], ◌∷◌, ◌++◌, Option, None, Some, Ok, if◌then◌else◌}
 use Rattle.std.specs.Option.{option_to_list}
-use Rattle.host_keeper.specs.States.{State, host_in}
-use Rattle.link_runs.specs.Dues.{SaidView}
-use Rattle.link_runs.specs.Exchanges.{Exchange}
-use Rattle.publications.specs.Contents.{ContentView}
+use Rattle.host_journal.specs.States.{State, host_in}
+use Rattle.serving.specs.Exchanges.{Exchange}
+use Rattle.host_results.specs.Contents.{ContentView}
 use Rattle.reply_texts.specs.declared.refusals.ServiceRefusal.TheVariants as service
 use Rattle.reply_texts.specs.Sealing.{Told}
 use Rattle.requests.specs.Commands.{command_of}
 use Rattle.requests.specs.Replies.{Replies}
-use Rattle.requests.specs.Said.{content_said, method_said, refused_said}
+use Rattle.requests.specs.Said.{SaidView, content_said, method_said, refused_said}
 use Rattle.sealed_core.specs.Host.{HostView}
 use Rattle.sealed_core.specs.Sealed.{Asked, Caller, caller_number, is_closed, next, same_caller}
 use Rattle.sealed_core.specs.Step.{CommandView, Create, To, step}

@@ -2,12 +2,12 @@
 use Rattle.std.specs.Prelude.{◌≡◌, ℕ, ◌<◌, Bool, true, false, List, [], ◌∷◌, ◌++◌, length, Option, Some, None}
 use Rattle.split_http.specs.declared.head.Head.{Head}
 use Rattle.split_http.specs.Turns.{IsOpen, interim_of}
-use Rattle.link_runs.specs.declared.ends.LinkEnd.{LinkEnd}
-use Rattle.link_runs.specs.declared.refusals.HeadRefusal.{HeadRefusal}
-use Rattle.link_runs.specs.Dues.{AreBytes, DueView, IsPartOf, closes}
-use Rattle.link_runs.specs.Ends.{Ending, end_as}
-use Rattle.link_runs.specs.Exchanges.{Answered, AreWhole, Exchange, IsExchange, IsTorn, IsWhole, input_of, moments_of, refused_due, written_of}
-use Rattle.link_runs.specs.Runs.{Refuses, SaysHead, Service, end_of}
+use Rattle.serving.specs.declared.ends.LinkEnd.{LinkEnd}
+use Rattle.serving.specs.declared.refusals.HeadRefusal.{HeadRefusal}
+use Rattle.serving.specs.Dues.{AreBytes, DueView, IsPartOf, closes}
+use Rattle.serving.specs.Ends.{Ending, end_as}
+use Rattle.serving.specs.Exchanges.{Answered, AreWhole, Exchange, IsExchange, IsTorn, IsWhole, input_of, moments_of, refused_due, written_of}
+use Rattle.serving.specs.Runs.{Refuses, SaysHead, Service, end_of}
 
 -- No byte was left where a head would begin; the input ended within a body; a reply was written and closed the connection; a read failed; or
 -- a write did.

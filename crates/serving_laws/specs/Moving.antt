@@ -1,7 +1,7 @@
 -- How a request changes the state, whatever the disk.
 use Rattle.std.specs.Prelude.{◌≡◌, ◌⊎◌, ℕ, List, [], ◌∷◌, ◌++◌, Some}
-use Rattle.host_keeper.specs.States.{State, ready_with, waits_with}
-use Rattle.link_runs.specs.Exchanges.{Exchange}
+use Rattle.host_journal.specs.States.{State, ready_with, waits_with}
+use Rattle.serving.specs.Exchanges.{Exchange}
 use Rattle.reply_texts.specs.declared.refusals.ServiceRefusal.TheVariants as service
 use Rattle.requests.specs.Said.{refused_said}
 use Rattle.sealed_core.specs.Host.{EventView}

@@ -1,7 +1,7 @@
 -- What a request without success may change.
 use Rattle.std.specs.Prelude.{◌≡◌, ◌⊎◌, ℕ, [], ◌∷◌, ◌++◌, Some, Ok}
-use Rattle.host_keeper.specs.States.{State, host_in, ready_with, waits_with}
-use Rattle.link_runs.specs.Exchanges.{Exchange}
+use Rattle.host_journal.specs.States.{State, host_in, ready_with, waits_with}
+use Rattle.serving.specs.Exchanges.{Exchange}
 use Rattle.reply_texts.specs.declared.refusals.ServiceRefusal.TheVariants as service
 use Rattle.requests.specs.Commands.{command_of}
 use Rattle.requests.specs.Said.{refused_said}

@@ -1,8 +1,8 @@
 -- What a caller is told of an instance that isn't closed.
 use Rattle.std.specs.Prelude.{◌≡◌, ℕ, List, Option, Ok}
-use Rattle.host_keeper.specs.States.{State, host_in}
-use Rattle.link_runs.specs.Exchanges.{Exchange}
-use Rattle.publications.specs.Contents.{ContentView}
+use Rattle.host_journal.specs.States.{State, host_in}
+use Rattle.serving.specs.Exchanges.{Exchange}
+use Rattle.host_results.specs.Contents.{ContentView}
 use Rattle.requests.specs.Commands.{command_of}
 use Rattle.requests.specs.Replies.{Replies}
 use Rattle.requests.specs.Said.{content_said}

@@ -1,12 +1,12 @@
 -- The host where each request is answered in one way.
 use Rattle.std.specs.Prelude.{◌≡◌, ℕ, List}
 use Rattle.split_base.specs.declared.disk.Disk.{Ghosts}
-use Rattle.host_keeper.specs.States.{State}
-use Rattle.link_runs.specs.Dues.{SaidView}
-use Rattle.link_runs.specs.Ends.{Ending}
-use Rattle.link_runs.specs.Runs.{Service}
+use Rattle.host_journal.specs.States.{State}
+use Rattle.serving.specs.Ends.{Ending}
+use Rattle.serving.specs.Runs.{Service}
 use Rattle.serving.specs.Serving.{host_service, refusal_said}
 use Rattle.split_http.specs.declared.head.Head.{Head}
+use Rattle.requests.specs.Said.{SaidView}
 
 -- how the machine with its disk and its memory answers a request of this head and body at a moment, from one world: the world after it, and what is said
 abbrev pub Answering : Type 0 → Type 0

@@ -2,15 +2,14 @@
 ghost use Rattle.std.specs.Prelude.{◌≡◌, ◌↔◌, ◌⊎◌, ℕ, List, [], None, Option, true, false};
 ghost use Rattle.split_base.specs.Disk.{Each};
 ghost use Rattle.split_base.specs.Faults.{HasRisen};
-ghost use Rattle.host_keeper.specs.States.{IsFile, State, ready_with};
-ghost use Rattle.link_runs.specs.declared.limits.TheConstants.{MAX_REQUESTS};
-ghost use Rattle.link_runs.specs.declared.ends.LinkEnd.TheVariants as ends;
-ghost use Rattle.link_runs.specs.Dues.{DueView};
-ghost use Rattle.link_runs.specs.Ends.{Ending, end_as};
-ghost use Rattle.link_runs.specs.Exchanges.{Answered, Exchange, IsExchange, LinkExchanges};
-ghost use Rattle.link_runs.specs.Ports.{PortRun};
-ghost use Rattle.link_runs.specs.Runs.{LinkRun};
-ghost use Rattle.link_runs.specs.Served.{CountsEnd, LinkView, tells_of};
+ghost use Rattle.host_journal.specs.States.{IsFile, State, ready_with};
+ghost use Rattle.serving.specs.declared.limits.TheConstants.{MAX_REQUESTS};
+ghost use Rattle.serving.specs.declared.ends.LinkEnd.TheVariants as ends;
+ghost use Rattle.serving.specs.Dues.{DueView};
+ghost use Rattle.serving.specs.Ends.{Ending, end_as};
+ghost use Rattle.serving.specs.Exchanges.{Answered, Exchange, IsExchange};
+ghost use Rattle.serving.specs.Runs.{LinkRun};
+ghost use Rattle.serving.specs.Served.{CountsEnd, LinkView};
 ghost use Rattle.requests.specs.Said.{memory_said};
 ghost use Rattle.serving.specs.Serving.{host_service};
 ghost use Rattle.serving_laws.specs.Accepting.{Accepts};
@@ -30,15 +29,9 @@ ghost use Rattle.serving_laws.specs.Writing.{Answering, IsDone, answering_so};
 use reply_texts::text_sealing_law;
 use requests::sent_sealing_law;
 use sealed_core::{machine_law, publication_law};
-use split_base::{Disk, Port};
+use serving::link_law;
+use split_base::Disk;
 use split_http::{cut_law, reply_law};
-
-/// The run of a link is a list of requests, each one step of the machine: with its moment, its command, its reply, the state and the disk
-/// before and after it, and the bytes that the link got of it. Behind them the link ends, by a last reply or none.
-pub fn link_law<D: Disk>()
-    ensures { (n : ℕ) (all : List ℕ) (answers : List (Option ℕ)) (w : D × State) (out : List ℕ) (new : D × State) (end : Ending)
-        → LinkRun (host_service D.Disk) n all answers w out new end → LinkExchanges (host_service D.Disk) all answers w out new end }
-{}
 
 /// The run of a link ends by what came last on it. It is `Ended` exactly where no byte was left where a head would begin, or where the last
 /// thing was a reply that was written, closed the connection and wasn't the memory reply; `Cut` exactly where the input ended within the body
@@ -54,14 +47,9 @@ pub fn ends_law<D: Disk>()
     ensures said { (due : DueView) (w : D × State) (all : List ℕ) (answers : List (Option ℕ)) (out : List ℕ) (new : D × State)
         → IsWritten (host_service D.Disk) due w all answers out new → due.said.memory ≡ true → due.said ≡ memory_said }
     ensures counted { (link now : LinkView) (ending : Ending) → end_as ending ≡ ends.LinkFault → CountsEnd link now ending → HasRisen link.reads now.reads ⊎ HasRisen link.writes now.writes }
-{}
-
-/// The run of a port is such a list over all of its links, in order, each request at the state and the disk that the one before it left.
-pub fn port_law<D: Disk, P: Port>()
-    ensures { (links : List (P.Link × P.Link)) (answers : List (Option ℕ)) (w new : D × State)
-        → PortRun (host_service D.Disk) (tells_of P.Link.Source P.Link.Sink) links answers w new
-        → (run : List (Exchange (D × State))) × Answered (host_service D.Disk) w run new }
-{}
+{
+    link_law::<D>();
+}
 
 /// On an honest disk a crash at any moment since a request was answered leaves a file of the state that it left or of one that came later,
 /// with or without the event that is being appended.

@@ -5,6 +5,6 @@
 mod laws;
 
 pub use laws::{
-    accepted_law, acknowledged_law, answered_law, crash_law, ends_law, link_law, moved_law,
-    port_law, refused_law, sealed_law, sealed_runs_law, writing_law,
+    accepted_law, acknowledged_law, answered_law, crash_law, ends_law, moved_law, refused_law,
+    sealed_law, sealed_runs_law, writing_law,
 };

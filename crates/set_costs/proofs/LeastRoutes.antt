@@ -4,7 +4,7 @@ use Rattle.bid_rules.specs.declared.cases.FareCase.{FareCase}
 use Rattle.bid_rules.specs.Coalitions.{riders_in, start_of}
 use Rattle.bid_rules.specs.Facts.{leg}
 use Rattle.bid_rules.specs.Fares.{place_of, route_cost}
-use Rattle.fare_laws.specs.Entries.{IsLowestRoute, cost_by, costs_from, entry_by, without}
+use Rattle.best_laws.specs.Entries.{IsLowestRoute, cost_by, costs_from, entry_by, without}
 use Rattle.split_lemmas.proofs.RiderPlaces.{start_place}
 
 -- whatever way the rest of the riders has from here completes the route from the origin

@@ -6,9 +6,11 @@ use Rattle.std.proofs.lemmas.Bool.{cases_lt}
 use Rattle.std.proofs.lemmas.List.{get_or_append_left, get_or-append-add, length-append}
 use Rattle.std.proofs.lemmas.List.FromFn.{length-range_with_len, get_or-range_with_len}
 use Rattle.bid_rules.specs.declared.cases.FareCase.{FareCase}
+use Rattle.bid_rules.specs.declared.limits.TheConstants.{MOST_FARE_CENTS, MOST_RIDERS}
 use Rattle.bid_rules.specs.Coalitions.{riders_in}
+use Rattle.bid_rules.specs.FareLimits.{most_cost, most_orders, most_sum}
 use Rattle.bid_rules.specs.Sums.{total}
-use Rattle.fare_laws.specs.MarginalSums.{marginal_sum}
+use Rattle.best_laws.specs.MarginalSums.{marginal_sum}
 use Rattle.set_costs.specs.Sums.{ListsSums}
 use Rattle.std.proofs.Math.Nat.{mul-le-mul, mul-le-mul_right}
 use Rattle.std.proofs.lemmas.Int.{ints, unsigned_abs-mul}
@@ -16,44 +18,49 @@ use Rattle.bid_rules.specs.Orders.{factorial}
 use Rattle.split_lemmas.proofs.Factorials.{factorial_rises}
 use Rattle.split_lemmas.proofs.WideNumbers.{kept_whole}
 
--- a number up to a limit, once for each order of at most nine
-pub times_small : (z : ℤ) (others : ℕ) → unsigned_abs z ≤ 11000000 → others ≤ 9 → unsigned_abs (z *ℤ pos (factorial others)) ≤ 3991680000000
-times_small z others small few = subst (λ n. n ≤ 3991680000000) (sym (unsigned_abs-mul z (pos (factorial others)))) (mul-le-mul small (factorial_rises others 9 few))
+-- the most that a part of a sum comes to: a cost, once for each order of all riders but one
+abbrev pub most_part : ℕ
+most_part = most_cost * factorial (MOST_RIDERS - 1)
 
--- a sum over the orders of at most nine
-pub sum_small : (z : ℤ) (others : ℕ) → unsigned_abs z ≤ 1000000 * (others + 1) * factorial others → others ≤ 9 → unsigned_abs z ≤ 3991680000000
-sum_small z others small few =
-    let most : 1000000 * (others + 1) * factorial others ≤ 11000000 * 362880 = mul-le-mul (let h : 1000000 * (others + 1) ≤ 11000000 = omega (arith, few) in h) (factorial_rises others 9 few) in
+-- a number up to a cost, once for each order of the others
+pub times_small : (z : ℤ) (others : ℕ) → unsigned_abs z ≤ most_cost → others < MOST_RIDERS → unsigned_abs (z *ℤ pos (factorial others)) ≤ most_part
+times_small z others small few =
+    subst (λ n. n ≤ most_part) (sym (unsigned_abs-mul z (pos (factorial others)))) (mul-le-mul small (factorial_rises others (MOST_RIDERS - 1) (omega (arith, few))))
+
+-- a sum over the orders of n riders, and over those of the others
+pub sum_of_riders : (z : ℤ) (n : ℕ) → unsigned_abs z ≤ MOST_FARE_CENTS * (n + 1) * factorial n → n ≤ MOST_RIDERS → unsigned_abs z ≤ most_cost * factorial n
+sum_of_riders z n small few =
+    let most : MOST_FARE_CENTS * (n + 1) * factorial n ≤ most_cost * factorial n = mul-le-mul_right (factorial n) (let h : MOST_FARE_CENTS * (n + 1) ≤ most_cost = omega (arith, few) in h) in
     omega (arith, small, most)
 
--- a sum over the orders of at most ten
-pub sum_of_ten : (z : ℤ) (n : ℕ) → unsigned_abs z ≤ 1000000 * (n + 1) * factorial n → n ≤ 10 → unsigned_abs z ≤ 11000000 * factorial n
-sum_of_ten z n small few =
-    let most : 1000000 * (n + 1) * factorial n ≤ 11000000 * factorial n = mul-le-mul_right (factorial n) (let h : 1000000 * (n + 1) ≤ 11000000 = omega (arith, few) in h) in
+pub sum_of_others : (z : ℤ) (others : ℕ) → unsigned_abs z ≤ MOST_FARE_CENTS * (others + 1) * factorial others → others < MOST_RIDERS → unsigned_abs z ≤ most_part
+sum_of_others z others small few =
+    let most : MOST_FARE_CENTS * (others + 1) * factorial others ≤ most_part =
+    mul-le-mul (let h : MOST_FARE_CENTS * (others + 1) ≤ most_cost = omega (arith, few) in h) (factorial_rises others (MOST_RIDERS - 1) (omega (arith, few))) in
     omega (arith, small, most)
 
 -- and its size in numbers
-pub ten_small : (z : ℤ) (n : ℕ) → unsigned_abs z ≤ 11000000 * factorial n → n ≤ 10 → unsigned_abs z ≤ 39916800000000
-ten_small z n small few = let most = factorial_rises n 10 few in omega (arith, small, most)
+pub sum_small : (z : ℤ) (n : ℕ) → unsigned_abs z ≤ most_cost * factorial n → n ≤ MOST_RIDERS → unsigned_abs z ≤ most_sum
+sum_small z n small few = let most = factorial_rises n MOST_RIDERS few in omega (arith, small, most)
 
 -- a number as the code keeps it
 abbrev kept : ℤ → ℤ
 kept z = to_z w128 (of_z w128 z)
 
 -- the difference of two costs, once for each order of the others, as the code makes it
-pub added_is : (x y k : ℤ) (a b others : ℕ) → x ≡ pos a → y ≡ pos b → k ≡ pos (factorial others) → a ≤ 11000000 → b ≤ 11000000 → others ≤ 9
-    → (kept (kept (kept x -ℤ kept y) *ℤ kept k) ≡ (pos a -ℤ pos b) *ℤ pos (factorial others)) × (unsigned_abs (kept (kept (kept x -ℤ kept y) *ℤ kept k)) ≤ 3991680000000)
+pub added_is : (x y k : ℤ) (a b others : ℕ) → x ≡ pos a → y ≡ pos b → k ≡ pos (factorial others) → a ≤ most_cost → b ≤ most_cost → others < MOST_RIDERS
+    → (kept (kept (kept x -ℤ kept y) *ℤ kept k) ≡ (pos a -ℤ pos b) *ℤ pos (factorial others)) × (unsigned_abs (kept (kept (kept x -ℤ kept y) *ℤ kept k)) ≤ most_part)
 added_is x y k a b others e f g high low few =
-    let most : factorial others ≤ 362880 = factorial_rises others 9 few in
+    let most : factorial others ≤ most_orders = factorial_rises others MOST_RIDERS (omega (arith, few)) in
     let inner : kept (pos a -ℤ pos b) ≡ pos a -ℤ pos b = kept_whole (pos a -ℤ pos b) (omega (arith, ints, high, low)) in
-    let sized : unsigned_abs ((pos a -ℤ pos b) *ℤ pos (factorial others)) ≤ 3991680000000 = times_small (pos a -ℤ pos b) others (omega (arith, ints, high, low)) few in
+    let sized : unsigned_abs ((pos a -ℤ pos b) *ℤ pos (factorial others)) ≤ most_part = times_small (pos a -ℤ pos b) others (omega (arith, ints, high, low)) few in
     let first : kept x ≡ pos a = ap kept e ∙ kept_whole (pos a) (omega (arith, ints, high)) in
     let second : kept y ≡ pos b = ap kept f ∙ kept_whole (pos b) (omega (arith, ints, low)) in
     let third : kept k ≡ pos (factorial others) = ap kept g ∙ kept_whole (pos (factorial others)) (omega (arith, ints, most)) in
     let whole : kept (kept (kept x -ℤ kept y) *ℤ kept k) ≡ (pos a -ℤ pos b) *ℤ pos (factorial others) =
     ap (λ z. kept (kept (z -ℤ kept y) *ℤ kept k)) first ∙ ap (λ z. kept (kept (pos a -ℤ z) *ℤ kept k)) second ∙ ap (λ z. kept (kept (pos a -ℤ pos b) *ℤ z)) third
     ∙ ap (λ z. kept (z *ℤ pos (factorial others))) inner ∙ kept_whole ((pos a -ℤ pos b) *ℤ pos (factorial others)) (omega (arith, sized)) in
-    (whole, subst (λ z. unsigned_abs z ≤ 3991680000000) (sym whole) sized)
+    (whole, subst (λ z. unsigned_abs z ≤ most_part) (sym whole) sized)
 
 -- another than the first of a list is behind it
 pub behind_other : (x y : ℕ) (xs : List ℕ) → x ≢ y → Contains (x ∷ xs) y → Contains xs y
@@ -67,15 +74,15 @@ total_more f (x ∷ xs) zero d l = omega (arith, ints)
 total_more f (x ∷ xs) (suc k) d l = let rest = total_more f xs k d (omega (arith, l)) in omega (arith, ints, rest)
 
 -- the sum so far with one more element, as the code makes it
-pub next_total : (f : ℕ → ℤ) (xs : List ℕ) (k : ℕ) (s z : ℤ) → k < length xs → length xs ≤ 10 → unsigned_abs s ≤ 3991680000000 * k → unsigned_abs z ≤ 3991680000000 → z ≡ f (get_or xs k 0)
+pub next_total : (f : ℕ → ℤ) (xs : List ℕ) (k : ℕ) (s z : ℤ) → k < length xs → length xs ≤ MOST_RIDERS → unsigned_abs s ≤ most_part * k → unsigned_abs z ≤ most_part → z ≡ f (get_or xs k 0)
     → s ≡ total f (take k xs)
-    → (to_z w128 (of_z w128 (s +ℤ to_z w128 (of_z w128 z))) ≡ total f (take (k + 1) xs)) × (unsigned_abs (to_z w128 (of_z w128 (s +ℤ to_z w128 (of_z w128 z)))) ≤ 3991680000000 * (k + 1))
+    → (to_z w128 (of_z w128 (s +ℤ to_z w128 (of_z w128 z))) ≡ total f (take (k + 1) xs)) × (unsigned_abs (to_z w128 (of_z w128 (s +ℤ to_z w128 (of_z w128 z)))) ≤ most_part * (k + 1))
 next_total f xs k s z l few small part value whole =
     let next : k + 1 ≡ suc k = omega arith in
     let plain : to_z w128 (of_z w128 (s +ℤ to_z w128 (of_z w128 z))) ≡ s +ℤ z = omega (arith, ints) in
-    let sized : unsigned_abs (s +ℤ z) ≤ 3991680000000 * (k + 1) = omega (arith, ints) in (
+    let sized : unsigned_abs (s +ℤ z) ≤ most_part * (k + 1) = omega (arith, ints) in (
       plain ∙ ap (λ a. a +ℤ z) whole ∙ ap (λ b. total f (take k xs) +ℤ b) value ∙ sym (total_more f xs k 0 l) ∙ ap (λ n. total f (take n xs)) (sym next),
-      subst (λ a. unsigned_abs a ≤ 3991680000000 * (k + 1)) (sym plain) sized,
+      subst (λ a. unsigned_abs a ≤ most_part * (k + 1)) (sym plain) sized,
     )
 
 -- one more set has its sum

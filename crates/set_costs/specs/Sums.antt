@@ -2,7 +2,7 @@
 use Rattle.std.specs.Prelude.{◌≡◌, ℕ, ℤ, pos, ◌<◌, List, length, Contains, slice_index_or}
 use Rattle.bid_rules.specs.declared.cases.FareCase.{FareCase}
 use Rattle.bid_rules.specs.Coalitions.{riders_in}
-use Rattle.fare_laws.specs.MarginalSums.{marginal_sum}
+use Rattle.best_laws.specs.MarginalSums.{marginal_sum}
 
 -- the list has them for the first sets, by the numbers of the sets, where the rider is in the set
 abbrev pub ListsSums : FareCase → ℕ → List ℤ → Type 0

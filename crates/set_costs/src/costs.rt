@@ -9,11 +9,11 @@ use crate::recurrence::{entry_in, first_rider, start};
 use crate::riders::without;
 use crate::rows::Row;
 use crate::sums::sum_over_orders;
-use bid_rules::FareCase;
-use bid_rules::limits::{MOST_FARE_CENTS, MOST_RIDERS, RiderList};
-use fare_laws::{
+use best_laws::{
     coalition_law, lowest_route_law, route_cost_law, route_set_law, without_rider_law,
 };
+use bid_rules::FareCase;
+use bid_rules::limits::{MOST_FARE_CENTS, MOST_RIDERS, RiderList};
 use std::marker::Model;
 
 /// The rows of all sets of the riders of a case. Contracts see them as the case whose costs they are.

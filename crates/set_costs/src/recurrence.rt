@@ -3,14 +3,14 @@ ghost use Rattle.std.specs.Prelude.{◌≡◌, ℕ, ◌*◌, ◌<◌, ◌≤◌,
 ghost use Rattle.bid_rules.specs.Coalitions.{riders_in, start_of};
 ghost use Rattle.bid_rules.specs.Facts.{IsValidFareCase};
 ghost use Rattle.bid_rules.specs.Fares.{route_cost};
-ghost use Rattle.fare_laws.specs.Entries.{cost_by as route_cost_by, costs_from};
+ghost use Rattle.best_laws.specs.Entries.{cost_by as route_cost_by, costs_from};
 ghost use Rattle.set_costs.specs.Table.{ListsCosts};
 
 use crate::riders::{riders_of_set, without};
 use crate::rows::Row;
+use best_laws::{coalition_law, route_cost_law, route_set_law, without_rider_law};
 use bid_rules::FareCase;
 use bid_rules::limits::{MOST_FARE_CENTS, MOST_RIDERS};
-use fare_laws::{coalition_law, route_cost_law, route_set_law, without_rider_law};
 
 /// The place of departure: that of a rider, or the origin for 0.
 pub(crate) fn start(case: &FareCase, at: u8) -> u8

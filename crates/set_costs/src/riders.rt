@@ -1,10 +1,10 @@
 // Sets of riders as numbers: the sum of 2^(i-1) over the riders i of the set.
 ghost use Rattle.std.specs.Prelude.{◌≡◌, ◌<◌, ◌≤◌, ◌^◌, Contains};
 ghost use Rattle.bid_rules.specs.Coalitions.{riders_in};
-ghost use Rattle.fare_laws.specs.Entries.{without as set_without};
+ghost use Rattle.best_laws.specs.Entries.{without as set_without};
 
+use best_laws::{coalition_law, without_rider_law};
 use bid_rules::limits::{MOST_RIDERS, RiderList};
-use fare_laws::{coalition_law, without_rider_law};
 
 /// The riders of a set of the first `count` riders, in rising order.
 pub fn riders_of_set(count: u8, set: u16) -> RiderList

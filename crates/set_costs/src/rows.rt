@@ -5,9 +5,9 @@ ghost use Rattle.set_costs.specs.Table.{ListsCosts, route_costs};
 
 use crate::recurrence::{cheapest, start};
 use arrayvec::ArrayVec;
+use best_laws::coalition_law;
 use bid_rules::FareCase;
 use bid_rules::limits::RIDER_ROOM;
-use fare_laws::coalition_law;
 
 /// Room for an entry a place of departure: the origin, and the place of each rider.
 pub const DEPARTURE_ROOM: usize = RIDER_ROOM + 1;

@@ -4,15 +4,15 @@ ghost use Rattle.bid_rules.specs.Coalitions.{riders_in};
 ghost use Rattle.bid_rules.specs.Facts.{IsValidFareCase};
 ghost use Rattle.bid_rules.specs.Fares.{coalition_cost, sum_of_marginal_costs};
 ghost use Rattle.bid_rules.specs.Orders.{factorial as orders_of};
-ghost use Rattle.fare_laws.specs.Entries.{without as set_without};
-ghost use Rattle.fare_laws.specs.MarginalSums.{marginal_sum, part_by_last};
+ghost use Rattle.best_laws.specs.Entries.{without as set_without};
+ghost use Rattle.best_laws.specs.MarginalSums.{marginal_sum, part_by_last};
 ghost use Rattle.set_costs.specs.Sums.{ListsSums};
 
 use crate::costs::SetCosts;
 use crate::riders::{riders_of_set, without};
 use arrayvec::ArrayVec;
+use best_laws::{coalition_law, marginal_set_law, without_rider_law};
 use bid_rules::limits::{MOST_FARE_CENTS, MOST_RIDERS, RIDER_ROOM};
-use fare_laws::{coalition_law, marginal_set_law, without_rider_law};
 
 /// Room for an entry a set of riders, the empty one too.
 pub const SET_ROOM: usize = 1 << RIDER_ROOM;

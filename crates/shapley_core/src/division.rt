@@ -9,9 +9,9 @@ ghost use Rattle.split_frac.specs.Frac.{HasValue, fraction_of};
 ghost use Rattle.shapley_core.specs.Division.{IsFareDivision, IsFareInRange};
 
 use arrayvec::ArrayVec;
+use best_laws::{best_fares_law, coalition_law};
 use bid_rules::FareCase;
 use bid_rules::limits::{MOST_FARE_CENTS, MOST_RIDERS, RIDER_ROOM, RiderList};
-use fare_laws::{best_fares_law, coalition_law};
 use fare_routes::{Costs, costs};
 use set_costs::{all_riders, factorial, riders_of_set};
 use split_base::NoMemory;

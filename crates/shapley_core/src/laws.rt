@@ -1,13 +1,16 @@
 // What holds of all best divisions: each law is the contract of a function that does nothing.
-ghost use Rattle.std.specs.Prelude.{◌≡◌, ◌↔◌, ℕ, List, map};
+ghost use Rattle.std.specs.Prelude.{◌≡◌, ◌≤◌, ◌+◌, ◌*◌, ◌↔◌, ℕ, List, map};
 ghost use Rattle.bid_rules.specs.declared.cases.FareCase.{FareCase};
+ghost use Rattle.bid_rules.specs.FareLimits.{most_orders, most_sum};
 ghost use Rattle.bid_rules.specs.Fares.{FareBest, IsLeastRoute, coalition_cost, route_cost, sum_of_marginal_costs};
 ghost use Rattle.bid_rules.specs.Fractions.{Fraction};
 ghost use Rattle.shapley_core.specs.Members.{with_members};
 ghost use Rattle.split_frac.specs.Frac.{fraction_of};
 ghost use Rattle.split_frac.specs.declared.frac.Frac.{Frac};
 
-use fare_laws::best_fares_law;
+use best_laws::best_fares_law;
+use bid_rules::limits::MOST_RIDERS;
+use split_frac::limits::{MOST_DENOMINATOR, MOST_NUMERATOR};
 use split_frac::value_law;
 
 /// A case has at most one best division: two of them have the same fares, as fractions in lowest terms, and the same route.
@@ -29,4 +32,11 @@ pub fn members_law()
     ensures sums { (case : FareCase) (members rider : ℕ) → sum_of_marginal_costs (with_members case members) rider ≡ sum_of_marginal_costs case rider }
     ensures least_route { (case : FareCase) (members : ℕ) (route : List ℕ) → IsLeastRoute (with_members case members) route ↔ IsLeastRoute case route }
     ensures best { (case : FareCase) (members : ℕ) (fares : List Fraction) (route : List ℕ) → FareBest (with_members case members) fares route ↔ FareBest case fares route }
+{}
+
+/// Fares and excesses are within the limits of fractions: a denominator for all orders, and a numerator for what all riders pay over them, less a
+/// cost.
+pub fn fraction_limits_law()
+    ensures denominators { most_orders ≤ MOST_DENOMINATOR }
+    ensures numerators { most_sum * (MOST_RIDERS + 1) ≤ MOST_NUMERATOR }
 {}

@@ -5,4 +5,4 @@ mod division;
 mod laws;
 
 pub use division::{FareDivision, solve_fares};
-pub use laws::{division_law, members_law};
+pub use laws::{division_law, fraction_limits_law, members_law};

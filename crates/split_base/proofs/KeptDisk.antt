@@ -6,7 +6,8 @@ use Rattle.split_base.specs.declared.memory.disk.Call.{Call}
 use Rattle.split_base.specs.declared.memory.disk.Call.TheVariants as call
 use Rattle.split_base.specs.Disk.{AddsNone, Only, IsWritten, Rests, MayTear}
 use Rattle.split_base.specs.Past.{Act, Wrote, Synced, State, DiskState, written, after, after_all, fresh, images_of, state_of, seen_of, images_at, moment_of, left_of, after_call, after_act}
-use Rattle.split_base.specs.PastLaws.{over, le_or_lt, after_push, elapses_push, elapses_same, seen_image}
+use Rattle.split_base.specs.PastLaws.{over, le_or_lt, seen_image}
+use Rattle.split_base.proofs.Images.{after_push, elapses_push, elapses_same}
 use Rattle.split_base.specs.Replay.{acts_of, bytes_of}
 
 -- the calls with one more

@@ -1,4 +1,6 @@
 pub mod KnownBytes
 mod KeptDisk
+mod Images
+mod Moments
 mod Replayed
 mod SameOutside

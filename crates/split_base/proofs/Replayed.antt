@@ -4,7 +4,8 @@ use Rattle.std.proofs.lemmas.List.{take_all}
 use Rattle.split_base.specs.declared.memory.disk.Call.{Call}
 use Rattle.split_base.specs.declared.memory.disk.Call.TheVariants as call
 use Rattle.split_base.specs.Past.{Act, Wrote, Synced, State, Write, written, after, after_all, fresh, total, on_top}
-use Rattle.split_base.specs.PastLaws.{le_or_lt, length_over, written_fits, written_no_shorter}
+use Rattle.split_base.specs.PastLaws.{le_or_lt, length_over}
+use Rattle.split_base.proofs.Images.{written_fits, written_no_shorter}
 use Rattle.split_base.specs.Replay.{acts_of, bytes_of, played}
 
 -- how many bytes these calls have written

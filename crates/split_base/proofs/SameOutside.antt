@@ -3,7 +3,8 @@ use Rattle.std.proofs.Common.{◌≡◌, ◌⊎◌, inl, inr, ℕ, ◌+◌, ◌-
 use Rattle.std.proofs.lemmas.List.{take_all, take-take, drop-take, drop_all}
 use Rattle.split_base.specs.Disk.{IsSameOutside, IsStableTo, IsTorn}
 use Rattle.split_base.specs.Past.{State, DiskState, Wrote, written, after, state_of, seen_of, images_at, fresh, after_call, after_act}
-use Rattle.split_base.specs.PastLaws.{le_or_lt, after_push, seen_image, written_is_torn}
+use Rattle.split_base.specs.PastLaws.{le_or_lt, seen_image, written_is_torn}
+use Rattle.split_base.proofs.Images.{after_push}
 
 -- of two prefixes the shorter is taken, whichever comes first
 takes_swap : (m n : ℕ) (l : List ℕ) → take m (take n l) ≡ take n (take m l)

@@ -6,7 +6,6 @@ pub mod Memory
 pub mod MemoryClock
 pub mod MemoryDisk
 pub mod MemoryPorts
-pub mod Moments
 pub mod Past
 pub mod PastLaws
 pub mod Ports

@@ -1,9 +1,10 @@
--- The laws of a disk in memory.
+-- The laws that the trait asks of a disk in memory: the first of them, that what a read gives is an image, by way of what a write may leave. A type's
+-- proof of a trait's law is read with its definitions, so they stand here.
 use Rattle.std.proofs.Common.{◌≡◌, ◌⊎◌, ⊎_elim, inl, inr, ℕ, ◌+◌, ◌-◌, ◌≤◌, ◌<◌, min, List, [], ◌∷◌, ◌++◌, length, take, drop, replicate, refl, sym, ◌∙◌, ap, subst, arith, append_assoc, length-append, length-take, length-drop}
 use Rattle.std.proofs.lemmas.Bool.{cases_lt}
-use Rattle.std.proofs.lemmas.List.{take_all, take_at, drop_at, take-append-le, drop_all, take-take, drop-drop, length-replicate}
-use Rattle.split_base.specs.Disk.{IsTorn, Elapses}
-use Rattle.split_base.specs.Past.{Act, Wrote, Synced, State, Write, written, after, after_all, fresh, IsImage, images_of, LeftSince, DiskState, state_of, seen_of, images_at, left_of, total, on_top}
+use Rattle.std.proofs.lemmas.List.{take_all, take_at, drop_at, drop_all, take-take, length-replicate}
+use Rattle.split_base.specs.Disk.{IsTorn}
+use Rattle.split_base.specs.Past.{Act, Wrote, Synced, State, written, after, after_all, fresh, images_of, DiskState, state_of, seen_of, images_at, left_of}
 
 -- a file after a write that isn't empty
 abbrev pub over : List ℕ → ℕ → List ℕ → List ℕ
@@ -24,15 +25,6 @@ length_over old bytes place =
       length-drop (place + length bytes) old,
       length-replicate {A = ℕ} (place - length old) 0,
     )
-
--- a write makes no file shorter, and ends within any room in which the old file and the range lie
-pub written_no_shorter : (old bytes : List ℕ) (place : ℕ) → length old ≤ length (written old place bytes)
-written_no_shorter old [] place = omega arith
-written_no_shorter old (b ∷ bytes) place = omega (arith, length_over old (b ∷ bytes) place)
-
-pub written_fits : (old bytes : List ℕ) (place room : ℕ) → length old ≤ room → place + length bytes ≤ room → length (written old place bytes) ≤ room
-written_fits old [] place room was ends = was
-written_fits old (b ∷ bytes) place room was ends = omega (arith, length_over old (b ∷ bytes) place, was, ends)
 
 front_stays : (old rest : List ℕ) (place : ℕ) → (place ≤ length old) ⊎ (length old < place) → take place (take (length old) (take place old ++ rest)) ≡ take place old
 front_stays old rest place (inl within) =
@@ -82,25 +74,6 @@ pub written_is_torn : (old bytes : List ℕ) (place : ℕ) → IsTorn place (len
 written_is_torn old [] place = torn_none place 0 old
 written_is_torn old (b ∷ bytes) place = over_is_torn old (b ∷ bytes) place
 
--- and so is what a shorter write gives
-torn_wider : (place j n : ℕ) (d c : List ℕ) → j ≤ n → IsTorn place j d c → IsTorn place n d c
-torn_wider place j n d c le torn = record {
-  no_shorter = torn.no_shorter;
-  before = torn.before;
-  after = wide (take (length d) c) ∙ ap (λ (l : List ℕ). drop (n - j) l) torn.after ∙ sym (wide d);
-}
-  where
-    wide : (l : List ℕ) → drop (place + n) l ≡ drop (n - j) (drop (place + j) l)
-    wide l = ap (λ (k : ℕ). drop k l) (omega (arith, le)) ∙ sym (drop-drop (n - j) (place + j) l)
-
--- the bytes that a crash keeps of the later writes leave an image
-pub on_top_is_image : (stable : List ℕ) (later : List Write) (keep : ℕ) → IsImage later stable (on_top stable later keep)
-on_top_is_image stable [] keep = refl
-on_top_is_image stable (w ∷ earlier) keep =
-    let below = on_top stable earlier keep in
-    let kept = take (keep - total earlier) w.bytes in
-    (below, on_top_is_image stable earlier keep, torn_wider w.place (length kept) (length w.bytes) below (written below w.place kept) (omega (arith, length-take (keep - total earlier) w.bytes)) (written_is_torn below kept w.place))
-
 image_stays : (s : State) (act : Act) → images_of s s.seen → images_of (after s act) (after s act).seen
 image_stays s (Wrote place bytes) is = (s.seen, is, written_is_torn s.seen bytes place)
 image_stays s Synced is = refl
@@ -117,23 +90,3 @@ now_counts d t c le now = (length d.acts, le, omega arith, subst (λ (acts : Lis
 
 pub now_only : (d : DiskState) (c : List ℕ) → left_of d (length d.acts) c → images_of (state_of d) c
 now_only d c (k, from, to, is) = subst (λ (acts : List Act). images_of (after_all (fresh d.first) acts) c) (take_all k d.acts from) is
-
-pub after_push : (s : State) (acts : List Act) (act : Act) → after_all s (acts ++ act ∷ []) ≡ after (after_all s acts) act
-after_push s [] act = refl
-after_push s (first ∷ acts) act = after_push (after s first) acts act
-
--- time goes on by one call
-pub elapses_push : (first : List ℕ) (acts : List Act) (act : Act)
-    → Elapses (length acts) (length (acts ++ act ∷ [])) (LeftSince first acts) (LeftSince first (acts ++ act ∷ [])) (images_of (after_all (fresh first) (acts ++ act ∷ [])))
-elapses_push first acts act = record {
-  later = omega (arith, length-append acts (act ∷ []));
-  nothing_else = λ t c le left. split t c left (le_or_lt left.0 (length acts));
-  keeps = λ t c le (k, from, to, is). (k, from, omega (arith, length-append acts (act ∷ []), to), subst (λ (l : List Act). images_of (after_all (fresh first) l) c) (sym (take-append-le k acts (act ∷ []) to)) is);
-}
-  where
-    split : (t : ℕ) (c : List ℕ) (left : LeftSince first (acts ++ act ∷ []) t c) → (left.0 ≤ length acts) ⊎ (length acts < left.0) → LeftSince first acts t c ⊎ images_of (after_all (fresh first) (acts ++ act ∷ [])) c
-    split t c (k, from, to, is) (inl within) = inl (k, from, within, subst (λ (l : List Act). images_of (after_all (fresh first) l) c) (take-append-le k acts (act ∷ []) within) is)
-    split t c (k, from, to, is) (inr past) = inr (subst (λ (l : List Act). images_of (after_all (fresh first) l) c) (take_all k (acts ++ act ∷ []) (omega (arith, length-append acts (act ∷ []), past))) is)
-
-pub elapses_same : (first : List ℕ) (acts : List Act) → Elapses (length acts) (length acts) (LeftSince first acts) (LeftSince first acts) (images_of (after_all (fresh first) acts))
-elapses_same first acts = record { later = omega arith; nothing_else = λ t c le left. inl left; keeps = λ t c le left. left }

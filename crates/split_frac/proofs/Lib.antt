@@ -1,3 +1,4 @@
+pub mod NumberTexts
 pub mod Coprime
 pub mod Floors
 pub mod Lowest

@@ -3,12 +3,9 @@ ghost use Rattle.std.specs.String.{string_bytes};
 ghost use Rattle.split_frac.specs.Frac.{frac_text};
 
 use crate::frac::Frac;
+use split_base::NoMemory;
 use std::alloc::Global;
 use std::fmt;
-
-/// The answer where memory runs out.
-#[derive(Clone, Copy, Debug, PartialEq, Eq)]
-pub struct NoMemory;
 
 /// In decimal: the numerator, with a `-` where it is below 0, and where the denominator is not 1 a
 /// `/` and the denominator, as `-3/2` and `5`.

@@ -1,7 +1,7 @@
 mod BodyLemmas
-mod CarryLemmas
 mod FieldLemmas
 mod Finds
+mod FramingLemmas
 mod HeadLemmas
 mod LawLemmas
 mod LiteralSeek

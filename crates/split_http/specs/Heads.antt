@@ -1,14 +1,18 @@
 -- Heads of requests, and what they say.
 use Rattle.std.specs.Prelude.{◌≡◌, ◌≢◌, ℕ, ◌≤◌, ◌==◌, nat_lt, Bool, not, ◌&&◌, ◌||◌, List, ◌++◌, length, map, replicate, codes, bytes_eq, Option, Some, None, option_map, if◌then◌else◌}
 use Rattle.httparse.specs.Grammar.{RequestHead, IsRequestHead, print_request}
-use Rattle.httparse.specs.Spans.{name_and_value}
+use Rattle.httparse.specs.Spans.{IsRequestAt, IsRequestWithin, name_and_value}
+use Rattle.httparse.specs.declared.spans.HeaderSpan.{HeaderSpan}
+use Rattle.httparse.specs.declared.spans.RequestSpans.{RequestSpans}
 use Rattle.split_http.specs.declared.head.Verb.{Verb}
 use Rattle.split_http.specs.declared.head.Verb.TheVariants.{Get, Head, Post, Other}
 use Rattle.split_http.specs.declared.head.Head.{Head as HeadValue}
 use Rattle.split_http.specs.declared.fields.Stated.{Stated}
 use Rattle.split_http.specs.declared.fields.Stated.TheVariants.{Absent, Bad, Bytes}
-use Rattle.split_http.specs.declared.limits.TheConstants.{MAX_HEAD, MAX_FIELDS, MAX_BODY, BAD_HOST, FRAMING, BAD_LENGTH, LENGTH_MISSING, BODY_TOO_LARGE}
-use Rattle.split_http.specs.Fields.{Pair, count_of, value_of, has_value, has_option, stated_of}
+use Rattle.http_heads.specs.declared.limits.TheConstants.{MAX_HEAD, MAX_FIELDS}
+use Rattle.http_heads.specs.Fields.{Pair, count_of, value_of}
+use Rattle.split_http.specs.declared.limits.TheConstants.{MAX_BODY, BAD_HOST, FRAMING, BAD_LENGTH, LENGTH_MISSING, BODY_TOO_LARGE}
+use Rattle.split_http.specs.Fields.{has_value, has_option, stated_of}
 use Rattle.split_http.specs.Paths.{IsPathOf}
 
 -- a head by the grammar of `httparse` (RFC 9112), of at most 8,192 bytes and with at most 64 fields
@@ -20,6 +24,15 @@ pub record IsHead (head : RequestHead) : Type 0 where
 -- the bytes begin with no head
 abbrev pub HasNoHead : List ℕ → Type 0
 HasNoHead bytes = (head : RequestHead) (rest : List ℕ) → IsHead head → bytes ≢ print_request head ++ rest
+
+-- the text of such a head, however long
+abbrev pub IsText : List ℕ → Type 0
+IsText text = (head : RequestHead) × IsRequestHead head × (length head.fields ≤ MAX_FIELDS) × (text ≡ print_request head)
+
+-- the head stands at the front of the bytes, at these spans
+pub record IsFoundAt (bytes : List ℕ) (fields : List HeaderSpan) (spans : RequestSpans) : Type 0 where
+  pub head : (h : RequestHead) × IsRequestAt bytes fields spans h × (length h.fields ≤ MAX_FIELDS)
+  pub within : IsRequestWithin bytes fields spans
 
 -- the parts of a head that say something
 pub record HeadText : Type 0 where

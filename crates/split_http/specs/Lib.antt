@@ -1,9 +1,9 @@
 pub mod Fields
+pub mod Framings
 pub mod Heads
 pub mod Paths
 pub mod Pieces
 pub mod Places
 pub mod Replies
 pub mod Rows
-pub mod Search
 pub mod Turns

@@ -9,14 +9,14 @@ use Rattle.split_http.specs.declared.bodies.BodyTurn.{BodyTurn}
 use Rattle.split_http.specs.declared.bodies.BodyTurn.TheVariants as bodies
 use Rattle.split_http.specs.declared.head.Head.{Head}
 use Rattle.split_http.specs.declared.head.Verb.{Verb}
-use Rattle.split_http.specs.declared.limits.TheConstants.{MAX_HEAD}
+use Rattle.http_heads.specs.declared.limits.TheConstants.{MAX_HEAD}
 use Rattle.split_http.specs.Pieces.{AppendsPart, AppendsProperPart}
 use Rattle.split_http.specs.Heads.{IsHead, HasNoHead, IsHeadOf, text_of, verb_of}
 
 -- these are the bytes, where they are told
-abbrev pub Told : Option (List ℕ) → List ℕ → Type 0
-Told None bytes = ⊤
-Told (Some known) bytes = bytes ≡ known
+abbrev pub IsToldAs : Option (List ℕ) → List ℕ → Type 0
+IsToldAs None bytes = ⊤
+IsToldAs (Some known) bytes = bytes ≡ known
 
 -- bytes are left, and they begin with no head
 abbrev pub IsBad : List ℕ → Type 0
@@ -33,10 +33,10 @@ HasHeadOf verb bytes = (h : RequestHead) × (rest : List ℕ) × IsHead h × (ve
 -- what comes next of the bytes that were left, and what is left then: a head goes, with what it says; nothing goes where no head stands or the link failed
 abbrev pub HeadSays : Option (List ℕ) → Option (List ℕ) → HeadTurn → Type 0
 HeadSays old new (turns.Head head) = (h : RequestHead) × IsHead h × IsHeadOf (text_of h) head × Consumes old new (print_request h)
-HeadSays old new turns.BadHead = Keeps old new × ((all : List ℕ) × Told old all × IsBad all)
-HeadSays old new turns.End = Keeps old new × Told old []
+HeadSays old new turns.BadHead = Keeps old new × ((all : List ℕ) × IsToldAs old all × IsBad all)
+HeadSays old new turns.End = Keeps old new × IsToldAs old []
 HeadSays old new turns.LinkFault = Keeps old new
-HeadSays old new (turns.NoMemory verb) = Keeps old new × ((all : List ℕ) × Told old all × HasHeadOf verb all)
+HeadSays old new (turns.NoMemory verb) = Keeps old new × ((all : List ℕ) × IsToldAs old all × HasHeadOf verb all)
 
 -- the head was taken off the bytes, or it stands there and there was no memory
 abbrev pub IsTaken : List ℕ → List ℕ → HeadTurn → Type 0
@@ -72,7 +72,7 @@ BodySays old new before now head (bodies.Body body) =
     (head.refused ≡ None) × (length body.items ≡ head.length) × Consumes old new body.items × Appends before now (interim_of head.expects)
 BodySays old new before now head (bodies.Refused row) = (head.refused ≡ Some row) × Keeps old new × (now ≡ before)
 BodySays old new before now head bodies.Cut =
-    (head.refused ≡ None) × ((all : List ℕ) × Told old all × (length all < head.length) × IsAtEnd new) × Appends before now (interim_of head.expects)
+    (head.refused ≡ None) × ((all : List ℕ) × IsToldAs old all × (length all < head.length) × IsAtEnd new) × Appends before now (interim_of head.expects)
 BodySays old new before now head bodies.LinkFault =
     (head.refused ≡ None) × ((part : List ℕ) × (length part ≤ head.length) × Consumes old new part) × AppendsPart before now (interim_of head.expects)
 BodySays old new before now head bodies.NoMemory = (head.refused ≡ None) × Keeps old new × (now ≡ before)

@@ -5,8 +5,8 @@ ghost use Rattle.split_base.specs.Faults.{HasCause, HasRisen, IsCounted};
 ghost use Rattle.split_http.specs.Pieces.{AppendsProperPart};
 ghost use Rattle.split_http.specs.Turns.{BodySays, BodyCounts, interim_of};
 
-use crate::carry::Carry;
 use crate::head::Head;
+use http_heads::Carry;
 use split_base::{Failed, Link, Sink, write_all};
 use std::alloc::Global;
 

@@ -1,13 +1,14 @@
 // What the head of a request says.
 ghost use Rattle.std.specs.Prelude.{◌≡◌, All, length, IfOk};
 ghost use Rattle.httparse.specs.Spans.{IsHeaderWithin, IsWithin, span_bytes};
-ghost use Rattle.split_http.specs.Fields.{fields_at};
+ghost use Rattle.http_heads.specs.Fields.{fields_at};
 ghost use Rattle.split_http.specs.Heads.{IsHeadOf, verb_of, key_from, key_of, has_bad_host, stated_by, first_refusal, length_by, expects_by, closes_by};
 
 use crate::PathText;
-use crate::fields::{Stated, any_closes, any_named, count_named, named_value, stated_length};
+use crate::fields::{Stated, any_closes, any_named, stated_length};
 use crate::limits::{BAD_HOST, BAD_LENGTH, BODY_TOO_LARGE, FRAMING, LENGTH_MISSING, MAX_BODY};
 use crate::paths::target_path;
+use http_heads::{count_named, named_value};
 use httparse::spans::{HeaderSpan, RequestSpans};
 use split_base::NoMemory;
 use std::alloc::Global;
@@ -92,7 +93,7 @@ fn length_refusal(verb: Verb, stated: Stated) -> Option<u8>
 }
 
 // The first refusal of a head.
-fn refusal(bytes: &[u8], fields: &[HeaderSpan], verb: Verb, minor: u8) -> Option<u8>
+pub(crate) fn refusal(bytes: &[u8], fields: &[HeaderSpan], verb: Verb, minor: u8) -> Option<u8>
     requires { All (IsHeaderWithin (length bytes.now)) fields.now }
     ensures { result ≡ first_refusal verb minor (fields_at bytes.now fields.now) }
 {
@@ -106,7 +107,7 @@ fn refusal(bytes: &[u8], fields: &[HeaderSpan], verb: Verb, minor: u8) -> Option
 }
 
 // The length of the body of a head with that refusal.
-fn body_length(refused: Option<u8>, stated: Stated) -> u32
+pub(crate) fn body_length(refused: Option<u8>, stated: Stated) -> u32
     ensures { result ≡ length_by refused stated }
 {
     match (refused, stated) {
@@ -138,7 +139,7 @@ fn key(bytes: &[u8], fields: &[HeaderSpan]) -> Option<[u8; 64]>
 
 // Whether an interim reply is due before a body of that length.
 #[tactic(auto, using(crate::proofs::FieldLemmas::any_of_mapped))]
-fn expects(bytes: &[u8], fields: &[HeaderSpan], minor: u8, count: u32) -> bool
+pub(crate) fn expects(bytes: &[u8], fields: &[HeaderSpan], minor: u8, count: u32) -> bool
     requires { All (IsHeaderWithin (length bytes.now)) fields.now }
     ensures { result ≡ expects_by count minor (fields_at bytes.now fields.now) }
 {

@@ -2,12 +2,12 @@
 ghost use Rattle.std.specs.Prelude.{◌≡◌, ◌≤◌, ◌++◌, ℕ, List, length};
 ghost use Rattle.std.specs.Io.KnownBytes.{prepend_known};
 ghost use Rattle.split_base.specs.Faults.{HasRisen};
-ghost use Rattle.split_http.specs.Search.{IsFoundAt};
+ghost use Rattle.split_http.specs.Heads.{IsFoundAt};
 ghost use Rattle.split_http.specs.Turns.{HeadSays, CarrySays, IsTaken, faults_of};
 
-use crate::carry::Carry;
 use crate::head::{Head, Verb, head_at, read_verb};
-use crate::search::{Ahead, ROOM, look_ahead};
+use crate::request_heads::RequestHeads;
+use http_heads::{Ahead, Carry, ROOM, look_ahead};
 use httparse::spans::{EMPTY_HEADER_SPAN, HeaderSpan, RequestSpans};
 use split_base::{NoMemory, Source};
 use std::alloc::Global;
@@ -55,7 +55,7 @@ pub fn next_head<S: Source>(alloc: Global, link: &mut S, carry: &mut Carry) -> H
     ensures beside { S.beside link.new ≡ S.beside link.old }
 {
     let mut fields = [EMPTY_HEADER_SPAN; ROOM];
-    match look_ahead(link, carry, &mut fields) {
+    match look_ahead::<RequestHeads, S>(link, carry, &mut fields) {
         Ahead::Found(spans) => take_head(alloc, carry, &fields, &spans),
         Ahead::Bad => HeadTurn::BadHead,
         Ahead::End => HeadTurn::End,

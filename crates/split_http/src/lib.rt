@@ -3,27 +3,25 @@
 #![tactic(auto)]
 
 mod bodies;
-mod carry;
 mod fields;
+mod framing;
 mod head;
 mod heads;
 mod laws;
 mod limits;
-mod numbers;
 mod paths;
 mod pieces;
 mod replies;
+mod request_heads;
 mod routes;
-mod search;
 
 pub use bodies::{BodyTurn, next_body};
-pub use carry::Carry;
+pub use framing::{Framing, framing_law, framing_of};
 pub use head::{Head, Verb};
 pub use heads::{HeadTurn, next_head};
+pub use http_heads::{Carry, MAX_FIELDS, MAX_HEAD};
 pub use laws::{cut_law, head_law, phrase_law, refusal_law, reply_law};
-pub use limits::{
-    BAD_HOST, BAD_LENGTH, BODY_TOO_LARGE, FRAMING, LENGTH_MISSING, MAX_BODY, MAX_FIELDS, MAX_HEAD,
-};
+pub use limits::{BAD_HOST, BAD_LENGTH, BODY_TOO_LARGE, FRAMING, LENGTH_MISSING, MAX_BODY};
 pub use paths::PathText;
 pub use replies::{Allow, HttpReply, write_reply};
 pub use routes::{Place, Route, RouteFault, Routes};

@@ -1,10 +1,4 @@
-// Limits of messages, and the numbers of the refusals of a head.
-
-/// The most bytes of a head, with the empty lines before it and the one that ends it.
-pub const MAX_HEAD: usize = 8192;
-
-/// The most fields of a head.
-pub const MAX_FIELDS: usize = 64;
+// Limits of bodies, and the numbers of the refusals of a head.
 
 /// The most bytes of a body.
 pub const MAX_BODY: u32 = 65_536;

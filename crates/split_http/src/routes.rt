@@ -3,8 +3,8 @@ ghost use Rattle.std.specs.Prelude.{◌≡◌, ◌↔◌, IfOk, IsTrue, option_m
 ghost use Rattle.split_http.specs.Places.{endpoint_of, has_verb, id_text, IsId, IsRouted};
 ghost use Rattle.split_http.specs.Rows.{route_rows};
 
-use crate::numbers::capped_number;
 use crate::{Allow, PathText, Verb};
+use http_heads::capped_number;
 use matchit::{InsertError, Router};
 use split_base::NoMemory;
 use std::alloc::Global;

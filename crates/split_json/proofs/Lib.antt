@@ -1,3 +1,4 @@
+pub mod AllowedFacts
 pub mod FreeFares
 pub mod JsonValues
 pub mod Lists

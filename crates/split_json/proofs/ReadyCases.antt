@@ -11,9 +11,11 @@ use Rattle.serde_json.specs.Find.{as_null, get}
 use Rattle.bid_rules.specs.declared.bids.Bid.{Bid}
 use Rattle.bid_rules.specs.declared.bids.Facts.{Facts}
 use Rattle.bid_rules.specs.declared.limits.TheConstants.{ITEM_ROOM, MEMBER_ROOM, MOST_GOODS, MOST_PLACES, MOST_RENT, PLACE_ROOM, USUAL_STEPS}
-use Rattle.bid_rules.specs.Decisions.{Decision, holds, fails, is_checked_bid, is_checked_facts, where_holds}
+use Rattle.bid_rules.specs.Checks.{passes_bid, passes_facts}
 use Rattle.bid_rules.specs.Facts.{IsCheckedBid, IsCheckedFacts, member_count}
 use Rattle.case_fields.specs.Rules.{allowed_bid}
+use Rattle.split_lemmas.proofs.Checks.{bid_decided, facts_decided}
+use Rattle.std.specs.Bool.{Decides}
 use Rattle.split_json.specs.Rules.{bid_in, bids_in, each, elements, entry_in, is_within, json_of, kind_in, legs_in, list_in, listed, name_in, names_in, number_in, passing, written_bid}
 use Rattle.split_json.specs.Reading.{CaseData, HeadData, IsReady, IsReadyHead, allowed, answer_of, case_in, case_of_object, fares_head, field_text, free_fares, goods_head, head_of_object, held, held_or, item_count, rent_head, rest_of_head, goods_facts, rent_facts, fares_facts, ◌>>=◌}
 use Rattle.case_fields.specs.declared.fields.FieldName.{FieldName}
@@ -22,10 +24,10 @@ use Rattle.split_json.specs.declared.rules.Kind.{Kind}
 use Rattle.split_json.specs.declared.rules.Kind.TheVariants as kind
 use Rattle.case_fields.specs.declared.fields.BodyFault.TheVariants.{Field}
 
--- where a decision lets x pass, the fact holds
-pub passed : {A : Type 0} (P : Type 0) (decision : Decision P) (x y : A) → where_holds P decision x ≡ Some y → P × (x ≡ y)
-passed P (holds p) x y h = (p, cc h)
-passed P (fails not) x y h = cc h
+-- where a test lets x pass, its fact holds
+pub passed : {A : Type 0} (P : Type 0) (test : Bool) (x y : A) → Decides test P → (if test then Some x else None) ≡ Some y → P × (x ≡ y)
+passed P true x y decides h = (decides.0 refl, cc h)
+passed P false x y decides h = cc h
 
 -- an option that gave a value
 pub given-ok : {A E : Type 0} (o : Option A) (error : E) (x : A) → ok_or o error ≡ Ok x → o ≡ Some x
@@ -79,7 +81,7 @@ pub bid_in-some : (given : Facts) (d : Data) (one : Bid) → bid_in given d ≡ 
 unfolding allowed_bid
 bid_in-some given d one h =
     option_and_then_some (allowed_bid given) (written_bid given d) one h (λ written found kept.
-    let checked = passed (IsCheckedBid given written) (is_checked_bid given written) written one kept in
+    let checked = passed (IsCheckedBid given written) (passes_bid given written) written one (bid_decided given written) kept in
     subst (IsCheckedBid given) checked.1 checked.0)
 
 -- an entry of the bids is none, or checked
@@ -100,7 +102,7 @@ allowed-ready : (name : FieldName) (title : List ℕ) (members items : List (Lis
 unfolding allowed
 allowed-ready name title members items given head each_member each_item h =
     both-ok (allowed name given) _ head h (λ all found is.
-    let checked = passed (IsCheckedFacts given) (is_checked_facts given) given all (given-ok (where_holds (IsCheckedFacts given) (is_checked_facts given) given) name all found) in
+    let checked = passed (IsCheckedFacts given) (passes_facts given) given all (facts_decided given) (given-ok (if passes_facts given then Some given else None) name all found) in
     let ready : IsReadyHead (record { title = title; members = members; items = items; facts = given }) = record { facts = checked.0; members = each_member; items = each_item } in
     subst IsReadyHead (cc is) (subst (λ (f : Facts). IsReadyHead (record { title = title; members = members; items = items; facts = f })) checked.1 ready))
 

@@ -1,12 +1,13 @@
 -- A proposal that is read is of a ready case of goods, and its owners are members who have bid.
-use Rattle.std.proofs.Common.{◌≡◌, ℕ, List, length, true, Option, Some, None, option_and_then, Ok, refl, sym, ap, ◌∙◌, subst}
+use Rattle.std.proofs.Common.{◌≡◌, ℕ, List, length, true, Option, Some, None, option_and_then, if◌then◌else◌, Ok, refl, sym, ap, ◌∙◌, subst}
 use Rattle.std.proofs.lemmas.Option.{option_and_then_some}
 use Rattle.serde_json.specs.Data.{Data}
 use Rattle.serde_json.specs.Find.{get}
 use Rattle.bid_rules.specs.declared.bids.Bid.{Bid}
 use Rattle.bid_rules.specs.declared.bids.Facts.{Facts}
 use Rattle.bid_rules.specs.declared.limits.TheConstants.{ITEM_ROOM, MEMBER_ROOM, MOST_GOODS, USUAL_STEPS}
-use Rattle.bid_rules.specs.Decisions.{is_checked_facts, where_holds}
+use Rattle.bid_rules.specs.Checks.{passes_facts}
+use Rattle.split_lemmas.proofs.Checks.{facts_decided}
 use Rattle.bid_rules.specs.Facts.{IsCheckedFacts}
 use Rattle.split_json.specs.Rules.{bids_in, kind_in, name_in, names_in, number_in, passing, place_in}
 use Rattle.split_json.specs.Reading.{CaseData, HeadData, allowed, case_of_object, field_text, goods_facts, goods_head, head_of_object, held, held_or, rest_of_head}
@@ -41,7 +42,7 @@ kind_is body passing named first second =
 -- facts that are allowed are the given ones
 allowed-is : (name : FieldName) (given all : Facts) → allowed name given ≡ Ok all → given ≡ all
 unfolding allowed
-allowed-is name given all h = (passed (IsCheckedFacts given) (is_checked_facts given) given all (given-ok (where_holds (IsCheckedFacts given) (is_checked_facts given) given) name all h)).1
+allowed-is name given all h = (passed (IsCheckedFacts given) (passes_facts given) given all (facts_decided given) (given-ok (if passes_facts given then Some given else None) name all h)).1
 
 -- the head of goods has facts of goods
 goods_head-goods : (title : List ℕ) (body : Data) (head : HeadData) → goods_head title body ≡ Ok head → AreOfGoods head.facts

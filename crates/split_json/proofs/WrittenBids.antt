@@ -1,5 +1,5 @@
 -- The form of a bid refuses none that the rules allow.
-use Rattle.std.proofs.Common.{◌≡◌, ℕ, ◌≤◌, List, length, true, Some, ◌↔◌, refl, arith}
+use Rattle.std.proofs.Common.{◌≡◌, ℕ, ◌≤◌, List, length, Bool, true, Some, None, if◌then◌else◌, ◌↔◌, refl, ap, arith}
 use Rattle.std.specs.Prelude.{nat_le, ⊤}
 use Rattle.std.proofs.lemmas.Bool.{and_from, le-leb}
 use Rattle.serde_json.specs.Data.{Data}
@@ -9,7 +9,8 @@ use Rattle.bid_rules.specs.declared.bids.Bid.TheVariants as bid
 use Rattle.bid_rules.specs.declared.bids.Facts.{Facts}
 use Rattle.bid_rules.specs.declared.bids.Facts.TheVariants as facts
 use Rattle.bid_rules.specs.declared.limits.TheConstants.{ITEM_ROOM}
-use Rattle.bid_rules.specs.Decisions.{Decision, holds, fails, is_checked_bid, where_holds}
+use Rattle.bid_rules.specs.Checks.{passes_bid}
+use Rattle.split_lemmas.proofs.Checks.{bid_decided}
 use Rattle.bid_rules.specs.Facts.{IsCheckedBid, IsCheckedFacts}
 use Rattle.case_fields.specs.Rules.{allowed_bid}
 use Rattle.split_json.specs.Rules.{bid_in, each, is_within, listed, number_in, values_in, whole_number}
@@ -18,11 +19,7 @@ use Rattle.split_json.proofs.ReadyCases.{bid_in-some, each-some}
 -- a checked bid passes
 passes : (given : Facts) (one : Bid) → IsCheckedBid given one → allowed_bid given one ≡ Some one
 unfolding allowed_bid
-passes given one checked = by_decision (is_checked_bid given one)
-  where
-    by_decision : (decision : Decision (IsCheckedBid given one)) → where_holds (IsCheckedBid given one) decision one ≡ Some one
-    by_decision (holds kept) = refl
-    by_decision (fails not) = absurd (not checked)
+passes given one checked = ap (λ (test : Bool). if test then Some one else None) ((bid_decided given one).1 checked)
 
 -- a checked place is read
 place-read : (given : Facts) (value : Data) (place : ℕ) → IsCheckedFacts given → whole_number value ≡ Some place → IsCheckedBid given (bid.Place place) → bid_in given value ≡ Some (bid.Place place)

@@ -9,7 +9,7 @@ use Rattle.bid_rules.specs.declared.bids.Facts.{Facts}
 use Rattle.bid_rules.specs.declared.bids.Facts.TheVariants as facts
 use Rattle.bid_rules.specs.declared.bids.Bid.{Bid}
 use Rattle.bid_rules.specs.declared.limits.TheConstants.{ITEM_ROOM, MEMBER_ROOM, MOST_GOODS, MOST_PLACES, MOST_RENT, PLACE_ROOM, USUAL_STEPS}
-use Rattle.bid_rules.specs.Decisions.{is_checked_facts, where_holds}
+use Rattle.bid_rules.specs.Checks.{passes_facts}
 use Rattle.bid_rules.specs.Facts.{IsCheckedBid, IsCheckedFacts, member_count}
 use Rattle.split_json.specs.Rules.{bids_in, json_of, kind_in, legs_in, name_in, names_in, number_in}
 use Rattle.case_fields.specs.declared.fields.FieldName.{FieldName}
@@ -73,7 +73,7 @@ Err name >>= next = Err name
 
 -- the facts, where they have no fault; else the fault is that of the field that was read last
 unfoldable pub allowed : FieldName → Facts → Result Facts FieldName
-allowed name given = ok_or (where_holds (IsCheckedFacts given) (is_checked_facts given) given) name
+allowed name given = ok_or (if passes_facts given then Some given else None) name
 
 -- the facts of a rent, of goods and of fares
 abbrev pub rent_facts : ℕ → ℕ → Facts

@@ -1,3 +1,5 @@
+pub mod AskedInOrder
+pub mod Checks
 pub mod CompleteOrders
 pub mod Counts
 pub mod DistinctOrders
@@ -8,12 +10,14 @@ pub mod GoodsMembers
 pub mod ListOrder
 pub mod ListPlaces
 pub mod MappedLists
+pub mod Moments
 pub mod Multiples
 pub mod OrderLaws
 pub mod PairOrder
 pub mod PartLaws
 pub mod Permutations
 pub mod PriceLists
+pub mod PrintedNumbers
 pub mod RangePermutations
 pub mod RangeSteps
 pub mod RenamedOrders

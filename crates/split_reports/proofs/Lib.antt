@@ -1,3 +1,12 @@
+pub mod CaseForms
+pub mod Drawing
+pub mod FewSteps
+pub mod Spreading
+pub mod ValidCases
+pub mod WeightSums
+pub mod DumpRowLists
+pub mod HeldGoods
+pub mod PlayerTexts
 pub mod LoneRiders
 pub mod RentFigures
 pub mod FareReports

@@ -13,7 +13,7 @@ use Rattle.split_lemmas.proofs.RoomPlaces.{room_range, rooms_length}
 use Rattle.envy_check.specs.Envy.{ArePrices}
 use Rattle.rent_maximin.specs.Division.{IsRentDivision}
 use Rattle.rent_maximin.specs.declared.division.RentDivision.{RentDivision}
-use Rattle.player_lines.specs.Names.{NamesData}
+use Rattle.split_reports.specs.Names.{NamesData}
 use Rattle.split_reports.specs.Rent.{AreFigures, AreFiguresOf, RentTold}
 
 -- a number of a room

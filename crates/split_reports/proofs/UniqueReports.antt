@@ -19,9 +19,9 @@ use Rattle.bid_rules.specs.Goods.{player_count}
 use Rattle.bid_rules.specs.Rent.{IsValidRentCase, room_count, utility}
 use Rattle.bid_rules.specs.Facts.{IsValidCase}
 use Rattle.split_lemmas.proofs.FractionLaws.{same_value}
-use Rattle.divisions.specs.Division.{IsDivisionOf}
-use Rattle.divisions.specs.declared.division.Division.{Division}
-use Rattle.divisions.specs.declared.division.Division.TheVariants.{Rent, Goods, Fares}
+use Rattle.certificates.specs.Division.{IsDivisionOf}
+use Rattle.certificates.specs.declared.division.Division.{Division}
+use Rattle.certificates.specs.declared.division.Division.TheVariants.{Rent, Goods, Fares}
 use Rattle.envy_check.specs.Envy.{IsEnvyTable, entry_at, envy}
 use Rattle.envy_check.specs.Goods.{IsPointsTable}
 use Rattle.nash_search.specs.Division.{IsGoodsDivision}
@@ -30,7 +30,7 @@ use Rattle.rent_maximin.specs.Division.{IsRentDivision}
 use Rattle.rent_maximin.specs.declared.division.RentDivision.{RentDivision}
 use Rattle.shapley_core.specs.Division.{IsFareDivision}
 use Rattle.shapley_core.specs.declared.division.FareDivision.{FareDivision}
-use Rattle.player_lines.specs.Names.{NamesData}
+use Rattle.split_reports.specs.Names.{NamesData}
 use Rattle.split_reports.specs.Fares.{IsFaresReport, fares_report}
 use Rattle.split_reports.specs.Goods.{IsGoodsReport, goods_report}
 use Rattle.split_reports.specs.Rent.{AreUtilities, IsRentReport, RentTold, rent_report}

@@ -7,10 +7,10 @@ use Rattle.bid_rules.specs.Fares.{coalition_cost, place_of}
 use Rattle.shapley_core.specs.declared.division.FareDivision.{FareDivision}
 use Rattle.split_frac.specs.declared.frac.Frac.{Frac}
 use Rattle.split_frac.specs.Frac.{frac_text, fraction_of}
-use Rattle.player_lines.specs.Lines.{lines_to, named_at, number_at, text_at}
-use Rattle.player_lines.specs.Names.{NamesData}
+use Rattle.split_reports.specs.Parts.{lines_to, named_at, number_at, text_at}
+use Rattle.split_reports.specs.Names.{NamesData}
 use Rattle.split_reports.specs.Lines.{count_line}
-use Rattle.split_text.specs.Texts.{line_of, spaced}
+use Rattle.split_frac.specs.Texts.{line_of, spaced}
 
 -- the number of the member that a rider is
 abbrev pub member_of : FareCase → ℕ → ℕ

@@ -8,11 +8,11 @@ use Rattle.bid_rules.specs.declared.limits.TheConstants.{MEMBER_ROOM}
 use Rattle.bid_rules.specs.Goods.{player_count}
 use Rattle.envy_check.specs.Goods.{IsPointsTable}
 use Rattle.nash_search.specs.declared.division.GoodsDivision.{GoodsDivision}
-use Rattle.player_lines.specs.Lines.{lines_to}
-use Rattle.player_lines.specs.Names.{NamesData}
-use Rattle.player_lines.specs.Players.{player_line, player_member}
+use Rattle.split_reports.specs.Parts.{lines_to}
+use Rattle.split_reports.specs.Names.{NamesData}
+use Rattle.split_reports.specs.Players.{player_line, player_member}
 use Rattle.split_reports.specs.Lines.{count_line, envy_line}
-use Rattle.split_text.specs.Texts.{line_of}
+use Rattle.split_frac.specs.Texts.{line_of}
 
 -- the title, and how many of the members are players
 abbrev pub goods_head : NamesData → GoodsCase → List ℕ

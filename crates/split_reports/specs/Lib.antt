@@ -1,6 +1,14 @@
+pub mod TrialDraws
+pub mod TrialPrefixes
+pub mod TrialSpreads
+pub mod Trials
+pub mod DumpBetween
+pub mod DumpRows
+pub mod Parts
+pub mod Names
+pub mod Players
 pub mod Fares
 pub mod Goods
 pub mod Lines
-pub mod Names
 pub mod Rent
 pub mod Reports

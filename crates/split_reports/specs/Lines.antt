@@ -1,7 +1,7 @@
 -- The parts of lines that reports of several kinds share.
 use Rattle.std.specs.Prelude.{ℕ, List, [], ◌∷◌, codes}
 use Rattle.std.specs.Fmt.{decimal}
-use Rattle.split_text.specs.Texts.{line_of, spaced}
+use Rattle.split_frac.specs.Texts.{line_of, spaced}
 
 -- the line that says how many of the members take part
 abbrev pub count_line : List ℕ → ℕ → ℕ → List ℕ

@@ -1,2 +1,22 @@
--- What the report of a case calls by name.
-pub use Rattle.player_lines.specs.Names.{NamesData, names_of, shown_names}
+-- What a text on a case calls by name.
+use Rattle.std.specs.Prelude.{ℕ, List, map}
+use Rattle.split_json.specs.Reading.{CaseData}
+use Rattle.split_reports.specs.declared.names.Names.{Names}
+
+-- the title of a case, and the names of its members and of what is divided, as plain lists of bytes
+pub record NamesData : Type 0 where
+  pub title : List ℕ
+  pub members : List (List ℕ)
+  pub items : List (List ℕ)
+
+-- what names show
+abbrev pub shown_names : Names → NamesData
+shown_names names = record {
+  title = names.title.now.bytes;
+  members = map (λ text. text.bytes) names.members.now.items;
+  items = map (λ text. text.bytes) names.items.now.items;
+}
+
+-- the names of a case
+abbrev pub names_of : CaseData → NamesData
+names_of given = record { title = given.title; members = given.members; items = given.items }

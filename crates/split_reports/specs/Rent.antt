@@ -9,11 +9,11 @@ use Rattle.bid_rules.specs.Fractions.{Fraction, IsQuotient}
 use Rattle.bid_rules.specs.Rent.{HasParts, room_count, utility}
 use Rattle.envy_check.specs.Envy.{IsEnvyTable}
 use Rattle.rent_maximin.specs.declared.division.RentDivision.{RentDivision}
-use Rattle.player_lines.specs.Lines.{lines_to, named_at, number_at, text_at}
-use Rattle.player_lines.specs.Names.{NamesData}
+use Rattle.split_reports.specs.Parts.{lines_to, named_at, number_at, text_at}
+use Rattle.split_reports.specs.Names.{NamesData}
 use Rattle.split_reports.specs.Lines.{envy_line}
 use Rattle.split_reports.specs.declared.rent.RentFigures.{RentFigures}
-use Rattle.split_text.specs.Texts.{line_of}
+use Rattle.split_frac.specs.Texts.{line_of}
 
 -- what the report of a rent tells beside the names and the rent: by member, but for the prices, which are by room
 pub record RentTold : Type 0 where

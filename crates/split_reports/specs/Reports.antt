@@ -2,12 +2,12 @@
 use Rattle.std.specs.Prelude.{ℕ, List}
 use Rattle.bid_rules.specs.declared.cases.Case.{Case}
 use Rattle.bid_rules.specs.declared.cases.Case.TheVariants as case
-use Rattle.divisions.specs.declared.division.Division.{Division}
-use Rattle.divisions.specs.declared.division.Division.TheVariants.{Rent, Goods, Fares}
+use Rattle.certificates.specs.declared.division.Division.{Division}
+use Rattle.certificates.specs.declared.division.Division.TheVariants.{Rent, Goods, Fares}
 use Rattle.split_json.specs.Reading.{CaseData}
 use Rattle.split_reports.specs.Fares.{IsFaresReport}
 use Rattle.split_reports.specs.Goods.{IsGoodsReport}
-use Rattle.player_lines.specs.Names.{NamesData, names_of}
+use Rattle.split_reports.specs.Names.{NamesData, names_of}
 use Rattle.split_reports.specs.Rent.{IsRentReport}
 
 -- the text is the report of the case and its division under these names

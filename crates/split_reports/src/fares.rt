@@ -5,22 +5,21 @@ ghost use Rattle.bid_rules.specs.Facts.{IsValidFareCase};
 ghost use Rattle.bid_rules.specs.Fares.{coalition_cost};
 ghost use Rattle.bid_rules.specs.declared.limits.TheConstants.{MOST_RIDERS, RIDER_ROOM};
 ghost use Rattle.shapley_core.specs.Division.{IsFareDivision};
-ghost use Rattle.player_lines.specs.Names.{shown_names};
-ghost use Rattle.player_lines.specs.Lines.{lines_to};
+ghost use Rattle.split_reports.specs.Names.{shown_names};
+ghost use Rattle.split_reports.specs.Parts.{lines_to};
 ghost use Rattle.split_reports.specs.Fares.{AreRiders, IsFaresReport, fares_head, fares_report, member_of, rider_line, total_line};
 
 use crate::text::{amount_at, fraction_at};
+use crate::{Names, lines_law, named};
 use arrayvec::ArrayVec;
+use best_laws::{coalition_law, orders_law};
 use bid_rules::FareCase;
 use bid_rules::limits::RIDER_ROOM;
 use envy_check::cent_plan;
-use fare_laws::{coalition_law, orders_law};
 use fare_routes::Costs;
-use player_lines::{Names, lines_law, named};
 use shapley_core::FareDivision;
 use split_base::NoMemory;
-use split_frac::Frac;
-use split_text::{Numbers, push_line};
+use split_frac::{Frac, Numbers, push_line};
 use std::alloc::Global;
 
 /// Appends the title and the numbers of riders and members.

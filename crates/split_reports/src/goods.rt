@@ -2,18 +2,18 @@
 ghost use Rattle.std.specs.Prelude.{◌≡◌, ◌≤◌, ◌++◌, ◌∷◌, ◌==◌, [], length, map, Some, IfOk, OnOk, string_bytes};
 ghost use Rattle.bid_rules.specs.Goods.{IsValidGoodsCase, player_count};
 ghost use Rattle.nash_search.specs.Division.{IsGoodsDivision};
-ghost use Rattle.player_lines.specs.Names.{shown_names};
-ghost use Rattle.player_lines.specs.Lines.{lines_to};
+ghost use Rattle.split_reports.specs.Names.{shown_names};
+ghost use Rattle.split_reports.specs.Parts.{lines_to};
 ghost use Rattle.split_reports.specs.Goods.{IsGoodsReport, goods_head, goods_report, pair_line, player_envy};
 
+use crate::{Names, PlayerLines, lines_law};
 use arrayvec::ArrayVec;
 use bid_rules::limits::MEMBER_ROOM;
 use bid_rules::{GoodsCase, Pair};
 use envy_check::points_table;
 use nash_search::GoodsDivision;
-use player_lines::{Names, PlayerLines, lines_law};
 use split_base::NoMemory;
-use split_text::{Numbers, push_line};
+use split_frac::{Numbers, push_line};
 use std::alloc::Global;
 
 /// Appends the title and the numbers of players and members.

@@ -2,13 +2,13 @@
 ghost use Rattle.std.specs.Prelude.{◌≡◌, ℕ, List, Ok};
 ghost use Rattle.bid_rules.specs.declared.cases.Case.{Case};
 ghost use Rattle.bid_rules.specs.Facts.{case_of};
-ghost use Rattle.divisions.specs.declared.division.Division.{Division};
-ghost use Rattle.divisions.specs.Division.{IsDivisionOf};
+ghost use Rattle.certificates.specs.declared.division.Division.{Division};
+ghost use Rattle.certificates.specs.Division.{IsDivisionOf};
 ghost use Rattle.split_json.specs.Reading.{CaseData, IsReady};
 ghost use Rattle.split_reports.specs.Reports.{IsReport};
 
+use best_laws::best_fares_law;
 use bid_rules::case_law;
-use fare_laws::best_fares_law;
 use nash_search::step_count_law;
 use rent_maximin::one_rent_division_law;
 use split_frac::value_law;

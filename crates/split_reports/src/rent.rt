@@ -5,21 +5,20 @@ ghost use Rattle.bid_rules.specs.declared.limits.TheConstants.{MEMBER_ROOM};
 ghost use Rattle.envy_check.specs.Envy.{ArePrices};
 ghost use Rattle.rent_maximin.specs.Division.{IsRentDivision};
 ghost use Rattle.split_frac.specs.Frac.{fraction_of};
-ghost use Rattle.player_lines.specs.Names.{shown_names};
-ghost use Rattle.player_lines.specs.Lines.{lines_to};
+ghost use Rattle.split_reports.specs.Names.{shown_names};
+ghost use Rattle.split_reports.specs.Parts.{lines_to};
 ghost use Rattle.split_reports.specs.Rent.{AreFigures, AreFiguresOf, AreUtilities, IsRentReport, figures_shown, least_line, member_envy, member_line, rent_head, rent_report};
 
 use crate::text::{amount_at, fraction_at};
+use crate::{Names, lines_law, named};
 use arrayvec::ArrayVec;
 use bid_rules::RentCase;
 use bid_rules::limits::MEMBER_ROOM;
-use divisions::rent_pays;
+use certificates::rent_pays;
 use envy_check::{envy_table, utility_at};
-use player_lines::{Names, lines_law, named};
 use rent_maximin::{RentDivision, division_range_law};
 use split_base::NoMemory;
-use split_frac::Frac;
-use split_text::{Numbers, push_line};
+use split_frac::{Frac, Numbers, push_line};
 use std::alloc::Global;
 
 /// What the report of a rent tells beside the names and the rent.

@@ -2,17 +2,17 @@
 ghost use Rattle.std.specs.Prelude.{◌≡◌, Ok, IfOk, length};
 ghost use Rattle.bid_rules.specs.Facts.{IsValidCase, case_of, facts_of, member_count};
 ghost use Rattle.case_fields.specs.Creations.{item_count};
-ghost use Rattle.divisions.specs.Division.{IsDivisionOf};
+ghost use Rattle.certificates.specs.Division.{IsDivisionOf};
 ghost use Rattle.split_json.specs.Reading.{IsReady, shown};
-ghost use Rattle.player_lines.specs.Names.{shown_names};
+ghost use Rattle.split_reports.specs.Names.{shown_names};
 ghost use Rattle.split_reports.specs.Reports.{IsNamedReport, IsReport};
 
+use crate::Names;
 use crate::fares::fares_report;
 use crate::goods::goods_report;
 use crate::rent::rent_report;
 use bid_rules::{Case, case_law};
-use divisions::Division;
-use player_lines::Names;
+use certificates::Division;
 use split_base::NoMemory;
 use split_json::CaseInput;
 use std::alloc::Global;

@@ -2,7 +2,7 @@
 ghost use Rattle.std.specs.Prelude.{◌≡◌, ◌≤◌, map, length};
 ghost use Rattle.std.specs.Fmt.{signed_decimal};
 ghost use Rattle.split_frac.specs.Frac.{frac_text};
-ghost use Rattle.player_lines.specs.Lines.{text_at};
+ghost use Rattle.split_reports.specs.Parts.{text_at};
 
 use split_frac::Frac;
 

@@ -1,1 +1,3 @@
+pub mod SameCases
+pub mod SearchedCases
 pub mod SolvedCases

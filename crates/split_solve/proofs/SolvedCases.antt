@@ -7,9 +7,9 @@ use Rattle.bid_rules.specs.declared.cases.Case.TheVariants as case
 use Rattle.bid_rules.specs.declared.cases.Missing.{Missing}
 use Rattle.bid_rules.specs.declared.goods.GoodsCase.{GoodsCase}
 use Rattle.bid_rules.specs.Facts.{IsValidCase, case_of, facts_of}
-use Rattle.divisions.specs.declared.division.Division.{Division}
-use Rattle.divisions.specs.declared.division.Division.TheVariants as division
-use Rattle.divisions.specs.Division.{IsDivisionOf}
+use Rattle.certificates.specs.declared.division.Division.{Division}
+use Rattle.certificates.specs.declared.division.Division.TheVariants as division
+use Rattle.certificates.specs.Division.{IsDivisionOf}
 use Rattle.nash_search.specs.declared.division.GoodsDivision.{GoodsDivision}
 use Rattle.nash_search.specs.declared.division.OverLimit.{OverLimit}
 use Rattle.nash_search.specs.Division.{HasSteps, IsGoodsDivision, IsOverLimit}

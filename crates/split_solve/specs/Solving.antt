@@ -6,8 +6,8 @@ use Rattle.bid_rules.specs.declared.bids.Facts.TheVariants as facts
 use Rattle.bid_rules.specs.declared.cases.Case.{Case}
 use Rattle.bid_rules.specs.declared.cases.Case.TheVariants as case
 use Rattle.bid_rules.specs.Facts.{case_of}
-use Rattle.divisions.specs.declared.division.Division.{Division}
-use Rattle.divisions.specs.Division.{IsDivisionOf}
+use Rattle.certificates.specs.declared.division.Division.{Division}
+use Rattle.certificates.specs.Division.{IsDivisionOf}
 use Rattle.nash_search.specs.Division.{IsOverLimit}
 use Rattle.split_solve.specs.declared.solving.SolveFault.{SolveFault}
 use Rattle.split_solve.specs.declared.solving.SolveFault.TheVariants.{Void, OverLimit, NoMemory}

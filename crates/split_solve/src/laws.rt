@@ -4,13 +4,13 @@ ghost use Rattle.bid_rules.specs.declared.bids.Bid.{Bid};
 ghost use Rattle.bid_rules.specs.declared.bids.Facts.{Facts};
 ghost use Rattle.bid_rules.specs.declared.cases.Case.{Case};
 ghost use Rattle.bid_rules.specs.Facts.{IsCheckedBid, IsCheckedFacts, member_count};
-ghost use Rattle.divisions.specs.declared.division.Division.{Division};
+ghost use Rattle.certificates.specs.declared.division.Division.{Division};
 ghost use Rattle.split_solve.specs.Solving.{IsSolved};
 ghost use Rattle.split_solve.specs.declared.solving.SolveFault.{SolveFault};
 ghost use Rattle.split_solve.specs.declared.solving.SolveFault.TheVariants.{NoMemory};
 
 use bid_rules::case_law;
-use divisions::division_law;
+use certificates::division_law;
 use nash_search::limit_law;
 
 /// Facts and bids have one end, but for want of memory: a case with its best division, or one fault. So neither the number of workers nor

@@ -2,13 +2,16 @@ ghost use Rattle.std.specs.Prelude.{◌≡◌, ℕ, ◌<◌, ◌≤◌, ◌↔�
 ghost use Rattle.bid_rules.specs.declared.cases.Case.TheVariants as case;
 ghost use Rattle.bid_rules.specs.declared.cases.Missing.{Missing};
 ghost use Rattle.bid_rules.specs.declared.goods.GoodsCase.{GoodsCase};
+ghost use Rattle.bid_rules.specs.Goods.{IsValidGoodsCase};
 ghost use Rattle.bid_rules.specs.Facts.{AreMissing, IsCheckedBid, IsCheckedFacts, IsValidCase, case_of, member_count};
 ghost use Rattle.nash_search.specs.Division.{HasSteps};
+ghost use Rattle.split_solve.specs.Searches.{IsSearched};
 ghost use Rattle.split_solve.specs.Solving.{IsDivided, IsOver, IsSolved, IsVoid};
 
-use bid_rules::{Bid, Case, Facts, Missing, case_law, make_case};
-use divisions::Division;
-use nash_search::limit_law;
+use crate::kept::KeptSearches;
+use bid_rules::{Bid, Case, Facts, GoodsCase, Missing, case_law, make_case};
+use certificates::Division;
+use nash_search::{GoodsDivision, OverLimit, limit_law};
 use rent_maximin::solve_rent;
 use search_workers::limits::MOST_WORKERS;
 use search_workers::search;
@@ -60,6 +63,91 @@ pub fn solve<R: Threads + Sync, G: Gate + Sync>(
     }
 }
 
+/// What `solve` gives, by the kept searches: a case of goods that one of them is of is not searched anew, and the search of another is kept.
+///
+/// They take no part in the answer. Memory that is refused for keeping is no fault.
+#[allow(clippy::too_many_arguments)]
+pub fn solve_once<R: Threads + Sync, G: Gate + Sync>(
+    alloc: Global,
+    rt: &R,
+    facts: &Facts,
+    bids: &[Option<Bid>],
+    searches: &mut KeptSearches,
+    workers: u8,
+    gate: &G,
+) -> Result<(Case, Division), SolveFault>
+    requires facts { IsCheckedFacts facts.now }
+    requires count { length bids.now ≡ member_count facts.now }
+    requires bids { All (λ bid. IfSome bid (IsCheckedBid facts.now)) bids.now }
+    requires workers { (1 ≤ workers) × (workers ≤ MOST_WORKERS) }
+    ensures solved { IsSolved facts.now bids.now result }
+    ensures void { IsVoid result ↔ AreMissing facts.now bids.now }
+    ensures over { (goods : GoodsCase) (steps : ℕ) → case_of facts.now bids.now ≡ Ok (case.Goods goods) → HasSteps goods steps → IsOver result ↔ (goods.facts.limit < steps) }
+{
+    case_law();
+    limit_law();
+    let case = match make_case(facts, bids) {
+        Ok(case) => case,
+        Err(missing) => return Err(SolveFault::Void { missing }),
+    };
+    match division_once(alloc, rt, &case, searches, workers, gate) {
+        Ok(division) => Ok((case, division)),
+        Err(fault) => Err(fault),
+    }
+}
+
+/// The best division of a case, by the kept searches.
+fn division_once<R: Threads + Sync, G: Gate + Sync>(
+    alloc: Global,
+    rt: &R,
+    case: &Case,
+    searches: &mut KeptSearches,
+    workers: u8,
+    gate: &G,
+) -> Result<Division, SolveFault>
+    requires case { IsValidCase case.now }
+    requires workers { (1 ≤ workers) × (workers ≤ MOST_WORKERS) }
+    ensures { IsDivided case.now result }
+{
+    match case {
+        Case::Goods(case) => end_of(search_once(alloc, rt, case, searches, workers, gate)),
+        Case::Rent(_) | Case::Fares(_) => best_division(alloc, rt, case, workers, gate),
+    }
+}
+
+/// What the search of a case of goods finds, which is made where none is kept.
+fn search_once<R: Threads + Sync, G: Gate + Sync>(
+    alloc: Global,
+    rt: &R,
+    case: &GoodsCase,
+    searches: &mut KeptSearches,
+    workers: u8,
+    gate: &G,
+) -> Result<GoodsDivision, OverLimit>
+    requires case { IsValidGoodsCase case.now }
+    requires workers { (1 ≤ workers) × (workers ≤ MOST_WORKERS) }
+    ensures { IsSearched case.now result }
+{
+    match searches.answer(case) {
+        Some(found) => found,
+        None => {
+            let found = search(alloc, rt, case, workers, gate);
+            searches.keep(case, &found);
+            found
+        }
+    }
+}
+
+/// How a case of goods ends by its search.
+fn end_of(found: Result<GoodsDivision, OverLimit>) -> Result<Division, SolveFault>
+    ensures { (goods : GoodsCase) → IsSearched goods found → IsDivided (case.Goods goods) result }
+{
+    match found {
+        Ok(division) => Ok(Division::Goods(division)),
+        Err(over) => Err(SolveFault::OverLimit { limit: over.limit }),
+    }
+}
+
 /// The best division of a case.
 fn best_division<R: Threads + Sync, G: Gate + Sync>(
     alloc: Global,
@@ -74,10 +162,7 @@ fn best_division<R: Threads + Sync, G: Gate + Sync>(
 {
     match case {
         Case::Rent(case) => Ok(Division::Rent(solve_rent(case))),
-        Case::Goods(case) => match search(alloc, rt, case, workers, gate) {
-            Ok(division) => Ok(Division::Goods(division)),
-            Err(over) => Err(SolveFault::OverLimit { limit: over.limit }),
-        },
+        Case::Goods(case) => end_of(search(alloc, rt, case, workers, gate)),
         Case::Fares(case) => match solve_fares(alloc, case) {
             Ok(division) => Ok(Division::Fares(division)),
             Err(NoMemory) => Err(SolveFault::NoMemory),

@@ -5,7 +5,7 @@ use Rattle.remote_check.specs.declared.ends.FetchEnd.TheVariants as fetch
 use Rattle.remote_check.specs.Requests.{Counts}
 use Rattle.split_base.specs.Faults.{counted}
 use Rattle.split_base.specs.Links.{link_faults}
-use Rattle.verdicts.specs.declared.verdict.Verdict.{Verdict}
+use Rattle.rule_verdicts.specs.declared.verdict.Verdict.{Verdict}
 use Rattle.split_top.specs.Audits.{faults_behind}
 
 module _ (reads reads_now writes writes_now before after : ℕ) (fresh : link_faults reads writes ≡ 0)

@@ -1,20 +1,20 @@
 -- What each status shows, from the ending and the text that goes with it.
 use Rattle.std.proofs.Common.{◌≡◌, ◌⊎◌, ◌+◌, ◌-◌, ◌^◌, ◌<◌, ◌≤◌, ℕ, List, Result, Ok, Err, inl, inr, refl, sym, ⊎_elim, subst, arith}
-use Rattle.endings.specs.Endings.{owed}
-use Rattle.endings.specs.Told.{Ends, HasNoFault, HasOneFault, HasWritten}
-use Rattle.endings.specs.declared.stop.Stop.{Stop}
-use Rattle.endings.specs.declared.stop.Stop.TheVariants.{Void, OverLimit, NotTwo, BrokenRule, BadWords, TooLong, BadCase, BrokenLine, BadReply, BadStatus, BadJournal, ReadFault, StoreFault, PortFault, NoMemory}
+use Rattle.std.proofs.lemmas.Bool.{cases_lt}
+use Rattle.command_results.specs.Endings.{owed}
+use Rattle.command_results.specs.ObjectUse.{Ends, HasNoFault, HasOneFault, HasWritten}
+use Rattle.command_results.specs.declared.stop.Stop.{Stop}
+use Rattle.command_results.specs.declared.stop.Stop.TheVariants.{Void, OverLimit, NotTwo, BrokenRule, BadWords, TooLong, BadCase, BrokenLine, BadReply, BadStatus, BadJournal, ReadFault, StoreFault, PortFault, NoMemory}
 use Rattle.gate_log.specs.declared.fault.LogFault.{LogFault}
 use Rattle.host_commands.specs.Files.{state_of}
-use Rattle.host_keeper.specs.States.{State}
-use Rattle.link_runs.specs.Served.{LinkTells}
+use Rattle.host_journal.specs.States.{State}
+use Rattle.serving.specs.Served.{LinkTells}
 use Rattle.remote_check.specs.declared.request.Words.{Words}
 use Rattle.split_base.specs.declared.clock.Clock.{Ghosts as ClockTells}
 use Rattle.split_base.specs.declared.dial.Dial.{Ghosts as DialTells}
 use Rattle.split_base.specs.declared.disk.Disk.{Ghosts as DiskTells}
 use Rattle.split_base.specs.declared.port.Port.{Ghosts as PortTells}
 use Rattle.split_base.specs.Faults.{HasRisen, counted}
-use Rattle.split_base.specs.PastLaws.{le_or_lt}
 use Rattle.split_top.specs.Audits.{faults_behind}
 use Rattle.gate_log.specs.declared.fault.LogFault.TheVariants as fault
 use Rattle.host_commands.specs.Files.{Dumps, FailedOnce, Makes, Opens, stop_of}
@@ -24,13 +24,13 @@ use Rattle.input_commands.specs.declared.command.InputCommand.TheVariants.{Solve
 use Rattle.input_commands.specs.Answers.{Answers}
 use Rattle.remote_check.specs.declared.ends.FetchEnd.{FetchEnd}
 use Rattle.remote_check.specs.declared.ends.FetchEnd.TheVariants as fetch
-use Rattle.verdicts.specs.declared.verdict.Verdict.{Verdict}
-use Rattle.verdicts.specs.declared.verdict.Verdict.TheVariants.{No, Yes}
+use Rattle.rule_verdicts.specs.declared.verdict.Verdict.{Verdict}
+use Rattle.rule_verdicts.specs.declared.verdict.Verdict.TheVariants.{No, Yes}
 use Rattle.split_top.specs.Audits.{Audits, fetch_ending}
 use Rattle.split_top.specs.Causes.{Ended, HasCauses, TakesMemory, licences}
 use Rattle.split_top.specs.Commands.{AreNoRow, Names}
 use Rattle.split_top.specs.Outside.{Outside, UsesNothing}
-use Rattle.split_top.specs.Runs.{Came, Comes, Ran, Tells}
+use Rattle.split_top.specs.Runs.{Came, Comes, Ran, OutsideTells}
 use Rattle.split_top.specs.declared.command.Command.{Command}
 use Rattle.split_top.specs.declared.command.Command.TheVariants.{Init, Serve, Dump, Trial, Audit, Read}
 
@@ -127,12 +127,12 @@ link_failed before after (Err fetch.TooLong) is count = cc is
 link_failed before after (Err fetch.LinkFault) is count = count
 
 -- a count that goes up by one has risen
-has_risen : (before after : ℕ) → (before + 1 ≤ 2 ^ 64 - 1) ⊎ (2 ^ 64 - 1 < before + 1) → after ≡ counted before → HasRisen before after
-has_risen before after (inl room) count = inl (omega (arith, count, room))
-has_risen before after (inr full) count = inr (omega (arith, count, full))
+has_risen : (before after : ℕ) → (2 ^ 64 - 1 < before + 1) ⊎ (before + 1 ≤ 2 ^ 64 - 1) → after ≡ counted before → HasRisen before after
+has_risen before after (inl full) count = inr (omega (arith, count, full))
+has_risen before after (inr room) count = inl (omega (arith, count, room))
 
 pub once_more : (before after : ℕ) → after ≡ counted before → FailedOnce before after
-once_more before after count = (has_risen before after (le_or_lt (before + 1) (2 ^ 64 - 1)) count, count)
+once_more before after count = (has_risen before after (cases_lt (2 ^ 64 - 1) (before + 1)) count, count)
 
 -- what is told of files and ports in no other way
 module _ (stop : Stop) (not_opened : (why : LogFault) → ends stop ≡ ends (stop_of why) → ⊥) where
@@ -219,7 +219,7 @@ no_answer_words Weigh bytes h = h.2.2
 no_answer_words Winner bytes h = h.2
 no_answer_words CheckWinner bytes h = h
 
-module _ {D P L C X M : Type 0} (tells : Tells D P L C X M) (outside : Outside D P C X) where
+module _ {D P L C X M : Type 0} (tells : OutsideTells D P L C X M) (outside : Outside D P C X) where
   -- a fault of the store shows in the disk's count
   store_of : (command : Command) → Came tells outside command (Err StoreFault) → FailedOnce (tells.disk.faults outside.disk) (tells.disk.faults outside.disk_now)
   store_of (Init secret) h = make_store tells.disk outside.disk outside.disk_now secret h.1

@@ -1,20 +1,20 @@
 -- Where each command ends if no call fails.
 use Rattle.std.proofs.Common.{◌≡◌, ◌≢◌, ◌⊎◌, ◌<◌, ℕ, List, [], ◌∷◌, Contains, IfSome, Result, Ok, Err, length, arith, inl, inr, refl, sym, ◌∙◌, ap, ⊎_elim, subst}
 use Rattle.std.specs.Prelude.{Option, None, Some}
-use Rattle.endings.specs.Endings.{owed}
-use Rattle.endings.specs.Told.{Ends, HasOneFault, IsSound, Told}
-use Rattle.endings.specs.declared.stop.Stop.{Stop}
-use Rattle.endings.specs.declared.stop.Stop.TheVariants.{Void, OverLimit, NotTwo, BrokenRule, BadWords, TooLong, BadCase, BrokenLine, BadReply, BadStatus, BadJournal, ReadFault, StoreFault, PortFault, NoMemory}
+use Rattle.command_results.specs.Endings.{owed}
+use Rattle.command_results.specs.ObjectUse.{Ends, HasOneFault, IsSound, ObjectUse}
+use Rattle.command_results.specs.declared.stop.Stop.{Stop}
+use Rattle.command_results.specs.declared.stop.Stop.TheVariants.{Void, OverLimit, NotTwo, BrokenRule, BadWords, TooLong, BadCase, BrokenLine, BadReply, BadStatus, BadJournal, ReadFault, StoreFault, PortFault, NoMemory}
 use Rattle.gate_log.specs.declared.fault.LogFault.{LogFault}
 use Rattle.gate_log.specs.declared.fault.LogFault.TheVariants as fault
 use Rattle.host_commands.specs.Files.{Dumps, Makes, Opens, state_of, stop_of}
 use Rattle.host_commands.specs.Serves.{RunEnds, Serves, ServesOpened}
 use Rattle.host_journal.specs.Journal.{HasEvents, HoldsSome, IsFirstFault}
-use Rattle.host_keeper.specs.States.{State}
+use Rattle.host_journal.specs.States.{State}
 use Rattle.input_commands.specs.declared.command.InputCommand.{InputCommand}
 use Rattle.input_commands.specs.Commands.{AreAlike, TakesMemory}
 use Rattle.input_commands.specs.Ends.{CallsFor, EndsOn}
-use Rattle.link_runs.specs.Served.{LinkTells}
+use Rattle.serving.specs.Served.{LinkTells}
 use Rattle.remote_check.specs.declared.ends.FetchEnd.{FetchEnd}
 use Rattle.remote_check.specs.declared.ends.FetchEnd.TheVariants as fetch
 use Rattle.remote_check.specs.declared.request.Words.{Words}
@@ -23,13 +23,13 @@ use Rattle.split_base.specs.declared.clock.Clock.{Ghosts as ClockTells}
 use Rattle.split_base.specs.declared.dial.Dial.{Ghosts as DialTells}
 use Rattle.split_base.specs.declared.disk.Disk.{Ghosts as DiskTells}
 use Rattle.split_base.specs.declared.port.Port.{Ghosts as PortTells}
-use Rattle.verdicts.specs.declared.verdict.Verdict.{Verdict}
-use Rattle.verdicts.specs.declared.verdict.Verdict.TheVariants.{No, Yes}
+use Rattle.rule_verdicts.specs.declared.verdict.Verdict.{Verdict}
+use Rattle.rule_verdicts.specs.declared.verdict.Verdict.TheVariants.{No, Yes}
 use Rattle.split_top.specs.Audits.{Audits, faults_behind, fetch_ending}
 use Rattle.split_top.specs.Causes.{Finishes, IsComplete, IsStill}
 use Rattle.split_top.specs.Commands.{AreNoRow, Names}
 use Rattle.split_top.specs.Outside.{Outside}
-use Rattle.split_top.specs.Runs.{Came, Comes, Ran, Tells, Tries}
+use Rattle.split_top.specs.Runs.{Came, Comes, Ran, OutsideTells, Tries}
 use Rattle.split_top.specs.declared.command.Command.{Command}
 use Rattle.split_top.specs.declared.command.Command.TheVariants.{Init, Serve, Dump, Trial, Audit, Read}
 use Rattle.split_top.proofs.CauseLaws.{once_more}
@@ -127,13 +127,13 @@ audit_finishes x tells before after asked ending (inr fetched) still =
 abbrev IsUsual : Result (List ℕ) Stop → Type 0
 IsUsual ending = (ending ≢ Err ReadFault) × (ending ≢ Err NoMemory)
 
-abbrev Sorts : InputCommand → Told → Result (List ℕ) Stop → Type 0
+abbrev Sorts : InputCommand → ObjectUse → Result (List ℕ) Stop → Type 0
 Sorts reads input ending = HasOneFault input ⊎ (TakesMemory reads × (ending ≡ Err NoMemory)) ⊎ IsUsual ending
 
 usual : (stop : Stop) → (ends stop ≡ ends ReadFault → ⊥) → (ends stop ≡ ends NoMemory → ⊥) → IsUsual (Err stop)
 usual stop a b = (a, b)
 
-pub sorts : (reads : InputCommand) (input : Told) (ending : Result (List ℕ) Stop) → EndsOn reads input ending → Sorts reads input ending
+pub sorts : (reads : InputCommand) (input : ObjectUse) (ending : Result (List ℕ) Stop) → EndsOn reads input ending → Sorts reads input ending
 sorts reads input (Ok text) h = inr (inr ((λ e. cc e), (λ e. cc e)))
 sorts reads input (Err ReadFault) h = inl h.0
 sorts reads input (Err NoMemory) h = inr (inl (h.0, refl))
@@ -164,21 +164,21 @@ known_from (Some bytes) h p = h bytes p
 module _
     (no_fault : (version place : ℕ) (secret : List ℕ) (events : List EventView) (file : List ℕ) → HasEvents version secret events file → IsFirstFault place file → ⊥)
     (one : (command other : InputCommand) (bytes : List ℕ) (ending another : Result (List ℕ) Stop) → AreAlike command other → CallsFor command bytes ending → CallsFor other bytes another → ending ≡ another)
-    (ends_known : (command : InputCommand) (input : Told) (ending : Result (List ℕ) Stop) → ending ≢ Err ReadFault → ending ≢ Err NoMemory → EndsOn command input ending
+    (ends_known : (command : InputCommand) (input : ObjectUse) (ending : Result (List ℕ) Stop) → ending ≢ Err ReadFault → ending ≢ Err NoMemory → EndsOn command input ending
     → IfSome input.bytes_before (λ bytes. CallsFor command bytes ending))
   where
     -- the status of a command that reads an input is that for which its bytes call
     abbrev CallsStatus : InputCommand → ℕ → List ℕ → Type 0
     CallsStatus reads status bytes = (ending : Result (List ℕ) Stop) → CallsFor reads bytes ending → (status ≡ (owed ending).status) ⊎ (TakesMemory reads × (status ≡ 9))
 
-    read_finishes : (reads : InputCommand) (input : Told) (ending : Result (List ℕ) Stop) → EndsOn reads input ending → IsSound input → Sorts reads input ending
+    read_finishes : (reads : InputCommand) (input : ObjectUse) (ending : Result (List ℕ) Stop) → EndsOn reads input ending → IsSound input → Sorts reads input ending
         → IfSome input.bytes_before (CallsStatus reads (owed ending).status)
     read_finishes reads input ending h sound (inl fault) = absurd (sound fault.0)
     read_finishes reads input ending h sound (inr (inl none)) = known_all input.bytes_before (λ bytes other calls. inr (none.0, status_is ending (Err NoMemory) none.1))
     read_finishes reads input ending h sound (inr (inr is)) =
         known_from input.bytes_before (λ bytes calls other too. inl (status_is ending other (one reads reads bytes ending other refl calls too))) (ends_known reads input ending is.0 is.1 h)
 
-    module _ {D P L C X M : Type 0} (tells : Tells D P L C X M) (outside : Outside D P C X) (ending : Result (List ℕ) Stop) where
+    module _ {D P L C X M : Type 0} (tells : OutsideTells D P L C X M) (outside : Outside D P C X) (ending : Result (List ℕ) Stop) where
       finishes : (command : Command) → Came tells outside command ending → Finishes tells outside command (owed ending).status
       finishes (Init secret) came = λ honest still empty. make_finishes tells.disk outside.disk outside.disk_now secret ending came.1 honest still empty
       finishes (Serve port workers count) came = λ honest still port_still holds.
@@ -198,5 +198,5 @@ module _
       complete words status (inr row) is = inr (row.0, row.1, subst (Finishes tells outside row.0) (sym is) (finishes row.0 row.2))
 
     -- each ending comes wherever it is called for
-    pub is_complete : {D P L C X M : Type 0} (tells : Tells D P L C X M) (outside : Outside D P C X) (words : List (List ℕ)) (status : ℕ) → Ran tells outside words status → IsComplete tells outside words status
+    pub is_complete : {D P L C X M : Type 0} (tells : OutsideTells D P L C X M) (outside : Outside D P C X) (words : List (List ℕ)) (status : ℕ) → Ran tells outside words status → IsComplete tells outside words status
     is_complete tells outside words status (ending, comes, ends) = λ sound. complete tells outside ending words status comes (no_failure tells outside ending status sound ends)

@@ -1,33 +1,33 @@
 -- Two runs on the same bytes come to one status and one text.
 use Rattle.std.proofs.Common.{◌≡◌, ◌≢◌, ◌⊎◌, ℕ, List, Some, IfSome, Result, Err, inl, inr, sym, ap, ◌∙◌, ⊎_elim, subst}
-use Rattle.endings.specs.Endings.{owed}
-use Rattle.endings.specs.Told.{Ends, HasWritten, IsSound, Told}
-use Rattle.endings.specs.declared.stop.Stop.{Stop}
-use Rattle.endings.specs.declared.stop.Stop.TheVariants.{NoMemory, ReadFault}
+use Rattle.command_results.specs.Endings.{owed}
+use Rattle.command_results.specs.ObjectUse.{Ends, HasWritten, IsSound, ObjectUse}
+use Rattle.command_results.specs.declared.stop.Stop.{Stop}
+use Rattle.command_results.specs.declared.stop.Stop.TheVariants.{NoMemory, ReadFault}
 use Rattle.input_commands.specs.declared.command.InputCommand.{InputCommand}
 use Rattle.input_commands.specs.Commands.{AreAlike}
 use Rattle.input_commands.specs.Ends.{CallsFor, EndsOn}
 use Rattle.split_top.proofs.Finishing.{sorts}
 
 -- where no write failed, the text was written with the status that goes with it
-sound_end : (output : Told) (ending : Result (List ℕ) Stop) (status : ℕ) → IsSound output → Ends output (owed ending).text (owed ending).status status → (status ≡ (owed ending).status) × HasWritten output (owed ending).text
+sound_end : (output : ObjectUse) (ending : Result (List ℕ) Stop) (status : ℕ) → IsSound output → Ends output (owed ending).text (owed ending).status status → (status ≡ (owed ending).status) × HasWritten output (owed ending).text
 sound_end output ending status sound (inl w) = (w.0, w.1)
 sound_end output ending status sound (inr w) = absurd (sound w.1.0)
 
 module _
     (one : (command other : InputCommand) (bytes : List ℕ) (ending another : Result (List ℕ) Stop) → AreAlike command other → CallsFor command bytes ending → CallsFor other bytes another → ending ≡ another)
-    (ends_known : (command : InputCommand) (input : Told) (ending : Result (List ℕ) Stop) → ending ≢ Err ReadFault → ending ≢ Err NoMemory → EndsOn command input ending
+    (ends_known : (command : InputCommand) (input : ObjectUse) (ending : Result (List ℕ) Stop) → ending ≢ Err ReadFault → ending ≢ Err NoMemory → EndsOn command input ending
     → IfSome input.bytes_before (λ bytes. CallsFor command bytes ending))
   where
     -- what the bytes call for, or memory ran out
-    called : (command : InputCommand) (bytes : List ℕ) (input : Told) (ending : Result (List ℕ) Stop) → input.bytes_before ≡ Some bytes → IsSound input → EndsOn command input ending
+    called : (command : InputCommand) (bytes : List ℕ) (input : ObjectUse) (ending : Result (List ℕ) Stop) → input.bytes_before ≡ Some bytes → IsSound input → EndsOn command input ending
         → (ending ≡ Err NoMemory) ⊎ CallsFor command bytes ending
     called command bytes input ending known sound h = ⊎_elim
         (λ fault. absurd (sound fault.0))
         (λ rest. ⊎_elim (λ none. inl none.1) (λ is. inr (subst (λ o. IfSome o (λ all. CallsFor command all ending)) known (ends_known command input ending is.0 is.1 h))) rest)
         (sorts command input ending h)
 
-    pub same_output : (command other : InputCommand) (bytes : List ℕ) (input output other_input other_output : Told) (ending another : Result (List ℕ) Stop) (status others : ℕ)
+    pub same_output : (command other : InputCommand) (bytes : List ℕ) (input output other_input other_output : ObjectUse) (ending another : Result (List ℕ) Stop) (status others : ℕ)
         → AreAlike command other → input.bytes_before ≡ Some bytes → other_input.bytes_before ≡ Some bytes
         → IsSound input → IsSound output → IsSound other_input → IsSound other_output
         → EndsOn command input ending → Ends output (owed ending).text (owed ending).status status

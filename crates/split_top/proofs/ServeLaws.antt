@@ -1,16 +1,16 @@
 -- What holds of the words of `serve`.
 use Rattle.std.proofs.Common.{◌≡◌, ◌⊎◌, ℕ, List, [], ◌∷◌, Result, Ok, Err, inl, inr, sym, ap, ◌∙◌, ⊎_elim, subst, arith, slice_index_or}
-use Rattle.endings.specs.Endings.{owed}
-use Rattle.endings.specs.Told.{Ends, HasWritten}
-use Rattle.endings.specs.declared.stop.Stop.{Stop}
-use Rattle.endings.specs.declared.stop.Stop.TheVariants.{Void, OverLimit, NotTwo, BrokenRule, BadWords, TooLong, BadCase, BrokenLine, BadReply, BadStatus, BadJournal, ReadFault, StoreFault, PortFault, NoMemory}
+use Rattle.command_results.specs.Endings.{owed}
+use Rattle.command_results.specs.ObjectUse.{Ends, HasWritten}
+use Rattle.command_results.specs.declared.stop.Stop.{Stop}
+use Rattle.command_results.specs.declared.stop.Stop.TheVariants.{Void, OverLimit, NotTwo, BrokenRule, BadWords, TooLong, BadCase, BrokenLine, BadReply, BadStatus, BadJournal, ReadFault, StoreFault, PortFault, NoMemory}
 use Rattle.host_commands.specs.Headline.{HasHeadline, HasNoRun}
 use Rattle.host_commands.specs.Serves.{Serves, served_line}
 use Rattle.input_commands.specs.declared.command.InputCommand.TheVariants.{Solve, Report, Check, Weigh, Winner, CheckWinner}
 use Rattle.split_top.specs.Causes.{IsServed}
 use Rattle.split_top.specs.Commands.{Names}
 use Rattle.split_top.specs.Outside.{Outside}
-use Rattle.split_top.specs.Runs.{Came, Comes, Ran, Tells}
+use Rattle.split_top.specs.Runs.{Came, Comes, Ran, OutsideTells}
 use Rattle.split_top.specs.declared.command.Command.{Command}
 use Rattle.split_top.specs.declared.command.Command.TheVariants.{Init, Serve, Dump, Trial, Audit, Read}
 
@@ -60,7 +60,7 @@ no_zero StoreFault is = omega (arith, is)
 no_zero PortFault is = omega (arith, is)
 no_zero NoMemory is = omega (arith, is)
 
-module _ {D P L C X M : Type 0} (tells : Tells D P L C X M) (outside : Outside D P C X) where
+module _ {D P L C X M : Type 0} (tells : OutsideTells D P L C X M) (outside : Outside D P C X) where
   abbrev ServesSo : ℕ → Result (List ℕ) Stop → Type 0
   ServesSo count ending =
       Serves tells.disk tells.port tells.links tells.clock outside.disk outside.disk_now outside.port outside.port_now outside.clock outside.clock_now count ending

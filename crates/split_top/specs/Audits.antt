@@ -1,10 +1,10 @@
 -- What `audit` comes to.
 use Rattle.std.specs.Prelude.{◌≡◌, ◌⊎◌, ◌<◌, ℕ, List, Result, Ok, Err}
-use Rattle.endings.specs.Endings.{yes_line}
-use Rattle.endings.specs.declared.stop.Stop.{Stop}
-use Rattle.endings.specs.declared.stop.Stop.TheVariants.{BadReply, BadStatus, BrokenLine, BrokenRule, PortFault}
-use Rattle.endings.specs.declared.stop.Stop.TheVariants as stop
-use Rattle.link_runs.specs.Served.{LinkTells}
+use Rattle.command_results.specs.Endings.{yes_line}
+use Rattle.command_results.specs.declared.stop.Stop.{Stop}
+use Rattle.command_results.specs.declared.stop.Stop.TheVariants.{BadReply, BadStatus, BrokenLine, BrokenRule, PortFault}
+use Rattle.command_results.specs.declared.stop.Stop.TheVariants as stop
+use Rattle.serving.specs.Served.{LinkTells}
 use Rattle.remote_check.specs.declared.ends.FetchEnd.{FetchEnd}
 use Rattle.remote_check.specs.declared.ends.FetchEnd.TheVariants.{LinkFault, NotText, Reply, Status}
 use Rattle.remote_check.specs.declared.ends.FetchEnd.TheVariants as fetch
@@ -15,8 +15,8 @@ use Rattle.split_base.specs.declared.dial.Dial.{Ghosts}
 use Rattle.split_base.specs.declared.streams.Failed.{Failed}
 use Rattle.split_base.specs.Faults.{counted}
 use Rattle.split_base.specs.Ports.{Dials, TakesBack}
-use Rattle.verdicts.specs.declared.verdict.Verdict.{Verdict}
-use Rattle.verdicts.specs.declared.verdict.Verdict.TheVariants.{No, Yes}
+use Rattle.rule_verdicts.specs.declared.verdict.Verdict.{Verdict}
+use Rattle.rule_verdicts.specs.declared.verdict.Verdict.TheVariants.{No, Yes}
 
 -- the ending that an answer of a fetch is
 abbrev pub fetch_ending : Result Verdict FetchEnd → Result (List ℕ) Stop

@@ -1,9 +1,9 @@
 -- What each status shows, and where it must come. All of it follows from the ending and the text that goes with it.
 use Rattle.std.specs.Prelude.{◌≡◌, ◌⊎◌, ℕ, ◌<◌, List, [], ◌∷◌, Contains, Result, Ok, Err, IfSome, length, get_or}
-use Rattle.endings.specs.Endings.{owed}
-use Rattle.endings.specs.Told.{HasNoFault, HasOneFault, HasWritten, IsSound}
-use Rattle.endings.specs.declared.stop.Stop.{Stop}
-use Rattle.endings.specs.declared.stop.Stop.TheVariants.{BadJournal}
+use Rattle.command_results.specs.Endings.{owed}
+use Rattle.command_results.specs.ObjectUse.{HasNoFault, HasOneFault, HasWritten, IsSound}
+use Rattle.command_results.specs.declared.stop.Stop.{Stop}
+use Rattle.command_results.specs.declared.stop.Stop.TheVariants.{BadJournal}
 use Rattle.host_commands.specs.Files.{FailedOnce}
 use Rattle.host_commands.specs.Headline.{HasHeadline, HasNoRun}
 use Rattle.host_commands.specs.Serves.{served_line}
@@ -13,7 +13,7 @@ use Rattle.input_commands.specs.Ends.{CallsFor}
 use Rattle.split_base.specs.Faults.{HasRisen}
 use Rattle.split_top.specs.Commands.{AreNoRow, Names}
 use Rattle.split_top.specs.Outside.{Outside, UsesNothing}
-use Rattle.split_top.specs.Runs.{Came, Comes, Tells}
+use Rattle.split_top.specs.Runs.{Came, Comes, OutsideTells}
 use Rattle.split_top.specs.declared.command.Command.{Command}
 use Rattle.split_top.specs.declared.command.Command.TheVariants.{Init, Serve, Dump, Trial, Audit, Read}
 
@@ -27,12 +27,12 @@ TakesMemory (Audit port asked) = ⊥
 TakesMemory (Read reads) = ReadingTakesMemory reads
 
 -- an ending of this status came: its cause holds, its text was written, and no write failed
-abbrev pub Ended : {D P L C X M : Type 0} → Tells D P L C X M → Outside D P C X → List (List ℕ) → ℕ → Type 0
+abbrev pub Ended : {D P L C X M : Type 0} → OutsideTells D P L C X M → Outside D P C X → List (List ℕ) → ℕ → Type 0
 Ended tells outside words status =
     (ending : Result (List ℕ) Stop) × ((owed ending).status ≡ status) × Comes tells outside words ending × HasWritten outside.output (owed ending).text × HasNoFault outside.output
 
 -- what licenses each status, from 0: an ending that has it came, and which count rose, or that one write failed
-abbrev pub licences : {D P L C X M : Type 0} → Tells D P L C X M → Outside D P C X → List (List ℕ) → List (Type 0)
+abbrev pub licences : {D P L C X M : Type 0} → OutsideTells D P L C X M → Outside D P C X → List (List ℕ) → List (Type 0)
 licences tells outside words =
     Ended tells outside words 0
     ∷ Ended tells outside words 1
@@ -48,7 +48,7 @@ licences tells outside words =
     ∷ []
 
 -- each status comes only by its cause and with its text, and no other status is answered
-abbrev pub HasCauses : {D P L C X M : Type 0} → Tells D P L C X M → Outside D P C X → List (List ℕ) → ℕ → Type 0
+abbrev pub HasCauses : {D P L C X M : Type 0} → OutsideTells D P L C X M → Outside D P C X → List (List ℕ) → ℕ → Type 0
 HasCauses tells outside words status = get_or (licences tells outside words) status ⊥
 
 -- no call of an object of this count failed
@@ -56,7 +56,7 @@ abbrev pub IsStill : ℕ → ℕ → Type 0
 IsStill before after = HasRisen before after → ⊥
 
 -- where no call of an object that the command uses failed, it ends as its input or its file calls for, up to want of memory where it takes some
-abbrev pub Finishes : {D P L C X M : Type 0} → Tells D P L C X M → Outside D P C X → Command → ℕ → Type 0
+abbrev pub Finishes : {D P L C X M : Type 0} → OutsideTells D P L C X M → Outside D P C X → Command → ℕ → Type 0
 Finishes tells outside (Init secret) status =
     tells.disk.is_honest outside.disk → IsStill (tells.disk.faults outside.disk) (tells.disk.faults outside.disk_now) → length (tells.disk.seen outside.disk) ≡ 0 → status ≡ 0
 Finishes tells outside (Serve port workers count) status =
@@ -71,12 +71,12 @@ Finishes tells outside (Read reads) status =
     → IfSome outside.input.bytes_before (λ bytes. (ending : Result (List ℕ) Stop) → CallsFor reads bytes ending → (status ≡ (owed ending).status) ⊎ (ReadingTakesMemory reads × (status ≡ 9)))
 
 -- where no write failed, the status is 2 exactly where the words are no row, and else that with which their command finishes
-abbrev pub IsComplete : {D P L C X M : Type 0} → Tells D P L C X M → Outside D P C X → List (List ℕ) → ℕ → Type 0
+abbrev pub IsComplete : {D P L C X M : Type 0} → OutsideTells D P L C X M → Outside D P C X → List (List ℕ) → ℕ → Type 0
 IsComplete tells outside words status =
     IsSound outside.output → (AreNoRow words × (status ≡ 2)) ⊎ ((command : Command) × Names words command × Finishes tells outside command status)
 
 -- what holds of the words of `serve`: nothing was served, or the headline holds of so many links, and with status 0 their number was written
-abbrev pub IsServed : {D P L C X M : Type 0} → Tells D P L C X M → Outside D P C X → ℕ → Type 0
+abbrev pub IsServed : {D P L C X M : Type 0} → OutsideTells D P L C X M → Outside D P C X → ℕ → Type 0
 IsServed tells outside status =
     HasNoRun tells.port outside.port outside.port_now outside.clock outside.clock_now
     ⊎ ((number : ℕ) × HasHeadline tells.disk tells.port tells.links tells.clock outside.disk outside.disk_now outside.port outside.port_now outside.clock outside.clock_now number

@@ -1,6 +1,6 @@
 -- What a command had before it and behind it.
 use Rattle.std.specs.Prelude.{◌≡◌}
-use Rattle.endings.specs.Told.{IsUntouched, Told}
+use Rattle.command_results.specs.ObjectUse.{IsUntouched, ObjectUse}
 
 -- the disk, the port, the clock and the dialer before and after a command, and what its input and its output tell
 pub record Outside (D P C X : Type 0) : Type 0 where
@@ -12,10 +12,10 @@ pub record Outside (D P C X : Type 0) : Type 0 where
   pub clock_now : C
   pub dialer : X
   pub dialer_now : X
-  pub input : Told
-  pub output : Told
+  pub input : ObjectUse
+  pub output : ObjectUse
 
-abbrev pub outside_of : {D P C X : Type 0} → D → D → P → P → C → C → X → X → Told → Told → Outside D P C X
+abbrev pub outside_of : {D P C X : Type 0} → D → D → P → P → C → C → X → X → ObjectUse → ObjectUse → Outside D P C X
 outside_of disk disk_now port port_now clock clock_now dialer dialer_now input output = record {
   disk = disk;
   disk_now = disk_now;

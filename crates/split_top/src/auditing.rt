@@ -1,13 +1,13 @@
 // A certificate asked for and judged.
 ghost use Rattle.std.specs.Prelude.{◌≡◌};
-ghost use Rattle.endings.specs.Endings.{ending_of};
-ghost use Rattle.link_runs.specs.Served.{tells_of};
+ghost use Rattle.command_results.specs.Endings.{ending_of};
+ghost use Rattle.serving.specs.Served.{tells_of};
 ghost use Rattle.split_top.specs.Audits.{Audits, fetch_ending};
 
-use endings::{Stop, Text};
+use command_results::{Stop, Text};
 use remote_check::{FetchEnd, Words, fetch};
+use rule_verdicts::Verdict;
 use split_base::{Dial, Failed};
-use verdicts::Verdict;
 
 /// Dials a host on this machine, has the certificate of an instance judged as it comes, and gives the link back, whatever came. It takes no
 /// memory.

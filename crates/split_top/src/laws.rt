@@ -1,8 +1,8 @@
 // What holds of words and of whole runs, for all of them: each law is the contract of a function that does nothing.
 ghost use Rattle.std.specs.Prelude.{◌≡◌, ◌⊎◌, ℕ, List, Result, Some};
-ghost use Rattle.endings.specs.Endings.{owed};
-ghost use Rattle.endings.specs.Told.{Ends, HasWritten, IsSound, Told};
-ghost use Rattle.endings.specs.declared.stop.Stop.{Stop};
+ghost use Rattle.command_results.specs.Endings.{owed};
+ghost use Rattle.command_results.specs.ObjectUse.{Ends, HasWritten, IsSound, ObjectUse};
+ghost use Rattle.command_results.specs.declared.stop.Stop.{Stop};
 ghost use Rattle.input_commands.specs.Commands.{AreAlike};
 ghost use Rattle.input_commands.specs.Ends.{EndsOn};
 ghost use Rattle.input_commands.specs.declared.command.InputCommand.{InputCommand};
@@ -19,7 +19,7 @@ pub fn command_law()
 /// Two commands that differ in the number of workers alone, over the same bytes, have one status and write one text, `void:`, `step limit` and
 /// the refusals included, where no call of theirs fails and neither ends for want of memory. That is said of inputs that tell their bytes.
 pub fn output_law()
-    ensures { (command other : InputCommand) (bytes : List ℕ) (input output other_input other_output : Told) (ending another : Result (List ℕ) Stop) (status others : ℕ)
+    ensures { (command other : InputCommand) (bytes : List ℕ) (input output other_input other_output : ObjectUse) (ending another : Result (List ℕ) Stop) (status others : ℕ)
         → AreAlike command other → input.bytes_before ≡ Some bytes → other_input.bytes_before ≡ Some bytes
         → IsSound input → IsSound output → IsSound other_input → IsSound other_output
         → EndsOn command input ending → Ends output (owed ending).text (owed ending).status status

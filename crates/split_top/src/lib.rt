@@ -9,10 +9,9 @@ mod program;
 mod words;
 
 pub use command::Command;
-pub use endings::Stop;
-pub use host_keeper::Serving;
+pub use command_results::Stop;
+pub use host_journal::Serving;
 pub use input_commands::InputCommand;
 pub use laws::{command_law, output_law};
-pub use link_runs::LinkEnd;
 pub use program::{Status, run};
-pub use serving::serve_one;
+pub use serving::{LinkEnd, serve_one};

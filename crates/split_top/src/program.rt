@@ -1,8 +1,8 @@
 // The top call: from words to a status and what is written.
 ghost use Rattle.std.specs.Prelude.{◌≢◌, ◌≤◌, ℕ, map, string_bytes};
-ghost use Rattle.endings.specs.Endings.{ending_of, owed};
-ghost use Rattle.endings.specs.Told.{Ends, Told, told};
-ghost use Rattle.link_runs.specs.Served.{tells_of};
+ghost use Rattle.command_results.specs.Endings.{ending_of, owed};
+ghost use Rattle.command_results.specs.ObjectUse.{Ends, ObjectUse, told};
+ghost use Rattle.serving.specs.Served.{tells_of};
 ghost use Rattle.input_commands.specs.Commands.{AreWorkers};
 ghost use Rattle.split_top.specs.Causes.{HasCauses, IsComplete, IsServed, TakesMemory};
 ghost use Rattle.split_top.specs.Commands.{IsInRange, Names};
@@ -13,7 +13,7 @@ ghost use Rattle.split_top.specs.Runs.{Came, Comes, Ran, Tries, tells_by};
 
 use crate::auditing::audit;
 use crate::command::{Command, command_of};
-use endings::{Stop, Text};
+use command_results::{Stop, Text};
 use host_commands::{dump, headline_law, make, serve_port};
 use host_journal::events_law;
 use input_commands::{input_answer_law, input_ending};
@@ -151,7 +151,7 @@ fn decide<R: Threads + Sync, D: Disk, P: Port, C: Clock, I: Source, G: Gate + Sy
     gate: &G,
     dialer: &mut X,
 ) -> Result<Text, Stop>
-    ensures { (output : Told) → Comes (tells_by D.Disk P.Port (tells_of P.Link.Source P.Link.Sink) C.Clock X.Dial (tells_of X.Link.Source X.Link.Sink))
+    ensures { (output : ObjectUse) → Comes (tells_by D.Disk P.Port (tells_of P.Link.Source P.Link.Sink) C.Clock X.Dial (tells_of X.Link.Source X.Link.Sink))
         (outside_of disk.old disk.new port.old port.new clock.old clock.new dialer.old dialer.new (told I.left I.faults input.old input.new) output)
         (map string_bytes words.now) (ending_of result) }
 {
@@ -175,7 +175,7 @@ fn execute<R: Threads + Sync, D: Disk, P: Port, C: Clock, I: Source, G: Gate + S
     dialer: &mut X,
 ) -> Result<Text, Stop>
     requires { IsInRange command }
-    ensures { (output : Told) → Came (tells_by D.Disk P.Port (tells_of P.Link.Source P.Link.Sink) C.Clock X.Dial (tells_of X.Link.Source X.Link.Sink))
+    ensures { (output : ObjectUse) → Came (tells_by D.Disk P.Port (tells_of P.Link.Source P.Link.Sink) C.Clock X.Dial (tells_of X.Link.Source X.Link.Sink))
         (outside_of disk.old disk.new port.old port.new clock.old clock.new dialer.old dialer.new (told I.left I.faults input.old input.new) output)
         command (ending_of result) }
 {

@@ -6,13 +6,13 @@ use Rattle.std.specs.Io.KnownBytes.{Consumes}
 use Rattle.bid_rules.specs.declared.cases.Case.{Case}
 use Rattle.bid_rules.specs.Facts.{IsValidCase}
 use Rattle.cert_checker.specs.Judged.{IsCertificate, IsJudged, IsJudgement}
-use Rattle.cert_reader.specs.declared.ends.ReadEnd.{ReadEnd}
+use Rattle.cert_reader.specs.declared.ends.TextEnd.{TextEnd}
 use Rattle.certificates.specs.Canonical.{IsCanonical, canonical_text}
-use Rattle.divisions.specs.declared.division.Division.{Division}
-use Rattle.divisions.specs.Division.{IsDivisionOf}
+use Rattle.certificates.specs.declared.division.Division.{Division}
+use Rattle.certificates.specs.Division.{IsDivisionOf}
 use Rattle.trial_runs.specs.Texts.{IsChecked}
-use Rattle.verdicts.specs.declared.verdict.Verdict.{Verdict}
-use Rattle.verdicts.specs.declared.verdict.Verdict.TheVariants.{No, Yes}
+use Rattle.rule_verdicts.specs.declared.verdict.Verdict.{Verdict}
+use Rattle.rule_verdicts.specs.declared.verdict.Verdict.TheVariants.{No, Yes}
 
 -- bytes have at most one verdict, a law of cert_checker
 abbrev pub OneVerdict : Type 0
@@ -34,7 +34,7 @@ no_rule one text taken (Some left) rule kept took is =
     cc other
 
 -- a certificate is not judged no
-pub never_no : OneVerdict → (text taken : List ℕ) (left : Option (List ℕ)) (result : Result Verdict ReadEnd) (rule : ℕ) → result ≡ Ok (No rule) → IsCertificate text → Consumes (Some text) left taken
+pub never_no : OneVerdict → (text taken : List ℕ) (left : Option (List ℕ)) (result : Result Verdict TextEnd) (rule : ℕ) → result ≡ Ok (No rule) → IsCertificate text → Consumes (Some text) left taken
     → IsJudgement left taken result → ⊥
 never_no one text taken left result rule answer kept took is = no_rule one text taken left rule kept took (subst (IsJudgement left taken) answer is)
 

@@ -6,13 +6,13 @@ use Rattle.bid_rules.specs.declared.goods.GoodsCase.{GoodsCase}
 use Rattle.bid_rules.specs.declared.limits.TheConstants.{MOST_STEPS}
 use Rattle.bid_rules.specs.declared.rents.RentCase.{RentCase}
 use Rattle.bid_rules.specs.Rent.{IsValidRentCase}
-use Rattle.divisions.specs.declared.division.Division.TheVariants.{Rent, Goods, Fares}
+use Rattle.certificates.specs.declared.division.Division.TheVariants.{Rent, Goods, Fares}
 use Rattle.nash_bounds.specs.Steps.{HasSteps}
 use Rattle.nash_search.specs.declared.division.GoodsDivision.{GoodsDivision}
 use Rattle.nash_search.specs.Division.{IsGoodsDivision}
 use Rattle.rent_maximin.specs.declared.division.RentDivision.{RentDivision}
 use Rattle.rent_maximin.specs.Division.{IsRentDivision}
-use Rattle.trials.specs.Trials.{goods_behind, trial_fare, trial_goods, trial_rent}
+use Rattle.split_reports.specs.Trials.{goods_behind, trial_fare, trial_goods, trial_rent}
 use Rattle.trial_runs.specs.Texts.{IsChecked, IsFareLine, IsGoodsLine, IsRentLine, IsTrialText, fare_line, goods_line, number_line, rent_line}
 
 -- a rent has one division, a law of rent_maximin

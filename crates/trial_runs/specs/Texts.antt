@@ -9,17 +9,17 @@ use Rattle.bid_rules.specs.declared.pair.Pair.{Pair}
 use Rattle.bid_rules.specs.declared.rents.RentCase.{RentCase}
 use Rattle.cert_checker.specs.Judged.{IsJudged}
 use Rattle.certificates.specs.Canonical.{canonical_text}
-use Rattle.divisions.specs.declared.division.Division.{Division}
-use Rattle.divisions.specs.declared.division.Division.TheVariants.{Rent, Goods, Fares}
-use Rattle.divisions.specs.Division.{IsDivisionOf}
+use Rattle.certificates.specs.declared.division.Division.{Division}
+use Rattle.certificates.specs.declared.division.Division.TheVariants.{Rent, Goods, Fares}
+use Rattle.certificates.specs.Division.{IsDivisionOf}
 use Rattle.nash_search.specs.declared.division.GoodsDivision.{GoodsDivision}
 use Rattle.rent_maximin.specs.declared.division.RentDivision.{RentDivision}
 use Rattle.shapley_core.specs.declared.division.FareDivision.{FareDivision}
 use Rattle.split_frac.specs.declared.frac.Frac.{Frac}
 use Rattle.split_frac.specs.Frac.{frac_text}
-use Rattle.split_text.specs.Texts.{line_of}
-use Rattle.trials.specs.Trials.{trial_fare, trial_goods, trial_rent}
-use Rattle.verdicts.specs.declared.verdict.Verdict.TheVariants.{Yes}
+use Rattle.split_frac.specs.Texts.{line_of}
+use Rattle.split_reports.specs.Trials.{trial_fare, trial_goods, trial_rent}
+use Rattle.rule_verdicts.specs.declared.verdict.Verdict.TheVariants.{Yes}
 
 -- the division is the best of the case by the rule of its kind, and the verdict on the canonical certificate of it is yes
 pub record IsChecked (given : Case) (division : Division) : Type 0 where

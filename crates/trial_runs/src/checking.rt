@@ -1,17 +1,16 @@
 // A division that is checked by its certificate.
 ghost use Rattle.std.specs.Prelude.{OnOk};
 ghost use Rattle.bid_rules.specs.Facts.{IsValidCase};
-ghost use Rattle.divisions.specs.Division.{IsDivisionOf};
+ghost use Rattle.certificates.specs.Division.{IsDivisionOf};
 ghost use Rattle.trial_runs.specs.Texts.{IsChecked};
 
 use crate::reading::TextSource;
 use bid_rules::Case;
-use cert_checker::{certificate_verdict_law, judge};
-use certificates::write_certificate;
-use divisions::{Division, division_law};
+use cert_checker::{certificate_verdict_law, judge_text};
+use certificates::{Division, division_law, write_certificate};
+use rule_verdicts::Verdict;
 use split_base::NoMemory;
 use std::alloc::Global;
-use verdicts::Verdict;
 
 /// Writes the certificate of a division in memory, reads it back and judges it. The verdict is yes: certificate text gets one verdict, and
 /// all rules hold for a canonical certificate.
@@ -30,7 +29,7 @@ pub(crate) fn check_division(
     division_law();
     let certificate = write_certificate(alloc, case, division)?;
     let mut source = TextSource::new(certificate.as_slice());
-    match judge(&mut source) {
+    match judge_text(&mut source) {
         Ok(Verdict::Yes) => Ok(()),
         Ok(Verdict::No { .. }) => unreachable!(),
         Err(_) => unreachable!(),

@@ -4,7 +4,7 @@ ghost use Rattle.trial_runs.specs.Texts.{IsTrialText};
 
 use nash_search::step_count_law;
 use rent_maximin::one_rent_division_law;
-use trials::trial_law;
+use split_reports::trial_law;
 
 /// A number has one text of its trial. So it is the same for every number of workers.
 pub fn trial_text_law()

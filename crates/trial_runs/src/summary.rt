@@ -9,17 +9,17 @@ ghost use Rattle.trial_runs.specs.Texts.{IsFareLine, IsGoodsLine, IsRentLine, Is
 
 use crate::checking::check_division;
 use bid_rules::{Case, FareCase, GoodsCase, RentCase};
-use divisions::Division;
+use certificates::Division;
 use nash_search::GoodsDivision;
 use rent_maximin::solve_rent;
 use search_workers::limits::MOST_WORKERS;
 use search_workers::search;
 use shapley_core::solve_fares;
 use split_base::{Gate, NoMemory};
-use split_text::push_line;
+use split_frac::push_line;
+use split_reports::{trial_cases, trial_law};
 use std::alloc::Global;
 use std::thread::Threads;
-use trials::{trial_cases, trial_law};
 
 /// The trial of a number, in four lines: the number; of the rent the least utility of a member; of the goods how many players get something,
 /// the product of their utilities and the steps of the search; of the fare what all riders cost. The last three end with `check yes`.

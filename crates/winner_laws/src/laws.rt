@@ -3,18 +3,19 @@ ghost use Rattle.std.specs.Prelude.{◌≡◌, ◌*◌, ◌<◌, ◌≤◌, ℕ,
 ghost use Rattle.bid_rules.specs.declared.goods.GoodsCase.{GoodsCase};
 ghost use Rattle.bid_rules.specs.Fractions.{Fraction};
 ghost use Rattle.bid_rules.specs.Goods.{IsValidGoodsCase, player_count};
-ghost use Rattle.divided_goods.specs.Divisions.{AreWeights, IsDivision, IsEfficient, IsEnvyFree, IsEquitable, parts_held};
-ghost use Rattle.divided_goods.specs.Procedure.{HaveMoved, IsOutcome, other_player, points_at_first};
-ghost use Rattle.divided_goods.specs.Printed.{AreFairShares, AreProperShares, HaveTotal, SupportShares};
-ghost use Rattle.divided_goods.specs.Shown.{AreShares, AreTotals, IsShown};
-ghost use Rattle.divided_goods.specs.Winners.{IsMoved, IsWinner, first_owner};
+ghost use Rattle.winner_laws.specs.Divisions.{AreWeights, IsDivision, IsEfficient, IsEnvyFree, IsEquitable, parts_held};
+ghost use Rattle.winner_laws.specs.Procedure.{HaveMoved, IsOutcome, other_player, points_at_first};
+ghost use Rattle.winner_laws.specs.Printed.{AreFairShares, AreProperShares, HaveTotal, SupportShares};
+ghost use Rattle.winner_laws.specs.Shown.{AreShares, AreTotals, IsShown};
+ghost use Rattle.winner_laws.specs.Winners.{IsMoved, IsWinner, first_owner};
+ghost use Rattle.bid_rules.specs.declared.limits.TheConstants.{PAIR};
 
 /// Weights show that a division is efficient, against divisions into however many parts; where it is equitable too, they show that it
 /// is envy-free.
 pub fn weights_law()
     ensures efficient { (case : GoodsCase) (parts : ℕ) (held : List ℕ) (first second : ℕ) → IsDivision case parts held
         → AreWeights case parts held first second → IsEfficient case parts held }
-    ensures envy_free { (case : GoodsCase) (parts : ℕ) (held : List ℕ) (first second : ℕ) → IsValidGoodsCase case → player_count case ≡ 2
+    ensures envy_free { (case : GoodsCase) (parts : ℕ) (held : List ℕ) (first second : ℕ) → IsValidGoodsCase case → player_count case ≡ PAIR
         → IsDivision case parts held → IsEquitable case parts held → AreWeights case parts held first second → IsEnvyFree case parts held }
 {}
 
@@ -23,7 +24,7 @@ pub fn weights_law()
 pub fn shown_law()
     ensures equitable { (case : GoodsCase) (shares : List Fraction) (total : Fraction) (first second : ℕ) (shown : IsShown case shares total first second)
         → IsEquitable case shown.parts shown.held }
-    ensures envy_free { (case : GoodsCase) (shares : List Fraction) (total : Fraction) (first second : ℕ) → IsValidGoodsCase case → player_count case ≡ 2
+    ensures envy_free { (case : GoodsCase) (shares : List Fraction) (total : Fraction) (first second : ℕ) → IsValidGoodsCase case → player_count case ≡ PAIR
         → (shown : IsShown case shares total first second) → IsEnvyFree case shown.parts shown.held }
     ensures efficient { (case : GoodsCase) (shares : List Fraction) (total : Fraction) (first second : ℕ) (shown : IsShown case shares total first second)
         → IsEfficient case shown.parts shown.held }
@@ -34,7 +35,7 @@ pub fn shown_law()
 /// Proper shares, a total that both players have and weights, as they are printed, show a division that is equitable, envy-free and efficient and splits at
 /// most one good, whatever rule made it. What is shown keeps these rules.
 pub fn printed_law()
-    ensures fair { (case : GoodsCase) (shares : List Fraction) (total : Fraction) (first second : ℕ) → IsValidGoodsCase case → player_count case ≡ 2
+    ensures fair { (case : GoodsCase) (shares : List Fraction) (total : Fraction) (first second : ℕ) → IsValidGoodsCase case → player_count case ≡ PAIR
         → AreProperShares case shares → HaveTotal case shares total → SupportShares case shares first second → AreFairShares case shares }
     ensures shown { (case : GoodsCase) (shares : List Fraction) (total : Fraction) (first second : ℕ)
         → AreProperShares case shares → HaveTotal case shares total → SupportShares case shares first second → IsShown case shares total first second }
@@ -56,7 +57,7 @@ pub fn procedure_law()
 /// owner of the last one was the richer.
 pub fn winner_law()
     ensures division { (case : GoodsCase) (parts : ℕ) (held : List ℕ) (first second : ℕ) → IsWinner case parts held first second → IsDivision case parts held }
-    ensures weights { (case : GoodsCase) (parts : ℕ) (held : List ℕ) (first second : ℕ) → IsValidGoodsCase case → player_count case ≡ 2
+    ensures weights { (case : GoodsCase) (parts : ℕ) (held : List ℕ) (first second : ℕ) → IsValidGoodsCase case → player_count case ≡ PAIR
         → IsWinner case parts held first second → AreWeights case parts held first second }
     ensures one_split { (case : GoodsCase) (parts : ℕ) (held : List ℕ) (first second good other : ℕ) → IsWinner case parts held first second
         → 1 ≤ good → good ≤ case.facts.goods → 1 ≤ other → other ≤ case.facts.goods
@@ -64,9 +65,9 @@ pub fn winner_law()
     ensures richer { (case : GoodsCase) (parts : ℕ) (held : List ℕ) (first second : ℕ) → IsEquitable case parts held → (moved : IsMoved case parts held first second)
         → points_at_first case (other_player (first_owner case moved.last)) < points_at_first case (first_owner case moved.last) }
     ensures equitable { (case : GoodsCase) (parts : ℕ) (held : List ℕ) (first second : ℕ) → IsWinner case parts held first second → IsEquitable case parts held }
-    ensures envy_free { (case : GoodsCase) (parts : ℕ) (held : List ℕ) (first second : ℕ) → IsValidGoodsCase case → player_count case ≡ 2
+    ensures envy_free { (case : GoodsCase) (parts : ℕ) (held : List ℕ) (first second : ℕ) → IsValidGoodsCase case → player_count case ≡ PAIR
         → IsWinner case parts held first second → IsEnvyFree case parts held }
-    ensures efficient { (case : GoodsCase) (parts : ℕ) (held : List ℕ) (first second : ℕ) → IsValidGoodsCase case → player_count case ≡ 2
+    ensures efficient { (case : GoodsCase) (parts : ℕ) (held : List ℕ) (first second : ℕ) → IsValidGoodsCase case → player_count case ≡ PAIR
         → IsWinner case parts held first second → IsEfficient case parts held }
 {}
 

@@ -1,16 +1,16 @@
 -- A yes on a text that was read shows that it prints a fair division.
 use Rattle.std.proofs.Common.{◌≡◌, ℕ, List, Option, Result, Ok, Err, subst}
-use Rattle.cert_reader.specs.declared.ends.ReadEnd.{ReadEnd}
+use Rattle.cert_reader.specs.declared.ends.TextEnd.{TextEnd}
 use Rattle.cert_reader.specs.declared.pair.PairText.{PairText}
 use Rattle.cert_reader.specs.Pairs.{IsReadPair, pair_view}
-use Rattle.verdicts.specs.declared.verdict.Verdict.{Verdict}
-use Rattle.verdicts.specs.declared.verdict.Verdict.TheVariants.{Yes}
-use Rattle.verdicts.specs.Verdicts.{IsVerdictOf}
+use Rattle.rule_verdicts.specs.declared.verdict.Verdict.{Verdict}
+use Rattle.rule_verdicts.specs.declared.verdict.Verdict.TheVariants.{Yes}
+use Rattle.rule_verdicts.specs.Verdicts.{IsVerdictOf}
 use Rattle.winner_rules.specs.Judged.{IsWinnerCertificate, PrintsFair}
 use Rattle.winner_rules.specs.Rules.{rules_of_winner}
 
 -- the verdict of an answer
-abbrev pub told : Result Verdict ReadEnd → Verdict
+abbrev pub told : Result Verdict TextEnd → Verdict
 told (Ok verdict) = verdict
 told (Err end) = Yes
 

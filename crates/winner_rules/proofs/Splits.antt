@@ -1,5 +1,5 @@
 -- Shares that are looked through one by one for the one that is split.
-use Rattle.std.proofs.Common.{◌≡◌, ℕ, pos, suc, zero, ◌+◌, ◌-◌, ◌<◌, ◌≤◌, Bool, true, false, List, [], ◌∷◌, length, map, get_or, All, cond, arith, refl, sym, ap, ◌∙◌, ◌⊎◌, inl, inr, ⊎_elim, subst}
+use Rattle.std.proofs.Common.{◌≡◌, ℕ, pos, suc, zero, ◌+◌, ◌-◌, ◌<◌, ◌≤◌, Bool, true, false, List, [], ◌∷◌, length, map, get_or, All, cond, arith, refl, sym, ap, ◌∙◌, ◌⊎◌, ◌↔◌, inl, inr, ⊎_elim, subst}
 use Rattle.std.proofs.lemmas.Bool.{cases_lt}
 use Rattle.std.proofs.lemmas.Bool.Decides.{nat_tests}
 use Rattle.std.proofs.lemmas.List.{length-map, get_or-map}
@@ -7,13 +7,10 @@ use Rattle.bid_rules.specs.declared.goods.GoodsCase.{GoodsCase}
 use Rattle.bid_rules.specs.Fractions.{Fraction}
 use Rattle.split_frac.specs.declared.frac.Frac.{Frac}
 use Rattle.split_frac.specs.Frac.{fraction_of}
-use Rattle.divided_goods.specs.Divisions.{parts_held}
-use Rattle.divided_goods.specs.Parts.{is_split, part_of, parts_list, parts_of}
-use Rattle.divided_goods.specs.Printed.{AreProperShares, IsShare}
-use Rattle.divided_goods.specs.Shown.{HasOneSplit}
-use Rattle.divided_goods.proofs.PrintedShares.{one_at, one_from, proper_shares}
-use Rattle.divided_goods.proofs.SupportedDivisions.{held_within}
-use Rattle.divided_goods.proofs.WinnerWeights.{cases_test}
+use Rattle.winner_laws.specs.Divisions.{parts_held}
+use Rattle.winner_laws.specs.Parts.{is_split, part_of, parts_list, parts_of}
+use Rattle.winner_laws.specs.Printed.{AreProperShares, IsShare}
+use Rattle.winner_laws.specs.Shown.{AreShares, HasOneSplit}
 use Rattle.winner_rules.specs.Split.{HasSplitUpTo, split_at}
 
 not_both : {b : Bool} → b ≡ true → b ≡ false → ⊥
@@ -42,17 +39,22 @@ split_first shares count split before = (
   λ place l other. ⊎_elim (λ (same : place ≡ count). same) (λ (old : place < count). absurd (not_both other (before place old))) (next_or place count l),
 )
 
+-- at most one is split, by their places
+abbrev pub OneByPlace : Type 0
+OneByPlace = (shares : List Fraction) → All IsShare shares
+    → HasOneSplit shares ↔ ((i j : ℕ) → i < length shares → j < length shares → split_at shares i ≡ true → split_at shares j ≡ true → i ≡ j)
+
 -- there is no second one
-pub split_second : (shares : List Fraction) (count : ℕ) → All IsShare shares → count < length shares → split_at shares count ≡ true → HasSplitUpTo shares count true → HasOneSplit shares → ⊥
-split_second shares count are l split before one =
+pub split_second : OneByPlace → (shares : List Fraction) (count : ℕ) → All IsShare shares → count < length shares → split_at shares count ≡ true → HasSplitUpTo shares count true → HasOneSplit shares → ⊥
+split_second by_place shares count are l split before one =
     let earlier = before.1 in
-    let same : before.0 ≡ count = one_at shares are one before.0 count (omega (arith, earlier, l)) l before.2 split in
+    let same : before.0 ≡ count = (by_place shares are).0 one before.0 count (omega (arith, earlier, l)) l before.2 split in
     omega (arith, same, earlier)
 
 -- in all of them one at most
-pub split_one : (shares : List Fraction) (found : Bool) → All IsShare shares → HasSplitUpTo shares (length shares) found → HasOneSplit shares
-split_one shares false are all = one_from shares are (λ i j l m s t. absurd (not_both s (all i l)))
-split_one shares true are all = one_from shares are (λ i j l m s t. all.3 i l s ∙ sym (all.3 j m t))
+pub split_one : OneByPlace → (shares : List Fraction) (found : Bool) → All IsShare shares → HasSplitUpTo shares (length shares) found → HasOneSplit shares
+split_one by_place shares false are all = (by_place shares are).1 (λ i j l m s t. absurd (not_both s (all i l)))
+split_one by_place shares true are all = (by_place shares are).1 (λ i j l m s t. all.3 i l s ∙ sym (all.3 j m t))
 
 -- shares as fractions
 pub shares_map : (shares : List Frac) → All (λ share. IsShare (fraction_of share)) shares → All IsShare (map fraction_of shares)
@@ -93,10 +95,11 @@ part_here shares good d low high =
     get_or-map (part_of (parts_of (map fraction_of shares))) (map fraction_of shares) (good - 1) (pos 0, 1) 0 (omega (arith, inside, count))
     ∙ ap (part_of (parts_of (map fraction_of shares))) (get_or-map fraction_of shares (good - 1) d (pos 0, 1) inside)
 
-pub part_few : (case : GoodsCase) (shares : List Frac) (good : ℕ) (d : Frac) → AreProperShares case (map fraction_of shares) → 1 ≤ good → good ≤ case.facts.goods
+pub part_few : ((case : GoodsCase) (shares : List Fraction) → AreProperShares case shares → AreShares case shares (parts_of shares) (parts_list shares)) → (case : GoodsCase) (shares : List Frac) (good : ℕ) (d : Frac) → AreProperShares case (map fraction_of shares) → 1 ≤ good → good ≤ case.facts.goods
     → part_of (parts_of (map fraction_of shares)) (fraction_of (get_or shares (good - 1) d)) ≤ parts_of (map fraction_of shares)
-part_few case shares good d proper low high =
-    let few = held_within case (parts_of (map fraction_of shares)) (parts_list (map fraction_of shares)) (proper_shares case (map fraction_of shares) proper).division good low (omega arith) in
+part_few in_parts case shares good d proper low high =
+    let division = (in_parts case (map fraction_of shares) proper).division in
+    let few : parts_held (parts_list (map fraction_of shares)) good ≤ parts_of (map fraction_of shares) = division.within (good - 1) 0 (let every = division.each in omega (arith, every, low, high)) in
     let here = part_here shares good d low (let count = length-map shares fraction_of in let each = proper.each in omega (arith, count, each, high)) in
     omega (arith, few, here)
 

@@ -2,17 +2,18 @@
 use Rattle.std.specs.Prelude.{◌≡◌, ℕ, ◌≤◌, List, length, Option, Result, Ok, Err}
 use Rattle.std.specs.Io.KnownBytes.{IsAtEnd}
 use Rattle.bid_rules.specs.Goods.{IsValidGoodsCase, player_count}
-use Rattle.cert_reader.specs.declared.ends.ReadEnd.{ReadEnd}
+use Rattle.cert_reader.specs.declared.ends.TextEnd.{TextEnd}
 use Rattle.cert_reader.specs.declared.limits.TheConstants.{MOST_BYTES}
 use Rattle.cert_reader.specs.Forms.{Pairs}
 use Rattle.cert_reader.specs.Layout.{PairView}
 use Rattle.cert_reader.specs.Pairs.{IsPairText}
 use Rattle.cert_reader.specs.Reading.{IsEndOf}
-use Rattle.divided_goods.specs.Printed.{AreFairShares}
-use Rattle.verdicts.specs.declared.verdict.Verdict.{Verdict}
-use Rattle.verdicts.specs.declared.verdict.Verdict.TheVariants.{Yes}
-use Rattle.verdicts.specs.Verdicts.{IsVerdictOf}
+use Rattle.winner_laws.specs.Printed.{AreFairShares}
+use Rattle.rule_verdicts.specs.declared.verdict.Verdict.{Verdict}
+use Rattle.rule_verdicts.specs.declared.verdict.Verdict.TheVariants.{Yes}
+use Rattle.rule_verdicts.specs.Verdicts.{IsVerdictOf}
 use Rattle.winner_rules.specs.Rules.{printed_case, rules_of_winner}
+use Rattle.bid_rules.specs.declared.limits.TheConstants.{PAIR}
 
 -- the bytes are the text of a pair, and this is the verdict of the rules on it
 abbrev pub IsPairJudged : List ℕ → Verdict → Type 0
@@ -24,9 +25,9 @@ IsWinnerCertificate bytes = IsPairJudged bytes Yes
 
 -- the bytes print a valid case of two players, and shares of a division of its goods that is equitable, envy-free and efficient and splits at most one
 abbrev pub PrintsFair : List ℕ → Type 0
-PrintsFair bytes = (view : PairView) × IsPairText bytes view × IsValidGoodsCase (printed_case view) × (player_count (printed_case view) ≡ 2) × AreFairShares (printed_case view) view.shares
+PrintsFair bytes = (view : PairView) × IsPairText bytes view × IsValidGoodsCase (printed_case view) × (player_count (printed_case view) ≡ PAIR) × AreFairShares (printed_case view) view.shares
 
 -- all bytes of the source were judged; or why they are no such text
-abbrev pub IsPairJudgement : Option (List ℕ) → List ℕ → Result Verdict ReadEnd → Type 0
+abbrev pub IsPairJudgement : Option (List ℕ) → List ℕ → Result Verdict TextEnd → Type 0
 IsPairJudgement left taken (Ok verdict) = IsPairJudged taken verdict × (length taken ≤ MOST_BYTES) × IsAtEnd left
 IsPairJudgement left taken (Err end) = IsEndOf Pairs end left taken

@@ -1,11 +1,11 @@
 -- The four rules that the text of adjusted winner keeps: they show its division equitable, envy-free and efficient (Brams and Taylor 1996).
 use Rattle.std.specs.Prelude.{◌≡◌, ℕ, pos, ◌≤ℤ◌, List, [], ◌∷◌, All, length, map, unsigned_abs}
 use Rattle.bid_rules.specs.declared.goods.GoodsCase.{GoodsCase}
-use Rattle.bid_rules.specs.declared.limits.TheConstants.{MOST_MEMBERS, MOST_STEPS}
+use Rattle.bid_rules.specs.declared.limits.TheConstants.{MOST_MEMBERS, MOST_STEPS, PAIR}
 use Rattle.bid_rules.specs.Goods.{IsValidGoodsCase}
-use Rattle.divided_goods.specs.Printed.{AreProperShares, HaveTotal, SupportShares}
+use Rattle.winner_laws.specs.Printed.{AreProperShares, HaveTotal, SupportShares}
 use Rattle.cert_reader.specs.Layout.{PairView}
-use Rattle.verdicts.specs.Verdicts.{rule_at}
+use Rattle.rule_verdicts.specs.Verdicts.{rule_at}
 
 -- the case with the numbers without a sign. A text counts no members and has no step limit, so they are as many as there may be
 abbrev pub printed_case : PairView → GoodsCase
@@ -17,7 +17,7 @@ printed_case view = record {
 
 -- the numbers are 0 or more, and a case of two players: rising members up to 12, and points that sum to 1000 for each
 pub record HasCase (view : PairView) : Type 0 where
-  pub two : length view.who ≡ 2
+  pub two : length view.who ≡ PAIR
   pub who : All (λ member. pos 0 ≤ℤ member) view.who
   pub values : All (λ row. All (λ points. pos 0 ≤ℤ points) row) view.values
   pub valid : IsValidGoodsCase (printed_case view)

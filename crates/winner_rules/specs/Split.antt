@@ -1,7 +1,7 @@
 -- Shares that were looked through for one that is split.
 use Rattle.std.specs.Prelude.{◌≡◌, ℕ, pos, ◌<◌, List, length, slice_index_or, Bool, true, false, ◌⊎◌}
 use Rattle.bid_rules.specs.Fractions.{Fraction}
-use Rattle.divided_goods.specs.Parts.{is_split}
+use Rattle.winner_laws.specs.Parts.{is_split}
 
 -- the share at a place, from 0
 abbrev pub split_at : List Fraction → ℕ → Bool

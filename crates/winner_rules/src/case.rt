@@ -5,12 +5,9 @@ ghost use Rattle.bid_rules.specs.Fractions.{Fraction};
 ghost use Rattle.winner_rules.specs.Rules.{HasCase, printed_case};
 
 use arrayvec::ArrayVec;
-use bid_rules::limits::{ITEM_ROOM, MOST_MEMBERS, MOST_STEPS, WHOLE_POINTS};
+use bid_rules::limits::{ITEM_ROOM, MOST_MEMBERS, MOST_STEPS, PAIR_ROOM, WHOLE_POINTS};
 use bid_rules::{Goods, GoodsCase};
-use verdicts::{members_between, rows_of_amounts};
-
-/// How many players there are.
-const PLAYERS: usize = 2;
+use rule_verdicts::{members_between, rows_of_amounts};
 
 /// A row of printed points, by good.
 pub(crate) type PrintedRow = ArrayVec<i128, ITEM_ROOM>;
@@ -24,7 +21,7 @@ pub(crate) fn case_of(goods: u8, who: &[i128], values: &[PrintedRow]) -> Option<
         (λ case. HasCase (record { goods = goods; who = who.now; values = map (λ row. row.items) values.now; shares = shares; weights = weights; total = total })
         × (case ≡ printed_case (record { goods = goods; who = who.now; values = map (λ row. row.items) values.now; shares = shares; weights = weights; total = total }))) }
 {
-    if who.len() != PLAYERS {
+    if who.len() != PAIR_ROOM {
         return None;
     }
     let Some(members) = members_between(who, 0, MOST_MEMBERS) else {

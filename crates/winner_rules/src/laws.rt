@@ -1,16 +1,17 @@
 // What the rules show.
 ghost use Rattle.std.specs.Prelude.{◌≡◌, ℕ, List};
 ghost use Rattle.bid_rules.specs.Goods.{IsValidGoodsCase, player_count};
-ghost use Rattle.divided_goods.specs.Printed.{AreFairShares};
-ghost use Rattle.verdicts.specs.declared.verdict.Verdict.{Verdict};
-ghost use Rattle.verdicts.specs.declared.verdict.Verdict.TheVariants.{Yes};
-ghost use Rattle.verdicts.specs.Verdicts.{IsVerdictOf};
+ghost use Rattle.winner_laws.specs.Printed.{AreFairShares};
+ghost use Rattle.rule_verdicts.specs.declared.verdict.Verdict.{Verdict};
+ghost use Rattle.rule_verdicts.specs.declared.verdict.Verdict.TheVariants.{Yes};
+ghost use Rattle.rule_verdicts.specs.Verdicts.{IsVerdictOf};
 ghost use Rattle.winner_rules.specs.Judged.{IsPairJudged, IsWinnerCertificate, PrintsFair};
 ghost use Rattle.winner_rules.specs.Rules.{printed_case, rules_of_winner};
 ghost use Rattle.cert_reader.specs.Forms.{Pairs};
 ghost use Rattle.cert_reader.specs.Layout.{PairView};
 ghost use Rattle.cert_reader.specs.Pairs.{IsPairText};
 ghost use Rattle.cert_reader.specs.Text.{IsBrokenTextOf};
+ghost use Rattle.bid_rules.specs.declared.limits.TheConstants.{PAIR};
 
 use cert_reader::pair_law;
 use winner_laws::printed_law;
@@ -19,7 +20,7 @@ use winner_laws::printed_law;
 /// and efficient and splits at most one good, whatever rule made it (Brams and Taylor 1996). A text has one verdict.
 pub fn winner_certificate_law()
     ensures valid { (view : PairView) → IsVerdictOf (rules_of_winner view) Yes → IsValidGoodsCase (printed_case view) }
-    ensures two { (view : PairView) → IsVerdictOf (rules_of_winner view) Yes → player_count (printed_case view) ≡ 2 }
+    ensures two { (view : PairView) → IsVerdictOf (rules_of_winner view) Yes → player_count (printed_case view) ≡ PAIR }
     ensures fair { (view : PairView) → IsVerdictOf (rules_of_winner view) Yes → AreFairShares (printed_case view) view.shares }
     ensures one { (view : PairView) (verdict other : Verdict) → IsVerdictOf (rules_of_winner view) verdict → IsVerdictOf (rules_of_winner view) other → other ≡ verdict }
 {

@@ -9,6 +9,6 @@ mod shares;
 mod totals;
 mod weights;
 
-pub use checking::check_winner;
+pub use checking::{check_pair_text, check_winner};
 pub use laws::{winner_certificate_law, winner_verdict_law};
 pub use rules::check_pair;

@@ -5,7 +5,7 @@ ghost use Rattle.cert_reader.specs.Numbers.{AreShort, IsSmall};
 ghost use Rattle.cert_reader.specs.Pairs.{pair_view};
 ghost use Rattle.cert_reader.specs.declared.limits.TheConstants.{MOST_PRINTED_DENOMINATOR};
 ghost use Rattle.split_frac.specs.Frac.{fraction_of};
-ghost use Rattle.verdicts.specs.Verdicts.{IsVerdictOf};
+ghost use Rattle.rule_verdicts.specs.Verdicts.{IsVerdictOf};
 ghost use Rattle.winner_rules.specs.Rules.{rules_of_winner};
 
 use crate::case::{PrintedRow, case_of};
@@ -13,8 +13,8 @@ use crate::shares::are_proper;
 use crate::totals::have_total;
 use crate::weights::are_weights;
 use cert_reader::PairText;
+use rule_verdicts::Verdict;
 use split_frac::Frac;
-use verdicts::Verdict;
 
 /// The verdict on what is printed: how many goods, the members who are the players, their points by good, player 1's share of each good, the weights, and what
 /// each player has.

@@ -3,13 +3,14 @@ ghost use Rattle.std.specs.Prelude.{◌≡◌, ◌≤◌, ◌↔◌, All, IsTrue
 ghost use Rattle.bid_rules.specs.Fractions.{Fraction};
 ghost use Rattle.cert_reader.specs.Numbers.{AreShort};
 ghost use Rattle.cert_reader.specs.declared.limits.TheConstants.{MOST_PRINTED_DENOMINATOR};
-ghost use Rattle.divided_goods.specs.Parts.{is_split, part_of, parts_of};
-ghost use Rattle.divided_goods.specs.Printed.{AreProperShares, IsShare};
-ghost use Rattle.divided_goods.specs.Shown.{HasOneSplit};
+ghost use Rattle.winner_laws.specs.Parts.{is_split, part_of, parts_of};
+ghost use Rattle.winner_laws.specs.Printed.{AreProperShares, IsShare};
+ghost use Rattle.winner_laws.specs.Shown.{HasOneSplit};
 ghost use Rattle.split_frac.specs.Frac.{fraction_of};
 
 use bid_rules::GoodsCase;
 use split_frac::Frac;
+use winner_laws::share_law;
 
 /// Whether the fraction is from 0 to 1.
 fn is_share(share: &Frac) -> bool
@@ -38,6 +39,7 @@ fn has_one_split(shares: &[Frac]) -> bool
     requires { All (λ share. IsShare (fraction_of share)) shares.now }
     ensures { IsTrue result ↔ HasOneSplit (map fraction_of shares.now) }
 {
+    share_law();
     let mut found = false;
     for k in 0..shares.len() {
         if is_split(&shares[k]) {

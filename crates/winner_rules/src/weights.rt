@@ -1,9 +1,10 @@
 // Weights by which each good lies where it is worth most.
 ghost use Rattle.std.specs.Prelude.{◌≡◌, ℕ, ◌*◌, ◌<◌, ◌≤◌, ◌<ℤ◌, ◌↔◌, List, [], ◌∷◌, IsTrue, MatchOption, length, map, pos};
 ghost use Rattle.bid_rules.specs.Goods.{IsValidGoodsCase, player_count, points};
-ghost use Rattle.divided_goods.specs.Printed.{SupportShares};
-ghost use Rattle.divided_goods.specs.Shown.{share_of};
+ghost use Rattle.winner_laws.specs.Printed.{SupportShares};
+ghost use Rattle.winner_laws.specs.Shown.{share_of};
 ghost use Rattle.split_frac.specs.Frac.{fraction_of};
+ghost use Rattle.bid_rules.specs.declared.limits.TheConstants.{PAIR};
 
 use bid_rules::GoodsCase;
 use bid_rules::limits::WHOLE_POINTS;
@@ -12,7 +13,7 @@ use split_frac::Frac;
 /// Whether the weights support the share of a good.
 fn supports(case: &GoodsCase, shares: &[Frac], first: u32, second: u32, good: u8) -> bool
     requires case { IsValidGoodsCase case.now }
-    requires two { player_count case.now ≡ 2 }
+    requires two { player_count case.now ≡ PAIR }
     requires each { length shares.now ≡ case.now.facts.goods }
     requires first { first ≤ WHOLE_POINTS }
     requires second { second ≤ WHOLE_POINTS }
@@ -36,7 +37,7 @@ fn supports(case: &GoodsCase, shares: &[Frac], first: u32, second: u32, good: u8
 /// Whether the weights support the share of each good.
 fn support_all(case: &GoodsCase, shares: &[Frac], first: u32, second: u32) -> bool
     requires case { IsValidGoodsCase case.now }
-    requires two { player_count case.now ≡ 2 }
+    requires two { player_count case.now ≡ PAIR }
     requires each { length shares.now ≡ case.now.facts.goods }
     requires first_low { 1 ≤ first }
     requires first_high { first ≤ WHOLE_POINTS }
@@ -62,7 +63,7 @@ fn is_weight(number: i128) -> bool
 /// Whether there are two weights, which support the shares.
 pub(crate) fn are_weights(case: &GoodsCase, shares: &[Frac], weights: &[i128]) -> bool
     requires case { IsValidGoodsCase case.now }
-    requires two { player_count case.now ≡ 2 }
+    requires two { player_count case.now ≡ PAIR }
     requires each { length shares.now ≡ case.now.facts.goods }
     ensures { IsTrue result ↔ ((first : ℕ) × (second : ℕ) × (weights.now ≡ pos first ∷ pos second ∷ []) × SupportShares case.now (map fraction_of shares.now) first second) }
 {

@@ -1,7 +1,5 @@
-use Rattle.std.proofs.Common.{pos, subst}
+use Rattle.std.proofs.Common.{map, pos, subst}
 use Rattle.split_frac.specs.Frac.{HasValue, fraction_of}
-use Rattle.std.proofs.Common.{map}
-use Rattle.divided_goods.proofs.SplitShares.{one_split_shares}
 use Rattle.adjusted_winner.proofs.ShownAnswers.{quotients}
 use Rattle.adjusted_winner.proofs.laws.answer_law.Goals as goal
 
@@ -11,7 +9,7 @@ returns-clause-winner c = λ case answer winner. c.procedure_law.ensures.winner 
 pub returns-clause-one_split : goal.returns-clause-one_split
 returns-clause-one_split c = λ case answer winner.
     let is = c.procedure_law.ensures.winner case winner.parts winner.held winner.first winner.second winner.outcome in
-    one_split_shares case (map fraction_of answer.shares.items) winner.parts winner.held (c.winner_law.ensures.division case winner.parts winner.held winner.first winner.second is)
+    c.share_law.ensures.one_split case (map fraction_of answer.shares.items) winner.parts winner.held (c.winner_law.ensures.division case winner.parts winner.held winner.first winner.second is)
     (quotients winner.parts answer.shares.items winner.held winner.shares)
     (λ good other a b d e split others. c.winner_law.ensures.one_split case winner.parts winner.held winner.first winner.second good other is a b d e split.0 split.1 others.0 others.1)
 
@@ -24,7 +22,7 @@ returns-clause-shown c = λ case answer valid two winner.
       are_shares = record {
         division = c.winner_law.ensures.division case winner.parts winner.held winner.first winner.second is;
         quotients = quotients winner.parts answer.shares.items winner.held winner.shares;
-        one_split = one_split_shares case (map fraction_of answer.shares.items) winner.parts winner.held (c.winner_law.ensures.division case winner.parts winner.held winner.first winner.second is)
+        one_split = c.share_law.ensures.one_split case (map fraction_of answer.shares.items) winner.parts winner.held (c.winner_law.ensures.division case winner.parts winner.held winner.first winner.second is)
             (quotients winner.parts answer.shares.items winner.held winner.shares)
             (λ good other a b d e split others. c.winner_law.ensures.one_split case winner.parts winner.held winner.first winner.second good other is a b d e split.0 split.1 others.0 others.1);
       };

@@ -1,7 +1,7 @@
 use Rattle.std.proofs.Common.{◌≡◌, ◌++◌, ◌∷◌, [], ℕ, List, codes, map, sym, ap, ◌∙◌}
 use Rattle.std.specs.Fmt.{decimal}
 use Rattle.split_frac.specs.Frac.{frac_text}
-use Rattle.split_text.specs.Texts.{word_line}
+use Rattle.split_frac.specs.Texts.{word_line}
 use Rattle.adjusted_winner.specs.Texts.{case_lines}
 use Rattle.adjusted_winner.proofs.laws.winner_text_law.Goals as goal
 

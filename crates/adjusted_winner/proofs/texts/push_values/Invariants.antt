@@ -1,6 +1,6 @@
 use Rattle.std.proofs.Common.{◌≡◌, ◌++◌, codes, flat_map, map, string_bytes, take}
 use Rattle.std.specs.Fmt.{decimal}
-use Rattle.split_text.specs.Texts.{word_line}
+use Rattle.split_frac.specs.Texts.{word_line}
 use Rattle.adjusted_winner.proofs.texts.push_values.Given as goal
 
 abbrev pub invariant-loop-row : goal.invariant-loop-row

@@ -3,13 +3,10 @@ use Rattle.std.specs.List.{AllZip, range_with_len}
 use Rattle.std.proofs.Math.Nat.{mul-le-mul}
 use Rattle.bid_rules.specs.Goods.{points}
 use Rattle.split_frac.specs.Frac.{HasValue}
-use Rattle.divided_goods.specs.Divisions.{first_points}
-use Rattle.divided_goods.specs.Moving.{latest}
-use Rattle.divided_goods.specs.Procedure.{first_share, other_player}
-use Rattle.divided_goods.specs.Winners.{greater_points, lesser_points}
-use Rattle.divided_goods.proofs.FinalMoves.{ended_total}
-use Rattle.divided_goods.proofs.RicherPlayers.{greater_is, lesser_is}
-use Rattle.adjusted_winner.proofs.LastGoods.{last_follows, last_law, last_outcome, last_shares}
+use Rattle.winner_laws.specs.Divisions.{first_points}
+use Rattle.winner_laws.specs.Procedure.{first_share, other_player}
+use Rattle.winner_laws.specs.Winners.{greater_points, lesser_points}
+use Rattle.adjusted_winner.proofs.LastGoods.{last_outcome}
 use Rattle.adjusted_winner.proofs.winner.moved.Goals as goal
 
 pub overflow_add-lesser : goal.overflow_add-lesser
@@ -30,14 +27,13 @@ returns c =
     let ends = c.last_good-last.ensures.last in
     let parts = c.greater_points-greater.result + c.lesser_points-lesser.result in
     let moved = last.rich - last.poor in
-    let either = (last_follows case player last.rich last.poor last.good ends).is_richer.either in
-    let greater = greater_is case player last.good either ends.next.can.own in
-    let lesser = lesser_is case player last.good either ends.next.can.own in
+    let either = c.next_to_move_law.ensures.richer case player ends.moved last.rich last.poor ends.moves ends.more in
+    let greater = c.next_to_move_law.ensures.greater case player last.good either ends.next.can.own in
+    let lesser = c.next_to_move_law.ensures.lesser case player last.good either ends.next.can.own in
     let whole : parts ≡ greater_points case last.good + lesser_points case last.good = omega (arith, c.greater_points-greater.ensures.value, c.lesser_points-lesser.ensures.value) in
     let both : parts ≡ points case player last.good + points case (other_player player) last.good = omega (arith, whole, greater, lesser) in
-    let gap : moved + last.poor ≡ last.rich = omega (arith, ends.more) in
-    let same = last_shares case player last.rich last.poor last.good parts moved ends in
-    let first = ap (first_points case) same ∙ ended_total case player (latest ends.moved) last.rich last.poor last.good parts moved (last_law case player last.rich last.poor last.good ends) whole gap in
+    let same = c.last_good_law.ensures.shares case player ends.moved last.rich last.poor last.good parts moved ends.moves ends.more ends.next ends.ends in
+    let first = ap (first_points case) same ∙ c.last_good_law.ensures.total case player ends.moved last.rich last.poor last.good parts ends.moves ends.more ends.next ends.ends whole in
     let total : lesser_points case last.good * last.rich + greater_points case last.good * last.poor ≡ c.lesser_points-lesser.result * last.rich + c.greater_points-greater.result * last.poor =
     rw (c.greater_points-greater.ensures.value, c.lesser_points-lesser.ensures.value) refl in
     let first_weight : c.points.result ≡ points case 2 last.good = c.points.ensures.value in

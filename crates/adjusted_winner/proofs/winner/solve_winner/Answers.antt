@@ -1,9 +1,8 @@
 use Rattle.std.proofs.Common.{arith, ◌≡◌, ◌*◌, pos, [], subst, map, refl, sym, ◌∙◌, inl, inr}
 use Rattle.std.specs.List.{range_with_len}
 use Rattle.split_frac.specs.Frac.{HasValue}
-use Rattle.divided_goods.specs.Procedure.{points_at_first}
-use Rattle.divided_goods.specs.Winners.{share_at_first}
-use Rattle.divided_goods.proofs.Procedures.{first_unmoved}
+use Rattle.winner_laws.specs.Procedure.{points_at_first}
+use Rattle.winner_laws.specs.Winners.{share_at_first}
 use Rattle.adjusted_winner.proofs.winner.solve_winner.Goals as goal
 
 pub moved-requires-clause-richer : goal.moved-requires-clause-richer
@@ -27,7 +26,7 @@ returns c =
     let case = c.args.case.now in
     let same : c.points_at_first-first.result ≡ c.points_at_first-second.result = omega (arith, c.if-first-second.false, c.if-first-second-2.false) in
     let once : 1 * points_at_first case 1 ≡ points_at_first case 1 = omega arith in
-    let first = first_unmoved case 1 ∙ once in
+    let first = c.last_good_law.ensures.unmoved case 1 ∙ once in
     record {
       parts = 1;
       held = map (share_at_first case 1 1) (range_with_len 1 case.facts.goods);

@@ -3,7 +3,7 @@ use Rattle.cert_reader.specs.Views.{fares_view, goods_view, rent_view, view_of}
 use Rattle.fare_rules.specs.Rules.{rules_of_fares}
 use Rattle.goods_rules.specs.Rules.{rules_of_goods}
 use Rattle.rent_rules.specs.Rules.{rules_of_rent}
-use Rattle.verdicts.specs.Verdicts.{IsVerdictOf}
+use Rattle.rule_verdicts.specs.Verdicts.{IsVerdictOf}
 use Rattle.cert_reader.specs.declared.certificate.Certificate.TheVariants.{Fares, Goods, Rent}
 use Rattle.cert_checker.specs.Judged.{GivesVerdict, IsBest}
 use Rattle.cert_checker.proofs.Judgements.{read_judged}

@@ -1,7 +1,7 @@
 use Rattle.std.proofs.Common.{◌≡◌, List, ℕ, subst, sym}
-use Rattle.cert_reader.specs.Views.{View, view_of}
-use Rattle.verdicts.specs.declared.verdict.Verdict.{Verdict}
-use Rattle.verdicts.specs.declared.verdict.Verdict.TheVariants.{Yes}
+use Rattle.cert_reader.specs.Views.{CertificateView, view_of}
+use Rattle.rule_verdicts.specs.declared.verdict.Verdict.{Verdict}
+use Rattle.rule_verdicts.specs.declared.verdict.Verdict.TheVariants.{Yes}
 use Rattle.cert_checker.specs.Judged.{GivesVerdict, IsJudged, SaysView, rule_count, rule_of}
 use Rattle.cert_checker.proofs.Judgements.{given, judged, rows_read, some_verdict}
 use Rattle.cert_checker.proofs.Kept.{best_kept, rows_kept, verdict_once}
@@ -9,7 +9,7 @@ use Rattle.cert_checker.proofs.SaidViews.{view_said}
 use Rattle.cert_checker.proofs.laws.certificate_verdict_law.Goals as goal
 
 -- the verdict on bytes is what the rules give on the view that they say
-gives_on : (c : goal.After-fares_certificate_law) (bytes : List ℕ) (view : View) (verdict : Verdict) → SaysView bytes view → IsJudged bytes verdict → GivesVerdict view verdict
+gives_on : (c : goal.After-fares_certificate_law) (bytes : List ℕ) (view : CertificateView) (verdict : Verdict) → SaysView bytes view → IsJudged bytes verdict → GivesVerdict view verdict
 gives_on c bytes view verdict says h =
     let g = given bytes verdict h in
     let same : view ≡ g.view = c.text_law.ensures.views bytes g.view view g.says.rows says.rows g.says.is_text says.is_text in
@@ -18,7 +18,7 @@ gives_on c bytes view verdict says h =
 pub returns-clause-one : goal.returns-clause-one
 returns-clause-one c bytes verdict other h k =
     let g = given bytes verdict h in
-    verdict_once g.view verdict other g.gives (gives_on c bytes g.view other g.says k)
+    verdict_once c.rent_certificate_law.ensures.one c.goods_certificate_law.ensures.one c.fares_certificate_law.ensures.one g.view verdict other g.gives (gives_on c bytes g.view other g.says k)
 
 pub returns-clause-whole : goal.returns-clause-whole
 returns-clause-whole c bytes verdict line h broken = c.text_law.ensures.whole bytes _ _ line (given bytes verdict h).says.is_text broken

@@ -3,7 +3,7 @@ use Rattle.std.specs.Prelude.{Option}
 use Rattle.std.proofs.lemmas.List.{append_cancel_left}
 use Rattle.bid_rules.specs.Fractions.{Fraction}
 use Rattle.split_frac.specs.Frac.{fraction_of}
-use Rattle.split_text.specs.Texts.{numbers_text}
+use Rattle.split_frac.specs.Texts.{numbers_text}
 use Rattle.cert_reader.specs.Words.{word_text}
 use Rattle.cert_reader.specs.Text.{Leads}
 use Rattle.cert_reader.proofs.Numbers.{numbers_apart}

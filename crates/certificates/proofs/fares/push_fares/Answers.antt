@@ -10,7 +10,7 @@ use Rattle.cert_reader.specs.Views.{says}
 use Rattle.certificates.specs.Lines.{number_line}
 use Rattle.certificates.proofs.Rows.{rows_then}
 use Rattle.certificates.proofs.Tables.{sets_then}
-use Rattle.fare_lines.specs.Lines.{canonical_fares, cost_line}
+use Rattle.certificates.specs.FareLines.{canonical_fares, cost_line}
 use Rattle.certificates.proofs.fares.push_fares.Goals as goal
 
 -- parts joined from the left and from the right

@@ -7,7 +7,7 @@ use Rattle.cert_reader.specs.Text.{Marks, Said, said_text, text_of, wholes}
 use Rattle.cert_reader.specs.Views.{says}
 use Rattle.certificates.specs.Lines.{number_line}
 use Rattle.certificates.proofs.Rows.{rows_then}
-use Rattle.goods_lines.specs.Lines.{canonical_goods}
+use Rattle.certificates.specs.GoodsLines.{canonical_goods}
 use Rattle.certificates.proofs.goods.push_goods.Goals as goal
 
 -- parts joined from the left and from the right

@@ -1,8 +1,8 @@
 use Rattle.std.proofs.Common.{◌≡◌, ◌++◌, ◌∷◌, [], List, ℕ, ap, ◌∙◌, append_assoc, refl, string_bytes}
 use Rattle.cert_reader.specs.declared.forms.Word.TheVariants as word
 use Rattle.cert_reader.specs.Words.{word_text}
-use Rattle.goods_lines.specs.Lines.{canonical_tree}
-use Rattle.split_text.specs.Texts.{line}
+use Rattle.certificates.specs.GoodsLines.{canonical_tree}
+use Rattle.split_frac.specs.Texts.{line}
 use Rattle.certificates.proofs.goods.push_tree.Goals as goal
 
 -- parts joined from the left, and as a line

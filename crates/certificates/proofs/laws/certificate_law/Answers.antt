@@ -12,18 +12,19 @@ use Rattle.bid_rules.specs.Facts.{IsValidCase, IsValidFareCase}
 use Rattle.bid_rules.specs.Goods.{IsValidGoodsCase}
 use Rattle.bid_rules.specs.Rent.{IsValidRentCase}
 use Rattle.cert_checker.specs.Judged.{IsCertificate}
+use Rattle.cert_reader.specs.declared.limits.TheConstants.{MOST_BYTES, MOST_PRINTED_DENOMINATOR}
 use Rattle.cert_reader.specs.Numbers.{AreShort, IsSmall}
 use Rattle.cert_reader.specs.Views.{OfFares, OfGoods, OfRent}
 use Rattle.certificates.specs.Canonical.{IsCanonical, text_saying}
-use Rattle.divisions.specs.declared.division.Division.TheVariants.{Rent, Goods, Fares}
+use Rattle.certificates.specs.declared.division.Division.TheVariants.{Rent, Goods, Fares}
 use Rattle.certificates.proofs.FareTexts.{CostFacts, fares_is_text}
 use Rattle.certificates.proofs.GoodsTexts.{TreeFacts, goods_is_text}
 use Rattle.certificates.proofs.RentTexts.{rent_is_text}
-use Rattle.fare_lines.specs.Lines.{canonical_fares}
-use Rattle.goods_lines.specs.Lines.{canonical_goods}
+use Rattle.certificates.specs.FareLines.{canonical_fares}
+use Rattle.certificates.specs.GoodsLines.{canonical_goods}
 use Rattle.nash_search.specs.Division.{IsGoodsDivision}
 use Rattle.nash_search.specs.declared.division.GoodsDivision.{GoodsDivision}
-use Rattle.rent_lines.specs.Lines.{canonical_rent}
+use Rattle.certificates.specs.RentLines.{canonical_rent}
 use Rattle.rent_maximin.specs.Division.{IsRentDivision}
 use Rattle.rent_maximin.specs.declared.division.RentDivision.{RentDivision}
 use Rattle.shapley_core.specs.Division.{IsFareDivision}
@@ -33,7 +34,7 @@ use Rattle.certificates.proofs.laws.certificate_law.Goals as goal
 
 -- prices are fractions that a text can hold
 prices_short : (c : goal.After-text_law) (rent : RentCase) (division : RentDivision) → IsValidRentCase rent → IsRentDivision rent division → AreShort division.prices.items
-prices_short c rent division valid is = All-weaker (λ price. IsWithinLimits price × (unsigned_abs price.num ≤ MOST_AMOUNT * price.den)) (λ price. IsSmall price.num × (price.den ≤ 4294967295))
+prices_short c rent division valid is = All-weaker (λ price. IsWithinLimits price × (unsigned_abs price.num ≤ MOST_AMOUNT * price.den)) (λ price. IsSmall price.num × (price.den ≤ MOST_PRINTED_DENOMINATOR))
     (λ price h. (let size = h.0.0 in omega (arith, size), let parts = h.0.1 in omega (arith, parts))) division.prices.items (c.division_range_law.ensures.prices rent division valid is)
 
 -- what is known of costs
@@ -72,11 +73,11 @@ is_certificate c (case.Fares fares) text valid (Fares division, is, e) =
 is_certificate c (case.Fares fares) text valid (Rent division, is, e) = absurd is
 is_certificate c (case.Fares fares) text valid (Goods division, is, e) = absurd is
 
-is_short : (c : goal.After-text_law) (given : Case) (text : List ℕ) → IsValidCase given → IsCanonical given text → length text ≤ 4000000
+is_short : (c : goal.After-text_law) (given : Case) (text : List ℕ) → IsValidCase given → IsCanonical given text → length text ≤ MOST_BYTES
 is_short c (case.Rent rent) text valid (Rent division, is, e) =
     let view = OfRent (canonical_rent rent division) in
     let short = c.text_law.ensures.short (text_saying view) view (rent_is_text rent division valid is (prices_short c rent division valid is)) in
-    subst (λ (t : List ℕ). length t ≤ 4000000) (sym e) (omega (arith, short))
+    subst (λ (t : List ℕ). length t ≤ MOST_BYTES) (sym e) (omega (arith, short))
 is_short c (case.Rent rent) text valid (Goods division, is, e) = absurd is
 is_short c (case.Rent rent) text valid (Fares division, is, e) = absurd is
 is_short c (case.Goods goods) text valid (Goods division, is, e) =
@@ -84,13 +85,13 @@ is_short c (case.Goods goods) text valid (Goods division, is, e) =
     let facts = tree_facts c goods division valid is in
     let few = facts.few in
     let short = c.text_law.ensures.short (text_saying view) view (goods_is_text goods division facts valid is) in
-    subst (λ (t : List ℕ). length t ≤ 4000000) (sym e) (omega (arith, few, short))
+    subst (λ (t : List ℕ). length t ≤ MOST_BYTES) (sym e) (omega (arith, few, short))
 is_short c (case.Goods goods) text valid (Rent division, is, e) = absurd is
 is_short c (case.Goods goods) text valid (Fares division, is, e) = absurd is
 is_short c (case.Fares fares) text valid (Fares division, is, e) =
     let view = OfFares (canonical_fares fares division) in
     let short = c.text_law.ensures.short (text_saying view) view (fares_is_text fares division (cost_facts c fares valid) valid is (order c fares division is)) in
-    subst (λ (t : List ℕ). length t ≤ 4000000) (sym e) (omega (arith, short))
+    subst (λ (t : List ℕ). length t ≤ MOST_BYTES) (sym e) (omega (arith, short))
 is_short c (case.Fares fares) text valid (Rent division, is, e) = absurd is
 is_short c (case.Fares fares) text valid (Goods division, is, e) = absurd is
 

@@ -2,7 +2,7 @@ use Rattle.std.proofs.Common.{◌≡◌, ◌++◌, List, ℕ, map, OnOk, string_
 use Rattle.std.specs.Fmt.{decimal}
 use Rattle.cert_reader.specs.Words.{word_text}
 use Rattle.certificates.proofs.Rows.{whole_texts}
-use Rattle.split_text.specs.Texts.{line, spaced}
+use Rattle.split_frac.specs.Texts.{line, spaced}
 use Rattle.certificates.proofs.lines.push_amounts.Goals as goal
 
 pub returns : goal.returns

@@ -7,7 +7,7 @@ use Rattle.cert_reader.specs.Text.{Numbers, Said, text_of, wholes}
 use Rattle.cert_reader.specs.Views.{says}
 use Rattle.certificates.specs.Lines.{number_line}
 use Rattle.certificates.proofs.Rows.{rows_then}
-use Rattle.rent_lines.specs.Lines.{canonical_rent}
+use Rattle.certificates.specs.RentLines.{canonical_rent}
 use Rattle.certificates.proofs.rent.push_rent.Goals as goal
 
 -- parts joined from the left and from the right

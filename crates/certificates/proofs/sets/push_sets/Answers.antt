@@ -3,7 +3,7 @@ use Rattle.std.specs.List.{range_with_len}
 use Rattle.cert_reader.specs.declared.forms.Word.TheVariants as word
 use Rattle.cert_reader.specs.Text.{wholes}
 use Rattle.certificates.specs.Lines.{number_line}
-use Rattle.fare_lines.specs.Lines.{cost_line}
+use Rattle.certificates.specs.FareLines.{cost_line}
 use Rattle.certificates.proofs.SetLists.{sets_more}
 use Rattle.certificates.proofs.sets.push_sets.Goals as goal
 

@@ -1,5 +1,5 @@
 use Rattle.std.proofs.Common.{◌≡◌, ◌+◌, ◌∷◌, length, map, pos, take}
-use Rattle.fare_laws.specs.Entries.{costs_from}
+use Rattle.best_laws.specs.Entries.{costs_from}
 use Rattle.certificates.proofs.sets.set_numbers.Given as goal
 
 abbrev pub invariant-loop-at : goal.invariant-loop-at

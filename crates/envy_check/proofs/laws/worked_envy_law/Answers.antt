@@ -1,7 +1,7 @@
 use Rattle.std.proofs.Common.{[], ◌∷◌, inl, arith}
 use Rattle.bid_rules.specs.Goods.{pair_of}
 use Rattle.split_lemmas.proofs.PairOrder.{less_not}
-use Rattle.goods_laws.specs.WorkedGoods.{contested_good}
+use Rattle.best_laws.specs.WorkedGoods.{contested_good}
 use Rattle.envy_check.proofs.laws.worked_envy_law.Goals as goal
 
 pub returns-clause-no_maximum : goal.returns-clause-no_maximum

@@ -12,10 +12,11 @@ use Rattle.shapley_core.specs.Division.{IsFareInRange}
 use Rattle.split_frac.specs.Frac.{fraction_of}
 use Rattle.split_frac.specs.declared.frac.Frac.{Frac}
 use Rattle.split_lemmas.proofs.OrderLaws.{factorial_pos}
+use Rattle.split_lemmas.proofs.WideNumbers.{kept_whole}
 use Rattle.split_lemmas.proofs.Zipped.{length-AllZip}
 use Rattle.fare_audit.specs.Excesses.{IsGroup}
 use Rattle.fare_audit.specs.Parts.{IsFirstGreatest, IsInParts, count_below, excess_in_parts}
-use Rattle.fare_audit.proofs.Kept.{kept, kept_small}
+use Rattle.fare_audit.proofs.Kept.{kept}
 use Rattle.fare_audit.proofs.WholeParts.{AreQuotients, excess_quotient, groups_counted, worst_found}
 use Rattle.fare_audit.proofs.audit.audit_fares.Goals as goal
 
@@ -78,7 +79,7 @@ returns c =
     let greatest = subst (λ (f : FareCase). IsFirstGreatest (excess_in_parts f parts k) (2 ^ length parts) c.tally_of-found.result.set c.tally_of-found.result.most) c.requires.division.costs c.tally_of-found.ensures.greatest in
     let most : ℤ = c.tally_of-found.result.most in
     let small = c.tally_of-found.ensures.size in
-    let told : kept most ≡ most = kept_small most (omega (arith, small)) in
+    let told : kept most ≡ most = kept_whole most (omega (arith, small)) in
     record {
       count = groups_counted case fares parts k some each c.tally_of-found.result.groups (2 ^ length parts) power counted;
       worst = worst_found case fares parts k some each c.worst_of.result (2 ^ length parts) c.tally_of-found.result.set (kept most) power (subst (λ z. IsFirstGreatest (excess_in_parts case parts k) (2 ^ length parts) c.tally_of-found.result.set z) (sym told) greatest) c.worst_of.ensures;

@@ -1,7 +1,10 @@
-use Rattle.std.proofs.Common.{◌≡◌, ◌+◌, ◌≤◌, ◌<ℤ◌, ◌≤ℤ◌, ℕ, ℤ, pos, arith, ap, ◌∙◌, sym, subst, unsigned_abs, to_z}
+use Rattle.std.proofs.Common.{◌≡◌, ◌+◌, ◌*◌, ◌≤◌, ◌<ℤ◌, ◌≤ℤ◌, ℕ, ℤ, pos, arith, ap, ◌∙◌, sym, subst, unsigned_abs, to_z}
 use Rattle.std.specs.Int.{w128}
+use Rattle.bid_rules.specs.declared.limits.TheConstants.{MOST_RIDERS}
+use Rattle.bid_rules.specs.FareLimits.{most_sum}
+use Rattle.split_lemmas.proofs.WideNumbers.{kept_whole}
 use Rattle.fare_audit.specs.Parts.{IsFirstGreatest, excess_in_parts}
-use Rattle.fare_audit.proofs.Kept.{kept, kept_small}
+use Rattle.fare_audit.proofs.Kept.{kept}
 use Rattle.fare_audit.proofs.Tallies.{count_no, count_yes, greater, lt_no, lt_yes, no_greater}
 use Rattle.fare_audit.proofs.audit.tally_of.Goals as goal
 use Rattle.fare_audit.proofs.audit.tally_of.Goals.{then-excess-gt0, else-excess-gt0, then-excess-most, else-excess-most}
@@ -13,7 +16,7 @@ loop-set-preserved c =
     let excess : ℤ = c.excess_of-excess.result in
     let low : 1 ≤ set = c.loop-set.auto.set in
     let size = c.excess_of-excess.ensures.size in
-    let whole : kept excess ≡ e set = kept_small excess (omega (arith, size)) ∙ c.excess_of-excess.ensures.value in
+    let whole : kept excess ≡ e set = kept_whole excess (omega (arith, size)) ∙ c.excess_of-excess.ensures.value in
     let most : ℤ = to_z w128 c.loop-set.most-bits in
     let last : ℤ = to_z w128 c.if-excess-most.most-bits in
     record {
@@ -29,7 +32,7 @@ loop-set-preserved c =
             (no_greater e set c.loop-set.worst most c.loop-set.invariant.greatest (subst (λ z. z ≤ℤ most) whole (lt_no most (kept excess) w.if-excess-most.false))))
       ];
       size = elim c.if-excess-most.branch [
-        | then-excess-most w ↦ subst (λ z. unsigned_abs z ≤ 439084800000000) (sym (w.most-is ∙ kept_small excess (omega (arith, size)))) size
-        | else-excess-most w ↦ subst (λ z. unsigned_abs z ≤ 439084800000000) (sym w.most-is) c.loop-set.invariant.size
+        | then-excess-most w ↦ subst (λ z. unsigned_abs z ≤ most_sum * (MOST_RIDERS + 1)) (sym (w.most-is ∙ kept_whole excess (omega (arith, size)))) size
+        | else-excess-most w ↦ subst (λ z. unsigned_abs z ≤ most_sum * (MOST_RIDERS + 1)) (sym w.most-is) c.loop-set.invariant.size
       ];
     }

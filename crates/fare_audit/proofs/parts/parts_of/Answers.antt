@@ -5,9 +5,10 @@ use Rattle.std.proofs.lemmas.List.Elements.{All-push}
 use Rattle.split_frac.specs.Frac.{fraction_of}
 use Rattle.split_frac.specs.declared.frac.Frac.{Frac}
 use Rattle.bid_rules.specs.Fractions.{Fraction, IsQuotient}
+use Rattle.split_lemmas.proofs.WideNumbers.{kept_whole}
 use Rattle.split_lemmas.proofs.Zipped.{AllZip-push, length-AllZip}
 use Rattle.fare_audit.specs.Parts.{IsInParts, IsSmallPart}
-use Rattle.fare_audit.proofs.Kept.{kept, kept_small}
+use Rattle.fare_audit.proofs.Kept.{kept}
 use Rattle.fare_audit.proofs.parts.parts_of.Goals as goal
 
 pub part_of-requires-clause-fare : goal.part_of-requires-clause-fare
@@ -32,7 +33,7 @@ loop-fare-preserved c =
     let fare : Frac = c.fare-item.result in
     let made : ℤ = c.part_of.result in
     let part : ℤ = kept made in
-    let plain : part ≡ made = kept_small made (let small = c.part_of.ensures.small in omega (arith, small)) in
+    let plain : part ≡ made = kept_whole made (let small = c.part_of.ensures.small in omega (arith, small)) in
     let R : Fraction → ℤ → Type 0 = λ f p. IsQuotient f p c.args.denominator in
     let front : map fraction_of (take (i + 1) fares) ≡ map fraction_of (take i fares) ++ fraction_of fare ∷ [] =
     map_more fraction_of fares i fare c.loop-fare-test.true ∙ ap (λ (f : Frac). map fraction_of (take i fares) ++ fraction_of f ∷ []) (sym c.fare-item.is) in

@@ -22,7 +22,7 @@ returns-then-not-is_mean c = (
       let here = mean_of_each case c.args.count c.args.fares.now c.requires.count all k test in
       let fare = c.index-fares-from.result in
       let at = fare_at c.args.fares.now k fare (omega (arith, test, c.requires.fares)) (ap (λ n. get_or c.args.fares.now n fare) (sym c.from.ensures) ∙ sym c.index-fares-from.is) in
-      let sum = kept_whole c.sum_over_orders-sum.result c.sum_over_orders-sum.ensures.fits ∙ c.sum_over_orders-sum.ensures.value in
+      let sum = kept_whole c.sum_over_orders-sum.result (omega (arith, c.sum_over_orders-sum.ensures.fits)) ∙ c.sum_over_orders-sum.ensures.value in
       let mean = subst (λ z. IsQuotient (fraction_of fare) z (factorial c.args.count)) (sym sum) (subst (IsMean case c.args.count (k + 1)) at here) in
       let back = c.is_mean.ensures.1 mean in
       let never = c.if-not-is_mean.true in
@@ -36,7 +36,7 @@ loop-k-preserved c =
     let fare = c.index-fares-from.result in
     let test = c.loop-k-test.true in
     let at = fare_at c.args.fares.now k fare (omega (arith, test, c.requires.fares)) (ap (λ n. get_or c.args.fares.now n fare) (sym c.from.ensures) ∙ sym c.index-fares-from.is) in
-    let sum = kept_whole c.sum_over_orders-sum.result c.sum_over_orders-sum.ensures.fits ∙ c.sum_over_orders-sum.ensures.value in
+    let sum = kept_whole c.sum_over_orders-sum.result (omega (arith, c.sum_over_orders-sum.ensures.fits)) ∙ c.sum_over_orders-sum.ensures.value in
     let told = c.is_mean.ensures.0 c.if-not-is_mean.false in
     let mean : IsMean case c.args.count (k + 1) (get_or (map fraction_of c.args.fares.now) k (pos 0, 1)) =
     subst (IsMean case c.args.count (k + 1)) (sym at) (subst (λ z. IsQuotient (fraction_of fare) z (factorial c.args.count)) sum told) in

@@ -1,7 +1,7 @@
 use Rattle.std.proofs.Common.{◌≡◌, ◌∙◌, map, unsigned_abs}
 use Rattle.std.proofs.lemmas.List.{length-map}
 use Rattle.split_lemmas.proofs.RangePermutations.{permutation_from_each, permutation_to_each}
-use Rattle.verdicts.proofs.PrintedNumbers.{order_bounded}
+use Rattle.split_lemmas.proofs.PrintedNumbers.{order_bounded}
 use Rattle.fare_rules.proofs.route.order_of.Goals as goal
 
 pub returns-in_default : goal.returns-in_default

@@ -1,6 +1,7 @@
 use Rattle.std.proofs.Common.{arith, ◌≡◌, ◌≤◌, ◌<◌, ◌^◌, ◌∙◌, ◌++◌, ◌∷◌, [], ℕ, ℤ, pos, List, length, map, get_or, ap, sym, subst, refl}
 use Rattle.std.proofs.lemmas.List.{length-map, map-append}
 use Rattle.std.proofs.Math.Nat.{pow-le-pow_right}
+use Rattle.bid_rules.specs.declared.limits.TheConstants.{MOST_RIDERS}
 use Rattle.bid_rules.specs.Coalitions.{riders_in}
 use Rattle.cert_reader.specs.Sets.{starts}
 use Rattle.set_costs.specs.Table.{ListsCosts, route_costs}
@@ -16,7 +17,7 @@ is_line-is_kept-requires-clause-row c =
 pub push-requires : goal.push-requires
 push-requires c =
     let few = c.coalition_law.ensures.riders_count c.args.case.now c.requires.lists.valid in
-    let power : 2 ^ length c.args.case.now.at.items ≤ 2 ^ 10 = pow-le-pow_right {n = 2} (let some : 0 < 2 = omega arith in some) few in
+    let power : 2 ^ length c.args.case.now.at.items ≤ 2 ^ MOST_RIDERS = pow-le-pow_right {n = 2} (let some : 0 < 2 = omega arith in some) few in
     let more = c.requires.more in
     (omega arith, omega (arith, power, more))
 

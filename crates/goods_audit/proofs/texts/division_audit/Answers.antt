@@ -1,6 +1,6 @@
 use Rattle.std.proofs.Common.{List, ℕ, None, IfOk, subst}
 use Rattle.std.proofs.lemmas.Result.{IfOk-weaker}
-use Rattle.player_lines.specs.Names.{shown_names}
+use Rattle.split_reports.specs.Names.{shown_names}
 use Rattle.goods_audit.specs.Texts.{IsAuditText}
 use Rattle.goods_audit.proofs.texts.division_audit.Goals as goal
 

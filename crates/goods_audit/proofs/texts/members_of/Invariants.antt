@@ -1,5 +1,5 @@
 use Rattle.std.proofs.Common.{◌≡◌, length, map, take}
-use Rattle.player_lines.specs.Players.{player_member}
+use Rattle.split_reports.specs.Players.{player_member}
 use Rattle.goods_audit.proofs.texts.members_of.Given as goal
 
 abbrev pub invariant-loop-player : goal.invariant-loop-player

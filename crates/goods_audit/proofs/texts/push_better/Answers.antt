@@ -1,7 +1,7 @@
 use Rattle.std.proofs.Common.{◌≡◌, ◌++◌, Bor, List, ℕ, [], ◌∷◌, Option, OnOk, codes, map, string_bytes, sym, ◌∙◌, subst}
 use Rattle.std.specs.Fmt.{decimal}
 use Rattle.std.specs.Option.{option_map}
-use Rattle.split_text.specs.Texts.{line_of, spaced}
+use Rattle.split_frac.specs.Texts.{line_of, spaced}
 use Rattle.goods_audit.specs.Texts.{better_line}
 use Rattle.goods_audit.proofs.texts.push_better.Goals as goal
 

@@ -1,5 +1,5 @@
 use Rattle.std.proofs.Common.{◌≡◌, ◌++◌, List, ℕ, [], ◌∷◌, OnOk, codes, string_bytes, subst}
-use Rattle.split_text.specs.Texts.{line_of}
+use Rattle.split_frac.specs.Texts.{line_of}
 use Rattle.goods_audit.proofs.texts.push_title.Goals as goal
 
 pub returns : goal.returns

@@ -6,7 +6,7 @@ use Rattle.bid_rules.specs.declared.goods.Goods.{Goods}
 use Rattle.bid_rules.specs.declared.goods.GoodsCase.{GoodsCase}
 use Rattle.bid_rules.specs.Goods.{IsValidGoodsCase}
 use Rattle.goods_rules.specs.Printed.{printed_case}
-use Rattle.verdicts.proofs.PrintedNumbers.{bounded, rows_bounded, unsigned_row}
+use Rattle.split_lemmas.proofs.PrintedNumbers.{bounded, rows_bounded, unsigned_row}
 use Rattle.goods_rules.proofs.case.case_of.Goals as goal
 
 pub returns-in_default : goal.returns-in_default

@@ -1,11 +1,22 @@
-use Rattle.std.proofs.Common.{arith, ◌∙◌, unsigned_abs, length, subst, sym, All, ◌≤◌}
+use Rattle.std.proofs.Common.{◌≡◌, arith, ◌∙◌, unsigned_abs, ap, length, refl, subst, sym, All, ◌≤◌}
 use Rattle.std.proofs.lemmas.List.{length-map}
 use Rattle.goods_rules.specs.Printed.{printed_answer, printed_case, printed_owners}
 use Rattle.goods_rules.specs.Rules.{goods_rule, rules_of_goods}
 use Rattle.goods_rules.proofs.BestAnswer.{tree_best}
 use Rattle.goods_rules.proofs.PrintedNumbers.{owners_unsigned, players_same}
-use Rattle.verdicts.proofs.Order.{one_verdict}
+use Rattle.split_lemmas.proofs.AskedInOrder.{none_broken, one_broken}
+use Rattle.rule_verdicts.specs.declared.verdict.Verdict.{Verdict}
+use Rattle.rule_verdicts.specs.declared.verdict.Verdict.TheVariants.{Yes, No}
+use Rattle.rule_verdicts.specs.Verdicts.{IsVerdictOf}
+use Rattle.cert_reader.specs.GoodsViews.{GoodsView}
 use Rattle.goods_rules.proofs.laws.goods_certificate_law.Goals as goal
+
+-- a text has one verdict
+once : (view : GoodsView) (a b : Verdict) → IsVerdictOf (rules_of_goods view) a → IsVerdictOf (rules_of_goods view) b → a ≡ b
+once view Yes Yes h k = refl
+once view Yes (No m) h k = absurd (none_broken (goods_rule view) (length (rules_of_goods view)) m h k)
+once view (No n) Yes h k = absurd (none_broken (goods_rule view) (length (rules_of_goods view)) n k h)
+once view (No n) (No m) h k = ap No (one_broken (goods_rule view) (length (rules_of_goods view)) n m h k)
 
 pub returns-clause-valid : goal.returns-clause-valid
 returns-clause-valid c view kept = (kept 1 (omega arith) (omega arith)).valid
@@ -26,4 +37,4 @@ returns-clause-owners c view kept =
     c.owners_by_good_law.ensures.by_good_again (printed_case view) (printed_owners view) (length-map view.owners unsigned_abs ∙ owners.each)
 
 pub returns-clause-one : goal.returns-clause-one
-returns-clause-one c view = one_verdict (goods_rule view) (length (rules_of_goods view))
+returns-clause-one c = once

@@ -1,5 +1,5 @@
 use Rattle.std.proofs.Common.{refl, ap, ◌∙◌, Ok, Err}
-use Rattle.dumps.specs.Rows.{dump_text}
+use Rattle.split_reports.specs.DumpRows.{dump_text}
 use Rattle.host_commands.specs.Files.{Dumps}
 use Rattle.host_commands.proofs.dumping.dump.Goals as goal
 

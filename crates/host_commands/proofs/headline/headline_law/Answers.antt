@@ -1,4 +1,4 @@
-use Rattle.link_runs.specs.Served.{tells_of}
+use Rattle.serving.specs.Served.{tells_of}
 use Rattle.host_commands.proofs.Headlines.{RunLaws, any_headline, told_headline}
 use Rattle.host_commands.proofs.Published.{CaseLaws}
 use Rattle.host_commands.proofs.headline.headline_law.Goals as goal
@@ -8,6 +8,9 @@ returns-clause-told g c =
     let runs : RunLaws g.D.Disk = record {
       seen = g.met.D.Disk.seen_is_image;
       one_meaning = c.events_law.ensures.one_meaning;
+      files = c.files_law.ensures;
+      exchanges = c.link_law.ensures.exchanges;
+      joined = c.link_law.ensures.joined;
       crash = c.crash_law.ensures;
       acknowledged = c.acknowledged_law.ensures;
       accepted = c.accepted_law.ensures;
@@ -31,6 +34,9 @@ returns-clause-any g c =
     let runs : RunLaws g.D.Disk = record {
       seen = g.met.D.Disk.seen_is_image;
       one_meaning = c.events_law.ensures.one_meaning;
+      files = c.files_law.ensures;
+      exchanges = c.link_law.ensures.exchanges;
+      joined = c.link_law.ensures.joined;
       crash = c.crash_law.ensures;
       acknowledged = c.acknowledged_law.ensures;
       accepted = c.accepted_law.ensures;

@@ -1,4 +1,4 @@
-use Rattle.link_runs.specs.Served.{tells_of}
+use Rattle.serving.specs.Served.{tells_of}
 use Rattle.host_commands.proofs.Listened.{was_cut, was_served}
 use Rattle.host_commands.proofs.listening.serve_opened.Goals as goal
 

@@ -1,5 +1,5 @@
 use Rattle.std.proofs.Common.{◌∙◌, ap, sym, subst, map}
-use Rattle.split_base.specs.Moments.{weaker}
+use Rattle.split_lemmas.proofs.Moments.{weaker}
 use Rattle.gate_log.specs.Records.{IsBody}
 use Rattle.sealed_core.specs.Host.{HostView, apply, event_view}
 use Rattle.host_journal.specs.Spelling.{spelling}

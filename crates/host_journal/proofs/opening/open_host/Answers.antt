@@ -1,5 +1,5 @@
 use Rattle.std.proofs.Common.{List, ℕ, map, sym, subst}
-use Rattle.split_base.specs.Moments.{joined, rests_leave}
+use Rattle.split_lemmas.proofs.Moments.{joined, rests_leave}
 use Rattle.host_journal.specs.Spelling.{spelling}
 use Rattle.host_journal.specs.Journal.{HasOpened, HoldsFrom, HoldsOne, IsOpened, IsReplayed}
 use Rattle.host_journal.proofs.Raised.{opened_done, rests_torn, rests_writes, then_torn, then_writes}

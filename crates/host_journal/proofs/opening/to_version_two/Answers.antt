@@ -1,5 +1,5 @@
 use Rattle.std.proofs.Common.{◌≡◌, ◌⊎◌, ◌+◌, inr, [], ◌∷◌, rules}
-use Rattle.split_base.specs.Moments.{weaker}
+use Rattle.split_lemmas.proofs.Moments.{weaker}
 use Rattle.gate_log.specs.Records.{HoldsRecords}
 use Rattle.host_journal.specs.Journal.{HoldsFrom}
 use Rattle.split_base.specs.Disk.{IsWritten}

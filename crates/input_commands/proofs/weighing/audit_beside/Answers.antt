@@ -2,7 +2,7 @@ use Rattle.std.proofs.Common.{ℕ, List, Option, Some, IfOk, sym, subst}
 use Rattle.std.specs.Option.{option_map}
 use Rattle.goods_audit.specs.Domination.{OwnersByGood}
 use Rattle.goods_audit.specs.Texts.{IsAuditText}
-use Rattle.player_lines.specs.Names.{names_of}
+use Rattle.split_reports.specs.Names.{names_of}
 use Rattle.split_json.specs.Reading.{shown}
 use Rattle.input_commands.proofs.weighing.audit_beside.Goals as goal
 

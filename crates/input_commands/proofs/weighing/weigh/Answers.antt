@@ -3,7 +3,7 @@ use Rattle.std.specs.Result.{result_map_both}
 use Rattle.arrayvec.specs.declared.array_vec.ArrayVec.{ArrayVec}
 use Rattle.bid_rules.specs.declared.limits.TheConstants.{ITEM_ROOM}
 use Rattle.case_fields.specs.declared.fields.BodyFault.{BodyFault}
-use Rattle.endings.specs.Endings.{ending_of}
+use Rattle.command_results.specs.Endings.{ending_of}
 use Rattle.split_json.specs.Proposals.{proposal_in}
 use Rattle.split_json.specs.Reading.{CaseData, shown}
 use Rattle.split_json.specs.declared.input.CaseInput.{CaseInput}

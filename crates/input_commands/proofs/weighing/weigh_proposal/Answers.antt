@@ -1,5 +1,5 @@
 use Rattle.std.proofs.Common.{◌∙◌}
-use Rattle.endings.specs.Endings.{ending_of}
+use Rattle.command_results.specs.Endings.{ending_of}
 use Rattle.split_json.specs.Reading.{shown}
 use Rattle.input_commands.proofs.ProposedOwners.{has_case, owners_bid}
 use Rattle.input_commands.proofs.StepEnds.{in_proposal}

@@ -1,12 +1,23 @@
-use Rattle.std.proofs.Common.{arith, sym, length, map, unsigned_abs}
+use Rattle.std.proofs.Common.{◌≡◌, arith, ap, sym, length, map, refl, unsigned_abs}
 use Rattle.bid_rules.specs.Maximin.{value_step}
 use Rattle.bid_rules.specs.Rent.{room_count}
 use Rattle.rent_rules.specs.Printed.{printed_case, printed_rooms}
 use Rattle.rent_rules.specs.Rules.{rent_rule, rules_of_rent}
 use Rattle.rent_rules.proofs.Padded.{are_dual, are_prices, are_weights, padded}
 use Rattle.rent_rules.proofs.Shown.{are_shown}
-use Rattle.verdicts.proofs.Order.{one_verdict}
+use Rattle.split_lemmas.proofs.AskedInOrder.{none_broken, one_broken}
+use Rattle.rule_verdicts.specs.declared.verdict.Verdict.{Verdict}
+use Rattle.rule_verdicts.specs.declared.verdict.Verdict.TheVariants.{Yes, No}
+use Rattle.rule_verdicts.specs.Verdicts.{IsVerdictOf}
+use Rattle.cert_reader.specs.Layout.{RentView}
 use Rattle.rent_rules.proofs.laws.rent_certificate_law.Goals as goal
+
+-- a text has one verdict
+once : (view : RentView) (a b : Verdict) → IsVerdictOf (rules_of_rent view) a → IsVerdictOf (rules_of_rent view) b → a ≡ b
+once view Yes Yes h k = refl
+once view Yes (No m) h k = absurd (none_broken (rent_rule view) (length (rules_of_rent view)) m h k)
+once view (No n) Yes h k = absurd (none_broken (rent_rule view) (length (rules_of_rent view)) n k h)
+once view (No n) (No m) h k = ap No (one_broken (rent_rule view) (length (rules_of_rent view)) n m h k)
 
 pub returns-clause-best : goal.returns-clause-best
 returns-clause-best c view kept =
@@ -24,4 +35,4 @@ returns-clause-best c view kept =
     (are_weights case rooms view.walks (kept 5 (omega arith) (omega arith)) attained) (are_prices case rooms view.walks view.prices (kept 7 (omega arith) (omega arith)))
 
 pub returns-clause-one : goal.returns-clause-one
-returns-clause-one c view verdict other h k = sym (one_verdict (rent_rule view) (length (rules_of_rent view)) verdict other h k)
+returns-clause-one c view verdict other h k = sym (once view verdict other h k)

@@ -2,7 +2,7 @@ use Rattle.std.proofs.Common.{arith, ◌≡◌, ◌∙◌, length, map, ap, unsi
 use Rattle.std.proofs.lemmas.List.{length-map}
 use Rattle.split_lemmas.proofs.RangePermutations.{permutation_from_each, permutation_to_each}
 use Rattle.rent_rules.proofs.PrintedNumbers.{positive_from}
-use Rattle.verdicts.proofs.PrintedNumbers.{order_bounded}
+use Rattle.split_lemmas.proofs.PrintedNumbers.{order_bounded}
 use Rattle.rent_rules.proofs.printed.rooms_of.Goals as goal
 
 pub returns-in_default : goal.returns-in_default

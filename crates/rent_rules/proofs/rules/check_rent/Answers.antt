@@ -2,8 +2,8 @@ use Rattle.std.proofs.Common.{arith, ◌≡◌, ◌∙◌}
 use Rattle.cert_reader.specs.Views.{rent_view}
 use Rattle.rent_rules.specs.Printed.{printed_rooms}
 use Rattle.rent_rules.specs.Rules.{rent_rule}
-use Rattle.verdicts.proofs.Order.{none_asked, one_asked}
-use Rattle.verdicts.specs.Verdicts.{AreKept}
+use Rattle.split_lemmas.proofs.AskedInOrder.{none_asked, one_asked}
+use Rattle.rule_verdicts.specs.Verdicts.{AreKept}
 use Rattle.rent_rules.proofs.rules.check_rent.Goals as goal
 
 pub returns-then-not-are_reached : goal.returns-then-not-are_reached

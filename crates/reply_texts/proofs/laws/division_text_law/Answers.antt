@@ -1,5 +1,5 @@
 use Rattle.std.proofs.Common.{subst}
-use Rattle.divisions.specs.declared.division.Division.{Division}
+use Rattle.certificates.specs.declared.division.Division.{Division}
 use Rattle.reply_texts.specs.Divisions.{IsDivisionText}
 use Rattle.reply_texts.proofs.OneText.{one_text}
 use Rattle.reply_texts.proofs.laws.division_text_law.Goals as goal

@@ -1,5 +1,5 @@
-use Rattle.publications.specs.Contents.{content_view}
-use Rattle.publications.specs.Publications.{case_data}
+use Rattle.host_results.specs.Contents.{content_view}
+use Rattle.host_results.specs.Publications.{case_data}
 use Rattle.sealed_core.specs.Host.{instance_view}
 use Rattle.sealed_core.specs.Step.{answer_view}
 use Rattle.requests.proofs.Contents.{if_ok, published_stands, shows_published}

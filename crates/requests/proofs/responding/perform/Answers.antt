@@ -1,5 +1,5 @@
 use Rattle.std.proofs.Common.{refl, subst}
-use Rattle.host_keeper.specs.Leading.{leads_as, leads_still}
+use Rattle.requests.proofs.Leading.{leads_as, leads_still}
 use Rattle.sealed_core.specs.Step.{CommandView}
 use Rattle.requests.specs.Cases.{Steps}
 use Rattle.requests.specs.Said.{said_view}
@@ -12,4 +12,4 @@ returns-in-Ok-clause-performed g c s stands =
 
 pub returns-in-Err-clause-performed : goal.returns-in-Err-clause-performed
 returns-in-Err-clause-performed g c s stands =
-    leads_still g.D.Disk g.met.D.Disk.only_now c.args.serving.now c.args.disk.now s _ stands (Steps.memory refl refl c.out_of_memory.ensures)
+    leads_still g.D.Disk c.passing_law.ensures.still c.args.serving.now c.args.disk.now s _ stands (Steps.memory refl refl c.out_of_memory.ensures)

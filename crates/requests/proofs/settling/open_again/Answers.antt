@@ -1,4 +1,4 @@
-use Rattle.host_keeper.specs.Leading.{leads_as}
+use Rattle.requests.proofs.Leading.{leads_as}
 use Rattle.requests.specs.Said.{said_view}
 use Rattle.requests.proofs.Settled.{settled_by, settled_ok}
 use Rattle.requests.proofs.settling.open_again.Goals as goal

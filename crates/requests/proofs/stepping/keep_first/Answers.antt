@@ -1,4 +1,4 @@
-use Rattle.host_keeper.specs.Leading.{leads_as}
+use Rattle.requests.proofs.Leading.{leads_as}
 use Rattle.sealed_core.specs.Host.{event_view}
 use Rattle.requests.specs.Said.{said_view}
 use Rattle.requests.proofs.Stepped.{kept_by, kept_ok}

@@ -1,7 +1,7 @@
 use Rattle.std.proofs.Common.{refl, ap, subst, IfSome, None, Some, option_map}
 use Rattle.std.specs.Prelude.{Option}
-use Rattle.host_keeper.specs.Leading.{leads_as, leads_still}
-use Rattle.publications.specs.Contents.{content_view}
+use Rattle.requests.proofs.Leading.{leads_as, leads_still}
+use Rattle.host_results.specs.Contents.{content_view}
 use Rattle.sealed_core.specs.declared.events.Event.{Event}
 use Rattle.sealed_core.specs.Host.{CanApply, HostView, event_view}
 use Rattle.sealed_core.specs.Step.{answer_view, command_view}
@@ -12,7 +12,7 @@ use Rattle.requests.proofs.stepping.step.Goals as goal
 
 pub returns-in-Err-clause-stepped : goal.returns-in-Err-clause-stepped
 returns-in-Err-clause-stepped g c s stands =
-    leads_still g.D.Disk g.met.D.Disk.only_now c.args.serving.now c.args.disk.now s _ stands (Steps.memory refl refl c.out_of_memory.ensures)
+    leads_still g.D.Disk c.passing_law.ensures.still c.args.serving.now c.args.disk.now s _ stands (Steps.memory refl refl c.out_of_memory.ensures)
 
 pub returns-in-None-clause-stepped : goal.returns-in-None-clause-stepped
 returns-in-None-clause-stepped g c s stands =
@@ -20,7 +20,7 @@ returns-in-None-clause-stepped g c s stands =
     let command = command_view c.args.command in
     let a = answer_view c.answer-answered.result in
     let is = c.answer-answered.ensures.step in
-    leads_still g.D.Disk g.met.D.Disk.only_now c.args.serving.now c.args.disk.now s _ stands
+    leads_still g.D.Disk c.passing_law.ensures.still c.args.serving.now c.args.disk.now s _ stands
     (Steps.no_event (content_view c.in-Ok.told) (event_is h s stands.host.is_host c.args.moment command a is None (ap (option_map event_view) c.in-None.is)) refl
     (replied h s stands.host.is_host c.args.moment command a is (content_view c.in-Ok.told) c.in-Ok.ensures.shows) refl c.told-said.ensures)
 

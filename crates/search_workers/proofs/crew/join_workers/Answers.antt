@@ -1,5 +1,5 @@
 use Rattle.std.proofs.Common.{◌≡◌, ◌+◌, ap, ◌∙◌, sym, subst, arith}
-use Rattle.search_workers.specs.Crews.{Stands}
+use Rattle.search_workers.specs.Crews.{AccountsFor}
 use Rattle.search_workers.specs.Views.{joined}
 use Rattle.search_workers.proofs.WorkersEnd.{neither, one_of, stands_join}
 use Rattle.search_workers.proofs.crew.join_workers.Goals as goal
@@ -22,7 +22,7 @@ returns c =
     record {
       seat = c.join_desk.ensures.seat.0 ∙ one.seat;
       slots = ap (λ m. m.1) now ∙ one.slots;
-      stands = subst (λ v. Stands a.case.now a.rule.now a.workers (a.stands + 1) v c.join_walked.result.best) (sym view)
+      stands = subst (λ v. AccountsFor a.case.now a.rule.now a.workers (a.stands + 1) v c.join_walked.result.best) (sym view)
           (stands_join a.case.now a.rule.now a.workers a.stands 1 a.one.walked.best a.other.walked.best c.join_walked.result.best a.one.seat.me.0 a.other.seat.me.0 one.stands other.stands
           (walked.best a.case.now));
       reported = omega (arith, reported, nodes, r, q);

@@ -1,12 +1,12 @@
 use Rattle.std.proofs.Common.{Bool, Some, ap, ◌∙◌, true}
 use Rattle.std.specs.Io.KnownBytes.{prepend_known}
 use Rattle.split_base.specs.Clocks.{ClockRun}
-use Rattle.link_runs.specs.Dues.{SaidView, is_head}
-use Rattle.link_runs.specs.Finishing.{finish_held}
-use Rattle.link_runs.specs.Going.{counts_finished, head_quiet, head_served}
-use Rattle.link_runs.specs.Hearing.{due_to_refused, due_to_request}
-use Rattle.link_runs.specs.Served.{carried, link_view, tells_of}
-use Rattle.requests.specs.Said.{said_view}
+use Rattle.serving.specs.Dues.{is_head}
+use Rattle.serving.proofs.Finishing.{finish_held}
+use Rattle.serving.proofs.Going.{counts_finished, head_quiet, head_served}
+use Rattle.serving.proofs.Hearing.{due_to_refused, due_to_request}
+use Rattle.serving.specs.Served.{carried, link_view, tells_of}
+use Rattle.requests.specs.Said.{SaidView, said_view}
 use Rattle.serving.specs.Serving.{StandsAt, due_of, host_service}
 use Rattle.serving.proofs.Worlds.{responded}
 use Rattle.serving.proofs.links.serve_head.Goals as goal

@@ -1,8 +1,8 @@
 use Rattle.std.proofs.Common.{rules, arith, suc, None, ◌≡◌, ◌-◌, refl}
-use Rattle.link_runs.specs.declared.limits.TheConstants.{MAX_REQUESTS}
-use Rattle.link_runs.specs.Going.{going_ends, going_on, going_start}
-use Rattle.link_runs.specs.Hearing.{counts_joined, none_joined}
-use Rattle.link_runs.specs.Served.{carried, link_view, tells_of}
+use Rattle.serving.specs.declared.limits.TheConstants.{MAX_REQUESTS}
+use Rattle.serving.proofs.Going.{going_ends, going_on, going_start}
+use Rattle.serving.proofs.Hearing.{counts_joined, none_joined}
+use Rattle.serving.specs.Served.{carried, link_view, tells_of}
 use Rattle.serving.specs.Serving.{StandsAt, host_service}
 use Rattle.serving.proofs.Lasting.{some_left}
 use Rattle.serving.proofs.links.serve_one.Goals as goal

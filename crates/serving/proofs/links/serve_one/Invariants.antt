@@ -1,7 +1,7 @@
 use Rattle.std.proofs.Common.{◌≤◌, ◌<◌, ◌↔◌}
-use Rattle.host_keeper.specs.States.{State}
-use Rattle.link_runs.specs.declared.limits.TheConstants.{MAX_REQUESTS}
-use Rattle.link_runs.specs.Served.{Going, NoneFailed, carried, link_view, tells_of}
+use Rattle.host_journal.specs.States.{State}
+use Rattle.serving.specs.declared.limits.TheConstants.{MAX_REQUESTS}
+use Rattle.serving.specs.Served.{Going, NoneFailed, carried, link_view, tells_of}
 use Rattle.split_base.specs.Clocks.{ClockRun}
 use Rattle.serving.specs.Serving.{StandsAt, host_service}
 use Rattle.serving.proofs.links.serve_one.Given as goal

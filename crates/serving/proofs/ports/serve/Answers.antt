@@ -1,6 +1,6 @@
 use Rattle.std.proofs.Common.{rules, arith, ◌≡◌, refl, inl, inr, ap, ◌∙◌, Ok}
-use Rattle.link_runs.specs.Porting.{ports_on, ports_start, ports_stay}
-use Rattle.link_runs.specs.Served.{tells_of}
+use Rattle.serving.proofs.Porting.{ports_on, ports_start, ports_stay}
+use Rattle.serving.specs.Served.{tells_of}
 use Rattle.serving.specs.Serving.{host_service}
 use Rattle.serving.proofs.ports.serve.Goals as goal
 

@@ -1,7 +1,7 @@
 use Rattle.std.proofs.Common.{◌≡◌, ◌≤◌, ◌-◌, ◌↔◌}
-use Rattle.host_keeper.specs.States.{State}
-use Rattle.link_runs.specs.Ports.{PortServed}
-use Rattle.link_runs.specs.Served.{tells_of}
+use Rattle.host_journal.specs.States.{State}
+use Rattle.serving.specs.Ports.{PortServed}
+use Rattle.serving.specs.Served.{tells_of}
 use Rattle.split_base.specs.Clocks.{ClockRun}
 use Rattle.serving.specs.Serving.{StandsAt, host_service}
 use Rattle.serving.proofs.ports.serve.Given as goal

@@ -1,6 +1,6 @@
 use Rattle.std.proofs.Common.{refl}
-use Rattle.link_runs.specs.Finishing.{ends_behind}
-use Rattle.link_runs.specs.Served.{link_view, tells_of}
+use Rattle.serving.proofs.Finishing.{ends_behind}
+use Rattle.serving.specs.Served.{link_view, tells_of}
 use Rattle.serving.specs.Serving.{due_of}
 use Rattle.serving.proofs.replies.write_said.Goals as goal
 

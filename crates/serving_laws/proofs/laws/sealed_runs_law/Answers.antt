@@ -1,5 +1,5 @@
 use Rattle.std.proofs.Common.{sym, ap, ◌∙◌}
-use Rattle.host_keeper.specs.States.{host_in}
+use Rattle.host_journal.specs.States.{host_in}
 use Rattle.sealed_core.specs.Sealed.{empty}
 use Rattle.serving_laws.proofs.HeardRuns.{SendsTold, goes_by_step, got_told}
 use Rattle.serving_laws.proofs.laws.sealed_runs_law.Goals as goal

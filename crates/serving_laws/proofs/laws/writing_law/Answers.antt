@@ -1,5 +1,5 @@
 use Rattle.std.proofs.Common.{◌≡◌, ◌∙◌, ap, sym, refl}
-use Rattle.link_runs.specs.declared.limits.TheConstants.{MAX_REQUESTS}
+use Rattle.serving.specs.declared.limits.TheConstants.{MAX_REQUESTS}
 use Rattle.serving_laws.specs.Writing.{answering_so}
 use Rattle.serving_laws.proofs.Alike.{runs_alike}
 use Rattle.serving_laws.proofs.laws.writing_law.Goals as goal

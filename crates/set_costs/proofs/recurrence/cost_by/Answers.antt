@@ -4,7 +4,7 @@ use Rattle.std.proofs.lemmas.List.Elements.{All-contains}
 use Rattle.bid_rules.specs.Coalitions.{riders_in}
 use Rattle.bid_rules.specs.Facts.{leg}
 use Rattle.bid_rules.specs.Fares.{place_of, route_cost}
-use Rattle.fare_laws.specs.Entries.{costs_from, without}
+use Rattle.best_laws.specs.Entries.{costs_from, without}
 use Rattle.split_lemmas.proofs.RiderPlaces.{start_place}
 use Rattle.set_costs.proofs.recurrence.cost_by.Goals as goal
 

@@ -1,7 +1,7 @@
 use Rattle.std.proofs.Common.{arith, ◌≡◌, ◌<◌, ◌^◌, ◌∙◌, ap, sym, subst, length, slice_index_or}
 use Rattle.std.proofs.lemmas.List.{length-map}
 use Rattle.bid_rules.specs.Coalitions.{riders_in, start_of}
-use Rattle.fare_laws.specs.Entries.{costs_from}
+use Rattle.best_laws.specs.Entries.{costs_from}
 use Rattle.set_costs.specs.Table.{route_costs}
 use Rattle.set_costs.proofs.TableRows.{entry_is, entry_within, row_is}
 use Rattle.set_costs.proofs.recurrence.entry_in.Goals as goal

@@ -2,7 +2,7 @@ use Rattle.std.proofs.Common.{arith, ◌≡◌, ◌≤◌, ◌∙◌, ap, sym, s
 use Rattle.std.specs.List.Sorted.{IsStrictlyIncreasing}
 use Rattle.std.proofs.lemmas.List.Elements.{Contains-get_or}
 use Rattle.bid_rules.specs.Coalitions.{riders_in}
-use Rattle.fare_laws.specs.Entries.{cost_by}
+use Rattle.best_laws.specs.Entries.{cost_by}
 use Rattle.set_costs.proofs.FirstRiders.{IsFirstOf, found_next, found_none, found_still, first_is_lowest}
 use Rattle.set_costs.proofs.recurrence.first_rider.Goals as goal
 use Rattle.set_costs.proofs.recurrence.first_rider.Goals.{then-cost-least, else-cost-least}

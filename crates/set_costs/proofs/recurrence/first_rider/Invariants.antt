@@ -1,4 +1,4 @@
-use Rattle.fare_laws.specs.Entries.{cost_by}
+use Rattle.best_laws.specs.Entries.{cost_by}
 use Rattle.set_costs.proofs.FirstRiders.{IsFound}
 use Rattle.set_costs.proofs.recurrence.first_rider.Given as goal
 

@@ -2,7 +2,7 @@ use Rattle.std.proofs.Common.{arith, ◌≤◌, ◌∙◌, pos, length, ap}
 use Rattle.std.proofs.lemmas.List.Elements.{All-contains}
 use Rattle.bid_rules.specs.Coalitions.{riders_in}
 use Rattle.bid_rules.specs.Fares.{coalition_cost}
-use Rattle.fare_laws.specs.Entries.{without}
+use Rattle.best_laws.specs.Entries.{without}
 use Rattle.set_costs.proofs.SetSums.{added_is}
 use Rattle.set_costs.proofs.sums.added_last.Goals as goal
 

@@ -6,12 +6,13 @@ use Rattle.std.proofs.lemmas.List.Elements.{All-contains}
 use Rattle.std.proofs.lemmas.List.Sorted.{Contains-permutation}
 use Rattle.std.proofs.lemmas.Nat.{pow_pos}
 use Rattle.bid_rules.specs.declared.cases.FareCase.{FareCase}
+use Rattle.bid_rules.specs.declared.limits.TheConstants.{MOST_FARE_CENTS, MOST_RIDERS}
 use Rattle.bid_rules.specs.Coalitions.{riders_in}
 use Rattle.bid_rules.specs.Orders.{factorial}
-use Rattle.fare_laws.specs.Entries.{without}
-use Rattle.fare_laws.specs.MarginalSums.{marginal_sum, part_by_last}
+use Rattle.best_laws.specs.Entries.{without}
+use Rattle.best_laws.specs.MarginalSums.{marginal_sum, part_by_last}
 use Rattle.split_lemmas.proofs.WideNumbers.{kept_whole}
-use Rattle.set_costs.proofs.SetSums.{behind_other, sum_small}
+use Rattle.set_costs.proofs.SetSums.{behind_other, most_part, sum_of_others}
 use Rattle.set_costs.proofs.sums.part_of_sum.Goals as goal
 
 -- the second of two where the test fails
@@ -40,10 +41,10 @@ bounds-sums-from c =
     omega (arith, power, bit, below, c.without.ensures, c.from.ensures)
 
 -- the sum over the orders of the rest is not large
-rest_small : (case : FareCase) (rider set last : ℕ) (others : ℕ) → others ≡ length (riders_in (without set last)) → others < 10
-    → unsigned_abs (marginal_sum case rider (riders_in (without set last))) ≤ 1000000 * (length (riders_in (without set last)) + 1) * factorial (length (riders_in (without set last)))
-    → unsigned_abs (marginal_sum case rider (riders_in (without set last))) ≤ 3991680000000
-rest_small case rider set last others is few small = sum_small (marginal_sum case rider (riders_in (without set last))) (length (riders_in (without set last))) small (omega (arith, is, few))
+rest_small : (case : FareCase) (rider set last : ℕ) (others : ℕ) → others ≡ length (riders_in (without set last)) → others < MOST_RIDERS
+    → unsigned_abs (marginal_sum case rider (riders_in (without set last))) ≤ MOST_FARE_CENTS * (length (riders_in (without set last)) + 1) * factorial (length (riders_in (without set last)))
+    → unsigned_abs (marginal_sum case rider (riders_in (without set last))) ≤ most_part
+rest_small case rider set last others is few small = sum_of_others (marginal_sum case rider (riders_in (without set last))) (length (riders_in (without set last))) small (omega (arith, is, few))
 
 pub returns-else-last-rider-clause-value : goal.returns-else-last-rider-clause-value
 returns-else-last-rider-clause-value c =
@@ -64,4 +65,4 @@ returns-else-last-rider-clause-small c =
     let others : IsPermutation (riders_in c.args.set) (c.args.last ∷ riders_in rest) = c.without_rider_law.ensures.others c.args.set c.args.last c.requires.last in
     let there : Contains (riders_in rest) c.args.rider = behind_other c.args.last c.args.rider (riders_in rest) c.if-last-rider.false (Contains-permutation (riders_in c.args.set) (c.args.last ∷ riders_in rest) c.args.rider others c.requires.rider) in
     let small = rest_small case c.args.rider c.args.set c.args.last c.args.others c.requires.others c.requires.few (c.marginal_set_law.ensures.small case c.args.rider (riders_in rest) c.requires.valid there) in
-    subst (λ z. unsigned_abs z ≤ 3991680000000) (sym (returns-else-last-rider-clause-value c ∙ part_of_other case c.args.rider c.args.set c.args.last c.if-last-rider.false)) small
+    subst (λ z. unsigned_abs z ≤ most_part) (sym (returns-else-last-rider-clause-value c ∙ part_of_other case c.args.rider c.args.set c.args.last c.if-last-rider.false)) small

@@ -4,10 +4,11 @@ use Rattle.std.proofs.Math.Seq.{take-length}
 use Rattle.std.proofs.lemmas.List.Elements.{Contains-get_or}
 use Rattle.std.proofs.lemmas.List.Sorted.{length_permutation}
 use Rattle.bid_rules.specs.Coalitions.{riders_in}
+use Rattle.bid_rules.specs.FareLimits.{most_cost}
 use Rattle.bid_rules.specs.Orders.{factorial}
 use Rattle.bid_rules.specs.Sums.{total}
-use Rattle.fare_laws.specs.MarginalSums.{marginal_sum, part_by_last}
-use Rattle.set_costs.proofs.SetSums.{next_total, sum_of_ten}
+use Rattle.best_laws.specs.MarginalSums.{marginal_sum, part_by_last}
+use Rattle.set_costs.proofs.SetSums.{next_total, sum_of_riders}
 use Rattle.set_costs.proofs.sums.sum_of_set.Goals as goal
 
 pub part_of_sum-sum-requires-clause-others : goal.part_of_sum-sum-requires-clause-others
@@ -42,5 +43,5 @@ returns-clause-small c =
     let n = length case.at.items in
     let count : length riders ≤ n = c.coalition_law.ensures.count n c.args.set (subst (λ k. c.args.set < 2 ^ k) c.requires.count c.requires.set) in
     let most = c.coalition_law.ensures.riders_count case c.requires.valid in
-    subst (λ z. unsigned_abs z ≤ 11000000 * factorial (length riders)) (sym (returns-clause-value c))
-    (sum_of_ten (marginal_sum case c.args.rider riders) (length riders) (c.marginal_set_law.ensures.small case c.args.rider riders c.requires.valid c.requires.rider) (omega (arith, count, most)))
+    subst (λ z. unsigned_abs z ≤ most_cost * factorial (length riders)) (sym (returns-clause-value c))
+    (sum_of_riders (marginal_sum case c.args.rider riders) (length riders) (c.marginal_set_law.ensures.small case c.args.rider riders c.requires.valid c.requires.rider) (omega (arith, count, most)))

@@ -4,17 +4,19 @@ use Rattle.std.proofs.Math.Pow.{pow_mono}
 use Rattle.std.proofs.lemmas.Int.{to_z-of_z}
 use Rattle.std.proofs.lemmas.List.{length-append}
 use Rattle.std.proofs.lemmas.List.FromFn.{length-range_with_len}
+use Rattle.bid_rules.specs.declared.limits.TheConstants.{MOST_RIDERS}
 use Rattle.bid_rules.specs.Coalitions.{riders_in}
+use Rattle.bid_rules.specs.FareLimits.{most_cost}
 use Rattle.bid_rules.specs.Orders.{factorial}
-use Rattle.fare_laws.specs.MarginalSums.{marginal_sum}
+use Rattle.best_laws.specs.MarginalSums.{marginal_sum}
 use Rattle.split_lemmas.proofs.WideNumbers.{kept_whole}
-use Rattle.set_costs.proofs.SetSums.{lists_more, rider_of_all, ten_small}
+use Rattle.set_costs.proofs.SetSums.{lists_more, rider_of_all, sum_small}
 use Rattle.set_costs.proofs.sums.sum_over_orders.Goals as goal
 
 pub push-requires : goal.push-requires
 push-requires c =
     let most = c.coalition_law.ensures.riders_count c.args.costs.now c.requires.valid in
-    let room : 2 ^ c.args.count ≤ 2 ^ 10 = pow_mono {i = c.args.count} {j = 10} (omega (arith, most, c.requires.count)) in
+    let room : 2 ^ c.args.count ≤ 2 ^ MOST_RIDERS = pow_mono {i = c.args.count} {j = MOST_RIDERS} (omega (arith, most, c.requires.count)) in
     let test = c.loop-test.true in
     (omega arith, omega (arith, room, c.loop.invariant.count, c.all_riders-all.ensures, test))
 
@@ -38,8 +40,8 @@ pub returns-clause-small : goal.returns-clause-small
 returns-clause-small c =
     let case = c.args.costs.now in
     let most = c.coalition_law.ensures.riders_count case c.requires.valid in
-    let few : c.args.count ≤ 10 = omega (arith, most, c.requires.count) in
+    let few : c.args.count ≤ MOST_RIDERS = omega (arith, most, c.requires.count) in
     let whole : length (riders_in c.all_riders-all.result) ≡ c.args.count =
     ap (λ s. length (riders_in s)) c.all_riders-all.ensures ∙ ap length (c.coalition_law.ensures.all c.args.count) ∙ length-range_with_len 1 c.args.count in
-    let small : unsigned_abs c.sum_of_set.result ≤ 11000000 * factorial c.args.count = subst (λ n. unsigned_abs c.sum_of_set.result ≤ 11000000 * factorial n) whole c.sum_of_set.ensures.small in
-    subst (λ z. unsigned_abs z ≤ 11000000 * factorial c.args.count) (sym (kept_whole c.sum_of_set.result (ten_small c.sum_of_set.result c.args.count small few))) small
+    let small : unsigned_abs c.sum_of_set.result ≤ most_cost * factorial c.args.count = subst (λ n. unsigned_abs c.sum_of_set.result ≤ most_cost * factorial n) whole c.sum_of_set.ensures.small in
+    subst (λ z. unsigned_abs z ≤ most_cost * factorial c.args.count) (sym (kept_whole c.sum_of_set.result (omega (arith, sum_small c.sum_of_set.result c.args.count small few)))) small

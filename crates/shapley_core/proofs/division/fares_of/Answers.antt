@@ -59,7 +59,7 @@ loop-rider-preserved c =
     let fares = c.loop-rider.fares.items in
     let fare = c.mean.result in
     let i = c.loop-rider.rider-index in
-    let mean : IsMean case n (get_or riders i 0) (fraction_of fare) = subst (λ z. IsQuotient (fraction_of fare) z (factorial n)) (kept_whole c.sum_over_orders.result c.sum_over_orders.ensures.fits ∙ c.sum_over_orders.ensures.value) c.mean.ensures.value in
+    let mean : IsMean case n (get_or riders i 0) (fraction_of fare) = subst (λ z. IsQuotient (fraction_of fare) z (factorial n)) (kept_whole c.sum_over_orders.result (omega (arith, c.sum_over_orders.ensures.fits)) ∙ c.sum_over_orders.ensures.value) c.mean.ensures.value in
     record {
       means = subst (λ ys. AllZip (IsMean case n) (take (i + 1) riders) ys) (sym (ap (map fraction_of) c.push.ensures.items ∙ map-append fraction_of fares (fare ∷ [])))
           (AllZip-more (IsMean case n) riders (map fraction_of fares) i 0 (fraction_of fare) c.loop-rider-test.true c.loop-rider.invariant.means mean);

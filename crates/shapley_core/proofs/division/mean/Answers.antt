@@ -13,6 +13,6 @@ pub returns-clause-range : goal.returns-clause-range
 returns-clause-range c =
     let fare = c.make.result in
     let n = c.args.count in
-    let told = kept_whole c.args.sum c.requires.fits in
+    let told = kept_whole c.args.sum (omega (arith, c.requires.fits)) in
     let value : HasValue fare c.args.sum (factorial n) = subst (λ k. HasValue fare c.args.sum k) c.factorial.ensures.value (c.make.ensures.value ∙ ap (λ s. s *ℤ pos fare.den) told) in
     range_of fare c.args.sum n c.requires.count value c.requires.small (c.value_law.ensures.divides fare c.args.sum (factorial n) value)

@@ -1,7 +1,7 @@
 use Rattle.std.proofs.Common.{length}
 use Rattle.split_base.specs.Disk.{Tears}
 use Rattle.split_base.specs.PastLaws.{torn_none}
-use Rattle.split_base.specs.Moments.{started, goes_on}
+use Rattle.split_base.proofs.Moments.{started, goes_on}
 use Rattle.split_base.proofs.disk.write_synced.Goals as goal
 
 pub returns-in_err-write_at-clause-any_moment : goal.returns-in_err-write_at-clause-any_moment

@@ -1,6 +1,6 @@
 use Rattle.std.proofs.Common.{◌≤◌, ◌++◌, length, sym, ap, ◌∙◌, arith, refl}
 use Rattle.httparse.specs.Grammar.{print_request}
-use Rattle.split_http.specs.declared.limits.TheConstants.{MAX_HEAD}
+use Rattle.http_heads.specs.declared.limits.TheConstants.{MAX_HEAD}
 use Rattle.split_http.proofs.HeadLemmas.{same_text}
 use Rattle.split_http.proofs.heads.take_head.Goals as goal
 

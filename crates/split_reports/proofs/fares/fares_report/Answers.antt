@@ -5,7 +5,7 @@ use Rattle.std.proofs.lemmas.List.{length-map}
 use Rattle.std.proofs.lemmas.List.FromFn.{length-map-range_with_len}
 use Rattle.bid_rules.specs.Cents.{cent_plan}
 use Rattle.split_frac.specs.Frac.{fraction_of}
-use Rattle.player_lines.specs.Names.{shown_names}
+use Rattle.split_reports.specs.Names.{shown_names}
 use Rattle.split_reports.specs.Fares.{fares_report}
 use Rattle.split_reports.proofs.FareReports.{fare_count, route_riders}
 use Rattle.split_reports.proofs.fares.fares_report.Goals as goal

@@ -1,5 +1,5 @@
 use Rattle.std.proofs.Common.{◌≡◌, ◌++◌, map, string_bytes}
-use Rattle.player_lines.specs.Lines.{lines_to}
+use Rattle.split_reports.specs.Parts.{lines_to}
 use Rattle.split_reports.specs.Goods.{player_envy}
 use Rattle.split_reports.proofs.goods.push_table.Given as goal
 

@@ -1,4 +1,4 @@
-use Rattle.player_lines.specs.Names.{names_of}
+use Rattle.split_reports.specs.Names.{names_of}
 use Rattle.split_reports.proofs.UniqueReports.{same_report}
 use Rattle.split_reports.proofs.laws.report_law.Goals as goal
 

@@ -1,6 +1,6 @@
 use Rattle.std.proofs.Common.{◌≡◌, ◌++◌, string_bytes}
-use Rattle.player_lines.specs.Names.{shown_names}
-use Rattle.player_lines.specs.Lines.{lines_to}
+use Rattle.split_reports.specs.Names.{shown_names}
+use Rattle.split_reports.specs.Parts.{lines_to}
 use Rattle.split_reports.specs.Rent.{figures_shown, member_line}
 use Rattle.split_reports.proofs.rent.push_members.Given as goal
 

@@ -1,5 +1,5 @@
 use Rattle.std.proofs.Common.{◌≡◌, ◌++◌, string_bytes}
-use Rattle.player_lines.specs.Lines.{lines_to}
+use Rattle.split_reports.specs.Parts.{lines_to}
 use Rattle.split_reports.specs.Rent.{figures_shown, member_envy}
 use Rattle.split_reports.proofs.rent.push_table.Given as goal
 

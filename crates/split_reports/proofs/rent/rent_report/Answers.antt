@@ -1,7 +1,7 @@
 use Rattle.std.proofs.Common.{◌∙◌}
 use Rattle.std.proofs.lemmas.List.{length-map}
 use Rattle.std.proofs.lemmas.Result.{IfOk-weaker}
-use Rattle.player_lines.specs.Names.{shown_names}
+use Rattle.split_reports.specs.Names.{shown_names}
 use Rattle.split_reports.specs.Rent.{figures_shown}
 use Rattle.split_reports.proofs.RentFigures.{figures_each}
 use Rattle.split_reports.proofs.rent.rent_report.Goals as goal

@@ -1,7 +1,7 @@
 use Rattle.std.proofs.Common.{map, string_bytes, subst}
-use Rattle.endings.specs.Endings.{ending_of}
-use Rattle.endings.specs.Told.{told}
-use Rattle.link_runs.specs.Served.{tells_of}
+use Rattle.command_results.specs.Endings.{ending_of}
+use Rattle.command_results.specs.ObjectUse.{told}
+use Rattle.serving.specs.Served.{tells_of}
 use Rattle.split_top.specs.Causes.{HasCauses, TakesMemory}
 use Rattle.split_top.specs.Outside.{outside_of}
 use Rattle.split_top.specs.Runs.{tells_by}

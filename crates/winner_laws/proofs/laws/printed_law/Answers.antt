@@ -1,4 +1,4 @@
-use Rattle.divided_goods.proofs.PrintedShares.{printed_fair, printed_shown, shares_proper, totals_from, weights_from}
+use Rattle.winner_laws.proofs.PrintedShares.{printed_fair, printed_shown, shares_proper, totals_from, weights_from}
 use Rattle.winner_laws.proofs.laws.printed_law.Goals as goal
 
 pub returns-clause-fair : goal.returns-clause-fair

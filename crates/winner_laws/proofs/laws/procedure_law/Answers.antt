@@ -1,4 +1,4 @@
-use Rattle.divided_goods.proofs.Procedures.{outcome_winner, richer_from_first}
+use Rattle.winner_laws.proofs.Procedures.{outcome_winner, richer_from_first}
 use Rattle.winner_laws.proofs.laws.procedure_law.Goals as goal
 
 pub returns-clause-winner : goal.returns-clause-winner

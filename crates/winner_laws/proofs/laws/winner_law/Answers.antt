@@ -1,6 +1,6 @@
-use Rattle.divided_goods.proofs.SupportedDivisions.{efficient, envy_free}
-use Rattle.divided_goods.proofs.RicherAtFirst.{richer_was}
-use Rattle.divided_goods.proofs.WinnerWeights.{one_split, winner_division, winner_weights}
+use Rattle.winner_laws.proofs.SupportedDivisions.{efficient, envy_free}
+use Rattle.winner_laws.proofs.RicherAtFirst.{richer_was}
+use Rattle.winner_laws.proofs.WinnerWeights.{one_split, winner_division, winner_weights}
 use Rattle.winner_laws.proofs.laws.winner_law.Goals as goal
 
 pub returns-clause-division : goal.returns-clause-division

@@ -5,7 +5,7 @@ use Rattle.bid_rules.specs.declared.goods.GoodsCase.{GoodsCase}
 use Rattle.bid_rules.specs.Fractions.{Fraction}
 use Rattle.bid_rules.specs.Goods.{IsValidGoodsCase}
 use Rattle.winner_rules.specs.Rules.{printed_case}
-use Rattle.verdicts.proofs.PrintedNumbers.{bounded, rows_bounded, unsigned_row}
+use Rattle.split_lemmas.proofs.PrintedNumbers.{bounded, rows_bounded, unsigned_row}
 use Rattle.winner_rules.proofs.case.case_of.Goals as goal
 
 pub returns-in_default : goal.returns-in_default
@@ -33,7 +33,7 @@ returns-then-is_valid c shares weights total =
     let case : GoodsCase = record { facts = record { members = 12; goods = c.args.goods; limit = 200000 }; who = c.in-Some.members; values = c.in-Some-rows_of_amounts.points } in
     let same = built case c.args.goods c.args.values.now c.args.who.now shares weights total refl c.in-Some.ensures.1 c.in-Some-rows_of_amounts.ensures.1 in (
       record {
-        two = (let is = c.if-who-ne-PLAYERS.false in omega (arith, is));
+        two = (let is = c.if-who-ne-PAIR_ROOM.false in omega (arith, is));
         who = λ k d l. (c.in-Some.ensures.0 k d l).0;
         values = λ k d l i e m. (c.in-Some-rows_of_amounts.ensures.0 k d l i e m).0;
         valid = subst IsValidGoodsCase same (c.is_valid.ensures.0 c.if-is_valid.true);

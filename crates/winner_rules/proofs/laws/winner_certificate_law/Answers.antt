@@ -1,8 +1,19 @@
-use Rattle.std.proofs.Common.{arith, length, sym}
+use Rattle.std.proofs.Common.{◌≡◌, arith, ap, length, refl, sym}
 use Rattle.winner_rules.specs.Rules.{printed_case, rules_of_winner, winner_rule}
-use Rattle.verdicts.proofs.Order.{one_verdict}
+use Rattle.split_lemmas.proofs.AskedInOrder.{none_broken, one_broken}
+use Rattle.rule_verdicts.specs.declared.verdict.Verdict.{Verdict}
+use Rattle.rule_verdicts.specs.declared.verdict.Verdict.TheVariants.{Yes, No}
+use Rattle.rule_verdicts.specs.Verdicts.{IsVerdictOf}
+use Rattle.cert_reader.specs.Layout.{PairView}
 use Rattle.winner_rules.proofs.PrintedNumbers.{players_two}
 use Rattle.winner_rules.proofs.laws.winner_certificate_law.Goals as goal
+
+-- a text has one verdict
+once : (view : PairView) (a b : Verdict) → IsVerdictOf (rules_of_winner view) a → IsVerdictOf (rules_of_winner view) b → a ≡ b
+once view Yes Yes h k = refl
+once view Yes (No m) h k = absurd (none_broken (winner_rule view) (length (rules_of_winner view)) m h k)
+once view (No n) Yes h k = absurd (none_broken (winner_rule view) (length (rules_of_winner view)) n k h)
+once view (No n) (No m) h k = ap No (one_broken (winner_rule view) (length (rules_of_winner view)) n m h k)
 
 pub returns-clause-fair : goal.returns-clause-fair
 returns-clause-fair c = λ view kept.
@@ -13,4 +24,4 @@ returns-clause-fair c = λ view kept.
     c.printed_law.ensures.fair (printed_case view) view.shares view.total weights.first weights.second case.valid (players_two view case) proper total weights.support
 
 pub returns-clause-one : goal.returns-clause-one
-returns-clause-one c view verdict other h k = sym (one_verdict (winner_rule view) (length (rules_of_winner view)) verdict other h k)
+returns-clause-one c view verdict other h k = sym (once view verdict other h k)

@@ -1,6 +1,6 @@
 use Rattle.std.proofs.Common.{subst}
 use Rattle.cert_reader.specs.Layout.{PairView}
-use Rattle.verdicts.specs.Verdicts.{IsVerdictOf}
+use Rattle.rule_verdicts.specs.Verdicts.{IsVerdictOf}
 use Rattle.winner_rules.specs.Rules.{rules_of_winner}
 use Rattle.winner_rules.proofs.laws.winner_verdict_law.Goals as goal
 

@@ -2,8 +2,8 @@ use Rattle.std.proofs.Common.{arith, rules, ◌≡◌, ◌*◌, ◌-◌, ◌≤�
 use Rattle.std.proofs.Math.Nat.{mul-le-mul}
 use Rattle.std.proofs.lemmas.List.{length-map}
 use Rattle.bid_rules.specs.Goods.{points}
-use Rattle.divided_goods.specs.Divisions.{parts_held}
-use Rattle.divided_goods.specs.Parts.{part_of, parts_list, parts_of}
+use Rattle.winner_laws.specs.Divisions.{parts_held}
+use Rattle.winner_laws.specs.Parts.{part_of, parts_list, parts_of}
 use Rattle.split_frac.specs.Frac.{fraction_of}
 use Rattle.winner_rules.proofs.Splits.{part_few, part_here}
 use Rattle.winner_rules.proofs.totals.second_worth.Goals as goal
@@ -22,7 +22,7 @@ is_part c =
 few : (c : goal.After-part_of) → c.part_of.result ≤ c.args.parts
 few c =
     let shares = c.args.shares.now in
-    let h = part_few c.args.case.now shares c.args.good c.index-shares-good.result c.requires.proper c.requires.low c.requires.high in
+    let h = part_few c.share_law.ensures.proper c.args.case.now shares c.args.good c.index-shares-good.result c.requires.proper c.requires.low c.requires.high in
     let is = c.part_of.ensures ∙ ap (λ p. part_of p (fraction_of c.index-shares-good.result)) c.requires.parts
     ∙ ap (λ share. part_of (parts_of (map fraction_of shares)) (fraction_of share)) c.index-shares-good.is in
     omega (arith, h, is, c.requires.parts)

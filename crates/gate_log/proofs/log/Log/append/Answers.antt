@@ -1,7 +1,7 @@
 use Rattle.std.proofs.Common.{◌≡◌, ◌+◌, [], ◌∷◌, ◌++◌, ℕ, length, inl, sym, ◌∙◌, ap, subst, arith, length-append}
 use Rattle.std.specs.Int.{to_le_bytes, w32}
 use Rattle.split_base.specs.Disk.{Tears}
-use Rattle.split_base.specs.Moments.{joined, weaker}
+use Rattle.split_lemmas.proofs.Moments.{joined, weaker}
 use Rattle.gate_log.specs.Records.{Stands, place_after, IsBeforeOrAfter, MayBeAppending, behind_gate}
 use Rattle.gate_log.specs.Log.{LogView}
 use Rattle.gate_log.proofs.Crash.{first_leaves, first_done, second_leaves, second_done, length-le, place_push}

@@ -1,6 +1,6 @@
 use Rattle.std.proofs.Common.{sym, ap, subst, ◌∙◌}
 use Rattle.split_base.specs.Disk.{Tears}
-use Rattle.split_base.specs.Moments.{weaker}
+use Rattle.split_lemmas.proofs.Moments.{weaker}
 use Rattle.gate_log.specs.Records.{Stands, HoldsRecords}
 use Rattle.gate_log.specs.Log.{LogView}
 use Rattle.gate_log.proofs.Crash.{torn_version, written_version}

@@ -1,5 +1,5 @@
 use Rattle.std.proofs.Common.{◌≡◌, ◌++◌, string_bytes}
-use Rattle.player_lines.specs.Lines.{lines_to}
+use Rattle.split_reports.specs.Parts.{lines_to}
 use Rattle.goods_audit.specs.Texts.{answers, envy_lines}
 use Rattle.goods_audit.proofs.envies.EnvyLines.push_all.Given as goal
 

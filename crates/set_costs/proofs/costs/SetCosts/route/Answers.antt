@@ -3,8 +3,9 @@ use Rattle.std.proofs.lemmas.List.{append-nil, length-append}
 use Rattle.std.proofs.lemmas.List.Elements.{All-contains}
 use Rattle.std.proofs.lemmas.List.Sorted.{length_permutation}
 use Rattle.bid_rules.specs.declared.cases.FareCase.{FareCase}
+use Rattle.bid_rules.specs.declared.limits.TheConstants.{MOST_RIDERS}
 use Rattle.bid_rules.specs.Coalitions.{riders_in, start_of}
-use Rattle.fare_laws.specs.Entries.{IsLowestRoute, costs_from}
+use Rattle.best_laws.specs.Entries.{IsLowestRoute, costs_from}
 use Rattle.set_costs.proofs.LeastRoutes.{IsFirst, goes_further}
 use Rattle.set_costs.proofs.costs.SetCosts.route.Goals as goal
 
@@ -13,7 +14,7 @@ without-set-requires-clause-high c =
     let case = c.args.self.now in
     let n = length case.at.items in
     let known = (All-contains (λ r. (1 ≤ r) × (r ≤ n)) (riders_in c.loop-set.set) c.first_rider-rider.result ((c.coalition_law.ensures.within n c.loop-set.set).0 c.loop-set.invariant.set) c.first_rider-rider.ensures.rider).1 in
-    let valid = subst (λ (k : FareCase). length k.at.items ≤ 10) c.self.view_is (c.coalition_law.ensures.riders_count c.self.inside.case.now c.self.invariant.lists.valid) in
+    let valid = subst (λ (k : FareCase). length k.at.items ≤ MOST_RIDERS) c.self.view_is (c.coalition_law.ensures.riders_count c.self.inside.case.now c.self.invariant.lists.valid) in
     omega (arith, known, valid)
 
 pub loop-set-preserved : goal.loop-set-preserved

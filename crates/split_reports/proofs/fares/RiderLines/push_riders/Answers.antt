@@ -1,4 +1,4 @@
-use Rattle.player_lines.specs.Names.{shown_names}
+use Rattle.split_reports.specs.Names.{shown_names}
 use Rattle.split_reports.specs.Fares.{rider_line}
 use Rattle.split_reports.proofs.fares.RiderLines.push_riders.Goals as goal
 

@@ -1,6 +1,6 @@
 use Rattle.std.proofs.Common.{◌≡◌, ◌++◌, string_bytes}
-use Rattle.player_lines.specs.Names.{shown_names}
-use Rattle.player_lines.specs.Lines.{lines_to}
+use Rattle.split_reports.specs.Names.{shown_names}
+use Rattle.split_reports.specs.Parts.{lines_to}
 use Rattle.split_reports.specs.Fares.{rider_line}
 use Rattle.split_reports.proofs.fares.RiderLines.push_riders.Given as goal
 

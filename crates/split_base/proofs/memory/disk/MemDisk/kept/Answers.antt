@@ -2,7 +2,7 @@ use Rattle.std.proofs.Common.{◌≡◌, ◌+◌, ℕ, List, length, arith, ap, 
 use Rattle.std.proofs.lemmas.Result.{IfOk-weaker}
 use Rattle.split_base.specs.declared.memory.disk.Call.{Call}
 use Rattle.split_base.specs.Past.{DiskState, state_of, fresh, crashed}
-use Rattle.split_base.specs.PastLaws.{on_top_is_image}
+use Rattle.split_base.proofs.Images.{on_top_is_image}
 use Rattle.split_base.specs.Replay.{acts_of, played}
 use Rattle.split_base.proofs.Replayed.{replay_kept, on_top_no_longer}
 use Rattle.split_base.proofs.memory.disk.MemDisk.kept.Goals as goal

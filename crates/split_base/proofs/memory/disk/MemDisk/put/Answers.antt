@@ -2,7 +2,7 @@ use Rattle.std.proofs.Common.{◌≡◌, ◌+◌, ◌-◌, ℕ, List, [], ◌∷
 use Rattle.std.proofs.lemmas.List.{take_all}
 use Rattle.split_base.specs.declared.memory.disk.Call.TheVariants as call
 use Rattle.split_base.specs.Past.{Act, State, DiskState, Wrote, total, written, after_act}
-use Rattle.split_base.specs.PastLaws.{written_fits}
+use Rattle.split_base.proofs.Images.{written_fits}
 use Rattle.split_base.specs.Replay.{acts_of, bytes_of}
 use Rattle.split_base.proofs.KeptDisk.{state_push, state_after, bytes_push}
 use Rattle.split_base.proofs.memory.disk.MemDisk.put.Goals as goal

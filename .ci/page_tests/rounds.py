@@ -1,0 +1,765 @@
+"""Rung (c) of .ci/page: whole rounds of the three kinds through the page, in real browsers against a real host behind nginx. What is shown is compared with
+what the program writes of the same case.
+
+rounds.py [--shots FOLDER] [--picture] [PART..]     the parts named, or all; pictures of each view into FOLDER; --picture writes the README's anew
+"""
+import json
+import os
+import random
+import re
+import signal
+import ssl
+import subprocess
+import sys
+import time
+import traceback
+import urllib.parse
+import urllib.request
+from concurrent.futures import ThreadPoolExecutor
+
+from driver import KEYS, Browser, Driver
+from rig import HERE, PAGE, Rig
+
+TOP = os.path.realpath(os.path.join(HERE, '../..'))
+PROGRAM = os.path.abspath(os.environ.get('FAIRSPLIT', os.path.join(TOP, 'crates/fairsplit/out/fairsplit')))
+SECONDS = 240
+PICTURE = os.path.join(TOP, 'docs/pictures/result.png')
+with open(os.path.join(HERE, 'audit.js'), encoding='utf-8') as audit_file:
+    AUDIT = audit_file.read()
+
+
+class Tally:
+    """What was right and what was wrong."""
+    right = wrong = texts = 0
+    shots = None
+    picture = False
+
+    def check(self, what, held, more=''):
+        if held:
+            self.right += 1
+        else:
+            self.wrong += 1
+            print(f'page: {what} {more}', flush=True)
+
+    def same(self, what, got, wanted):
+        self.check(what, got == wanted, f'\n   got    {got!r}\n   wanted {wanted!r}')
+
+
+TALLY = Tally()
+check, same = TALLY.check, TALLY.same
+
+
+def program(words, text):
+    return subprocess.run([PROGRAM, *words.split()], input=text.encode(), capture_output=True, check=False).stdout.decode()
+
+
+def money(cents, sign='€'):
+    return f'{"−" if cents < 0 else ""}{sign}{abs(cents) // 100:,}.{abs(cents) % 100:02}'
+
+
+def api(rig, path, key=None, body=None):
+    """A request to the host without a browser."""
+    request = urllib.request.Request(urllib.parse.urljoin(rig.url, path), data=None if body is None else json.dumps(body).encode(), headers={'x-key': key} if key else {})
+    with urllib.request.urlopen(request, context=ssl._create_unverified_context()) as reply:
+        return json.load(reply)
+
+
+def tag():
+    return os.urandom(16).hex()
+
+
+def soon(seconds):
+    return time.strftime('%Y-%m-%dT%H:%M:%SZ', time.gmtime(time.time() + seconds))
+
+
+def look_at(p, what):
+    """A view by the audit, at the widths of a small phone and of a desk, light and dark."""
+    for width, dark, spaced in ((320, False, True), (320, True, False), (1200, False, False), (1200, True, False)):
+        p.look(dark)
+        p.size(width, 844)
+        faults, texts = p.run(AUDIT, width, spaced)
+        TALLY.texts += texts
+        check(f'{what} at {width}, {"dark" if dark else "light"}:', not faults, '; '.join(faults[:6]))
+    p.look(False)
+    p.size(*p.home)
+
+
+def shots(p, what):
+    """Pictures of a view, where they are asked for."""
+    if not TALLY.shots:
+        return
+    for name, width, dark in (('phone', 390, False), ('desk', 1200, False), ('phone-dark', 390, True), ('desk-dark', 1200, True)):
+        p.look(dark)
+        p.size(width, 844)
+        time.sleep(0.2)
+        p.shot(os.path.join(TALLY.shots, f'{what}-{name}.png'))
+    p.look(False)
+    p.size(*p.home)
+
+
+def fill_form(rig, p, kind, title, people, things):
+    p.open(rig.url + '#new-' + kind)
+    p.put('#title', title)
+    for which, names in (('members', people), ('things', things)):
+        for i, name in enumerate(names):
+            if not p.all(f'#{which}-{i}'):
+                p.click(f'#{which} button.add')
+            p.put(f'#{which}-{i}', name)
+        while p.all(f'#{which}-{len(names)}') and not (kind == 'rent' and which == 'things'):
+            p.click(f'#{which} .item button', -1)
+
+
+def links(p):
+    p.one('.links input')
+    return dict(zip(p.values('.links input', 'id'), p.values('.links input', 'value')))
+
+
+def bid(p, values):
+    p.one('#value-0')
+    for i, value in enumerate(values):
+        p.put(f'#value-{i}', value)
+
+
+def send(p, words='Send my bid'):
+    p.press(words)
+    p.has('Kept.', '#message')
+
+
+def wake(p):
+    p.run('document.dispatchEvent(new Event("visibilitychange"))')
+
+
+def close(p):
+    wake(p)
+    p.until(lambda: p.enabled('Close the round and'), 60, 'close is not offered')
+    p.press('Close the round and')
+    p.accept()
+    p.one('#findings', 60)
+
+
+def exacts(p, selector):
+    return p.values(selector + ' [data-exact]', 'data-exact')
+
+
+def heat(p, number):
+    return p.run('return [...document.querySelectorAll("main table")[arguments[0]].querySelectorAll("tbody tr")].map((r) => [...r.querySelectorAll("td")].map((d) => d.dataset.exact))', number)
+
+
+def envy_of(report):
+    return [line.split(': ')[1].split() for line in report.splitlines() if line.startswith('envy')]
+
+
+def rows_of(report, pattern):
+    return [re.match(pattern, line).groups() for line in report.splitlines() if line[:1].isdigit()]
+
+
+def holds(path):
+    """Whether a file is downloaded: a browser makes it empty first."""
+    return os.path.exists(path) and os.path.getsize(path) > 0 and not os.path.exists(path + '.crdownload')
+
+
+def files(p, name, wanted):
+    """The files of a result are what the program writes."""
+    for button, what, text in wanted:
+        p.press(button)
+        path = f'{p.profile}/files/{name}-{what}.txt'
+        try:
+            p.until(lambda: holds(path), 15)
+        except AssertionError:
+            check(f'{path} is downloaded', False)
+            continue
+        with open(path, encoding='utf-8') as file:
+            same(f'the file {what}', file.read(), text)
+
+
+def rent(rig, olive, ann, ben):
+    """A rent: the form and its faults, lost replies, two windows, no reply for long, a poll that fails, the result."""
+    lossy = rig.lossy
+    people, rooms = ['Ann', 'Ben', 'Çağla'], ['Attic', 'Back room', 'Cellar']
+    values = [[80000, 45050, 20000], [70000, 40000, 35050], [50000, 50000, 45050]]
+    olive.open(rig.url)
+    olive.one('.kinds')
+    look_at(olive, 'the start')
+    shots(olive, '1-start')
+    olive.open(rig.url + '#new-rent')
+    olive.one('#title')
+    olive.press('Make the links')
+    check('an empty form is not sent', 'To be mended' in olive.text() and not any(s[0].startswith('POST') for s in lossy.seen))
+    same('the focus is on the first fault', olive.focused()['id'], 'title')
+    fill_form(rig, olive, 'rent', 'Flat in Mill Road', people, rooms)
+    for typed, faulty in (('1.450', True), ('0', True), ('100000.01', True), ('9,5', False), ('100000', False), ('1450.50', False)):
+        olive.put('#rent', typed)
+        same(f'rent {typed} is faulty', bool(olive.text('#rent-fault')), faulty)
+    for typed, faulty in (('x' * 41, True), ('é' * 21, True), ('é' * 20, False)):
+        olive.put('#members-0', typed)
+        same(f'a name of {len(typed.encode())} bytes is faulty', bool(olive.text('#members-0-fault')), faulty)
+    olive.put('#members-0', 'Ben')
+    olive.has('Twice here')
+    olive.put('#members-0', 'Ann')
+    until = olive.values('#deadline', 'value')[0]
+    olive.put('#deadline', '2020-01-01T12:00')
+    check('a deadline that has passed is refused by the page', 'still to come' in olive.text('#deadline-fault'))
+    olive.put('#rent', '100000.01')
+    shots(olive, '2-form-rent')
+    look_at(olive, 'the form of a rent')
+    olive.put('#deadline', until)
+    olive.put('#rent', '1450.50')
+    lossy.lose = 2
+    olive.press('Make the links')
+    urls = links(olive)
+    posts = [s for s in lossy.seen if s[0].startswith('POST /instances ')]
+    check('two lost replies, so the same creation thrice, and once for the links', len(posts) == 4 and len({s[2] for s in posts[:3]}) == 1, str(len(posts)))
+    same('links', len(urls), 4)
+    same('the organiser is in the round', olive.text('.who'), 'You are the organiser.')
+    check('the address is the organiser’s link, with the path of the host', olive.url() == urls['link-0'] and urls['link-1'].startswith(rig.url + '#'), urls['link-1'])
+    olive.reload()
+    same('after a reload the links are the same', links(olive), urls)
+    shots(olive, '3-organiser')
+    look_at(olive, 'the organiser’s page')
+
+    ann.open(urls['link-1'])
+    ann.one('#value-0')
+    same('Ann', ann.text('.who'), 'You are Ann.')
+    ann.has('€1,450.50 of €1,450.50 still to spread', '#values')
+    bid(ann, ['800', '450.50', '300'])
+    ann.press('Send my bid')
+    ann.has('€100.00 too much', '#message')
+    ann.click('.values button.small', 2)
+    check('what was wrong is no longer told', not ann.text('#message'))
+    same('the rest fits', ann.values('#value-2', 'value'), ['200.00'])
+    ann.run('document.querySelector("input[type=range]").focus()')
+    ann.keys([KEYS['right']])
+    check('a slider moves by the keys', ann.values('#value-0', 'value') != ['800.00'])
+    ann.press('Scale to fit')
+    same('scaled', sum(round(float(v) * 100) for v in ann.values('.amount input', 'value')), 145050)
+    shots(ann, '4-bid-rent')
+    look_at(ann, 'a bid on a rent')
+    bid(ann, ['800', '450,5', '200'])
+    lossy.lose = 1
+    send(ann)
+    ann.has('1 of 20 turns used', '#stands')
+
+    # the same member in two windows
+    first = ann.ask('GET', '/window')
+    ann.ask('POST', '/window', {'handle': ann.ask('POST', '/window/new', {'type': 'tab'})['handle']})
+    ann.ask('POST', '/url', {'url': urls['link-1']})
+    bid(ann, ['450.50', '800', '200'])
+    ann.press('Change my bid')
+    ann.has('2 of 20 turns used', '#stands')
+    ann.ask('DELETE', '/window')
+    ann.ask('POST', '/window', {'handle': first})
+    bid(ann, ['800', '450.50', '200'])
+    ann.press('Change my bid')
+    ann.has('changed elsewhere', '#message')
+    ann.has('2 of 20 turns used', '#stands')
+    ann.press('Change my bid')
+    ann.has('3 of 20 turns used', '#stands')
+    ann.press('Take my bid back')
+    ann.has('You took your bid back', '#stands')
+    ann.press('Send my bid')
+    ann.has('5 of 20 turns used', '#stands')
+
+    # no reply for long: the bid waits and is sent again as it is
+    ben.open(urls['link-2'])
+    bid(ben, ['700', '400', '350.50'])
+    lossy.refuse = 4
+    ben.press('Send my bid')
+    ben.has('sending the same again is safe', '#message', 40)
+    check('meanwhile nothing can be changed', not ben.run('return document.querySelector("#value-0").matches(":enabled")'))
+    shots(ben, '5-no-reply')
+    send(ben, 'Send the same again')
+    ben.has('1 of 20 turns used', '#stands')
+
+    # a poll that fails is told, and no longer once one goes well
+    lossy.deaf = True
+    wake(olive)
+    olive.has('does not answer just now', '.people')
+    lossy.deaf = False
+    wake(olive)
+    olive.has('2 of 3 have a bid', '.people', 60)
+    check('and then no longer', 'does not answer' not in olive.text('.people'))
+    check('close is not offered', not olive.enabled('Close the round'))
+    olive.has('no bid of Çağla', '.people')
+    ben.open(urls['link-3'])
+    bid(ben, ['500', '500', '450.50'])
+    send(ben)
+    ben.has('Everybody has a bid', '.people')
+    close(olive)
+
+    case = json.dumps({'kind': 'rent', 'title': 'Flat in Mill Road', 'members': people, 'rooms': rooms, 'rent': 145050, 'bids': values})
+    report = program('report 1', case)
+    lines = rows_of(report, r'\d+ (.*): room (\d+) (.*), price (.*), pays (.*), utility (.*)$')
+    for p, me in ((olive, None), (ann, 0), (ben, 2)):
+        p.has('Check it yourself', seconds=60)
+        same('what each pays', [int(v) for v in p.values('[data-pays]', 'data-pays')], [int(line[4]) for line in lines])
+        same('the envy table', heat(p, 0), envy_of(report))
+        same('the rooms', p.texts('.bars li .of'), [f'{line[0]} → {line[2]}' for line in lines])
+        same('verdict', p.values('#verdict', 'data-verdict'), ['yes'])
+        if me is not None:
+            same('mine', p.text('.hero .big'), f'You get {lines[me][2]} and pay {money(int(lines[me][4]))}')
+            same('my utility', exacts(p, '.hero'), [lines[me][5]])
+            same('the printed bid', p.text('#printed'), ' · '.join(money(v) for v in values[me]))
+            check('it is as it was sent', 'what this browser sent last' in p.text())
+    shots(ann, '7-result-rent')
+    look_at(ann, 'the result of a rent')
+    files(ann, 'round-1', [('Report', 'report', report), ('Certificate', 'certificate', program('solve 1', case))])
+    if TALLY.picture:
+        picture(ann)
+    ann.click('#languages button')
+    ann.has('Prüf es selbst', seconds=60)
+    same('the language of the page', ann.run('return document.documentElement.lang'), 'de')
+    check('German sentences and numbers', 'Du bekommst Attic und zahlst' in ann.text('.hero') and '733,00' in ann.text('.hero'), ann.text('.hero'))
+    check('no sentence is missing', not re.search(r'\b(rent|goods|result|proof|check|facts|rules|files)\.[a-z]', ann.text()))
+    shots(ann, '7-result-rent-german')
+    look_at(ann, 'the result in German')
+    ann.click('#languages button')
+    ann.has('Check it yourself', seconds=60)
+
+
+HEAD_OF_A_RESULT = '''document.querySelectorAll("main .card").forEach((e, i) => { e.hidden = i > 0; });
+document.querySelectorAll("footer, header.site, .top .eyebrow").forEach((e) => { e.hidden = true; });
+const main = document.querySelector("main");
+main.style.minHeight = 0;
+main.style.paddingTop = "1px";'''
+
+
+def picture(p):
+    """The README's picture: the head of a result, in a small window."""
+    p.size(598, 900)
+    p.run(HEAD_OF_A_RESULT)
+    time.sleep(0.3)
+    p.shot(PICTURE, 'main')
+    p.reload()
+    p.size(*p.home)
+    p.has('Check it yourself', seconds=60)
+
+
+def goods(rig, olive, ann, ben):
+    """Goods: names that are markup, a creation that is not answered, sliders in steps, what is said beforehand."""
+    people, things = ['Ada <b>&amp;', 'Bo\u202eoB', 'Cleo 🌻'], ['Piano', 'Clock', '<img src=x onerror=alert(1)>', 'Ring', 'Paintings']
+    values = [[400, 100, 250, 150, 100], [100, 150, 450, 100, 200], [250, 100, 300, 300, 50]]
+    fill_form(rig, olive, 'goods', 'House of Ida', people, things)
+    check('few things are no trouble', 'no trouble' in olive.text('#chance'), olive.text('#chance'))
+    shots(olive, '2-form-goods')
+    look_at(olive, 'the form of goods')
+    rig.lossy.refuse = 4
+    olive.press('Make the links')
+    olive.has('sending the same again is safe', seconds=40)
+    olive.reload()
+    olive.has('was sent, and no answer came')
+    before = len(rig.lossy.seen)
+    olive.press('Send the same again')
+    urls = links(olive)
+    check('one creation', len({s[2] for s in rig.lossy.seen[before:] if s[0].startswith('POST /instances ')}) <= 2)
+    for p, i in ((ann, 0), (ben, 1), (ben, 2)):
+        p.open(urls[f'link-{i + 1}'])
+        p.one('#value-0')
+        if i == 0:
+            same('sliders go in steps of 50', set(p.values('input[type=range]', 'step')), {'50'})
+            bid(p, ['450', '130', '240', '130', '100'])
+            p.has('50 points too much', '#values')
+            p.press('Scale to fit')
+            same('scaled to steps', [int(v) % 50 for v in p.values('.amount input', 'value')], [0] * 5)
+            p.put('#value-0', '4.5')
+            p.has('Write a whole number', '#value-0-fault')
+            shots(p, '4-bid-goods')
+            look_at(p, 'a bid on goods')
+        bid(p, [str(v) for v in values[i]])
+        send(p)
+    check('names are no markup', not any(q.run('return document.querySelectorAll("main b, main img").length') for q in (olive, ann, ben)))
+    olive.reload()
+    links(olive)
+    close(olive)
+    case = json.dumps({'kind': 'goods', 'title': 'House of Ida', 'members': people, 'goods': things, 'limit': 200000, 'bids': values})
+    report = program('report 1', case)
+    ann.has('Check it yourself', seconds=60)
+    points = [int(v) for v in re.findall(r'points (\d+)$', report, re.M)]
+    for p in (olive, ann):
+        same('points', [int(v) for v in p.values('[data-points]', 'data-points')], points)
+        same('the envy table', heat(p, 0), envy_of(report))
+        same('verdict', p.values('#verdict', 'data-verdict'), ['yes'])
+        check('audit lines', 'nobody envies anybody' in p.text('#audit') and 'Pareto' in p.text('#audit'), p.text('#audit'))
+    shots(ann, '7-result-goods')
+    look_at(ann, 'the result of goods')
+    name = 'round-' + re.search(r'#(\d+)\.', urls['link-0'])[1]
+    files(ann, name, [('Report', 'report', report), ('Certificate', 'certificate', program('solve 1', case))])
+
+
+def heirs(rig, olive, ann, ben):
+    """Goods for two, whose deadline passes while somebody looks; a result with envy; and goods that do not end."""
+    things, values = ['Desk', 'Lamp', 'Chair'], [[700, 200, 100], [800, 150, 50]]
+    made = api(rig, 'instances', body={'kind': 'goods', 'title': 'Attic', 'members': ['Ann', 'Ben', 'Dan'], 'goods': things, 'deadline': soon(15), 'tag': tag()})
+    for i in (0, 1):
+        api(rig, f'instances/{made["id"]}/bids', made['keys'][i], {'turn': 1, 'values': values[i]})
+    ann.open(f'{rig.url}#{made["id"]}.{made["keys"][0]}')
+    ann.has('have a bid')
+    many = {'kind': 'goods', 'title': 'Many', 'members': ['Ann', 'Ben'], 'goods': [f'Thing {i}' for i in range(8)], 'limit': 40, 'deadline': '2126-01-01T00:00:00Z', 'tag': tag()}
+    endless = api(rig, 'instances', body=many)
+    for key in endless['keys']:
+        api(rig, f'instances/{endless["id"]}/bids', key, {'turn': 1, 'values': [125] * 8})
+    api(rig, f'instances/{endless["id"]}/close', endless['organiser'], {})
+    olive.open(f'{rig.url}#{endless["id"]}.{endless["keys"][0]}')
+    olive.has('takes more than 40 steps')
+    check('what is left is told', all(words in olive.text() for words in ('Or split one thing', 'A proposal of your own', 'steps of 50')), olive.text())
+    same('adjusted winner', exacts(olive, '#winner')[0:1] != [], True)
+    winner = program('winner', json.dumps({**many, 'bids': [[125] * 8] * 2}))
+    same('shares', exacts(olive, '#winner table')[0::2], re.search(r'^shares (.*)$', winner, re.M)[1].split())
+    olive.run('document.querySelectorAll("main summary")[1].click()')
+    olive.press('Write the file')
+    path = f'{olive.profile}/files/round-{endless["id"]}-proposal.json'
+    olive.until(lambda: holds(path), 15, 'no proposal')
+    with open(path, encoding='utf-8') as file:
+        proposal = json.load(file)
+    audit = program('weigh', json.dumps({**proposal, 'bids': [[125] * 8] * 2, 'limit': 200000}))
+    check('weigh takes the proposal', audit.startswith('audit goods Many'), audit)
+    shots(olive, '8-no-answer')
+    look_at(olive, 'goods without an answer')
+    ben.open(rig.url + '#new-goods')
+    ben.one('#title')
+    for _ in range(20):
+        ben.run('document.querySelector("#things button.add").click()')
+    check('many things are told beforehand', 'may take too long' in ben.text('#chance'), ben.text('#chance'))
+    shots(ben, '2-form-many-goods')
+
+    ann.has('Check it yourself', seconds=60)  # nobody reloads: the page notes the deadline
+    case = json.dumps({'kind': 'goods', 'title': 'Attic', 'members': ['Ann', 'Ben', 'Dan'], 'goods': things, 'bids': values + [None]})
+    report, winner = program('report 1', case), program('winner', case)
+    same('points', [int(v) for v in ann.values('[data-points]', 'data-points')], [int(v) for v in re.findall(r'points (\d+)$', report, re.M)])
+    check('whoever had no bid is named', 'Without a bid, and so without a share: Dan' in ann.text(), ann.text())
+    check('EF1 is told', 'were taken from it (EF1)' in ann.text('#audit'), ann.text('#audit'))
+    ann.click('#winner summary')
+    same('shares of adjusted winner', exacts(ann, '#winner table')[0::2], re.search(r'^shares (.*)$', winner, re.M)[1].split())
+    shots(ann, '7-result-two')
+    look_at(ann, 'the result for two')
+    files(ann, f'round-{made["id"]}', [('Adjusted winner', 'winner', winner)])
+
+
+def fares(rig, olive, ann, ben):
+    """A shared ride."""
+    people, places = ['Ann', 'Ben', 'Cy', 'Dee'], ['Mill', 'Bridge', 'Church']
+    legs = [[700, 900, 1200], [0, 350, 650], [350, 0, 450], [650, 450, 0]]
+    at = [1, 3, 2, 3]
+    fill_form(rig, olive, 'fares', 'Night ride', people, places)
+    olive.put('#flag', '4')
+    for f, row in enumerate(legs):
+        for to, leg in enumerate(row):
+            if f == 0 or to + 1 > f:
+                olive.put(f'#legs-{f}-{to}', f'{leg / 100:.2f}')
+    same('the way back is as the way there', olive.values('#legs-3-0', 'value'), ['6.50'])
+    olive.put('#legs-0-2', 'far')
+    olive.has('From the start to Church', '#legs-fault')
+    shots(olive, '2-form-fares')
+    look_at(olive, 'the form of fares')
+    olive.put('#legs-0-2', '12')
+    olive.press('Make the links')
+    urls = links(olive)
+    for p, i in ((ann, 0), (ben, 1), (ann, 2), (ben, 3)):
+        p.open(urls[f'link-{i + 1}'])
+        p.one('.place input')
+        if i == 0:
+            p.press('Send my bid')
+            p.has('Pick the place', '#place-fault')
+        p.click('.place', at[i] - 1)
+        if i == 0:
+            same('what was wrong is told no longer', p.text('#place-fault'), '')
+            shots(p, '4-bid-fares')
+            look_at(p, 'a bid on fares')
+        send(p)
+        p.has(f'You get off at {places[at[i] - 1]}.', '#stands')
+    olive.reload()
+    links(olive)
+    close(olive)
+    case = json.dumps({'kind': 'fares', 'title': 'Night ride', 'members': people, 'places': places, 'flag': 400, 'legs': legs, 'bids': at})
+    report = program('report 1', case)
+    lines = rows_of(report, r'\d+ (.*): place (\d+) (.*), fare (.*), pays (.*), alone (.*)$')
+    for p in (olive, ann, ben):
+        p.reload()
+        p.has('Check it yourself', seconds=60)
+        same('fares', list(zip(p.values('[data-pays]', 'data-exact'), p.values('[data-pays]', 'data-pays'))), [(line[3], line[4]) for line in lines])
+        same('total', p.values('[data-total]', 'data-total'), [re.search(r'total (\d+)', report)[1]])
+        same('route', p.texts('.route .tag'), [people[int(m) - 1] for m in re.search(r'route (.*)', report)[1].split()])
+        same('verdict', p.values('#verdict', 'data-verdict'), ['yes'])
+        check('alone', all(money(int(line[5])) in text for line, text in zip(lines, p.texts('.bars li'))))
+    same('mine', ben.text('.hero .big'), f'You get off at Church and pay {money(int(lines[3][4]))}')
+    shots(ben, '7-result-fares')
+    look_at(ben, 'the result of fares')
+    name = 'round-' + re.search(r'#(\d+)\.', urls['link-0'])[1]
+    files(ben, name, [('Report', 'report', report), ('Certificate', 'certificate', program('solve 1', case))])
+
+
+def refusals(rig, olive, ann, ben):
+    """What is refused, and broken links."""
+    gone = {'kind': 'rent', 'title': 'Void', 'members': ['Ann', 'Ben'], 'rooms': ['A', 'B'], 'rent': 900, 'deadline': '1999-01-01T00:00:00Z', 'tag': tag()}
+    made = api(rig, 'instances', body=gone)
+    olive.open(f'{rig.url}#{made["id"]}.{made["organiser"]}')
+    olive.has('Ann and Ben had no bid when the round closed')
+    shots(olive, '8-void')
+    look_at(olive, 'a void round')
+    olive.press('Make a new round')
+    olive.one('#members-0')
+    same('the people are there again', [olive.values(f, 'value')[0] for f in ('#members-0', '#things-1', '#rent')], ['Ann', 'B', '9.00'])
+    for link, words in ((f'#{made["id"]}.{"0" * 64}', 'opens nothing in this round'), (f'#99999.{"0" * 64}', 'There is no such round'), (f'#1.{"0" * 63}', 'This link is not whole')):
+        ben.open(rig.url + link)
+        ben.has(words)
+        check('the way out is told', 'Ask whoever made the round' in ben.text())
+    look_at(ben, 'a broken link')
+    made = api(rig, 'instances', body={**gone, 'deadline': '2126-01-01T00:00:00Z', 'tag': tag()})
+    for turn in range(1, 20):
+        api(rig, f'instances/{made["id"]}/bids', made['keys'][0], {'turn': turn, 'values': [turn, 900 - turn]})
+    ann.open(f'{rig.url}#{made["id"]}.{made["keys"][0]}')
+    ann.has('19 of 20 turns used')
+    ann.press('Take my bid back')
+    check('the last turn is asked for', 'last turn' in ann.ask('GET', '/alert/text'))
+    ann.ask('POST', '/alert/dismiss')
+    ann.press('Change my bid')
+    ann.has('20 of 20 turns used')
+    check('then nothing can be sent', not ann.enabled('Change my bid'))
+    # a host that is stricter than the page
+    for field, where in (('rent', '#rent-fault'), ('members', '#members-fault'), ('rooms', '#things-fault'), ('deadline', '#deadline-fault'), ('title', '#title-fault'), ('', '.box.bad')):
+        fill_form(rig, olive, 'rent', 'Strict', ['Ann', 'Ben'], ['A', 'B'])
+        olive.put('#rent', '9')
+        code, body = (422, json.dumps({'code': 'bad_field', 'field': field})) if field else (403, '{"code":"not_allowed"}')
+        olive.run('const [code, body] = arguments; const old = window.fetch; window.fetch = async () => { window.fetch = old; return new Response(body, {status: code}); }', code, body)
+        olive.press('Make the links')
+        olive.until(lambda: olive.text(where), 10, field)
+        check(f'a refusal of {field or "the host"} is shown', 'host' in olive.text(where), olive.text(where))
+
+
+ROOM = 1000  # the rounds that a host has room for
+
+
+def room(rig, olive, ann, ben):
+    """A host that is full: the page makes the round at another of the name, and all its links lead there."""
+    with ThreadPoolExecutor(8) as many:
+        flat = {'kind': 'rent', 'title': 'Flat', 'members': ['Ann', 'Ben'], 'rooms': ['A', 'B'], 'rent': 900, 'deadline': soon(86400)}
+        list(many.map(lambda _: api(rig, rig.next_url + 'instances', body={**flat, 'tag': tag()}), range(ROOM)))
+    ben.open(rig.next_url)
+    ben.click('#languages button')
+    ben.has('Was teilt ihr?')
+    ben.open(rig.next_url + '#new-rent')
+    ben.one('#title')
+    for at, value in {'title': 'WG', 'members-0': 'Änne', 'members-1': 'Jörg', 'things-0': 'A', 'things-1': 'B', 'rent': '9'}.items():
+        ben.put(f'#{at}', value)
+    ben.press('Links machen')
+    urls = links(ben)
+    check('a full host leads to the other, and so do the links', ben.url().startswith(rig.url + '#') and all(url.startswith(rig.url + '#') for url in urls.values()), str(urls))
+    ben.has('Schick nun jeder Person ihren Link')
+    ann.open(urls['link-1'])
+    ann.one('#value-0')
+    same('the member of the other host', ann.text('.who'), 'You are Änne.')
+    ben.click('#languages button')
+    ben.has('Now send each person their link')
+
+
+def keys_alone(rig, olive, ann, ben):
+    """A round made and bid on by the keyboard alone; and what is typed stays where the language changes."""
+    p = ann
+    p.open(rig.url)
+    p.one('.kinds')
+
+    def tab_to(test, most=60):
+        for _ in range(most):
+            p.keys([KEYS['tab']])
+            now = p.focused()
+            check('the focus is seen', now['seen'] or now['tag'] == 'BODY', str(now))
+            if test(now):
+                return
+        raise AssertionError('no such stop')
+    tab_to(lambda e: 'new-goods' in e['href'])
+    p.keys([KEYS['enter']])
+    p.one('#title')
+    same('the focus goes to the heading', p.focused()['tag'], 'H1')
+    for id_, words in (('title', 'By keys'), ('members-0', 'Ann'), ('members-1', 'Ben'), ('things-0', 'Desk'), ('things-1', 'Lamp'), ('things-2', 'Chair')):
+        tab_to(lambda e: e['id'] == id_)
+        p.keys(list(words))
+    p.click('#languages button')
+    p.has('Links machen')
+    same('what was typed is there in the other language', [p.values(f, 'value')[0] for f in ('#title', '#members-1', '#things-2')], ['By keys', 'Ben', 'Chair'])
+    p.click('#languages button')
+    p.has('Make the links')
+    tab_to(lambda e: e['text'] == 'Make the links')
+    p.keys([KEYS['enter']])
+    urls = links(p)
+    p.open(urls['link-1'])
+    p.one('#value-0')
+    for i, words in enumerate(('600', '400')):
+        tab_to(lambda e: e['id'] == f'value-{i}')
+        p.keys(list(words))
+    p.click('#languages button')
+    p.has('Gebot senden')
+    same('a bid that was typed is there in the other language', p.values('.amount input', 'value')[:2], ['600', '400'])
+    p.click('#languages button')
+    p.has('Send my bid')
+    tab_to(lambda e: e['text'] == 'Send my bid')
+    p.keys([KEYS['enter']])
+    p.has('Kept.', '#message')
+    p.until(lambda: 'Kept' in p.run('return document.getElementById("live").textContent'), 5, 'it is not spoken')
+
+
+def checker(rig, olive, ann, ben):
+    """The view that checks, and the file that is handed out, from the disk."""
+    with open(os.path.join(TOP, 'examples/flat-for-three.txt'), encoding='utf-8') as file:
+        flat = file.read()
+    heirs_text = open(os.path.join(TOP, 'examples/three-heirs.txt'), encoding='utf-8').read()
+    taxi = open(os.path.join(TOP, 'examples/taxi-for-two.txt'), encoding='utf-8').read()
+    texts = [flat, flat.replace('prices 700', 'prices 2101/3'), heirs_text.replace('owners 1 3 2 3 2', 'owners 1 3 2 2 3'), taxi.replace('fares 750 1250', 'fares 700 1300')]
+    for address in (rig.url + '#check', 'file://' + os.path.join(os.path.realpath(PAGE), 'check.html')):
+        ben.open(address)
+        ben.one('#text')
+        for text in texts:
+            verdict = program('check', text).split()
+            rule = verdict[1] if len(verdict) > 1 else '0'
+            ben.run('document.getElementById("text").value = arguments[0]; document.getElementById("findings").replaceChildren()', text)
+            ben.press('Check')
+            ben.one('#verdict')
+            ben.until(lambda: ben.enabled('Check'), 10)
+            same(f'{address[:5]} the verdict', [ben.values('#verdict', 'data-verdict')[0], ben.values('#verdict', 'data-rule')[0]], [verdict[0], rule])
+        look_at(ben, 'the view that checks')
+        shots(ben, '9-check' if address.startswith('http') else '9-check-file')
+    ben.click('#languages button')
+    ben.has('Ein Zertifikat prüfen')
+    same('the file asked for nothing', ben.run('return performance.getEntriesByType("resource").length'), 0)
+
+
+def policy(rig, olive, ann, ben):
+    """The policy, the logs, and what a browser loads."""
+    with urllib.request.urlopen(rig.url, context=ssl._create_unverified_context()) as reply:
+        found = reply.headers['Content-Security-Policy']
+    check('a strict policy', found and 'unsafe' not in found and found.startswith("default-src 'none'"), found)
+    ann.complaints()
+    ann.open(rig.url)
+    ann.one('.kinds')
+    tried = ann.run('''
+      const out = [];
+      try { document.body.insertAdjacentHTML('beforeend', '<i>x</i>'); out.push('markup'); } catch { }
+      const d = document.createElement('div'); d.setAttribute('style', 'color: rgb(1, 2, 3)'); document.body.append(d); if (getComputedStyle(d).color === 'rgb(1, 2, 3)') out.push('style');
+      return out;''')
+    same('neither parsed markup nor a style in line is let through', tried, [])
+    ann.complaints()
+    same('no cookies', ann.run('return document.cookie'), '')
+    log = rig.log()
+    check('no key in the log of nginx', log and not re.search(r'[0-9a-f]{64}', log))
+    check('no key in a request line', not any(re.search(r'[0-9a-f]{64}', first) for first, _, _ in rig.lossy.seen))
+    check('keys in a header', any(re.search(r'(?i)x-key: [0-9a-f]{64}', head) for _, head, _ in rig.lossy.seen))
+
+
+def greatest(rig, olive, ann, ben):
+    """The greatest sizes, with long names."""
+    draw = random.Random(11)
+
+    def spread(n, whole):
+        cuts = sorted(draw.randint(0, whole) for _ in range(n - 1))
+        return [b - a for a, b in zip([0] + cuts, cuts + [whole])]
+    twelve = [f'Housemate {"long name " * 2}{i:>10}' for i in range(12)]
+    rooms = ['R' * 40] + [f'Room {i}' for i in range(11)]
+    places = [f'Place{"x" * (3 * i)}' for i in range(12)]
+    legs = [[0 if f == to + 1 else draw.randint(0, 1000000) for to in range(12)] for f in range(13)]
+    cases = [{'kind': 'rent', 'title': 'T' * 40, 'members': twelve, 'rooms': rooms, 'rent': 10000000, 'bids': [spread(12, 10000000) for _ in range(12)]},
+             {'kind': 'fares', 'title': 'Ten', 'members': [f'Rider {i}' for i in range(10)], 'places': places, 'flag': 1000000, 'legs': legs, 'bids': [draw.randint(1, 12) for _ in range(10)]}]
+    for case in cases:
+        made = api(rig, 'instances', body={**{k: v for k, v in case.items() if k != 'bids'}, 'deadline': '2126-01-01T00:00:00Z', 'tag': tag()})
+        link = f'{rig.url}#{made["id"]}.{made["keys"][0]}.CHF'
+        ann.open(link)
+        ann.one('#value-11' if case['kind'] == 'rent' else '.place')
+        look_at(ann, f'the greatest bid, {case["kind"]}')
+        for key, value in zip(made['keys'], case['bids']):
+            api(rig, f'instances/{made["id"]}/bids', key, {'turn': 1, **({'values': value} if case['kind'] == 'rent' else {'place': value})})
+        api(rig, f'instances/{made["id"]}/close', made['organiser'], {})
+        ann.open(link)
+        ann.has('Check it yourself', seconds=60)
+        same('verdict', ann.values('#verdict', 'data-verdict'), ['yes'])
+        check('all holds', 'Yes: all holds' in ann.text('#verdict'), ann.text('#findings'))
+        report = program('report 1', json.dumps(case))
+        same('pays', ann.values('[data-pays]', 'data-pays'), re.findall(r', pays (-?\d+),', report))
+        if case['kind'] == 'rent':
+            same('the envy table', heat(ann, 0), envy_of(report))
+        else:
+            same('fares', ann.values('[data-pays]', 'data-exact'), re.findall(r', fare (\S+),', report))
+        look_at(ann, f'the greatest result, {case["kind"]}')
+        shots(ann, f'A-greatest-{case["kind"]}')
+
+
+def german(rig, olive, ann, ben):
+    """A browser that wants German gets it, and long words fit."""
+    hanna = Browser(rig.driver, True, 'de-DE')
+    try:
+        hanna.open(rig.url)
+        hanna.has('Was teilt ihr?')
+        look_at(hanna, 'the start in German')
+        for kind, things in (('rent', ['Dachkammer', 'Arbeitszimmer']), ('goods', ['Donaudampfschifffahrtskapitänsmütze', 'Uhr']), ('fares', ['Hauptbahnhof', 'Mühlstraße'])):
+            fill_form(rig, hanna, kind, 'WG Mühlstraße', ['Änne', 'Jörg'], things)
+            hanna.put('#deadline', '')
+            hanna.press('Links machen')
+            hanna.has('Oben noch zu ändern')
+            look_at(hanna, f'the form of {kind} in German')
+            shots(hanna, f'B-form-{kind}-german')
+        made = api(rig, 'instances', body={'kind': 'rent', 'title': 'WG Mühlstraße', 'members': ['Änne', 'Jörg'], 'rooms': ['Dachkammer', 'Arbeitszimmer'], 'rent': 123456, 'deadline': soon(86400), 'tag': tag()})
+        hanna.open(f'{rig.url}#{made["id"]}.{made["keys"][0]}.EUR')
+        hanna.has('1.234,56')
+        bid(hanna, ['1234,56', '0'])
+        hanna.press('Gebot senden')
+        hanna.has('Angekommen.', '#message')
+        look_at(hanna, 'a bid in German')
+        same('the bid', api(rig, f'instances/{made["id"]}/bid', made['keys'][0])['values'], [123456, 0])
+        same('complaints of the browser of the German', hanna.complaints(), [])
+    finally:
+        hanna.end()
+
+
+PARTS = [rent, goods, fares, heirs, refusals, room, keys_alone, checker, policy, german, greatest]
+
+
+def play(names):
+    """Plays the parts; answers those for which no time was left."""
+    began = time.time()
+    rig, driver, people, left = Rig(PROGRAM), None, [], []
+    try:
+        rig.driver = driver = Driver()
+        for phone in (False, True, False):
+            people.append(Browser(driver, phone))
+        for part in PARTS:
+            if names and part.__name__ not in names:
+                continue
+            if time.time() - began > SECONDS and not names:
+                left.append(part.__name__)
+                continue
+            at = time.time()
+            try:
+                part(rig, *people)
+            except Exception:  # the next part goes on
+                check(f'{part.__name__} broke off:', False, traceback.format_exc()[-1500:])
+                if TALLY.shots:
+                    for p, who in zip(people, ('olive', 'ann', 'ben')):
+                        p.shot(os.path.join(TALLY.shots, f'fault-{part.__name__}-{who}.png'))
+            if TALLY.shots:
+                print(f'page: {part.__name__} took {time.time() - at:.0f} seconds', flush=True)
+        for p, who in zip(people, ('organiser', 'phone', 'desk')):
+            same(f'complaints of the browser of the {who}', p.complaints(), [])
+        return left, len(rig.lossy.seen), time.time() - began
+    finally:
+        for p in people:
+            p.end()
+        if driver:
+            driver.end()
+        rig.end()
+
+
+def main():
+    words = sys.argv[1:]
+    if '--picture' in words:
+        words.remove('--picture')
+        TALLY.picture = True
+    if '--shots' in words:
+        at = words.index('--shots')
+        TALLY.shots = words[at + 1]
+        os.makedirs(TALLY.shots, exist_ok=True)
+        del words[at:at + 2]
+    signal.signal(signal.SIGTERM, lambda *_: sys.exit(1))  # so that what was started is ended
+    left, requests, seconds = play(words)
+    late = f'; no time was left for {", ".join(left)}' if left else ''
+    print(f'rounds: {TALLY.right} right, {TALLY.wrong} wrong, contrast of {TALLY.texts} texts, {requests} requests, {seconds:.0f} seconds{late}')
+    sys.exit(TALLY.wrong > 0)
+
+
+if __name__ == '__main__':
+    main()

@@ -1,0 +1,258 @@
+"""Rung (a) of .ci/page, by Python's standard library alone: the bytes of the page against themselves, the documents and the proxies' files."""
+import gzip
+import json
+import os
+import re
+import subprocess
+import sys
+
+TOP = os.path.realpath(os.path.join(os.path.dirname(os.path.abspath(__file__)), '../..'))
+PAGE = os.path.join(TOP, 'page')
+UNLOADED = ('try', 'make_check', 'policy.txt')  # no browser loads these
+OF_CHECK = ('check.html', 'js/alone.js')  # the file that is handed out, and what is in it alone
+MOST_BYTES = 140_000
+MOST_FOR_A_BID = 25_000
+MOST_OF_A_PICTURE = 60_000
+BID = ['index.html', 'style.css', 'icon.svg'] + [f'js/{name}.js' for name in ('main', 'dom', 'language', 'link', 'round', 'api', 'money', 'bid', 'rules')]
+LANGUAGES = ['words', 'words.de']
+PROXIES = ['hosting/nginx.conf', 'hosting/Caddyfile', 'hosting/haproxy.cfg']
+# Codes that no person meets: of proxies and programs, or told by sentences of their own.
+UNMET = {'no_key', 'role', 'open', 'bad_head', 'bad_host', 'framing', 'bad_length', 'length_missing', 'no_route', 'method', 'bad_json', 'bad_field', 'turn',
+         'no_audit', 'void', 'not_two', 'step_limit'}
+FORBIDDEN = ('innerHTML', 'outerHTML', 'insertAdjacentHTML', 'document.write', 'eval(', 'new Function', 'setTimeout("', "setTimeout('", 'style="', '<style',
+             'javascript:', 'document.cookie', '@import', 'url(')
+right = wrong = 0
+
+
+def check(what, held):
+    global right, wrong
+    right += bool(held)
+    wrong += not held
+    if not held:
+        print(f'texts: {what}')
+
+
+def text_of(name):
+    with open(os.path.join(TOP, name), encoding='utf-8') as file:
+        return file.read()
+
+
+def files():
+    """The files that a browser may load, by their names in page/."""
+    found = {}
+    for folder, folders, names in os.walk(PAGE):
+        folders[:] = [name for name in folders if name != '__pycache__']
+        for name in names:
+            path = os.path.join(folder, name)
+            check(f'{path} is a symbolic link', not os.path.islink(path))
+            found[os.path.relpath(path, PAGE)] = open(path, encoding='utf-8').read()
+    return {name: text for name, text in found.items() if name not in UNLOADED}
+
+
+def weigh(texts):
+    """The page weighs no more than it may."""
+    whole = sum(len(text.encode()) for name, text in texts.items() if name not in OF_CHECK)
+    check(f'the page has {whole} bytes, above {MOST_BYTES}', whole <= MOST_BYTES)
+    least = []
+    for words in LANGUAGES:
+        bid = sum(len(gzip.compress(texts[name].encode(), 6)) for name in BID + [f'js/{words}.js'])
+        check(f'a member\'s bid has {bid} bytes compressed with {words}, above {MOST_FOR_A_BID}', bid <= MOST_FOR_A_BID)
+        least.append(bid)
+    return f'{whole} bytes, a bid {" or ".join(map(str, least))} compressed'
+
+
+def look_for_danger(texts):
+    """No markup is parsed, nothing is run from text, nothing comes from elsewhere."""
+    for name, text in texts.items():
+        if name == 'check.html':
+            continue
+        for word in FORBIDDEN:
+            check(f'{word} stands in {name}', word not in text)
+        others = [url for url in re.findall(r'(?:https?:)?//[a-z0-9][\w.-]*\.[a-z]{2,}[^\s"\'`)]*', text) if not url.endswith('www.w3.org/2000/svg')]
+        check(f'{name} names another address: {others}', not others)
+    index = texts['index.html']
+    check('a script in line', re.findall(r'<script[^>]*>', index) == ['<script type="module" src="js/main.js">'])
+    check('a handler in markup', not re.search(r'\son[a-z]+=', index))
+    loaded = reached()
+    check(f'imports of a bid beside its list: {loaded ^ set(BID[3:])}', loaded == set(BID[3:]) )
+
+
+def imports_of(module, dynamic):
+    text = text_of(f'page/js/{module}.js')
+    return re.findall(r"^import [^;]*from '\./([\w.]+)\.js'", text, re.M) + (re.findall(r"import\('\./([\w.]+)\.js'\)", text) if dynamic else [])
+
+
+def reached():
+    """The modules that a member's bid loads, but for the words."""
+    found, todo = set(), ['main', 'round', 'bid']
+    while todo:
+        module = todo.pop()
+        if module not in found:
+            found.add(module)
+            todo += imports_of(module, False)
+    return {f'js/{module}.js' for module in found}
+
+
+def follow_imports(texts):
+    modules = [name[3:-3] for name in texts if name.startswith('js/')]
+    used = {needed for module in modules for needed in imports_of(module, True)}
+    for module in modules:
+        for needed in imports_of(module, True):
+            check(f'{module}.js uses {needed}.js, which is not there', f'js/{needed}.js' in texts)
+        for names, needed in re.findall(r"^import \{([^}]*)\} from '\./([\w.]+)\.js'", texts[f'js/{module}.js'], re.M):
+            for name in filter(None, (word.strip() for word in names.split(','))):
+                check(f'{module}.js takes {name} of {needed}.js, which has none', re.search(rf'^export (?:async )?(?:const|let|class|function\*?) {name}\b', texts[f'js/{needed}.js'], re.M))
+                check(f'{module}.js takes {name} and does not use it', len(re.findall(rf'\b{name}\b', texts[f'js/{module}.js'])) > 1)
+    check('a module that nobody uses', used | {'main', 'alone'} == set(modules))
+
+
+def policy():
+    """The header lines of policy.txt: {path: {name: value}}."""
+    lines = {'/': {}, '/instances': {}}
+    for line in text_of('page/policy.txt').splitlines():
+        if not line.startswith('#'):
+            path, field = line.split(' ', 1)
+            name, value = field.split(': ', 1)
+            lines[path][name] = value
+    return lines
+
+
+def compare_policies():
+    lines = policy()
+    csp = lines['/']['Content-Security-Policy']
+    check('the policy is not strict', 'unsafe' not in csp and csp.startswith("default-src 'none'") and 'http' not in csp)
+    seen = []
+    for name in PROXIES:
+        if not os.path.exists(os.path.join(TOP, name)):
+            continue
+        seen.append(name)
+        text = text_of(name).replace('\\', '')
+        text = re.sub(r'^\s*#.*$', '', text, flags=re.M)
+        for field in {field for of in lines.values() for field in of}:
+            allowed = {of[field] for of in lines.values() if field in of}
+            told = re.findall(rf'\b{field}["\']?[ :]+(?:"([^"]*)"|([^"\s;][^;\n]*))', text)
+            values = {quoted or re.sub(r' (always|(if|unless) \{.*)$', '', bare).strip() for quoted, bare in told}
+            check(f'{name} sends {field} as {values - allowed}', values <= allowed)
+            if 'Content-Security-Policy' in text:
+                check(f'{name} does not send {field}', values)
+    check('neither nginx nor Caddy sends the policy', not seen or any('Content-Security-Policy' in text_of(name) for name in seen))
+    return f'policies of {", ".join(seen) or "no proxy"}'
+
+
+def keys_of(words):
+    """The sentences of a language, by their keys, as a flat table."""
+    text = re.sub(r'^//.*$', '', text_of(f'page/js/{words}.js'), flags=re.M)
+    tokens = re.findall(r"'((?:[^'\\]|\\.)*)'|(\w+)(?=:)|([{}])", text[text.index('words = ') + 8:])
+    found, path, key = {}, [], None
+    for string, name, brace in tokens:
+        if name:
+            key = name
+        elif brace == '{':
+            path.append(key)
+        elif brace == '}':
+            path.pop()
+        else:
+            found['.'.join([part for part in path[1:]] + [key])] = string
+    return found
+
+
+def compare_words(texts):
+    """Each language has each sentence, with the same parts to be put in, and each that the code asks for."""
+    tables = {words: keys_of(words) for words in LANGUAGES}
+    first = tables[LANGUAGES[0]]
+    for words, table in tables.items():
+        check(f'{words} has other sentences: {sorted(set(first) ^ set(table))}', set(first) == set(table))
+        for key in set(first) & set(table):
+            check(f'{words} puts other things into {key}', set(re.findall(r'\{\w+\}', first[key])) == set(re.findall(r'\{\w+\}', table[key])))
+            check(f'{words} has an empty {key}, or a straight apostrophe', table[key] and "'" not in table[key] and table[key].count('*') % 2 == 0)
+    whole = {re.sub(r'\.(one|other)$', '', key) for key in first}
+    code = '\n'.join(text for name, text in texts.items() if name.startswith('js/') and not name.startswith('js/words'))
+    asked = set(re.findall(r"'([a-z]\w*(?:\.\w+)+|[a-z]\w+)'", code))
+    made = re.findall(r'`((?:[a-z]\w*\.)+(?:\$\{[^`]*?\}|[\w.])*)`', code)
+    patterns = [r'\w+'.join(re.escape(part) for part in re.split(r'\$\{.*?\}', text)) for text in made]
+    for key in sorted(whole):
+        check(f'no code asks for the sentence {key}', key in asked or any(re.fullmatch(pattern, key) for pattern in patterns))
+    dotted = {key for key in asked if '.' in key and not key.endswith('.html') and key.split('.')[0] in {k.split('.')[0] for k in whole}}
+    for key in sorted(dotted - whole):
+        check(f'there is no sentence {key}', any(other.startswith(key + '.') for other in whole))
+    for key in re.findall(r"\b(?:t|text)\('(\w+)'", code):
+        check(f'there is no sentence {key}', key in whole)
+    return first
+
+
+def compare_limits(texts, words):
+    """Limits are those of the schema, and each code that a person can meet has a sentence."""
+    schema = json.loads(text_of('examples/creation.schema.json'))
+    kinds = {kind['title']: kind['properties'] for kind in schema['oneOf']}
+    limits = {key: json.loads(value.replace('_', '')) for key, value in re.findall(r'(\w+): (\[\d+, \d+\]|[\d_]+)', texts['js/rules.js'].split('LIMITS = {')[1].split('};')[0])}
+    span = lambda kind, field: [kinds[kind][field]['minItems'], kinds[kind][field]['maxItems']]
+    theirs = {'members': span('rent', 'members'), 'riders': span('fares', 'members'), 'goods': span('goods', 'goods'), 'places': span('fares', 'places'), 'rent': kinds['rent']['rent']['maximum'],
+              'cost': kinds['fares']['flag']['maximum'], 'steps': kinds['goods']['limit']['maximum'], 'name': schema['$defs']['name']['maxLength']}
+    for what, value in theirs.items():
+        check(f'the limit of {what} is {limits[what]} here and {value} in the schema', limits[what] == value)
+    check('the members of goods', span('goods', 'members') == limits['members'])
+    http = text_of('docs/HTTP.md')
+    turns = re.search(r'from 1 to (\d+)', http.split('## Bids')[1])
+    check('the turns of a member', turns and int(turns[1]) == limits['turns'])
+    table = http.split('## Refusals, in the order')[1].split('\n## ')[0]
+    rows = [row.split('|')[2] for row in table.splitlines() if re.match(r'\| [45]\d\d', row)]
+    codes = set(re.findall(r'`([a-z_]+)`', ' '.join(rows))) - {'field', 'place', 'kept'}
+    check('the table of codes is read', len(codes) > 15)
+    for code in sorted(codes - UNMET):
+        check(f'there is no sentence for {code}', f'refusals.{code}' in words)
+
+
+def compare_hosts(texts):
+    """The page takes each path that hosting/shards gives to a host, and each proxy's file serves the list."""
+    pattern = re.search(r'/(\^[^;]*?\$)/\.test', texts['js/creation.js'])[1].replace('\\/', '/')
+    for path in ('/a/', '/z/', '/h27/', '/h1000/'):
+        check(f'the page takes no host at {path}', re.search(pattern, path))
+    for path in ('//other.example/', 'https://other.example/', '/a/b/', '/', 'a'):
+        check(f'the page takes a host at {path}', not re.search(pattern, path))
+    for name in PROXIES:
+        check(f'{name} does not serve /hosts.json', re.search(r'^[^#]*/hosts\.json', text_of(name), re.M))
+
+
+def compare_answers():
+    """The table of how likely goods have an answer is the same in the page and in the documents."""
+    table = texts_of_table(text_of('page/js/rules.js').split('ANSWERED = {')[1].split('};')[0])
+    rows = ['| ' + ' | '.join([str(people)] + [f'{a}, {b}' for a, b in zip(some, coarse)]) + ' |' for people, some, coarse in zip(table['people'], table['any'], table['stepped'])]
+    for name in ('docs/SEARCH.md',):
+        for row in rows:
+            check(f'{name} lacks the row {row}', row in text_of(name))
+
+
+def texts_of_table(text):
+    return {key: json.loads(re.search(key + r': (\[\[.*?\]\]|\[[^\]]*\])', text, re.S)[1]) for key in ('people', 'goods', 'any', 'stepped')}
+
+
+def outside_of_proof():
+    """The documents say that the page stands outside what is proved, README shows it, and its picture is light."""
+    for name in ('docs/HEADLINE.md', 'docs/PROVED.md', 'README.md'):
+        check(f'{name} does not say that the page is outside what is proved', re.search(r'page[^.]*(outside|no (clause|proof))', text_of(name)))
+    paragraphs = [part for part in text_of('README.md').split('\n\n') if part.strip() and not part.startswith('#')]
+    check('README\'s third paragraph is not the command page/try 8080', 'page/try 8080' in paragraphs[2])
+    for picture in re.findall(r'!\[[^\]]+\]\((docs/pictures/[\w.-]+)\)', text_of('README.md')):
+        check(f'{picture} is above {MOST_OF_A_PICTURE} bytes', os.path.getsize(os.path.join(TOP, picture)) <= MOST_OF_A_PICTURE)
+    words = len(re.findall(r'\S+', text_of('README.md')))
+    check(f'README has {words} words', words <= 1500)
+
+
+def main():
+    texts = files()
+    weight = weigh(texts)
+    look_for_danger(texts)
+    follow_imports(texts)
+    policies = compare_policies()
+    words = compare_words(texts)
+    compare_limits(texts, words)
+    compare_hosts(texts)
+    compare_answers()
+    outside_of_proof()
+    check('check.html is stale', subprocess.run([sys.executable, os.path.join(PAGE, 'make_check'), '--check'], check=False).returncode == 0)
+    print(f'texts: {right} right, {wrong} wrong; {weight}; {policies}')
+    sys.exit(wrong > 0)
+
+
+if __name__ == '__main__':
+    main()

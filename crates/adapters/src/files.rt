@@ -1,0 +1,241 @@
+// The journal's file as a disk.
+ghost use Rattle.std.specs.Prelude.{◌≡◌, ◌≤◌, ◌+◌, ◌-◌, ◌^◌, [], length, IfSome, IsSome};
+
+use crate::counts::{answered, fault};
+use crate::held::HeldFile;
+use crate::limits::{LONGEST_PIECE, MOST_FILE_BYTES, MOST_PIECES};
+use arrayvec::ArrayVec;
+use split_base::{Disk, Failed};
+use std::fs::{File, Files};
+
+/// Bytes that were written at a place since the last good sync.
+#[derive(Default, Drop)]
+struct Piece {
+    place: u64,
+    bytes: ArrayVec<u8, LONGEST_PIECE>,
+}
+
+/// Whether the folder holds the file's name for good.
+#[derive(Clone, Copy, PartialEq, Eq)]
+enum FolderSync {
+    Due,
+    Done,
+    Lost,
+}
+
+/// A file of a folder as a disk.
+///
+/// The first call opens the file, creates it empty where there is none, and takes its exclusive lock without waiting. Where that
+/// fails, as with a lock that another process holds, the call has failed, and the next call tries again. The file stays open and
+/// locked for as long as the adapter lives. A file that it creates is for its owner alone.
+///
+/// Another program may delete, move, replace or cut the file all the same. So a sync fails where the path does not lead to the
+/// file that is open, and so does a write behind a good sync, also where the file has not the length that it had when it was last
+/// measured or written here. No other file is opened for it: the calls succeed again where the path leads to it again.
+///
+/// A sync makes the whole file stable, and the first one the folder too. The system may take bytes for stored that a failed sync
+/// has lost. So what was written since the last good sync is kept, `MOST_PIECES` pieces of at most `LONGEST_PIECE` bytes, and the
+/// sync after a failed one writes it again before it syncs once more. A write for which there is no place among these fails.
+/// Where the folder's own sync has failed, each later sync fails.
+#[derive(Drop)]
+pub struct JournalFile<'r, R> {
+    files: &'r R,
+    path: &'r str,
+    folder: &'r str,
+    held: Option<HeldFile>,
+    folder_sync: FolderSync,
+    is_doubtful: bool,
+    pieces: ArrayVec<Piece, MOST_PIECES>,
+    faults: u64,
+}
+
+impl<'r, R: Files<File = File>> JournalFile<'r, R> {
+    /// The file at a path, which stands in this folder. Nothing is opened yet, and no fault has come.
+    pub fn new(files: &'r R, path: &'r str, folder: &'r str) -> Self
+        ensures { result.faults ≡ 0 }
+    {
+        JournalFile {
+            files,
+            path,
+            folder,
+            held: None,
+            folder_sync: FolderSync::Due,
+            is_doubtful: false,
+            pieces: ArrayVec::new(),
+            faults: 0,
+        }
+    }
+
+    /// How many of its calls have failed.
+    pub fn faults(&self) -> u64
+        ensures { result ≡ self.now.faults }
+    {
+        self.faults
+    }
+
+    // Opens and locks the file where it isn't open yet, and tells whether it is.
+    fn opens(&mut self) -> bool
+        ensures count { self.new.faults ≡ self.old.faults }
+    {
+        if self.held.is_none() {
+            self.held = HeldFile::open(self.files, self.path);
+        }
+        self.held.is_some()
+    }
+
+    fn size_now(&mut self) -> Option<u64>
+        ensures count { self.new.faults ≡ self.old.faults }
+        ensures least { IfSome result (λ n. n ≤ 2 ^ 63) }
+    {
+        if !self.opens() {
+            return None;
+        }
+        let Some(held) = &mut self.held else {
+            return None;
+        };
+        held.size()
+    }
+
+    fn read_now(&mut self, place: u64, into: &mut [u8]) -> Option<usize>
+        ensures count { self.new.faults ≡ self.old.faults }
+        ensures size { IfSome result (λ n. n ≤ length into.old) }
+        ensures least { IfSome result (λ n. n ≤ 2 ^ 63 - place) }
+    {
+        if !self.opens() {
+            return None;
+        }
+        let Some(held) = &self.held else {
+            return None;
+        };
+        let most = MOST_FILE_BYTES.saturating_sub(place);
+        let room = if (into.len() as u64) <= most {
+            into.len()
+        } else {
+            most as usize
+        };
+        held.read_full(place, &mut into[..room])
+    }
+
+    fn write_now(&mut self, place: u64, bytes: &[u8]) -> Option<()>
+        ensures count { self.new.faults ≡ self.old.faults }
+        ensures least { IsSome result → place + length bytes.now ≤ 2 ^ 63 }
+    {
+        if place > MOST_FILE_BYTES || bytes.len() as u64 > MOST_FILE_BYTES - place {
+            return None;
+        }
+        if bytes.len() > LONGEST_PIECE || !self.opens() || self.pieces.is_full() {
+            return None;
+        }
+        let Some(held) = &mut self.held else {
+            return None;
+        };
+        if self.pieces.is_empty() && !held.is_as_left(self.files, self.path) {
+            return None;
+        }
+        let done = held.write_front(place, bytes);
+        let mut kept = ArrayVec::new();
+        let _ = kept.try_extend_from_slice(&bytes[..done]);
+        self.pieces.push(Piece { place, bytes: kept });
+        if done == bytes.len() { Some(()) } else { None }
+    }
+
+    fn sync_now(&mut self) -> Option<()>
+        ensures count { self.new.faults ≡ self.old.faults }
+    {
+        if !self.opens() {
+            return None;
+        }
+        let Some(held) = &mut self.held else {
+            return None;
+        };
+        if self.is_doubtful && !writes_again(held, &self.pieces) {
+            return None;
+        }
+        if !held.sync() {
+            self.is_doubtful = true;
+            return None;
+        }
+        self.is_doubtful = false;
+        self.pieces.clear();
+        if !held.is_at(self.files, self.path) {
+            return None;
+        }
+        self.syncs_folder()
+    }
+
+    // Makes the file's name stable, once.
+    fn syncs_folder(&mut self) -> Option<()>
+        ensures count { self.new.faults ≡ self.old.faults }
+    {
+        if self.folder_sync == FolderSync::Due {
+            self.folder_sync = if is_synced(self.files, self.folder) {
+                FolderSync::Done
+            } else {
+                FolderSync::Lost
+            };
+        }
+        if self.folder_sync == FolderSync::Done {
+            Some(())
+        } else {
+            None
+        }
+    }
+}
+
+impl<'r, R: Files<File = File>> Disk for JournalFile<'r, R> {
+    ghost is_honest = { λ _. ⊥ };
+
+    ghost seen = { λ _. [] };
+
+    ghost images = { λ _ _. ⊥ };
+
+    ghost moment = { λ _. 0 };
+
+    ghost left_since = { λ _ _ _. ⊥ };
+
+    ghost faults = { λ disk. disk.faults };
+
+    fn size(&mut self) -> Result<u64, Failed> {
+        let size = self.size_now();
+        answered(size, &mut self.faults)
+    }
+
+    fn read_at(&mut self, place: u64, into: &mut [u8]) -> Result<usize, Failed> {
+        let count = self.read_now(place, into);
+        answered(count, &mut self.faults)
+    }
+
+    fn write_at(&mut self, place: u64, bytes: &[u8]) -> Result<(), Failed> {
+        let done = self.write_now(place, bytes);
+        answered(done, &mut self.faults)
+    }
+
+    fn sync(&mut self) -> Result<(), Failed> {
+        let done = self.sync_now();
+        answered(done, &mut self.faults)
+    }
+
+    ghost counts_now = { λ disk t c honest later image. absurd honest };
+
+    ghost only_now = { λ disk c honest left. absurd honest };
+
+    ghost seen_is_image = { λ disk honest. absurd honest };
+}
+
+// Writes each piece again, in order, and tells whether all were.
+fn writes_again(held: &mut HeldFile, pieces: &[Piece]) -> bool {
+    for piece in pieces {
+        if held.write_front(piece.place, &piece.bytes) < piece.bytes.len() {
+            return false;
+        }
+    }
+    true
+}
+
+// Syncs a folder, and tells whether that went well.
+fn is_synced<R: Files<File = File>>(files: &R, folder: &str) -> bool {
+    match File::open(files, folder) {
+        Ok(folder) => folder.sync_all().is_ok(),
+        Err(_) => false,
+    }
+}

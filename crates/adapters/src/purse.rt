@@ -1,0 +1,49 @@
+// The time for which clients may hold others.
+use std::time::Duration;
+
+/// Of the time that passes, one part in so many comes back.
+const REFILL: u32 = 100;
+
+/// The least that is waited for, in milliseconds.
+const LEAST_MILLIS: u64 = 1;
+
+/// Time that a client may spend while others wait. All clients share it, so that they wait no longer than this in all, however many hold
+/// them. It comes back slowly.
+#[derive(Drop)]
+pub(crate) struct Purse {
+    most: Duration,
+    left: Duration,
+    refilled: Duration,
+}
+
+impl Purse {
+    /// A full purse of this size.
+    pub(crate) fn new(most: Duration, now: Duration) -> Purse {
+        Purse {
+            most,
+            left: most,
+            refilled: now,
+        }
+    }
+
+    /// Gives back what has come back by now.
+    pub(crate) fn refill(&mut self, now: Duration) {
+        let passed = now.saturating_sub(self.refilled);
+        self.refilled = now;
+        self.left = self.left.saturating_add(passed / REFILL).min(self.most);
+    }
+
+    /// Takes time out, as far as it is there.
+    pub(crate) fn spend(&mut self, time: Duration) {
+        self.left = self.left.saturating_sub(time);
+    }
+
+    /// How long a client may still be waited for, where that is worth a wait.
+    pub(crate) fn left(&self) -> Option<Duration> {
+        if self.left < Duration::from_millis(LEAST_MILLIS) {
+            None
+        } else {
+            Some(self.left)
+        }
+    }
+}

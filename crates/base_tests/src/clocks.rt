@@ -1,0 +1,47 @@
+// The clock of this system, and of systems whose time no date can tell.
+use adapters::SystemClock;
+use split_base::limits::LAST_MOMENT;
+use split_base::{Clock, Failed};
+use std::io::ErrorKind;
+use std::time::Duration;
+use std::{io, time};
+
+/// A clock that stands at some second, or that can't be read.
+#[derive(Drop)]
+struct Standing {
+    second: Option<u64>,
+}
+
+impl time::Clock for Standing {
+    fn monotonic(&self) -> io::Result<Duration> {
+        self.since_1970()
+    }
+
+    fn since_1970(&self) -> io::Result<Duration> {
+        match self.second {
+            Some(second) => Ok(Duration::new(second, 999_999_999)),
+            None => Err(io::Error::from(ErrorKind::InvalidData)),
+        }
+    }
+}
+
+#[test]
+fn tells_whole_seconds(rt: HostRuntime) {
+    let cases = [
+        (Some(0), Ok(0)),
+        (Some(1_772_366_400), Ok(1_772_366_400)),
+        (Some(LAST_MOMENT), Ok(LAST_MOMENT)),
+        (Some(LAST_MOMENT + 1), Err(Failed)),
+        (None, Err(Failed)),
+    ];
+    for (second, moment) in cases {
+        let standing = Standing { second };
+        let mut clock = SystemClock::new(&standing);
+        assert_eq!(rt; clock.now(), moment);
+        assert_eq!(rt; clock.faults(), u64::from(moment.is_err()));
+    }
+
+    // The code was written after the second 1,700,000,000.
+    let mut clock = SystemClock::new(&rt);
+    assert!(rt; clock.now().is_ok_and(|moment| moment > 1_700_000_000));
+}

@@ -1,0 +1,92 @@
+// Clocks, ports and dialers in memory.
+use split_base::{
+    Clock, Dial, Failed, MemClock, MemDial, MemLink, MemPort, MemSink, MemSource, Port, Sink,
+    Source,
+};
+use std::alloc::Global;
+use std::process::Abort;
+
+/// A link that gives one byte, and has room for one more.
+fn link_of(rt: &impl Abort, alloc: Global, byte: u8) -> MemLink {
+    let bytes = [byte].to_vec(alloc).expect(rt, "no memory");
+    let input = MemSource::new(bytes, Vec::new(alloc), Vec::new(alloc));
+    let output = MemSink::new(alloc, 1, Vec::new(alloc)).expect(rt, "no memory");
+    MemLink::new(input, output)
+}
+
+/// A port with two links, whose first and fourth call fail.
+fn port_of(rt: &impl Abort, alloc: Global) -> MemPort {
+    let mut links = Vec::new(alloc);
+    links.push(link_of(rt, alloc, b'0')).expect(rt, "no memory");
+    links.push(link_of(rt, alloc, b'1')).expect(rt, "no memory");
+    let fails = [1, 4].to_vec(alloc).expect(rt, "no memory");
+    MemPort::new(alloc, links, fails).expect(rt, "no memory")
+}
+
+/// A dialer with one link, whose first call fails.
+fn dialer_of(rt: &impl Abort, alloc: Global) -> MemDial {
+    let mut links = Vec::new(alloc);
+    links.push(link_of(rt, alloc, b'0')).expect(rt, "no memory");
+    assert!(rt; links.iter().all(|link| !link.has_fault()));
+    let fails = [1].to_vec(alloc).expect(rt, "no memory");
+    MemDial::new(alloc, links, fails).expect(rt, "no memory")
+}
+
+/// The next link of a port, which has one.
+fn next_of(rt: &impl Abort, port: &mut MemPort) -> MemLink {
+    port.accept().expect(rt, "a fault").expect(rt, "no link")
+}
+
+/// Reads the byte of the link, and writes it back.
+fn echo(rt: &impl Abort, link: &mut MemLink) {
+    let mut byte = [0];
+    assert!(rt; link.read(&mut byte) == Ok(1) && link.write(&byte) == Ok(1));
+}
+
+#[test]
+fn clock_repeats_its_last_moment(rt: HostRuntime) {
+    let alloc = rt.alloc();
+    let moments = [5, 4].to_vec(alloc).expect(&rt, "no memory");
+    let fails = [2, 5].to_vec(alloc).expect(&rt, "no memory");
+    let mut clock = MemClock::new(moments, fails);
+    for moment in [Ok(5), Err(Failed), Ok(4), Ok(4), Err(Failed), Ok(4)] {
+        assert!(rt; clock.now() == moment);
+    }
+}
+
+/// Gives two links back, and one for which there is no place.
+fn give_back(rt: &impl Abort, alloc: Global, port: &mut MemPort, first: MemLink, second: MemLink) {
+    port.done(first);
+    port.done(second);
+    port.done(link_of(rt, alloc, b'2'));
+}
+
+#[test]
+fn port_hands_out_its_links(rt: HostRuntime) {
+    let mut port = port_of(&rt, rt.alloc());
+    assert!(rt; port.listen(8080).is_err());
+    assert!(rt; port.listen(8080).is_ok());
+    let mut first = next_of(&rt, &mut port);
+    assert!(rt; port.accept().is_err());
+    let second = next_of(&rt, &mut port);
+    echo(&rt, &mut first);
+    give_back(&rt, rt.alloc(), &mut port, second, first);
+    assert!(rt; port.accept().is_ok_and(|next| next.is_none()));
+    let back = port.finished();
+    assert!(rt; back.len() == 2 && back[1].output().bytes() == b"0".as_slice());
+}
+
+#[test]
+fn dialer_gives_its_links(rt: HostRuntime) {
+    let mut dialer = dialer_of(&rt, rt.alloc());
+    assert!(rt; dialer.dial(1).is_err());
+    let mut link = dialer.dial(1).expect(&rt, "no link");
+    assert!(rt; dialer.dial(1).is_err());
+    echo(&rt, &mut link);
+    // There is no room for a second byte.
+    assert!(rt; link.write(b"1") == Err(Failed) && link.has_fault());
+    dialer.done(link);
+    dialer.done(link_of(&rt, rt.alloc(), b'2'));
+    assert!(rt; dialer.finished().iter().all(|link| link.has_fault()));
+    assert!(rt; dialer.finished().len() == 1);
+}

@@ -1,0 +1,5 @@
+pub mod Entries
+pub mod MarginalSums
+pub mod WorkedFares
+pub mod WorkedGoods
+pub mod MaximumWelfare

@@ -1,0 +1,19 @@
+//! What follows from the definitions of a best division: laws of rents (Gal, Mash, Procaccia and Zick 2016), of goods (Caragiannis
+//! and others 2016) and of fares (Shapley 1953), for all cases.
+//!
+//! Each law is the contract of a function that does nothing. Solvers and checkers cite them.
+#![tactic(auto)]
+
+mod fares;
+mod goods;
+mod rents;
+
+pub use fares::{
+    best_fares_law, coalition_law, lowest_route_law, marginal_set_law, orders_law, route_cost_law,
+    route_set_law, without_rider_law, worked_fares_law,
+};
+pub use goods::{best_goods_law, pair_order_law, players_law, worked_goods_law};
+pub use rents::{
+    assignment_law, best_rent_law, envy_free_law, formula_law, key_law, least_utility_law,
+    permutation_law, potential_law, price_range_law, shown_rent_law, value_cycle_law, walk_law,
+};

@@ -1,0 +1,13 @@
+// What the limits come to: the contract of a function that does nothing. A limit that is raised too far is refused here first.
+ghost use Rattle.std.specs.Prelude.{◌+◌, ◌*◌, ◌^◌, ◌<◌};
+ghost use Rattle.bid_rules.specs.FareLimits.{most_cost, most_orders, most_sum};
+
+use crate::limits::MOST_RIDERS;
+
+/// What fares come to is kept whole: a cost in 32 bits, a number of orders in 64, and in 128 with a sign what all riders pay over all
+/// orders, less a cost.
+pub fn fare_limits_law()
+    ensures costs { most_cost < 2 ^ 32 }
+    ensures orders { most_orders < 2 ^ 64 }
+    ensures sums { most_sum * (MOST_RIDERS + 1) < 2 ^ 127 }
+{}

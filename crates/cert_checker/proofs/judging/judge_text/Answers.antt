@@ -1,0 +1,215 @@
+use Rattle.std.proofs.Common.{ℕ, pos, ◌⊎◌, arith, ◌≡◌, ◌∙◌, ◌++◌, ◌∷◌, [], subst, sym, length-append, map}
+use Rattle.std.proofs.KnownBytes.{Consumes-trans}
+use Rattle.split_frac.specs.Frac.{fraction_of}
+use Rattle.cert_reader.specs.Reading.{with_mark}
+use Rattle.cert_reader.specs.Text.{Numbers}
+use Rattle.cert_reader.specs.Views.{says}
+use Rattle.rule_verdicts.specs.declared.verdict.Verdict.TheVariants.{Yes}
+use Rattle.cert_checker.specs.Judged.{IsCertificate, IsJudged}
+use Rattle.cert_checker.proofs.LineSteps.{end_goes, judged_so, kind_stays, kinds, line_goes, some_lines}
+use Rattle.cert_checker.proofs.MarkSteps.{next_mark_goes, up_to_mark}
+use Rattle.cert_checker.proofs.judging.judge_text.Goals as goal
+
+pub unreachable-requires-in-Ok-Done : goal.unreachable-requires-in-Ok-Done
+unreachable-requires-in-Ok-Done g c =
+    let next = rw c.in-Ok-Done.field-0-is at c.in-Ok-Done.ensures in
+    let told = next.piece.2 [] [] c.new-pieces.ensures.read in
+    let all = told.0 in
+    let none = c.new-pieces.ensures.start in
+    let some = some_lines c.next_piece.new.self.counts in
+    omega (arith, all, none, some)
+
+pub returns-in-Err-next_piece-clause-judged : goal.returns-in-Err-next_piece-clause-judged
+returns-in-Err-next_piece-clause-judged g c =
+    let inv = c.lines.invariant in
+    let p = (rw c.in-Err-next_piece.end-is at c.in-Err-next_piece.ensures).piece in
+    (inv.taken ++ p.0, Consumes-trans _ _ _ inv.taken p.0 inv.took p.1, p.2 inv.taken inv.up_to.said inv.up_to.read)
+
+pub take-requires : goal.take-requires
+take-requires g c =
+    let inv = c.lines.invariant in
+    let next = rw c.in-Ok-Line-next_piece.field-0-is at c.in-Ok-Line-next_piece.ensures in
+    let p = next.piece in
+    let told = p.2 inv.taken inv.up_to.said inv.up_to.read in
+    let last = Numbers (map fraction_of c.in-Ok-Line-next_piece.numbers.items) in
+    let rest = c.text_law.ensures.completed c.next_piece-in-lines.new.self (inv.taken ++ p.0) (inv.up_to.said ++ last ∷ []) told.3 in
+    let goes = line_goes c.lines.lines c.lines.pieces c.next_piece-in-lines.new.self inv.up_to.said rest.0 last (inv.taken ++ p.0) inv.up_to.knows inv.up_to.kind inv.up_to.some inv.up_to.long told.1 told.2 told.3 (next.more (λ e. absurd (cc))).0 rest.1 in
+    (inv.up_to.said, goes.0, goes.1, goes.2)
+
+pub lines-preserved-in-Ok-Line-next_piece : goal.lines-preserved-in-Ok-Line-next_piece
+lines-preserved-in-Ok-Line-next_piece g c =
+    let inv = c.lines.invariant in
+    let next = rw c.in-Ok-Line-next_piece.field-0-is at c.in-Ok-Line-next_piece.ensures in
+    let p = next.piece in
+    let told = p.2 inv.taken inv.up_to.said inv.up_to.read in
+    let last = Numbers (map fraction_of c.in-Ok-Line-next_piece.numbers.items) in
+    let rest = c.text_law.ensures.completed c.next_piece-in-lines.new.self (inv.taken ++ p.0) (inv.up_to.said ++ last ∷ []) told.3 in
+    let goes = line_goes c.lines.lines c.lines.pieces c.next_piece-in-lines.new.self inv.up_to.said rest.0 last (inv.taken ++ p.0) inv.up_to.knows inv.up_to.kind inv.up_to.some inv.up_to.long told.1 told.2 told.3 (next.more (λ e. absurd (cc))).0 rest.1 in
+    record {
+      taken = inv.taken ++ p.0;
+      took = Consumes-trans _ _ _ inv.taken p.0 inv.took p.1;
+      up_to = record {
+        said = inv.up_to.said ++ last ∷ [];
+        read = told.3;
+        kind = kind_stays c.lines.pieces.lines c.lines.pieces.counts c.next_piece-in-lines.new.self.counts inv.up_to.some told.2 ∙ inv.up_to.kind ∙ sym c.take.ensures.kind;
+        knows = c.take.ensures.knows inv.up_to.said goes.0 goes.1 goes.2;
+        to_come = (next.more (λ e. absurd (cc))).0;
+        some = (let one = told.1 in let some = inv.up_to.some in omega arith);
+        long = length-append inv.up_to.said (last ∷ []) ∙ (let one = told.1 in let long = inv.up_to.long in omega arith);
+      };
+      faults = next.faults ∙ inv.faults;
+      beside = next.beside ∙ inv.beside;
+    }
+
+pub take_mark-requires : goal.take_mark-requires
+take_mark-requires g c =
+    let inv = c.lines.invariant in
+    let next = rw c.in-Ok-Mark-next_piece.field-0-is at c.in-Ok-Mark-next_piece.ensures in
+    let p = next.piece in
+    let told = p.2 inv.taken inv.up_to.said inv.up_to.read in
+    let mark = c.in-Ok-Mark-next_piece.mark in
+    let rest = c.text_law.ensures.completed c.next_piece-in-lines.new.self (inv.taken ++ p.0) (with_mark inv.up_to.said mark) told.2 in
+    (inv.up_to.said, next_mark_goes c.lines.lines c.lines.pieces c.next_piece-in-lines.new.self inv.taken p.0 rest.0 mark inv.up_to told.1 told.2 rest.1)
+
+pub take_marks-requires-clause-known : goal.take_marks-requires-clause-known
+take_marks-requires-clause-known g c =
+    let inv = c.lines.invariant in
+    let next = rw c.in-Ok-Mark-next_piece.field-0-is at c.in-Ok-Mark-next_piece.ensures in
+    let p = next.piece in
+    let told = p.2 inv.taken inv.up_to.said inv.up_to.read in
+    let mark = c.in-Ok-Mark-next_piece.mark in
+    let new = c.next_piece-in-lines.new.self in
+    let rest = c.text_law.ensures.completed new (inv.taken ++ p.0) (with_mark inv.up_to.said mark) told.2 in
+    let goes = next_mark_goes c.lines.lines c.lines.pieces new inv.taken p.0 rest.0 mark inv.up_to told.1 told.2 rest.1 in
+    let up_to = up_to_mark c.lines.lines c.take_mark.new.self c.lines.pieces new inv.taken p.0 mark inv.up_to told.1 told.2 (next.more (λ e. absurd (cc))).0 c.take_mark.ensures.kind (c.take_mark.ensures.knows inv.up_to.said goes) in
+    (inv.taken ++ p.0, up_to)
+
+pub returns-in-Err-take_marks-clause-judged : goal.returns-in-Err-take_marks-clause-judged
+returns-in-Err-take_marks-clause-judged g c =
+    let inv = c.lines.invariant in
+    let next = rw c.in-Ok-Mark-next_piece.field-0-is at c.in-Ok-Mark-next_piece.ensures in
+    let p = next.piece in
+    let told = p.2 inv.taken inv.up_to.said inv.up_to.read in
+    let mark = c.in-Ok-Mark-next_piece.mark in
+    let new = c.next_piece-in-lines.new.self in
+    let rest = c.text_law.ensures.completed new (inv.taken ++ p.0) (with_mark inv.up_to.said mark) told.2 in
+    let goes = next_mark_goes c.lines.lines c.lines.pieces new inv.taken p.0 rest.0 mark inv.up_to told.1 told.2 rest.1 in
+    let up_to = up_to_mark c.lines.lines c.take_mark.new.self c.lines.pieces new inv.taken p.0 mark inv.up_to told.1 told.2 (next.more (λ e. absurd (cc))).0 c.take_mark.ensures.kind (c.take_mark.ensures.knows inv.up_to.said goes) in
+    let q = c.in-Err-take_marks.ensures.marks in
+    ((inv.taken ++ p.0) ++ q.0, Consumes-trans _ _ _ (inv.taken ++ p.0) q.0 (Consumes-trans _ _ _ inv.taken p.0 inv.took p.1) q.1, q.2 (inv.taken ++ p.0) up_to)
+
+pub lines-preserved : goal.lines-preserved
+lines-preserved g c =
+    let inv = c.lines.invariant in
+    let next = rw c.in-Ok-Mark-next_piece.field-0-is at c.in-Ok-Mark-next_piece.ensures in
+    let p = next.piece in
+    let told = p.2 inv.taken inv.up_to.said inv.up_to.read in
+    let mark = c.in-Ok-Mark-next_piece.mark in
+    let new = c.next_piece-in-lines.new.self in
+    let rest = c.text_law.ensures.completed new (inv.taken ++ p.0) (with_mark inv.up_to.said mark) told.2 in
+    let goes = next_mark_goes c.lines.lines c.lines.pieces new inv.taken p.0 rest.0 mark inv.up_to told.1 told.2 rest.1 in
+    let up_to = up_to_mark c.lines.lines c.take_mark.new.self c.lines.pieces new inv.taken p.0 mark inv.up_to told.1 told.2 (next.more (λ e. absurd (cc))).0 c.take_mark.ensures.kind (c.take_mark.ensures.knows inv.up_to.said goes) in
+    let marks = c.in-Ok.ensures in
+    let q = marks.marks in
+    record {
+      taken = (inv.taken ++ p.0) ++ q.0;
+      took = Consumes-trans _ _ _ (inv.taken ++ p.0) q.0 (Consumes-trans _ _ _ inv.taken p.0 inv.took p.1) q.1;
+      up_to = q.2 (inv.taken ++ p.0) up_to;
+      faults = marks.faults ∙ next.faults ∙ inv.faults;
+      beside = marks.beside ∙ next.beside ∙ inv.beside;
+    }
+
+pub returns-in-Ok-Done-next_piece-clause-judged : goal.returns-in-Ok-Done-next_piece-clause-judged
+returns-in-Ok-Done-next_piece-clause-judged g c =
+    let inv = c.lines.invariant in
+    let next = rw c.in-Ok-Done-next_piece.field-0-is at c.in-Ok-Done-next_piece.ensures in
+    let p = next.piece in
+    let told = p.2 inv.taken inv.up_to.said inv.up_to.read in
+    let counts = c.next_piece-in-lines.new.self.counts in
+    let goes = end_goes c.lines.lines c.lines.pieces c.next_piece-in-lines.new.self inv.up_to.said (inv.taken ++ p.0) inv.up_to.knows inv.up_to.kind inv.up_to.some told.1 told.2 in (
+      inv.taken ++ p.0,
+      Consumes-trans _ _ _ inv.taken p.0 inv.took p.1,
+      (judged_so (inv.taken ++ p.0) counts (inv.up_to.said ++ says [] ∷ []) c.verdict.result told.2 (c.verdict.ensures inv.up_to.said goes), told.3, told.4),
+    )
+
+pub returns-in-Ok-Done-next_piece-clause-best : goal.returns-in-Ok-Done-next_piece-clause-best
+returns-in-Ok-Done-next_piece-clause-best g c agreed =
+    let inv = c.lines.invariant in
+    let next = rw c.in-Ok-Done-next_piece.field-0-is at c.in-Ok-Done-next_piece.ensures in
+    let p = next.piece in
+    let told = p.2 inv.taken inv.up_to.said inv.up_to.read in
+    let counts = c.next_piece-in-lines.new.self.counts in
+    let goes = end_goes c.lines.lines c.lines.pieces c.next_piece-in-lines.new.self inv.up_to.said (inv.taken ++ p.0) inv.up_to.knows inv.up_to.kind inv.up_to.some told.1 told.2 in
+    let same : c.verdict.result ≡ Yes = cc in
+    let certificate : IsCertificate (inv.taken ++ p.0) =
+    subst (IsJudged (inv.taken ++ p.0)) same (judged_so (inv.taken ++ p.0) counts (inv.up_to.said ++ says [] ∷ []) c.verdict.result told.2 (c.verdict.ensures inv.up_to.said goes)) in (
+      inv.taken ++ p.0,
+      Consumes-trans _ _ _ inv.taken p.0 inv.took p.1,
+      certificate,
+      c.certificate_verdict_law.ensures.best (inv.taken ++ p.0) certificate,
+    )
+
+pub returns-in-Err-clause-judged : goal.returns-in-Err-clause-judged
+returns-in-Err-clause-judged g c =
+    let p = (rw c.in-Err.end-is at c.in-Err.ensures).piece in
+    (p.0, p.1, p.2 [] [] c.new-pieces.ensures.read)
+
+pub unreachable-requires : goal.unreachable-requires
+unreachable-requires g c =
+    let next = rw c.in-Ok-Line.field-0-is at c.in-Ok-Line.ensures in
+    let told = next.piece.2 [] [] c.new-pieces.ensures.read in
+    let some = told.0 in
+    let none = c.new-pieces.ensures.start in
+    omega (arith, some, none)
+
+pub unreachable-requires-in-Ok-Mark : goal.unreachable-requires-in-Ok-Mark
+unreachable-requires-in-Ok-Mark g c =
+    let next = rw c.in-Ok-Mark.field-0-is at c.in-Ok-Mark.ensures in
+    let told = next.piece.2 [] [] c.new-pieces.ensures.read in
+    let some = told.0 in
+    let none = c.new-pieces.ensures.start in
+    omega (arith, some, none)
+
+pub new-lines-requires : goal.new-lines-requires
+new-lines-requires g c =
+    let next = rw c.in-Ok-Kind.field-0-is at c.in-Ok-Kind.ensures in
+    let told = next.piece.2 [] [] c.new-pieces.ensures.read in
+    subst (λ (k : ℕ). (k ≡ 1) ⊎ (k ≡ 2) ⊎ (k ≡ 3)) (sym told.2) (kinds c.next_piece.new.self.counts told.3.begins.are_counts)
+
+pub lines-init : goal.lines-init
+lines-init g c =
+    let next = rw c.in-Ok-Kind.field-0-is at c.in-Ok-Kind.ensures in
+    let p = next.piece in
+    let told = p.2 [] [] c.new-pieces.ensures.read in
+    record {
+      taken = p.0;
+      took = p.1;
+      up_to = record {
+        said = says (pos 1 ∷ []) ∷ says [] ∷ [];
+        read = told.3;
+        kind = sym told.2 ∙ sym c.new-lines.ensures.kind;
+        knows = c.new-lines.ensures.knows;
+        to_come = (next.more (λ e. absurd (cc))).0;
+        some = (let two = told.1 in omega (arith, two));
+        long = sym told.1;
+      };
+      faults = next.faults;
+      beside = next.beside;
+    }
+
+pub verdict-requires : goal.verdict-requires
+verdict-requires g c =
+    let inv = c.lines.invariant in
+    let next = rw c.in-Ok-Done-next_piece.field-0-is at c.in-Ok-Done-next_piece.ensures in
+    let p = next.piece in
+    let told = p.2 inv.taken inv.up_to.said inv.up_to.read in
+    (inv.up_to.said, end_goes c.lines.lines c.lines.pieces c.next_piece-in-lines.new.self inv.up_to.said (inv.taken ++ p.0) inv.up_to.knows inv.up_to.kind inv.up_to.some told.1 told.2)
+
+pub unreachable-requires-in-Ok-Kind-next_piece : goal.unreachable-requires-in-Ok-Kind-next_piece
+unreachable-requires-in-Ok-Kind-next_piece g c =
+    let inv = c.lines.invariant in
+    let next = rw c.in-Ok-Kind-next_piece.field-0-is at c.in-Ok-Kind-next_piece.ensures in
+    let told = next.piece.2 inv.taken inv.up_to.said inv.up_to.read in
+    let none = told.0 in
+    let some = inv.up_to.some in
+    omega (arith, none, some)

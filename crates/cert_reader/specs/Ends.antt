@@ -1,0 +1,25 @@
+-- Why reading ends: the reasons of one who reads line by line, and those of one who keeps what was read.
+use Rattle.std.specs.Prelude.{◌≡◌, ◌⊎◌, Result, Ok, Err}
+use Rattle.cert_reader.specs.declared.ends.ReadEnd.{ReadEnd}
+use Rattle.cert_reader.specs.declared.ends.ReadEnd.TheVariants as reads
+use Rattle.cert_reader.specs.declared.ends.TextEnd.{TextEnd}
+use Rattle.cert_reader.specs.declared.ends.TextEnd.TheVariants as texts
+
+-- the same reason
+abbrev pub read_end : TextEnd → ReadEnd
+read_end (texts.NotText line) = reads.NotText line
+read_end texts.ReadFault = reads.ReadFault
+read_end texts.TooLong = reads.TooLong
+
+-- the same answer
+abbrev pub read_answer : {T : Type 0} → Result T TextEnd → Result T ReadEnd
+read_answer (Ok value) = Ok value
+read_answer (Err end) = Err (read_end end)
+
+-- it is an answer of one who reads line by line, of which this holds: so memory is not wanted
+abbrev pub OfAnswer : {T : Type 0} → (Result T TextEnd → Type 0) → Result T ReadEnd → Type 0
+OfAnswer {T} says result = (answer : Result T TextEnd) × (result ≡ read_answer answer) × says answer
+
+-- it is such an answer, or memory is wanted and the other holds
+abbrev pub OfReading : {T : Type 0} → (Result T TextEnd → Type 0) → Type 0 → Result T ReadEnd → Type 0
+OfReading {T} says wanted result = OfAnswer says result ⊎ ((result ≡ Err reads.NoMemory) × wanted)

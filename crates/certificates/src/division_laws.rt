@@ -1,0 +1,19 @@
+// What holds of divisions, for all cases: the law is the contract of a function that does nothing.
+ghost use Rattle.std.specs.Prelude.{◌≡◌};
+ghost use Rattle.bid_rules.specs.declared.cases.Case.{Case};
+ghost use Rattle.bid_rules.specs.Facts.{IsValidCase};
+ghost use Rattle.certificates.specs.declared.division.Division.{Division};
+ghost use Rattle.certificates.specs.Division.{IsDivisionOf};
+
+use nash_search::step_count_law;
+use rent_maximin::one_rent_division_law;
+use shapley_core::division_law as fare_division_law;
+
+/// A valid case has one division: two are equal in all that contracts see of them, of fares the costs by the case that they are of.
+pub fn division_law()
+    ensures { (case : Case) (division other : Division) → IsValidCase case → IsDivisionOf case division → IsDivisionOf case other → division ≡ other }
+{
+    fare_division_law();
+    one_rent_division_law();
+    step_count_law();
+}

@@ -1,0 +1,57 @@
+-- What a source and a sink tell before and after a command.
+use Rattle.std.specs.Prelude.{◌≡◌, ◌⊎◌, ℕ, ◌+◌, ◌≤◌, List, Option, length, take}
+use Rattle.std.specs.Io.KnownBytes.{Appends, Consumes, IsAtEnd}
+use Rattle.split_base.specs.Faults.{HasRisen, counted}
+
+-- the bytes that an object has left or holds, where it knows them, and its count of faults
+pub record ObjectUse : Type 0 where
+  pub bytes_before : Option (List ℕ)
+  pub bytes_after : Option (List ℕ)
+  pub faults_before : ℕ
+  pub faults_after : ℕ
+
+-- what an object tells, by what its trait says of its bytes and faults
+abbrev pub told : {S : Type 0} → (S → Option (List ℕ)) → (S → ℕ) → S → S → ObjectUse
+told bytes faults before after = record { bytes_before = bytes before; bytes_after = bytes after; faults_before = faults before; faults_after = faults after }
+
+-- the object's count of faults rose, or stands at its greatest value
+abbrev pub HasFault : ObjectUse → Type 0
+HasFault object = HasRisen object.faults_before object.faults_after
+
+-- the object's count of faults did not rise
+abbrev pub IsSound : ObjectUse → Type 0
+IsSound object = HasFault object → ⊥
+
+-- no call of the object failed: its count of faults stays
+abbrev pub HasNoFault : ObjectUse → Type 0
+HasNoFault object = object.faults_after ≡ object.faults_before
+
+-- one call of the object failed, and no other: its count of faults goes up by one, or stands at its greatest value
+abbrev pub HasOneFault : ObjectUse → Type 0
+HasOneFault object = HasFault object × (object.faults_after ≡ counted object.faults_before)
+
+-- the input gave these bytes, at most so many, and then no more were left; no read failed
+abbrev pub IsWhole : ℕ → ObjectUse → List ℕ → Type 0
+IsWhole most input bytes = (length bytes ≤ most) × Consumes input.bytes_before input.bytes_after bytes × IsAtEnd input.bytes_after × HasNoFault input
+
+-- nothing was read, and no read failed
+abbrev pub IsUntouched : ObjectUse → Type 0
+IsUntouched input = (input.bytes_after ≡ input.bytes_before) × HasNoFault input
+
+-- the input gave some bytes, at most one more than so many
+abbrev pub IsPartRead : ℕ → ObjectUse → Type 0
+IsPartRead most input = (bytes : List ℕ) × (length bytes ≤ most + 1) × Consumes input.bytes_before input.bytes_after bytes
+
+-- the input gave one byte more than so many, and no more of it was read; no read failed
+abbrev pub IsTooLong : ℕ → ObjectUse → Type 0
+IsTooLong most input = (bytes : List ℕ) × (length bytes ≡ most + 1) × Consumes input.bytes_before input.bytes_after bytes × HasNoFault input
+
+-- the text was written
+abbrev pub HasWritten : ObjectUse → List ℕ → Type 0
+HasWritten output text = Appends output.bytes_before output.bytes_after text
+
+-- the text was written, no write failed, and the status is the one that goes with it; or one write failed after a prefix of the text, which shows in the output's count, and the status is 6
+abbrev pub Ends : ObjectUse → List ℕ → ℕ → ℕ → Type 0
+Ends output text due status =
+    ((status ≡ due) × HasWritten output text × HasNoFault output)
+    ⊎ ((status ≡ 6) × HasOneFault output × ((n : ℕ) × (n ≤ length text) × HasWritten output (take n text)))

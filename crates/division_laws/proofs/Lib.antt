@@ -1,4 +1,0 @@
-mod Cycles
-mod FirstRoutes
-mod HeaviestWalks
-mod SomeRents

@@ -1,2 +1,0 @@
-pub mod MemberPrices
-mod OneDivision

@@ -1,6 +1,0 @@
-pub mod MarkRuns
-pub mod TreeMarks
-pub mod TreeSizes
-pub mod BestAnswer
-pub mod TreeRules
-pub mod Passes

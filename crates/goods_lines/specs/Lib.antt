@@ -1,4 +1,0 @@
-pub mod Lines
-pub mod Marks
-pub mod Nodes
-pub mod Waiting

@@ -1,3 +1,0 @@
-mod Beside
-mod Ends
-mod Said

@@ -1,6 +1,0 @@
--- No more bytes were read than the buffer holds.
-use Rattle.std.proofs.Common.{◌≤◌, length}
-use Rattle.host_adapters.proofs.files.read_full.Given as goal
-
-abbrev pub invariant-loop : goal.invariant-loop
-invariant-loop l = l.done ≤ length l.into

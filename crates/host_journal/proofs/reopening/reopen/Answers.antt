@@ -1,0 +1,25 @@
+use Rattle.std.proofs.Common.{◌≡◌, refl, sym, ap, ◌∙◌, Ok, Err, subst}
+use Rattle.gate_log.specs.declared.fault.LogFault.TheVariants as fault
+use Rattle.host_journal.specs.Journal.{IsFirstFault}
+use Rattle.host_journal.proofs.OpenedFiles.{waiting_event, was_faulty, was_opened}
+use Rattle.host_journal.proofs.reopening.reopen.Goals as goal
+
+pub returns-in-Ok-clause-reopened : goal.returns-in-Ok-clause-reopened
+returns-in-Ok-clause-reopened g c s stands =
+    let (e, waits) = waiting_event c.args.serving.now.waiting s.waiting c.requires stands.waiting in
+    was_opened g.D.Disk c.args.serving.now c.args.disk.now c.open_host.new.disk s stands e waits (Ok (tt {0})) c.open_host.ensures.honest c.open_host.ensures.count c.open_host.ensures.any_moment
+    c.open_host.ensures.after (g.met.D.Disk.seen_is_image c.args.disk.now) c.events_law.ensures.one_meaning _ refl c.in-Ok.ensures.faults refl c.in-Ok.ensures.one c.in-Ok.ensures.done c.in-Ok.ensures.made
+
+pub returns-in-Err-clause-reopened : goal.returns-in-Err-clause-reopened
+returns-in-Err-clause-reopened g c s stands =
+    let (e, waits) = waiting_event c.args.serving.now.waiting s.waiting c.requires stands.waiting in
+    was_faulty g.D.Disk c.args.serving.now c.args.disk.now c.open_host.new.disk s stands e waits _ c.open_host.ensures.honest c.open_host.ensures.count c.open_host.ensures.any_moment
+    c.open_host.ensures.after (g.met.D.Disk.seen_is_image c.args.disk.now) c.events_law.ensures.no_fault c.in-Err.fault refl c.in-Err.ensures.faults c.open_host.ensures.torn
+    (λ h place is. c.open_host.ensures.not_a_log h place (c.in-Err.is ∙ ap Err is))
+    (λ h. c.in-Err.ensures.kept h)
+
+pub returns-in-Err-clause-place : goal.returns-in-Err-clause-place
+returns-in-Err-clause-place g c h place is =
+    let same : c.in-Err.fault ≡ fault.NotALog place = cc is in
+    let rests = c.in-Err.ensures.kept h (λ e. let bad : fault.Disk ≡ fault.NotALog place = sym e ∙ same in cc bad) in
+    subst (IsFirstFault place) rests.same (c.open_host.ensures.not_a_log h place (c.in-Err.is ∙ ap Err same))

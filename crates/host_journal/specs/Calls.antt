@@ -1,0 +1,64 @@
+-- What the calls of a host before its disk lead to.
+use Rattle.std.specs.Prelude.{◌≡◌, ◌⊎◌, ℕ, ◌+◌, List, [], ◌∷◌, ◌++◌, Some, Result, Err, IsOk}
+use Rattle.split_base.specs.declared.disk.Disk.{Ghosts}
+use Rattle.split_base.specs.Disk.{Each, Only, Rests, Tears}
+use Rattle.split_base.specs.Faults.{counted}
+use Rattle.gate_log.specs.declared.fault.LogFault.{LogFault}
+use Rattle.gate_log.specs.declared.fault.LogFault.TheVariants as fault
+use Rattle.gate_log.specs.declared.limits.TheConstants.{VERSION_GATE}
+use Rattle.host_journal.specs.Journal.{HasEvents, HasRaised, HoldsEvents, LeftAlone}
+use Rattle.sealed_core.specs.Host.{EventView}
+use Rattle.host_journal.specs.States.{HasState, Passes, State, ready_with, waits_with}
+use Rattle.host_journal.specs.declared.serving.Serving.{Serving}
+
+-- the serving stands for a new state that has this, and the disk went on from the one state to the other
+pub record Leads {D : Type 0} (d : Ghosts D) (serving : Serving) (disk after : D) (s : State) (case : State → Type 0) : Type 0 where
+  pub new : State
+  pub stands : HasState d serving after new
+  pub passes : Passes d disk s after new
+  pub is : case new
+
+-- an append that is done: four calls of the disk, after which each image holds the events
+pub record IsAppended {D : Type 0} (d : Ghosts D) (disk after : D) (secret : List ℕ) (events : List EventView) : Type 0 where
+  pub calls : d.moment after ≡ d.moment disk + 4
+  pub holds : Each (d.images after) (HoldsEvents secret events)
+
+-- An event was kept; or a call of the disk failed, and the host waits with the event; or there was no memory, and no call was made.
+pub data Keeps {D T : Type 0} (d : Ghosts D) (disk after : D) (event : EventView) (s new : State) (result : Result T LogFault) : Type 0 where
+  kept : IsOk result → d.faults after ≡ d.faults disk → (d.is_honest disk → IsAppended d disk after s.secret (s.kept ++ event ∷ []))
+      → new ≡ ready_with s.secret (s.kept ++ event ∷ []) → Keeps d disk after event s new result
+  failed : result ≡ Err fault.Disk → d.faults after ≡ counted (d.faults disk) → new ≡ waits_with s event → Keeps d disk after event s new result
+  memory : result ≡ Err fault.NoMemory → after ≡ disk → new ≡ s → Keeps d disk after event s new result
+
+-- A file that was opened: what a read gave stood for just these events, and stands for them now in version 2, which is the one image.
+-- It was left alone, or raised from version 1.
+pub record IsFound {D : Type 0} (d : Ghosts D) (disk after : D) (secret : List ℕ) (events : List EventView) : Type 0 where
+  pub before : HoldsEvents secret events (d.seen disk)
+  pub now : HasEvents 2 secret events (d.seen after)
+  pub one : Only (d.seen after) (d.images after)
+  pub calls : LeftAlone d.seen d.moment disk after ⊎ HasRaised d.seen d.moment disk after
+
+-- the file of a host that waits with an event was opened: it held the events kept before, with the one more or without it
+pub record IsSettled {D : Type 0} (d : Ghosts D) (disk after : D) (s : State) (event : EventView) (secret : List ℕ) (kept : List EventView) : Type 0 where
+  pub secret_stays : secret ≡ s.secret
+  pub either : (kept ≡ s.kept) ⊎ (kept ≡ s.kept ++ event ∷ [])
+  pub file : IsFound d disk after secret kept
+
+-- The file of a host that waits was opened, and the host is that of its events. Or a call of the disk failed, and no byte but the version
+-- gate may be torn; or the file is no journal, or there was no memory: then no byte changed.
+pub data Reopens {D T : Type 0} (d : Ghosts D) (disk after : D) (s new : State) (result : Result T LogFault) : Type 0 where
+  opened : (event : EventView) (secret : List ℕ) (kept : List EventView) → s.waiting ≡ Some event → IsOk result → d.faults after ≡ d.faults disk
+      → (d.is_honest disk → IsSettled d disk after s event secret kept) → new ≡ ready_with secret kept → Reopens d disk after s new result
+  failed : (event : EventView) → s.waiting ≡ Some event → result ≡ Err fault.Disk → d.faults after ≡ counted (d.faults disk)
+      → (d.is_honest disk → Each (d.images after) (Tears (d.images disk) VERSION_GATE 1)) → new ≡ s → Reopens d disk after s new result
+  damaged : (event : EventView) (place : ℕ) → s.waiting ≡ Some event → result ≡ Err (fault.NotALog place) → d.faults after ≡ d.faults disk
+      → (d.is_honest disk → ⊥) → new ≡ s → Reopens d disk after s new result
+  memory : (event : EventView) → s.waiting ≡ Some event → result ≡ Err fault.NoMemory → d.faults after ≡ d.faults disk
+      → (d.is_honest disk → Rests d.seen d.images d.moment d.left_since disk after) → new ≡ s → Reopens d disk after s new result
+
+-- a journal was opened: the serving stands for a state that is ready, and an honest disk's file stood for its events
+pub record Opened {D : Type 0} (d : Ghosts D) (disk after : D) (serving : Serving) : Type 0 where
+  pub secret : List ℕ
+  pub kept : List EventView
+  pub stands : HasState d serving after (ready_with secret kept)
+  pub file : d.is_honest disk → IsFound d disk after secret kept

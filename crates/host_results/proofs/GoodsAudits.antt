@@ -1,0 +1,14 @@
+-- The audit of goods, as it is told.
+use Rattle.std.proofs.Common.{◌≡◌, ℕ, List, refl, sym, subst}
+use Rattle.bid_rules.specs.declared.goods.GoodsCase.{GoodsCase}
+use Rattle.goods_audit.specs.Texts.{IsDivisionAudit}
+use Rattle.nash_search.specs.declared.division.GoodsDivision.{GoodsDivision}
+use Rattle.split_reports.specs.Names.{NamesData}
+use Rattle.host_results.specs.declared.contents.ContentType.TheVariants.{Plain}
+use Rattle.host_results.specs.Contents.{ContentView}
+use Rattle.host_results.specs.Publications.{IsText}
+
+pub goods_told : (given names : NamesData) (case : GoodsCase) (division : GoodsDivision) (text : List ℕ) (told : ContentView) → names ≡ given
+    → told ≡ record { status = 200; content_type = Plain; text = text } → IsDivisionAudit names case division text → IsText Plain (IsDivisionAudit given case division) told
+goods_told given names case division text told same is audit =
+    subst (λ (x : ContentView). IsText Plain (IsDivisionAudit given case division) x) (sym is) (refl, refl, subst (λ (n : NamesData). IsDivisionAudit n case division text) same audit)

@@ -1,0 +1,44 @@
+// What holds of publications, for all instances: each law is the contract of a function that does nothing.
+ghost use Rattle.std.specs.Prelude.{◌≡◌, ◌⊎◌};
+ghost use Rattle.reply_texts.specs.declared.refusals.ServiceRefusal.{ServiceRefusal};
+ghost use Rattle.sealed_core.specs.declared.commands.What.{What};
+ghost use Rattle.sealed_core.specs.Host.{InstanceView, IsCheckedInstance, as_closed};
+ghost use Rattle.split_json.specs.Reading.{CaseData, IsReady};
+ghost use Rattle.host_results.specs.Contents.{ContentView, refusal_told};
+ghost use Rattle.host_results.specs.Publications.{IsPublication, case_data};
+
+use adjusted_winner::winner_text_law;
+use bid_rules::case_law;
+use certificates::certificate_law;
+use fare_audit::one_audit_law;
+use goods_audit::one_goods_audit_law;
+use reply_texts::division_text_law;
+use split_reports::report_law;
+use split_solve::solve_law;
+
+/// An instance is of a case whose facts and bids have no fault, with a name for each member and item, and an entry of the bids for each
+/// member. The Close changes nothing of that case.
+pub fn instance_law()
+    ensures ready { (i : InstanceView) → IsCheckedInstance i → IsReady (case_data i) }
+    ensures closed { (i : InstanceView) → case_data (as_closed i) ≡ case_data i }
+{}
+
+/// Of a case one thing alone is published by what is asked: so neither the number of workers nor their order takes part in its status,
+/// its content type and its text.
+pub fn one_publication_law()
+    ensures { (given : CaseData) (asked : What) (told other : ContentView) → IsReady given → IsPublication given asked told → IsPublication given asked other → told ≡ other }
+{
+    case_law();
+    certificate_law();
+    division_text_law();
+    one_audit_law();
+    one_goods_audit_law();
+    report_law();
+    solve_law();
+    winner_text_law();
+}
+
+/// What is published has the status 200, or it tells a refusal of the service.
+pub fn publication_status_law()
+    ensures { (given : CaseData) (asked : What) (told : ContentView) → IsPublication given asked told → (told.status ≡ 200) ⊎ ((refusal : ServiceRefusal) × (told ≡ refusal_told refusal)) }
+{}

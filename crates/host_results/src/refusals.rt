@@ -1,0 +1,34 @@
+// How it is told that an instance has no division.
+ghost use Rattle.std.specs.Prelude.{◌≡◌, IfOk};
+ghost use Rattle.host_results.specs.Contents.{content_view, refusal_told};
+ghost use Rattle.host_results.specs.Publications.{refusal_of};
+
+use crate::contents::{ContentType, ReplyContent};
+use reply_texts::{ServiceRefusal, service_refusal_text};
+use split_base::NoMemory;
+use split_solve::SolveFault;
+use std::alloc::Global;
+
+/// The refusal by which a fault of the solver is told.
+pub fn refusal_of(fault: SolveFault) -> ServiceRefusal
+    ensures { result ≡ refusal_of fault }
+{
+    match fault {
+        SolveFault::Void { missing } => ServiceRefusal::Void { missing },
+        SolveFault::OverLimit { limit } => ServiceRefusal::StepLimit { limit },
+        SolveFault::NoMemory => ServiceRefusal::Memory,
+    }
+}
+
+/// What the reply tells by which the service refuses a request: the status of the refusal, and its text as JSON. `NoMemory` comes for want
+/// of memory alone.
+pub fn refusal_content(alloc: Global, refusal: &ServiceRefusal) -> Result<ReplyContent, NoMemory>
+    ensures { IfOk result (λ told. content_view told ≡ refusal_told refusal.now) }
+{
+    let text = service_refusal_text(alloc, refusal)?;
+    Ok(ReplyContent {
+        status: refusal.status(),
+        content_type: ContentType::Json,
+        text,
+    })
+}

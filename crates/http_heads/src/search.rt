@@ -1,0 +1,135 @@
+// The search for a head at the front of bytes that come in pieces.
+ghost use Rattle.std.specs.Prelude.{◌≡◌, ◌<◌, ◌≤◌, ◌++◌, ℕ, List};
+ghost use Rattle.std.specs.Io.KnownBytes.{Keeps, prepend_known};
+ghost use Rattle.httparse.specs.Outcome.{IfComplete, OnInvalid, OnPartial, OnTooManyHeaders};
+ghost use Rattle.httparse.specs.declared.spans.HeaderSpan.{HeaderSpan};
+ghost use Rattle.split_base.specs.Faults.{HasRisen};
+ghost use Rattle.http_heads.specs.declared.limits.TheConstants.{MAX_FIELDS};
+ghost use Rattle.http_heads.specs.Search.{HasNone, NeverHasOne, LookSays, IsAhead, SearchSays, faults_by};
+
+use crate::carry::Carry;
+use crate::limits::{MAX_FIELDS, MAX_HEAD, ROOM};
+use httparse::spans::HeaderSpan;
+use httparse::{Error, Status};
+use split_base::Source;
+
+/// A kind of head, of requests or of responses, as `httparse` reads it.
+pub trait HeadKind {
+    /// Where the parts of a head stand.
+    type Spans: Copy;
+
+    /// The bytes are the whole text of a head with at most `MAX_FIELDS` fields.
+    ghost IsText: { List ℕ → Type 0 };
+
+    /// Such a head stands at the front of the bytes, at these spans.
+    ghost IsFound: { List ℕ → List HeaderSpan → Self.Spans → Type 0 };
+
+    /// How many fields the head at these spans has.
+    ghost size: { Self.Spans → ℕ };
+
+    /// Parses the head at the front of the bytes.
+    fn parse(bytes: &[u8], fields: &mut [HeaderSpan; ROOM]) -> httparse::Result<Self::Spans>
+        ensures found { IfComplete result (λ spans. size spans ≤ MAX_FIELDS → IsFound bytes.now fields.new spans) }
+        ensures many { IfComplete result (λ spans. MAX_FIELDS < size spans → NeverHasOne IsText bytes.now) }
+        ensures partial { OnPartial result (HasNone IsText bytes.now) }
+        ensures invalid { OnInvalid result (NeverHasOne IsText bytes.now) }
+        ensures no_room { OnTooManyHeaders result (HasNone IsText bytes.now) };
+
+    /// The number of its fields.
+    fn count(spans: &Self::Spans) -> usize
+        ensures { result ≡ size spans.now };
+}
+
+/// What the bytes that were read so far say of a head.
+#[derive(Clone, Copy, Debug)]
+pub enum Look<T> {
+    /// One stands at their front, at these spans.
+    Found(T),
+    /// They begin with none, whatever follows.
+    Never,
+    /// They begin with none yet.
+    NotYet,
+}
+
+/// What comes next of a source. A head that was found stays in the carry.
+#[derive(Clone, Copy, Debug)]
+pub enum Ahead<T> {
+    /// A head, at these spans of the carry.
+    Found(T),
+    /// Bytes that begin with no head.
+    Bad,
+    /// Nothing is left.
+    End,
+    /// A read failed.
+    Fault,
+}
+
+/// Looks for a head at the front of the bytes, with at most `MAX_FIELDS` fields.
+pub fn find_head<K: HeadKind>(bytes: &[u8], fields: &mut [HeaderSpan; ROOM]) -> Look<K::Spans>
+    ensures { LookSays K.IsText K.IsFound bytes.now fields.new result }
+{
+    match K::parse(bytes, fields) {
+        Ok(Status::Complete(spans)) => {
+            if K::count(&spans) <= MAX_FIELDS {
+                Look::Found(spans)
+            } else {
+                Look::Never
+            }
+        }
+        Ok(Status::Partial) => Look::NotYet,
+        Err(Error::TooManyHeaders) => Look::NotYet,
+        Err(_) => Look::Never,
+    }
+}
+
+/// Reads to the end of the next head, which stays in the carry.
+///
+/// - `Bad` comes where bytes are left, and no first part of them is a head of at most `MAX_HEAD`
+///   bytes and with at most `MAX_FIELDS` fields.
+/// - `End` comes where nothing is left.
+/// - `Fault` comes for one failed read, which the source's count of faults tells. Each other answer
+///   leaves that count as it is. A read fails only while no head stands in the carry.
+pub fn look_ahead<K: HeadKind, S: Source>(
+    source: &mut S,
+    carry: &mut Carry,
+    fields: &mut [HeaderSpan; ROOM],
+) -> Ahead<K::Spans>
+    ensures same { Keeps (prepend_known carry.old (S.left source.old)) (prepend_known carry.new (S.left source.new)) }
+    ensures ahead { IsAhead K.IsText K.IsFound carry.new fields.new result }
+    ensures says { SearchSays K.IsText (prepend_known carry.new (S.left source.new)) result }
+    ensures more { (read : List ℕ) × (carry.new ≡ carry.old ++ read) }
+    ensures reads { S.faults source.old ≤ S.faults source.new }
+    ensures cause { result ≡ Ahead.Fault → HasRisen (S.faults source.old) (S.faults source.new) }
+    ensures count { S.faults source.new ≡ faults_by (S.faults source.old) result }
+    ensures beside { S.beside source.new ≡ S.beside source.old }
+{
+    let mut room = MAX_HEAD - carry.len();
+    if carry.len() > 0 {
+        match find_head::<K>(carry.as_slice(), fields) {
+            Look::Found(spans) => return Ahead::Found(spans),
+            Look::Never => return Ahead::Bad,
+            Look::NotYet => {}
+        }
+    }
+    while room > 0 {
+        match carry.fill(source) {
+            Err(_) => return Ahead::Fault,
+            Ok(0) => {
+                return if carry.len() > 0 {
+                    Ahead::Bad
+                } else {
+                    Ahead::End
+                };
+            }
+            Ok(_) => {}
+        }
+        room = MAX_HEAD - carry.len();
+        match find_head::<K>(carry.as_slice(), fields) {
+            Look::Found(spans) => return Ahead::Found(spans),
+            Look::Never => return Ahead::Bad,
+            Look::NotYet => {}
+        }
+    }
+    // As many bytes as a head may have hold none.
+    Ahead::Bad
+}

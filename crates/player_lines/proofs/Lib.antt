@@ -1,2 +1,0 @@
-pub mod HeldGoods
-pub mod Lines

@@ -1,8 +1,0 @@
-// What holds of texts that grow line by line: each law is the contract of a function that does nothing.
-ghost use Rattle.std.specs.Prelude.{◌≡◌, ℕ, ◌+◌, ◌++◌, List};
-ghost use Rattle.player_lines.specs.Lines.{lines_to};
-
-/// A text to which the lines of the first few numbers were appended has those of one number more once its line is appended, too.
-pub fn lines_law()
-    ensures { (line : ℕ → List ℕ) (k : ℕ) (start old new : List ℕ) → old ≡ start ++ lines_to k line → new ≡ old ++ line (k + 1) → new ≡ start ++ lines_to (k + 1) line }
-{}

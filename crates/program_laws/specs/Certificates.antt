@@ -1,0 +1,25 @@
+-- Certificates that a host sends, as a fetch takes them.
+use Rattle.std.specs.Prelude.{◌≡◌, ◌≢◌, ℕ, List, ◌++◌, Some, Result, Ok, Err}
+use Rattle.host_commands.specs.Publishing.{AsksFor}
+use Rattle.host_journal.specs.States.{State}
+use Rattle.serving.specs.Exchanges.{Exchange}
+use Rattle.remote_check.specs.declared.ends.FetchEnd.{FetchEnd}
+use Rattle.remote_check.specs.declared.ends.FetchEnd.TheVariants.{LinkFault}
+use Rattle.remote_check.specs.declared.limits.TheConstants.{OK_STATUS}
+use Rattle.remote_check.specs.Fetched.{FetchSays, Fetched}
+use Rattle.sealed_core.specs.declared.commands.What.TheVariants as what
+use Rattle.split_http.specs.declared.head.Verb.TheVariants as verb
+use Rattle.rule_verdicts.specs.declared.verdict.Verdict.{Verdict}
+use Rattle.rule_verdicts.specs.declared.verdict.Verdict.TheVariants.{Yes}
+
+-- yes is what is to be answered of these bytes
+abbrev pub IsYes : List ℕ → Type 0
+IsYes bytes = Fetched bytes (Ok Yes)
+
+-- over a link with these bytes a fetch answers nothing but yes, unless a call on the link failed
+abbrev pub IsYesOnly : List ℕ → Type 0
+IsYesOnly bytes = (result : Result Verdict FetchEnd) → FetchSays (Some bytes) result → result ≢ Err LinkFault → result ≡ Ok Yes
+
+-- where the request is a GET for a certificate, and has a reply of status 200, this is so of the bytes of the reply, whatever follows
+abbrev pub IsOfCertificates : {D : Type 0} → (List ℕ → Type 0) → Exchange (D × State) → Type 0
+IsOfCertificates so x = AsksFor x what.Certificate → x.due.said.status ≡ OK_STATUS → x.head.verb ≡ verb.Get → (rest : List ℕ) → so (x.bytes ++ rest)

@@ -1,0 +1,26 @@
+// Heads of responses, as the search for heads takes them.
+ghost use Rattle.remote_check.specs.Heads.{IsFoundAt, IsText};
+
+use http_heads::{HeadKind, ROOM};
+use httparse::spans::{HeaderSpan, ResponseSpans, parse_response};
+
+// The kind of head that responses have.
+pub(crate) struct ResponseHeads;
+
+impl HeadKind for ResponseHeads {
+    type Spans = ResponseSpans;
+
+    ghost IsText = { IsText };
+
+    ghost IsFound = { IsFoundAt };
+
+    ghost size = { λ spans. spans.headers };
+
+    fn parse(bytes: &[u8], fields: &mut [HeaderSpan; ROOM]) -> httparse::Result<ResponseSpans> {
+        parse_response(bytes, fields)
+    }
+
+    fn count(spans: &ResponseSpans) -> usize {
+        spans.headers
+    }
+}

@@ -1,5 +1,0 @@
-pub mod DateBytes
-pub mod Lengths
-pub mod ReplyHeads
-pub mod SentCertificates
-pub mod Taken

@@ -1,0 +1,6 @@
+-- None so far is the number.
+use Rattle.std.proofs.Common.{◌≡◌, ℕ, ◌<◌, get_or}
+use Rattle.rule_verdicts.proofs.members.has_number.Given as goal
+
+abbrev pub invariant-loop-k : goal.invariant-loop-k
+invariant-loop-k l = (i : ℕ) → i < l.k → get_or l.numbers i 0 ≡ l.number → ⊥

@@ -1,5 +1,0 @@
-//! Tests of `serving`, over its public names alone.
-#![tactic(auto)]
-
-#[cfg(test)]
-mod links;

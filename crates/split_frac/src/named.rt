@@ -1,0 +1,24 @@
+// A name under its number.
+ghost use Rattle.std.specs.Prelude.{Some};
+ghost use Rattle.split_frac.specs.Texts.{named};
+
+use std::fmt;
+
+/// What has a number and a name, a person or a thing, as people read it: `1 Ann`.
+#[derive(Clone, Copy)]
+pub struct Named<'a> {
+    /// The number, from 1.
+    pub number: u8,
+    /// The name.
+    pub name: &'a str,
+}
+
+impl fmt::Display for Named<'_> {
+    ghost output = { λ n. Some (named n.number n.name.now) };
+
+    #[tactic(auto, unfolding(crate::specs::Texts::named))]
+    fn fmt<W: fmt::Write>(&self, f: &mut fmt::Formatter<W>) -> fmt::Result {
+        let (number, name) = (self.number, self.name);
+        write!(f, "{number} {name}")
+    }
+}

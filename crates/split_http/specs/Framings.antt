@@ -1,0 +1,27 @@
+-- Where the request at the front of a client's bytes ends.
+use Rattle.std.specs.Prelude.{◌≡◌, ℕ, ◌+◌, List, ◌++◌, length}
+use Rattle.httparse.specs.Grammar.{RequestHead, print_request}
+use Rattle.split_http.specs.declared.framing.Framing.{Framing}
+use Rattle.split_http.specs.declared.framing.Framing.TheVariants as framings
+use Rattle.split_http.specs.Heads.{IsHead, HasNoHead, text_of, length_of, expects_of}
+use Rattle.split_http.specs.Turns.{IsOpen}
+
+-- the bytes begin with no head, and will not, whatever follows
+abbrev pub NeverHasHead : List ℕ → Type 0
+NeverHasHead bytes = (more : List ℕ) → HasNoHead (bytes ++ more)
+
+-- the bytes begin with this head, and a body of the length that it tells ends there
+abbrev pub EndsAt : List ℕ → RequestHead → ℕ → Type 0
+EndsAt bytes head bound = ((rest : List ℕ) × (bytes ≡ print_request head ++ rest)) × (bound ≡ length (print_request head) + length_of (text_of head))
+
+-- a head stands at the front, which ends so far on with its body, and this is whether an interim reply is due
+abbrev pub IsRequest : List ℕ → Framing → Type 0
+IsRequest bytes framings.Open = ⊥
+IsRequest bytes framings.NoHead = ⊥
+IsRequest bytes (framings.Request bound expects) = (head : RequestHead) × IsHead head × EndsAt bytes head bound × (expects ≡ expects_of (text_of head))
+
+-- what stands at the front: such a head, or none, now or ever
+abbrev pub FramingSays : List ℕ → Framing → Type 0
+FramingSays bytes framings.Open = IsOpen bytes
+FramingSays bytes framings.NoHead = NeverHasHead bytes
+FramingSays bytes (framings.Request bound expects) = IsRequest bytes (framings.Request bound expects)

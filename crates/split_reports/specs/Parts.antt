@@ -1,0 +1,20 @@
+-- The parts of lines that texts of several kinds share.
+use Rattle.std.specs.Prelude.{ℕ, ◌-◌, List, [], flat_map, slice_index, slice_index_or}
+use Rattle.std.specs.List.{range_with_len}
+use Rattle.split_frac.specs.Texts.{named}
+
+-- the number in a list with a place, counted from 1
+abbrev pub number_at : List ℕ → ℕ → ℕ
+number_at numbers place = slice_index numbers (place - 1)
+
+-- the text in a list with a place, counted from 1
+abbrev pub text_at : List (List ℕ) → ℕ → List ℕ
+text_at texts place = slice_index_or texts (place - 1) []
+
+-- the number of a person or a thing, counted from 1, and the name
+abbrev pub named_at : List (List ℕ) → ℕ → List ℕ
+named_at names number = named number (text_at names number)
+
+-- the lines of 1 to n, one after another
+abbrev pub lines_to : ℕ → (ℕ → List ℕ) → List ℕ
+lines_to n text = flat_map text (range_with_len 1 n)

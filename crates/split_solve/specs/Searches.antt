@@ -1,0 +1,11 @@
+-- What a search of goods found.
+use Rattle.std.specs.Prelude.{Result, Ok, Err}
+use Rattle.bid_rules.specs.declared.goods.GoodsCase.{GoodsCase}
+use Rattle.nash_search.specs.declared.division.GoodsDivision.{GoodsDivision}
+use Rattle.nash_search.specs.declared.division.OverLimit.{OverLimit}
+use Rattle.nash_search.specs.Division.{IsGoodsDivision, IsOverLimit}
+
+-- the best division of the case, or that its step count is above its limit
+abbrev pub IsSearched : GoodsCase → Result GoodsDivision OverLimit → Type 0
+IsSearched case (Ok division) = IsGoodsDivision case division
+IsSearched case (Err over) = IsOverLimit case over

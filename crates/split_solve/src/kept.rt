@@ -1,0 +1,147 @@
+// The searches of goods that are kept, so that a case that comes again is not searched anew.
+ghost use Rattle.std.specs.Prelude.{◌≡◌, IfSome};
+ghost use Rattle.split_solve.specs.Searches.{IsSearched};
+
+use crate::limits::MOST_KEPT_SEARCHES;
+use arrayvec::ArrayVec;
+use bid_rules::limits::{MemberList, ValueTable, Values};
+use bid_rules::{Goods, GoodsCase};
+use nash_search::{GoodsDivision, OverLimit};
+use std::alloc::Global;
+use std::marker::Model;
+
+/// A case of goods, and what its search found. Contracts see the case.
+#[derive(Drop)]
+struct KeptSearch {
+    case: GoodsCase,
+    found: Result<GoodsDivision, OverLimit>,
+}
+
+impl Model for KeptSearch {
+    ghost use Rattle.bid_rules.specs.declared.goods.GoodsCase.{GoodsCase};
+    ghost use Rattle.split_solve.specs.Searches.{IsSearched};
+
+    ghost Value = { GoodsCase };
+
+    ghost view = { λ k. k.case };
+
+    ghost invariant = { λ k. IsSearched k.case k.found };
+}
+
+impl KeptSearch {
+    /// What the search of this case found, where it is the case that is kept.
+    fn answer(&self, case: &GoodsCase) -> Option<Result<GoodsDivision, OverLimit>>
+        ensures { IfSome result (IsSearched case.now) }
+    {
+        if self.case == *case {
+            Some(same_end(&self.found))
+        } else {
+            None
+        }
+    }
+}
+
+/// What the last searches of goods found, `MOST_KEPT_SEARCHES` of them at most.
+///
+/// The key is the whole case, with its points: so what is found for it is its answer wherever the case comes from, and nothing has to be
+/// forgotten. It takes part in how soon an answer comes, and not in what it is. Where memory is refused, nothing is kept.
+#[derive(Drop)]
+pub struct KeptSearches {
+    searches: Vec<KeptSearch>,
+}
+
+impl KeptSearches {
+    /// None yet. It takes no memory.
+    pub fn new(alloc: Global) -> Self {
+        KeptSearches {
+            searches: Vec::new(alloc),
+        }
+    }
+
+    /// What the search of this case found, where it is kept.
+    pub(crate) fn answer(&self, case: &GoodsCase) -> Option<Result<GoodsDivision, OverLimit>>
+        ensures { IfSome result (IsSearched case.now) }
+    {
+        for kept in self.searches.iter() {
+            if let Some(found) = kept.answer(case) {
+                return Some(found);
+            }
+        }
+        None
+    }
+
+    /// Keeps what the search of a case found, in place of the oldest where there are `MOST_KEPT_SEARCHES`.
+    pub(crate) fn keep(&mut self, case: &GoodsCase, found: &Result<GoodsDivision, OverLimit>)
+        requires { IsSearched case.now found.now }
+    {
+        if self.searches.len() >= MOST_KEPT_SEARCHES {
+            self.searches.remove(0);
+        }
+        let _ = self.searches.push(KeptSearch {
+            case: same_case(case),
+            found: same_end(found),
+        });
+    }
+}
+
+/// The same case once more.
+fn same_case(case: &GoodsCase) -> GoodsCase
+    ensures { result ≡ case.now }
+{
+    GoodsCase {
+        facts: Goods {
+            members: case.facts.members,
+            goods: case.facts.goods,
+            limit: case.facts.limit,
+        },
+        who: same_numbers(&case.who),
+        values: same_table(&case.values),
+    }
+}
+
+/// The same end of a search once more.
+fn same_end(found: &Result<GoodsDivision, OverLimit>) -> Result<GoodsDivision, OverLimit>
+    ensures { result ≡ found.now }
+{
+    match found {
+        Ok(division) => Ok(GoodsDivision {
+            owners: same_numbers(&division.owners),
+            pair: division.pair,
+            steps: division.steps,
+        }),
+        Err(over) => Err(OverLimit { limit: over.limit }),
+    }
+}
+
+/// The same numbers once more.
+fn same_numbers<const N: usize>(numbers: &ArrayVec<u8, N>) -> ArrayVec<u8, N>
+    ensures { result ≡ numbers.now }
+{
+    let mut copy = ArrayVec::new();
+    for number in numbers.as_slice() {
+        copy.push(*number);
+    }
+    copy
+}
+
+/// The same points once more, by player.
+fn same_table(table: &ValueTable) -> ValueTable
+    ensures { result ≡ table.now }
+{
+    let mut copy = ArrayVec::new();
+    for values in table.as_slice() {
+        copy.push(same_values(values));
+    }
+    copy
+}
+
+/// The same points once more, by good.
+fn same_values(values: &Values) -> Values
+    ensures { result ≡ values.now }
+{
+    let mut copy = ArrayVec::new();
+    for value in values.as_slice() {
+        copy.push(*value);
+    }
+    copy
+}

@@ -1,6 +1,0 @@
-pub mod CaseForms
-pub mod Drawing
-pub mod FewSteps
-pub mod Spreading
-pub mod ValidCases
-pub mod WeightSums

@@ -1,4 +1,0 @@
-pub mod Draws
-pub mod Prefixes
-pub mod Spreads
-pub mod Trials

@@ -1,4 +1,0 @@
-pub mod FewParts
-pub mod Passes
-pub mod Fits
-pub mod Texts

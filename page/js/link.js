@@ -1,0 +1,19 @@
+// Links: `#ID.KEY`, perhaps `.CURRENCY`, and in the organiser's the tag of the creation behind. All of it stands in the fragment, which browsers
+// send to nobody. What stands before the # is the address of the page as it is, so a path of the host stays in the link.
+
+/** What a fragment says, or null. */
+export function parse(hash) {
+  const found = /^#(\d{1,10})\.([0-9a-f]{64})(?:\.([A-Z]{3})?)?(?:\.([0-9a-z-]{16,64}))?$/.exec(hash);
+  return found && { id: found[1], key: found[2], currency: found[3] ?? '', tag: found[4] ?? '' };
+}
+
+/** The fragment of a link. */
+export const fragment = ({ id, key, currency = '', tag = '' }) => `#${id}.${key}${currency || tag ? `.${currency}` : ''}${tag ? `.${tag}` : ''}`;
+
+/** The link as an address. */
+export const address = (link) => location.origin + location.pathname + fragment(link);
+
+const FIELDS = ['kind', 'title', 'members', 'rooms', 'rent', 'goods', 'limit', 'places', 'flag', 'legs', 'deadline', 'tag'];
+
+/** The creation of a round, as the round tells it: under the tag in the organiser's link, it gets the members' keys again. */
+export const creationOf = (round, tag) => JSON.stringify({ ...round, deadline: new Date(round.deadline * 1000).toISOString().replace('.000', ''), tag }, FIELDS);
