@@ -279,7 +279,7 @@ def rent(rig, olive, ann, ben):
     olive.has('2 of 3 have a bid', '.people', 60)
     check('and then no longer', 'does not answer' not in olive.text('.people'))
     check('close is not offered', not olive.enabled('Close the round'))
-    olive.has('no bid of Çağla', '.people')
+    olive.has('no bid from Çağla', '.people')
     ben.open(urls['link-3'])
     bid(ben, ['500', '500', '450.50'])
     send(ben)
@@ -300,6 +300,7 @@ def rent(rig, olive, ann, ben):
             same('my utility', exacts(p, '.hero'), [lines[me][5]])
             same('the printed bid', p.text('#printed'), ' · '.join(money(v) for v in values[me]))
             check('it is as it was sent', 'what this browser sent last' in p.text())
+    same('after the close the organiser has the links', links(olive), urls)
     shots(ann, '7-result-rent')
     look_at(ann, 'the result of a rent')
     files(ann, 'round-1', [('Report', 'report', report), ('Certificate', 'certificate', program('solve 1', case))])
@@ -501,7 +502,7 @@ def refusals(rig, olive, ann, ben):
     for link, words in ((f'#{made["id"]}.{"0" * 64}', 'opens nothing in this round'), (f'#99999.{"0" * 64}', 'There is no such round'), (f'#1.{"0" * 63}', 'This link is not whole')):
         ben.open(rig.url + link)
         ben.has(words)
-        check('the way out is told', 'Ask whoever made the round' in ben.text())
+        check('the way out is told', 'Ask the person who made the round' in ben.text())
     look_at(ben, 'a broken link')
     made = api(rig, 'instances', body={**gone, 'deadline': '2126-01-01T00:00:00Z', 'tag': tag()})
     for turn in range(1, 20):
@@ -514,6 +515,7 @@ def refusals(rig, olive, ann, ben):
     ann.press('Change my bid')
     ann.has('20 of 20 turns used')
     check('then nothing can be sent', not ann.enabled('Change my bid'))
+    same('nor is a change promised', ann.text('#message'), 'Kept.')
     # a host that is stricter than the page
     for field, where in (('rent', '#rent-fault'), ('members', '#members-fault'), ('rooms', '#things-fault'), ('deadline', '#deadline-fault'), ('title', '#title-fault'), ('', '.box.bad')):
         fill_form(rig, olive, 'rent', 'Strict', ['Ann', 'Ben'], ['A', 'B'])

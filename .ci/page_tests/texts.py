@@ -222,20 +222,41 @@ def compare_answers():
             check(f'{name} lacks the row {row}', row in text_of(name))
 
 
+# What ORGANISERS.md says of sizes: for so many people and so many things, from how many to how many had an answer, first with any points.
+SIZES = [
+    ('2 to 6 people, up to 10 things', range(2, 7), range(4, 11)), ('2 to 6 people, 12 things', range(2, 7), [12]), ('2 to 6 people, 14 things', range(2, 7), [14]),
+    ('2 people, 24 things', [2], [24]), ('3 to 6 people, 20 things', range(3, 7), [20]),
+]
+
+
+def compare_sizes():
+    """The table of sizes in ORGANISERS.md is that of the page, shortened."""
+    table = texts_of_table(text_of('page/js/rules.js').split('ANSWERED = {')[1].split('};')[0])
+    told = text_of('docs/ORGANISERS.md')
+    cells = lambda key, people, things: [some for n, row in zip(table['people'], table[key]) for m, some in zip(table['goods'], row) if n in people and m in things]
+    span = lambda found: f'{min(found)} to {max(found)}' if min(found) < max(found) else f'{found[0]}'
+    for words, people, things in SIZES:
+        row = f"| {words} | {span(cells('any', people, things))} | {span(cells('stepped', people, things))} |"
+        check(f'ORGANISERS lacks the row {row}', row in told)
+    none = [cells(key, [people], things) for key in ('any', 'stepped') for people, things in ((10, [8]), (12, [6, 8, 10]))]
+    check('ORGANISERS has another row of sizes without an answer', '| 10 people, 8 things; 12 people, 6 to 10 things | 0 | 0 |' in told and not any(map(sum, none)))
+
+
 def texts_of_table(text):
     return {key: json.loads(re.search(key + r': (\[\[.*?\]\]|\[[^\]]*\])', text, re.S)[1]) for key in ('people', 'goods', 'any', 'stepped')}
 
 
 def outside_of_proof():
-    """The documents say that the page stands outside what is proved, README shows it, and its picture is light."""
+    """The documents say that the page is outside what is proved, README shows it, and its picture is light."""
     for name in ('docs/HEADLINE.md', 'docs/PROVED.md', 'README.md'):
         check(f'{name} does not say that the page is outside what is proved', re.search(r'page[^.]*(outside|no (clause|proof))', text_of(name)))
-    paragraphs = [part for part in text_of('README.md').split('\n\n') if part.strip() and not part.startswith('#')]
-    check('README\'s third paragraph is not the command page/try 8080', 'page/try 8080' in paragraphs[2])
-    for picture in re.findall(r'!\[[^\]]+\]\((docs/pictures/[\w.-]+)\)', text_of('README.md')):
+    check('README has no command page/try 8080', re.search(r'^page/try 8080$', text_of('README.md'), re.M))
+    pictures = re.findall(r'!\[[^\]]+\]\((docs/pictures/[\w.-]+)\)', text_of('README.md'))
+    check('README does not open with a picture', pictures and text_of('README.md').index(pictures[0]) < text_of('README.md').index('\n## '))
+    for picture in pictures:
         check(f'{picture} is above {MOST_OF_A_PICTURE} bytes', os.path.getsize(os.path.join(TOP, picture)) <= MOST_OF_A_PICTURE)
-    words = len(re.findall(r'\S+', text_of('README.md')))
-    check(f'README has {words} words', words <= 1500)
+    words = len(text_of('README.md').split())
+    check(f'README has {words} words', words <= 1200)
 
 
 def main():
@@ -248,6 +269,7 @@ def main():
     compare_limits(texts, words)
     compare_hosts(texts)
     compare_answers()
+    compare_sizes()
     outside_of_proof()
     check('check.html is stale', subprocess.run([sys.executable, os.path.join(PAGE, 'make_check'), '--check'], check=False).returncode == 0)
     print(f'texts: {right} right, {wrong} wrong; {weight}; {policies}')

@@ -169,7 +169,7 @@ export function bidForm(place, { link, path, round, bid, tick, reload, alive }) 
       bid = open.said;
       open = null;
       remember(round, bid);
-      fill(message, box('good', t(taken ? 'bid.taken' : 'bid.kept')));
+      fill(message, box('good', t(taken ? 'bid.taken' : bid.turn < LIMITS.turns ? 'bid.kept' : 'bid.keptLast')));
       announce(message.textContent);
       tick(true);
     } catch (refused) {

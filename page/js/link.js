@@ -1,5 +1,5 @@
-// Links: `#ID.KEY`, perhaps `.CURRENCY`, and in the organiser's the tag of the creation behind. All of it stands in the fragment, which browsers
-// send to nobody. What stands before the # is the address of the page as it is, so a path of the host stays in the link.
+// Links: `#ID.KEY`, perhaps `.CURRENCY`, and in the organiser's the tag of the creation after it. Browsers send
+// nothing after the # to anybody. Before it is the address of the page, with the path of a host.
 
 /** What a fragment says, or null. */
 export function parse(hash) {

@@ -7,7 +7,7 @@ const root = byId('main');
 let moved = false; // whether a view was shown before, so that the focus has to go to the new one
 let view = null; // the view that is shown, as the module of a round or of a form
 
-/** The words around the view, which stand in no view. */
+/** The words around the view. */
 function frame() {
   document.title = text('site');
   byId('skip').textContent = text('skip');

@@ -21,9 +21,9 @@ function copyButton(url, whose) {
   } }, t('links.copy'));
 }
 
-/** Shows the links: got again by the creation and its tag, which stands in the organiser's own link. */
+/** Shows the links, got again by the tag in the organiser's own. */
 export async function links(place, { link, round, alive }) {
-  const title = t(round.bids.length ? 'links.title' : 'links.send');
+  const title = t(round.bids.length || round.closed ? 'links.title' : 'links.send');
   if (!link.tag) { fill(place, card(title, p(t('links.none')))); return; }
   let keys;
   try { ({ keys } = await post('instances', null, creationOf(round, link.tag))); } catch (refused) {

@@ -1,5 +1,5 @@
 // A round as its link shows it: who has bid, until when, and the close. One's own bid, the organiser's links and the result have files of their own,
-// which are loaded where they are needed.
+// loaded when needed.
 import { action, announce, box, fill, h, heading, name, p, showFault, tableStyle, turn } from './dom.js';
 import { locale, names, t, text } from './language.js';
 import { setCurrency } from './money.js';
@@ -55,6 +55,7 @@ export async function show(root, link) {
   document.title = `${round.title} – ${text('site')}`;
   const me = round.you > 0 ? round.members[round.you - 1] : null;
   const reload = () => show(root, link);
+  const links = async (place) => (await import('./organiser.js')).links(place, { link, round, alive });
   const top = h('header', { class: 'top' },
     h('p', { class: 'eyebrow' }, t(`kinds.${round.kind}.round`, { id: round.id })),
     heading(name(round.title)),
@@ -64,13 +65,14 @@ export async function show(root, link) {
     turn(root, top, body);
     const [{ result }] = await Promise.all([import('./result.js'), tableStyle()]);
     await result(body, { link, path, round, again: async () => (await import('./create.js')).again({ ...round, currency: link.currency }) });
+    if (link.tag && alive()) await links(body.appendChild(h('div', {})));
     return;
   }
   const people = h('section', { class: 'card people' });
   turn(root, top, me || round.bids.length ? [people, body] : [body, people]);
   const { tick } = bidders(people, { path, link, round, reload, alive, me });
   if (me) holder = (await import('./bid.js')).bidForm(body, { link, path, round, bid, tick, reload, alive });
-  else await (await import('./organiser.js')).links(body, { link, round, alive });
+  else await links(body);
 }
 
 /** Who has bid, and until when: drawn, and asked for now and then while somebody looks. */

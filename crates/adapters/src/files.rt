@@ -183,6 +183,8 @@ impl<'r, R: Files<File = File>> JournalFile<'r, R> {
 }
 
 impl<'r, R: Files<File = File>> Disk for JournalFile<'r, R> {
+    ghost tells = { λ _. ⊥ };
+
     ghost is_honest = { λ _. ⊥ };
 
     ghost seen = { λ _. [] };
@@ -214,6 +216,8 @@ impl<'r, R: Files<File = File>> Disk for JournalFile<'r, R> {
         let done = self.sync_now();
         answered(done, &mut self.faults)
     }
+
+    ghost honest_tells = { λ disk honest. absurd honest };
 
     ghost counts_now = { λ disk t c honest later image. absurd honest };
 

@@ -1,5 +1,11 @@
 //! The real outside: streams, arguments, the journal's file, a TCP port with many clients, a dialer, and the clock. It also keeps files
 //! and sockets from the three standard descriptors.
+//!
+//! Each call that fails counts as one fault, and no other does. They tell nothing of what a real
+//! file, socket, clock or stream holds, so nothing on crashes is proved of a real disk. Which
+//! client comes next, who is dropped and after how long are limits of this crate, of which no
+//! clause speaks. That a sync after a failed one writes again what waits is shown by no test, since
+//! a device that loses nothing can't show it.
 #![tactic(auto)]
 
 mod arguments;

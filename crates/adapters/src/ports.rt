@@ -6,7 +6,7 @@ use crate::limits::{LinkLimits, PortLimits};
 use crate::links::TcpLink;
 use crate::pool::Pool;
 use crate::turns::TurnLink;
-use split_base::{Dial, Failed, Port};
+use split_base::{Asked, Dial, Failed, Port};
 use std::alloc::Global;
 use std::io::ErrorKind;
 use std::net::{IpAddr, Ipv4Addr, Net, SocketAddr, TcpStream};
@@ -21,6 +21,7 @@ pub struct TcpPort<'r, R> {
     limits: PortLimits,
     pool: Option<Pool>,
     faults: u64,
+    asked: Asked,
 }
 
 impl<'r, R: Net + Clock> TcpPort<'r, R> {
@@ -34,6 +35,7 @@ impl<'r, R: Net + Clock> TcpPort<'r, R> {
             limits,
             pool: None,
             faults: 0,
+            asked: Asked::never(),
         }
     }
 
@@ -46,7 +48,8 @@ impl<'r, R: Net + Clock> TcpPort<'r, R> {
 
     // The next turn, where no call fails.
     fn accept_now(&mut self) -> Option<TurnLink<'r, R>>
-        ensures { self.new.faults ≡ self.old.faults }
+        ensures faults { self.new.faults ≡ self.old.faults }
+        ensures asked { self.new.asked ≡ self.old.asked }
     {
         let mut pool = self.pool.take()?;
         match pool.await_next(self.system) {
@@ -77,11 +80,14 @@ impl<'r, R: Net + Clock> Port for TcpPort<'r, R> {
 
     ghost places = { λ _. 0 };
 
+    ghost asked = { λ port. port.asked };
+
     ghost has_ended = { λ _. ⊥ };
 
     ghost faults = { λ port. port.faults };
 
     fn listen(&mut self, port: u16) -> Result<(), Failed> {
+        self.asked = self.asked.again(port);
         match Pool::open(self.alloc, self.system, port, self.limits) {
             Some(pool) => {
                 self.pool = Some(pool);
@@ -109,6 +115,7 @@ pub struct TcpDialer<'r, R> {
     system: &'r R,
     limits: LinkLimits,
     faults: u64,
+    asked: Asked,
 }
 
 impl<'r, R: Net + Clock> TcpDialer<'r, R> {
@@ -120,6 +127,7 @@ impl<'r, R: Net + Clock> TcpDialer<'r, R> {
             system,
             limits,
             faults: 0,
+            asked: Asked::never(),
         }
     }
 
@@ -140,9 +148,12 @@ impl<'r, R: Net + Clock> Dial for TcpDialer<'r, R> {
 
     ghost places = { λ _. 0 };
 
+    ghost asked = { λ dialer. dialer.asked };
+
     ghost faults = { λ dialer. dialer.faults };
 
     fn dial(&mut self, port: u16) -> Result<TcpLink<'r, R::Stream, R>, Failed> {
+        self.asked = self.asked.again(port);
         let address = SocketAddr::new(IpAddr::V4(Ipv4Addr::LOCALHOST), port);
         match TcpStream::connect_timeout(self.system, &address, self.limits.call) {
             Ok(stream) => Ok(TcpLink::new(stream, self.system, self.limits)),

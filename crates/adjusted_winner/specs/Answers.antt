@@ -7,7 +7,7 @@ use Rattle.winner_laws.specs.Divisions.{first_points}
 use Rattle.winner_laws.specs.Procedure.{IsOutcome}
 use Rattle.adjusted_winner.specs.declared.winner.Winner.{Winner}
 
--- the answer is what the rule comes to: its weights, and its shares and total as fractions of the parts
+-- the answer is what the rule of adjusted winner comes to for the case: its weights, and its shares and total as fractions
 pub record HasWinner (case : GoodsCase) (answer : Winner) : Type 0 where
   pub parts : ℕ
   pub held : List ℕ

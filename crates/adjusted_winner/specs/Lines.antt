@@ -1,4 +1,4 @@
--- What the text of adjusted winner says: the case, player 1's share of each good, the weights, and what each player has.
+-- What the text of adjusted winner says: the case, player 1's share of each good, the weights, and the points of each player.
 use Rattle.std.specs.Prelude.{pos, map}
 use Rattle.adjusted_winner.specs.declared.winner.Winner.{Winner}
 use Rattle.bid_rules.specs.declared.goods.GoodsCase.{GoodsCase}
@@ -6,7 +6,7 @@ use Rattle.bid_rules.specs.declared.limits.TheConstants.{MOST_MEMBERS, MOST_STEP
 use Rattle.cert_reader.specs.Layout.{PairView}
 use Rattle.split_frac.specs.Frac.{fraction_of}
 
--- the lines for the solver's division
+-- what the text of adjusted winner says for the solver's answer
 abbrev pub winner_view : GoodsCase → Winner → PairView
 winner_view case winner = record {
   goods = case.facts.goods;
@@ -17,7 +17,7 @@ winner_view case winner = record {
   total = fraction_of winner.total;
 }
 
--- the case of as many members and steps as there may be, of which the text says nothing
+-- the case with as many members and steps as there may be, since the text says neither
 abbrev pub with_most : GoodsCase → GoodsCase
 with_most case = record {
   facts = record { members = MOST_MEMBERS; goods = case.facts.goods; limit = MOST_STEPS };

@@ -36,7 +36,7 @@ fn fraction(number: u32, parts: u32) -> Frac
     make(i128::from(number), u64::from(parts))
 }
 
-/// The parts of a good that its first owner has given up, where the last good has moved so many.
+/// The parts of a good that its first owner has given up, once the last good has moved this many.
 fn given_up(case: &GoodsCase, parts: u32, last: u8, moved: u32, good: u8) -> u32
     requires case { IsValidGoodsCase case.now }
     requires two { player_count case.now ≡ PAIR }

@@ -1,7 +1,7 @@
 // Clocks, ports and dialers in memory.
 use split_base::{
-    Clock, Dial, Failed, MemClock, MemDial, MemLink, MemPort, MemSink, MemSource, Port, Sink,
-    Source,
+    Asked, Clock, Dial, Failed, MemClock, MemDial, MemLink, MemPort, MemSink, MemSource, Port,
+    Sink, Source,
 };
 use std::alloc::Global;
 use std::process::Abort;
@@ -74,6 +74,13 @@ fn port_hands_out_its_links(rt: HostRuntime) {
     assert!(rt; port.accept().is_ok_and(|next| next.is_none()));
     let back = port.finished();
     assert!(rt; back.len() == 2 && back[1].output().bytes() == b"0".as_slice());
+    assert!(rt;
+        port.asked()
+            == Asked {
+                times: 2,
+                last: Some(8080)
+            }
+    );
 }
 
 #[test]
@@ -85,8 +92,16 @@ fn dialer_gives_its_links(rt: HostRuntime) {
     echo(&rt, &mut link);
     // There is no room for a second byte.
     assert!(rt; link.write(b"1") == Err(Failed) && link.has_fault());
+    assert!(rt; link.write(b"") == Ok(0) && link.output().empty_writes() == 1);
     dialer.done(link);
     dialer.done(link_of(&rt, rt.alloc(), b'2'));
     assert!(rt; dialer.finished().iter().all(|link| link.has_fault()));
     assert!(rt; dialer.finished().len() == 1);
+    assert!(rt;
+        dialer.asked()
+            == Asked {
+                times: 3,
+                last: Some(1)
+            }
+    );
 }

@@ -17,7 +17,7 @@ ghost use Rattle.best_laws.specs.WorkedFares.{one_place, two_places};
 
 use bid_rules::leg_place_law;
 
-/// The listed orders of a list are its permutations. None is listed twice where the elements differ, and there are n!.
+/// The listed orders of a list are its permutations. None is listed twice if the elements differ, and there are n! of them.
 pub fn orders_law()
     ensures listed { (xs ys : List ℕ) → Contains (all_orders xs) ys ↔ IsPermutation xs ys }
     ensures once { (xs : List ℕ) → AllPairs ◌≢◌ xs → AllPairs ◌≢◌ (all_orders xs) }

@@ -29,8 +29,8 @@ pub fn pair_order_law()
     ensures at_most_test { (a b : Pair) → is_at_most a b ≡ true ↔ IsAtMost a b }
 {}
 
-/// There are no more players than members, and so at most `MOST_MEMBERS`. How many members there are takes no part in the search order, the
-/// utilities and the best allocation.
+/// There are no more players than members, and so at most `MOST_MEMBERS`. The number of members never changes the search order,
+/// the utilities or the best allocation.
 pub fn players_law()
     ensures members { (case : GoodsCase) → IsValidGoodsCase case → player_count case ≤ case.facts.members }
     ensures twelve { (case : GoodsCase) → IsValidGoodsCase case → player_count case ≤ MOST_MEMBERS }

@@ -1,7 +1,11 @@
-//! What follows from the definitions of a best division: laws of rents (Gal, Mash, Procaccia and Zick 2016), of goods (Caragiannis
-//! and others 2016) and of fares (Shapley 1953), for all cases.
+//! What follows, for all cases, from the definitions of the best division of rents, goods and
+//! fares.
 //!
 //! Each law is the contract of a function that does nothing. Solvers and checkers cite them.
+//!
+//! They say in other words what best means, so that nobody has to trust the form of one definition:
+//! prices are compared over every denominator, allocations with all allocations, and routes with
+//! all orders.
 #![tactic(auto)]
 
 mod fares;

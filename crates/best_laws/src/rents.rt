@@ -52,7 +52,7 @@ pub fn price_range_law()
     rent_value_law();
 }
 
-/// A list of n numbers in which each of 1 to n stands is a permutation of them, and the other way round.
+/// A list of n numbers that contains each of 1 to n is a permutation of them, and the other way round.
 pub fn permutation_law()
     ensures { (n : ℕ) (numbers : List ℕ) → IsPermutation (range_with_len 1 n) numbers ↔ (length numbers ≡ n) × ((number : ℕ) → 1 ≤ number → number ≤ n → Contains numbers number) }
 {}
@@ -78,7 +78,7 @@ pub fn key_law()
     ensures first { (case : RentCase) (rooms : List ℕ) → HasGreatestKeySum case rooms → IsFirstOfItsWelfare case rooms }
 {}
 
-/// Weights are the greatest ones of walks exactly where they are 0 or more, some walk attains each, and no step exceeds them.
+/// Weights are the greatest ones of walks exactly if they are 0 or more, some walk attains each, and no step exceeds them.
 /// Ranks that lead back to a weight of 0 show that each is attained. The least numbers of steps of such walks lead back so.
 /// Greatest weights are one list, and so are their least numbers of steps.
 pub fn walk_law()

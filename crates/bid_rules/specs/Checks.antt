@@ -11,35 +11,41 @@ use Rattle.bid_rules.specs.declared.bids.Bid.TheVariants as bid
 use Rattle.bid_rules.specs.declared.limits.TheConstants.{FEWEST_MEMBERS, MOST_FARE_CENTS, MOST_GOODS, MOST_MEMBERS, MOST_PLACES, MOST_RENT, MOST_RIDERS, MOST_STEPS, WHOLE_POINTS}
 use Rattle.bid_rules.specs.Facts.{leg, legs_in_order}
 
--- the number is in the range
+-- the number is in the range from low to high
 abbrev pub is_between : ℕ → ℕ → ℕ → Bool
 is_between low high n = nat_le low n && nat_le n high
 
--- so many values, which sum to the whole
+-- there are so many values, and they sum to the whole
 abbrev pub is_spread : ℕ → ℕ → List ℕ → Bool
 is_spread items whole values = (length values == items) && (sum values == whole)
 
--- the facts have no fault
+-- the facts on a rent have no fault
 abbrev pub passes_rent : Rent → Bool
 passes_rent rent = is_between FEWEST_MEMBERS MOST_MEMBERS rent.members && is_between 1 MOST_RENT rent.rent
 
+-- the numbers of members and of goods are within the limits
 abbrev pub has_counts : Goods → Bool
 has_counts goods = is_between FEWEST_MEMBERS MOST_MEMBERS goods.members && is_between 1 MOST_GOODS goods.goods
 
+-- the facts on goods have no fault
 abbrev pub passes_goods : Goods → Bool
 passes_goods goods = has_counts goods && is_between 1 MOST_STEPS goods.limit
 
+-- there is a leg from the origin and from each place to each place
 abbrev pub has_table : Fares → Bool
 has_table fares = (length fares.legs.items == fares.places + 1) && list_all (λ row. length row.items == fares.places) fares.legs.items
 
+-- the numbers of members and of places are within the limits, and the table has all legs
 abbrev pub has_shape : Fares → Bool
 has_shape fares = is_between FEWEST_MEMBERS MOST_RIDERS fares.members && is_between 1 MOST_PLACES fares.places && has_table fares
 
+-- the facts on fares have no fault
 abbrev pub passes_fares : Fares → Bool
 passes_fares fares =
     has_shape fares && list_all (λ cents. nat_le cents MOST_FARE_CENTS) (fares.flag ∷ legs_in_order fares)
     && list_all (λ place. leg fares place place == 0) (range_with_len 1 fares.places)
 
+-- the facts have no fault
 abbrev pub passes_facts : Facts → Bool
 passes_facts (facts.Rent rent) = passes_rent rent
 passes_facts (facts.Goods goods) = passes_goods goods

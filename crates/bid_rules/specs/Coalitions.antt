@@ -5,11 +5,11 @@ use Rattle.std.specs.List.{filter, range_with_len, sum_by}
 use Rattle.bid_rules.specs.declared.cases.FareCase.{FareCase}
 use Rattle.bid_rules.specs.Fares.{place_of}
 
--- rider i is in the set where bit i - 1 of its number is 1
+-- rider i is in the set: bit i - 1 of the set's number is 1
 abbrev pub has_rider : ℕ → ℕ → Bool
 has_rider set rider = bit_at set (rider - 1) == 1
 
--- the riders of a set, in rising order: none has a number above that of the set
+-- the riders of a set in rising order, each of whom has a number at most that of the set
 unfoldable pub riders_in : ℕ → List ℕ
 riders_in set = filter (has_rider set) (range_with_len 1 set)
 
@@ -17,7 +17,7 @@ riders_in set = filter (has_rider set) (range_with_len 1 set)
 abbrev pub set_number : List ℕ → ℕ
 set_number riders = sum_by (λ rider. 2 ^ (rider - 1)) riders
 
--- where a route starts: at the origin for 0, else at the place of that rider
+-- where a route starts: at the origin for 0, and otherwise at the place of that rider
 abbrev pub start_of : FareCase → ℕ → ℕ
 start_of case zero = 0
 start_of case (suc rider) = place_of case (suc rider)

@@ -27,7 +27,7 @@ pub record HasTable (facts : Fares) : Type 0 where
   pub rows : length facts.legs.items ≡ facts.places + 1
   pub columns : All (λ row. length row.items ≡ facts.places) facts.legs.items
 
--- the counts are within the limits, and the table has all legs
+-- the numbers of members and of places are within the limits, and the table has all legs
 pub record HasShape (facts : Fares) : Type 0 where
   pub members_low : FEWEST_MEMBERS ≤ facts.members
   pub members_high : facts.members ≤ MOST_RIDERS
@@ -35,38 +35,38 @@ pub record HasShape (facts : Fares) : Type 0 where
   pub places_high : facts.places ≤ MOST_PLACES
   pub table : HasTable facts
 
--- the legs row by row
+-- all legs, row by row
 abbrev pub legs_in_order : Fares → List ℕ
 legs_in_order facts = flat_map (λ row. row.items) facts.legs.items
 
--- the leg from the origin, which is 0, or from a place, to a place from 1
+-- the cost of the leg from the origin, which is 0, or from a place to a place
 abbrev pub leg : Fares → ℕ → ℕ → ℕ
 leg facts from to = slice_index (slice_index_or facts.legs.items from (record { items = [] })).items (to - 1)
 
--- the number at the place is the first above the limit of cents
+-- the number at this place is the first above the limit of cents
 pub record IsFirstAboveLimit (numbers : List ℕ) (place : ℕ) : Type 0 where
   pub stands : place < length numbers
   pub above : MOST_FARE_CENTS < slice_index numbers place
   pub first : (k : ℕ) → k < place → slice_index numbers k ≤ MOST_FARE_CENTS
 
--- the leg of the place to itself is the first that is not 0
+-- this place is the first whose leg to itself is not 0
 pub record IsFirstOwnLeg (facts : Fares) (place : ℕ) : Type 0 where
   pub low : 1 ≤ place
   pub high : place ≤ facts.places
   pub counts : 0 < leg facts place place
   pub first : (p : ℕ) → 1 ≤ p → p < place → leg facts p p ≡ 0
 
--- the flag fall and the legs are at most the limit of cents
+-- the flag fall and each leg are at most the limit of cents
 abbrev pub AreWithinLimit : Fares → Type 0
 AreWithinLimit facts = All (λ cents. cents ≤ MOST_FARE_CENTS) (facts.flag ∷ legs_in_order facts)
 
--- facts on fares without a fault
+-- facts on fares without a fault: their shape is right, all cents are within the limit, and no place has a leg to itself
 pub record IsCheckedFares (facts : Fares) : Type 0 where
   pub shape : HasShape facts
   pub cents : AreWithinLimit facts
   pub own_legs : (p : ℕ) → 1 ≤ p → p ≤ facts.places → leg facts p p ≡ 0
 
--- the first fault of facts on fares, in the order of the cases; the flag fall stands at place 0, and the legs after it, row by row
+-- the first fault of facts on fares, in the order of these cases, where place 0 is the flag fall and the next places are the legs, row by row
 abbrev pub IsFaultOfFares : Fares → BidFault → Type 0
 IsFaultOfFares facts fault.Count = HasShape facts → ⊥
 IsFaultOfFares facts (fault.Range place) = HasShape facts × IsFirstAboveLimit (facts.flag ∷ legs_in_order facts) place
@@ -85,48 +85,48 @@ member_count (facts.Rent rent) = rent.members
 member_count (facts.Goods goods) = goods.members
 member_count (facts.Fares fares) = fares.members
 
--- a whole is spread over so many items: there is a value for each, and the values sum to the whole
+-- there is one value for each item, and the values sum to the whole
 abbrev pub IsSpread : ℕ → ℕ → List ℕ → Type 0
 IsSpread items whole values = (length values ≡ items) × (sum values ≡ whole)
 
--- the first fault of values over which a whole is to be spread, in the order of the cases
+-- the first fault of values that should sum to the whole, one for each item, in the order of these cases
 abbrev pub IsFaultOfSpread : ℕ → ℕ → List ℕ → BidFault → Type 0
 IsFaultOfSpread items whole values fault.Count = length values ≢ items
 IsFaultOfSpread items whole values (fault.Sum got) = (length values ≡ items) × (got ≡ sum values) × (sum values ≢ whole)
 IsFaultOfSpread items whole values (fault.Range place) = ⊥
 IsFaultOfSpread items whole values (fault.Place place) = ⊥
 
--- a bid spreads the whole over so many items
+-- the bid gives one value for each item, and the values sum to the whole
 abbrev pub Spreads : ℕ → ℕ → Bid → Type 0
 Spreads items whole (bid.Values values) = IsSpread items whole values.items
 Spreads items whole (bid.Place place) = ⊥
 
--- the first fault of a bid that is to spread a whole, in the order of the cases
+-- the first fault of a bid that should give one value for each item, with the whole as their sum
 abbrev pub IsFaultOfSpreading : ℕ → ℕ → Bid → BidFault → Type 0
 IsFaultOfSpreading items whole (bid.Values values) other = IsFaultOfSpread items whole values.items other
 IsFaultOfSpreading items whole (bid.Place place) fault.Count = ⊤
 IsFaultOfSpreading items whole (bid.Place place) other = ⊥
 
--- a bid gives a value for each room, and the values sum to the rent
+-- the bid gives a value for each room, and the values sum to the rent
 abbrev pub AreValuesOf : Rent → Bid → Type 0
 AreValuesOf rent given = Spreads rent.members rent.rent given
 
--- a bid gives points for each good, 1000 in sum
+-- the bid gives points for each good, which sum to the whole points
 abbrev pub ArePointsOf : Goods → Bid → Type 0
 ArePointsOf goods given = Spreads goods.goods WHOLE_POINTS given
 
--- a bid names a place of the fares
+-- the bid names one of the places
 abbrev pub IsPlaceOf : Fares → Bid → Type 0
 IsPlaceOf fares (bid.Values values) = ⊥
 IsPlaceOf fares (bid.Place place) = (1 ≤ place) × (place ≤ fares.places)
 
--- a bid without a fault
+-- the bid has no fault under these facts
 abbrev pub IsCheckedBid : Facts → Bid → Type 0
 IsCheckedBid (facts.Rent rent) given = AreValuesOf rent given
 IsCheckedBid (facts.Goods goods) given = ArePointsOf goods given
 IsCheckedBid (facts.Fares fares) given = IsPlaceOf fares given
 
--- the first fault of a bid, in the order of the cases
+-- the first fault of a bid under these facts
 abbrev pub IsFaultOfBid : Facts → Bid → BidFault → Type 0
 IsFaultOfBid (facts.Rent rent) given other = IsFaultOfSpreading rent.members rent.rent given other
 IsFaultOfBid (facts.Goods goods) given other = IsFaultOfSpreading goods.goods WHOLE_POINTS given other
@@ -134,17 +134,17 @@ IsFaultOfBid (facts.Fares fares) (bid.Values values) fault.Count = ⊤
 IsFaultOfBid (facts.Fares fares) (bid.Place place) (fault.Place got) = (got ≡ place) × ((1 ≤ place) × (place ≤ fares.places) → ⊥)
 IsFaultOfBid (facts.Fares fares) given other = ⊥
 
--- the members, numbered from 1, whose bid passes the test
+-- the members, numbered from 1, whose entry passes the test
 abbrev pub members_where : (Option Bid → Bool) → List (Option Bid) → List ℕ
 members_where test bids = filter_map (λ entry. if test entry.1 then Some entry.0 else None) (enumerate_from 1 bids)
 
--- the place that a bid names
+-- the place that a bid names, if it names one
 abbrev pub place_named : Option Bid → Option ℕ
 place_named None = None
 place_named (Some (bid.Values values)) = None
 place_named (Some (bid.Place place)) = Some place
 
--- the case of the members who bid, in rising order, each with their place
+-- the case of fares of the members who bid, in rising order, each with their place
 abbrev pub fare_case : Fares → List (Option Bid) → FareCase
 fare_case facts bids = record {
   facts = facts;
@@ -152,17 +152,17 @@ fare_case facts bids = record {
   at = record { items = filter_map place_named bids };
 }
 
--- the values that a bid gives
+-- the values that a bid gives, if it gives values
 abbrev pub values_given : Option Bid → Option (ArrayVec ℕ ITEM_ROOM (Unit {0}))
 values_given None = None
 values_given (Some (bid.Values values)) = Some values
 values_given (Some (bid.Place place)) = None
 
--- the case of all members, each with their values
+-- the case of rent of all members, each with their values
 abbrev pub rent_case : Rent → List (Option Bid) → RentCase
 rent_case facts bids = record { facts = facts; values = record { items = filter_map values_given bids } }
 
--- the case of the members who bid, in rising order, each with their points
+-- the case of goods of the members who bid, in rising order, each with their points
 abbrev pub goods_case : Goods → List (Option Bid) → GoodsCase
 goods_case facts bids = record {
   facts = facts;
@@ -170,23 +170,23 @@ goods_case facts bids = record {
   values = record { items = filter_map values_given bids };
 }
 
--- the members who lack a bid, in rising order
+-- the members without a bid, in rising order
 abbrev pub members_missing : List (Option Bid) → Missing
 members_missing bids = record { members = record { items = members_where is_none bids } }
 
--- bids are missing: on a rent where any member lacks one, on goods and fares where nobody has bid
+-- bids are missing: on a rent if any member has none, on goods and fares if nobody has bid
 abbrev pub AreMissing : Facts → List (Option Bid) → Type 0
 AreMissing (facts.Rent rent) bids = All (λ bid. IsSome bid) bids → ⊥
 AreMissing (facts.Goods goods) bids = All (λ bid. IsNone bid) bids
 AreMissing (facts.Fares fares) bids = All (λ bid. IsNone bid) bids
 
--- the case that facts and bids make, or the members who lack a bid where bids are missing
+-- the case that facts and bids make, or the members without a bid if bids are missing
 abbrev pub case_of : Facts → List (Option Bid) → Result Case Missing
 case_of (facts.Rent rent) bids = if list_all is_some bids then Ok (case.Rent (rent_case rent bids)) else Err (members_missing bids)
 case_of (facts.Goods goods) bids = if list_all is_none bids then Err (members_missing bids) else Ok (case.Goods (goods_case goods bids))
 case_of (facts.Fares fares) bids = if list_all is_none bids then Err (members_missing bids) else Ok (case.Fares (fare_case fares bids))
 
--- checked facts, and riders in rising order of member, each with a place
+-- a valid case of fares: checked facts, and riders in rising order of member, each with a place
 pub record IsValidFareCase (case : FareCase) : Type 0 where
   pub facts : IsCheckedFares case.facts
   pub rising : IsStrictlyIncreasing case.who.items
@@ -195,7 +195,7 @@ pub record IsValidFareCase (case : FareCase) : Type 0 where
   pub each : length case.at.items ≡ length case.who.items
   pub places : All (λ place. (1 ≤ place) × (place ≤ case.facts.places)) case.at.items
 
--- a case of checked facts and checked bids
+-- a valid case: checked facts with checked bids
 abbrev pub IsValidCase : Case → Type 0
 IsValidCase (case.Rent rent) = IsValidRentCase rent
 IsValidCase (case.Goods goods) = IsValidGoodsCase goods

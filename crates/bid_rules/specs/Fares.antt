@@ -17,44 +17,46 @@ riders_of case = range_with_len 1 (length case.at.items)
 abbrev pub place_of : FareCase → ℕ → ℕ
 place_of case rider = slice_index case.at.items (rider - 1)
 
--- the sum of the legs from a place through the riders' places, in this order
+-- the sum of the legs from a place to the riders' places, in this order
 abbrev pub legs_along : FareCase → ℕ → List ℕ → ℕ
 legs_along case from [] = 0
 legs_along case from (rider ∷ riders) = leg case.facts from (place_of case rider) + legs_along case (place_of case rider) riders
 
--- the least of some numbers
+-- the least of some numbers, and 0 of none
 abbrev pub least : List ℕ → ℕ
 least numbers = fold min (slice_index numbers 0) numbers
 
--- the cost of a route: the least sum of legs that starts at a place and ends every one of the riders at their place
+-- the cost of a route: the least sum of legs from a place, over all orders in which the riders may get off
 abbrev pub route_cost : FareCase → ℕ → List ℕ → ℕ
 route_cost case from riders = least (map (legs_along case from) (orders riders))
 
--- the cost of a coalition: nothing where it is empty, else the flag fall and the route from the origin
+-- the cost of a coalition: nothing if it is empty, otherwise the flag fall and the route from the origin
 unfoldable pub coalition_cost : FareCase → List ℕ → ℕ
 coalition_cost case [] = 0
 coalition_cost case (rider ∷ riders) = case.facts.flag + route_cost case 0 (rider ∷ riders)
 
--- the riders before one in an order
+-- the riders who come before one in an order
 abbrev pub riders_before : ℕ → List ℕ → List ℕ
 riders_before rider order = take_while (λ other. not (other == rider)) order
 
--- a rider's marginal cost in an order: the cost of those up to and including the rider less the cost of those before
+-- what a rider adds to the cost in an order: the cost of the riders up to this one, less the cost of those before
 unfoldable pub marginal_cost : FareCase → ℕ → List ℕ → ℤ
 marginal_cost case rider order = pos (coalition_cost case (riders_before rider order ++ rider ∷ [])) -ℤ pos (coalition_cost case (riders_before rider order))
 
--- the sum of a rider's marginal costs over all orders of the riders
+-- the sum of what a rider adds to the cost, over all orders of the riders
 abbrev pub sum_of_marginal_costs : FareCase → ℕ → ℤ
 sum_of_marginal_costs case rider = fold ◌+ℤ◌ (pos 0) (map (marginal_cost case rider) (orders (riders_of case)))
 
--- a cheapest order of all riders, and no cheapest order is before it as a list
+-- the route: an order of all riders with the least sum of legs, and the first list of those that have it
 pub record IsLeastRoute (case : FareCase) (route : List ℕ) : Type 0 where
+  -- an order of all riders
   pub order : Contains (orders (riders_of case)) route
   pub cheapest : legs_along case 0 route ≡ route_cost case 0 (riders_of case)
+  -- no cheapest order is an earlier list
   pub first : All (λ other. legs_along case 0 other ≡ route_cost case 0 (riders_of case) → slice_cmp nat_cmp other route ≢ Less) (orders (riders_of case))
 
--- the Shapley value over the riders' costs, with the least cheapest route: the fare of each rider, as fractions of a cent,
--- is the mean of the rider's marginal costs over all n! orders (Shapley 1953)
+-- the best division of a shared fare: each rider pays the mean of what the rider adds to the cost over all n! orders, which is the Shapley value
+-- (Shapley 1953), and they go by the first cheapest route
 pub record FareBest (case : FareCase) (fares : List Fraction) (route : List ℕ) : Type 0 where
   pub mean : AllZip (λ rider fare. IsQuotient fare (sum_of_marginal_costs case rider) (factorial (length case.at.items))) (riders_of case) fares
   pub least_route : IsLeastRoute case route

@@ -5,11 +5,11 @@ use Rattle.std.specs.Prelude.{◌≡◌, ℕ, ℤ, pos, ◌+ℤ◌, ◌*ℤ◌, 
 abbrev pub Fraction : Type 0
 Fraction = ℤ × ℕ
 
--- the fraction is the whole number divided into so many parts
+-- the fraction is the whole number divided by the number of parts
 abbrev pub IsQuotient : Fraction → ℤ → ℕ → Type 0
 IsQuotient fraction whole parts = (0 < fraction.1) × (fraction.0 *ℤ pos parts ≡ whole *ℤ pos fraction.1)
 
--- the two fractions have one value, by cross products
+-- the two fractions have one value: their cross products are equal
 abbrev pub HasSameValue : Fraction → Fraction → Type 0
 HasSameValue a b = a.0 *ℤ pos b.1 ≡ b.0 *ℤ pos a.1
 

@@ -7,7 +7,8 @@ use Rattle.bid_rules.specs.declared.rents.RentCase.{RentCase}
 use Rattle.bid_rules.specs.Rent.{IsAssignment, price_of, room_count, sum_over_members, value, welfare}
 use Rattle.bid_rules.specs.Walks.{weight_at}
 
--- the key of a member, by place from 0, and a room, numbered from 1: the value, and below it a digit that counts against high rooms of early members
+-- the key of a member, by place from 0, and a room, numbered from 1: the value times n^n, less a digit to the base n that counts against high rooms
+-- of early members
 abbrev pub key : RentCase → ℕ → ℕ → ℤ
 key case member room = pos (room_count case ^ room_count case) *ℤ value case member room -ℤ pos ((room - 1) * room_count case ^ (room_count case - 1 - member))
 
@@ -15,21 +16,21 @@ key case member room = pos (room_count case ^ room_count case) *ℤ value case m
 abbrev pub key_sum : RentCase → List ℕ → ℤ
 key_sum case rooms = sum_over_members case (λ member. key case member (slice_index rooms member))
 
--- the assignment has the greatest sum of keys
+-- no assignment has a greater sum of keys
 pub record HasGreatestKeySum (case : RentCase) (rooms : List ℕ) : Type 0 where
   pub assignment : IsAssignment case rooms
   pub greatest : (others : List ℕ) → IsAssignment case others → key_sum case others ≤ℤ key_sum case rooms
 
--- the assignment has the greatest welfare
+-- no assignment has a greater welfare
 pub record HasGreatestWelfare (case : RentCase) (rooms : List ℕ) : Type 0 where
   pub assignment : IsAssignment case rooms
   pub greatest : (others : List ℕ) → IsAssignment case others → welfare case others ≤ℤ welfare case rooms
 
--- no assignment of the same welfare is before it as a list
+-- no assignment of the same welfare comes before it as a list
 abbrev pub IsFirstOfItsWelfare : RentCase → List ℕ → Type 0
 IsFirstOfItsWelfare case rooms = (others : List ℕ) → IsAssignment case others → welfare case others ≡ welfare case rooms → slice_cmp nat_cmp others rooms ≢ Less
 
--- dual numbers of an assignment, by member and by room: together they are at least each key, and reach the key of each member's own room
+-- dual numbers of an assignment: a member's and a room's together are at least the key of the two, and equal to it at the member's own room
 pub record AreDualNumbers (case : RentCase) (rooms : List ℕ) (left right : List ℤ) : Type 0 where
   pub lefts : length left ≡ room_count case
   pub rights : length right ≡ room_count case
@@ -37,6 +38,6 @@ pub record AreDualNumbers (case : RentCase) (rooms : List ℕ) (left right : Lis
   pub reached : (member : ℕ) → member < room_count case
       → weight_at left member +ℤ price_of right (slice_index rooms member) ≡ key case member (slice_index rooms member)
 
--- the step from one member to another over the keys: the other's key for the first one's room less the first one's own
+-- the step from one member to another over the keys: the other's key for the first one's room, less the first one's key for it
 abbrev pub key_step : RentCase → List ℕ → ℕ → ℕ → ℤ
 key_step case rooms from to = key case to (slice_index rooms from) -ℤ key case from (slice_index rooms from)

@@ -2,11 +2,11 @@
 use Rattle.std.specs.Prelude.{ℕ, ◌+◌, ◌*◌, suc, zero, List, [], ◌∷◌, length, map, flat_map, insert}
 use Rattle.std.specs.List.{range_with_len}
 
--- an element put into a list at each place, from the first to past the last
+-- an element put into a list at each place, from the first to the one past the last
 abbrev pub insertions : {X : Type 0} → X → List X → List (List X)
 insertions x xs = map (λ place. insert xs place x) (range_with_len 0 (length xs + 1))
 
--- all orders of a list: its first element put into each order of the others, at each place
+-- all orders of a list: its first element, put at each place into each order of the others
 abbrev pub orders : {X : Type 0} → List X → List (List X)
 orders [] = [] ∷ []
 orders (x ∷ xs) = flat_map (insertions x) (orders xs)

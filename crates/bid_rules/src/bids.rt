@@ -20,7 +20,7 @@ pub enum Facts {
 /// What a member bids.
 #[derive(Debug, Drop, PartialEq, Eq)]
 pub enum Bid {
-    /// What each item is worth to the member, in cents or points, by item.
+    /// What each room or good is worth to the member, in cents or points, by its number.
     Values(Values),
     /// The place, from 1, at which the member gets off.
     Place(u8),
@@ -29,13 +29,13 @@ pub enum Bid {
 /// The first thing wrong with facts or with a bid.
 #[derive(Clone, Copy, Debug, PartialEq, Eq)]
 pub enum BidFault {
-    /// A count is outside its limits, a list is too short or too long, or the bid is of another kind than the facts.
+    /// A count is outside its limits, a list is too short or too long, or the bid is not of the kind of the facts.
     Count,
-    /// The values of a bid don't have the sum that they are to have, but this one.
+    /// The values of a bid sum to this number, and not to the rent or to the whole points.
     Sum { got: u64 },
     /// A number is outside its limits: the one at this place, in the order of the facts.
     Range { place: u32 },
-    /// A place, from 1, is at fault: a bid names it and the facts don't have it, or its leg to itself isn't 0.
+    /// A place, from 1, is at fault: a bid names it and the facts have no such place, or its leg to itself is not 0.
     Place { place: u32 },
 }
 
@@ -54,9 +54,9 @@ pub fn check_facts(facts: &Facts) -> Result<(), BidFault>
 
 /// Whether the facts, which are checked, allow the bid, or the bid's first fault.
 ///
-/// On a rent it is `Count` where the bid isn't `Values`, one for each room, else `Sum` with their sum where it isn't the rent.
-/// On goods it is `Count` where the bid isn't `Values`, one for each good, else `Sum` with their sum where it isn't 1000.
-/// On fares it is `Count` where the bid isn't a `Place`, else `Place` with that place where it isn't 1 to `places`.
+/// On a rent it is `Count` if the bid is not one value for each room, otherwise `Sum` with their sum if that is not the rent.
+/// On goods it is `Count` if the bid is not one value for each good, otherwise `Sum` with their sum if that is not 1000.
+/// On fares it is `Count` if the bid is not a place, otherwise `Place` with that place if it is not 1 to `places`.
 pub fn check_bid(facts: &Facts, bid: &Bid) -> Result<(), BidFault>
     requires { IsCheckedFacts facts.now }
     ensures fault { MatchResult result (λ _. IsCheckedBid facts.now bid.now) (IsFaultOfBid facts.now bid.now) }

@@ -5,7 +5,7 @@ ghost use Rattle.bid_rules.specs.declared.bids.Facts.{Facts};
 ghost use Rattle.bid_rules.specs.declared.cases.Case.{Case};
 ghost use Rattle.bid_rules.specs.Facts.{IsCheckedBid, IsCheckedFacts, IsValidCase, case_of, facts_of, member_count};
 
-/// The case that facts and bids make has these facts. It is valid where facts and bids are checked.
+/// The case that facts and bids make has these facts. It is valid if facts and bids are checked.
 pub fn case_law()
     ensures facts { (facts : Facts) (bids : List (Option Bid)) (case : Case) → case_of facts bids ≡ Ok case → facts_of case ≡ facts }
     ensures valid { (facts : Facts) (bids : List (Option Bid)) (case : Case) → IsCheckedFacts facts → length bids ≡ member_count facts

@@ -9,19 +9,19 @@ use crate::limits::{MEMBER_ROOM, MemberList, RIDER_ROOM, RiderList, ValueTable, 
 use crate::{Bid, Facts, Fares, Goods, GoodsCase, Rent, RentCase, check_fares};
 use arrayvec::ArrayVec;
 
-/// A shared fare of those members who bid. They are its riders, numbered from 1 in the order of `who`.
+/// A shared fare of the members who bid. They are its riders, numbered from 1 in the order of `who`.
 #[derive(Debug, Drop, PartialEq, Eq)]
 pub struct FareCase {
     /// What the flag fall and the legs cost, in cents.
     pub facts: Fares,
-    /// The member, from 1, who is each rider, in rising order.
+    /// By rider, the number of the member, from 1, in rising order.
     pub who: RiderList,
-    /// The place, from 1, at which each rider gets off.
+    /// By rider, the place, from 1, at which the rider gets off.
     pub at: RiderList,
 }
 
 impl FareCase {
-    /// Whether the facts are within their limits, those who bid are members in rising order, one at least, and each names a place.
+    /// Whether the facts are within their limits, the riders are members in rising order, at least one, and each names a place.
     pub fn is_valid(&self) -> bool
         ensures { IsTrue result ↔ IsValidFareCase self.now }
     {
@@ -33,28 +33,28 @@ impl FareCase {
     }
 }
 
-/// A case to be solved, by kind.
+/// A case to be divided, by kind.
 #[derive(Debug, Drop, PartialEq, Eq)]
 pub enum Case {
     /// A shared rent, on which all members have bid.
     Rent(RentCase),
-    /// Goods to be shared among those who have bid.
+    /// Goods to be shared among the members who have bid.
     Goods(GoodsCase),
-    /// A shared fare of those who have bid.
+    /// A shared fare of the members who have bid.
     Fares(FareCase),
 }
 
-/// The bids don't make a case.
+/// Bids are missing, so that there is no case.
 #[derive(Debug, Drop, PartialEq, Eq)]
 pub struct Missing {
-    /// The members, from 1, who lack a bid, in rising order.
+    /// The members without a bid, numbered from 1, in rising order.
     pub members: MemberList,
 }
 
 /// The case that checked facts and checked bids make. The bids are by member, `None` where one has not bid.
 ///
-/// On a rent all members must bid: where any lacks a bid there is no case. On goods those who bid are the players, on fares the
-/// riders. Only where nobody has bid is there no case there, and all members lack a bid.
+/// On a rent all members must bid: if any has not, there is no case. On goods the members who bid are the players, on fares the
+/// riders: there is no case only if nobody has bid. The error lists the members without a bid.
 pub fn make_case(facts: &Facts, bids: &[Option<Bid>]) -> Result<Case, Missing>
     requires facts { IsCheckedFacts facts.now }
     requires count { length bids.now ≡ member_count facts.now }

@@ -18,13 +18,13 @@ pub struct Fares {
     pub places: u8,
     /// The flag fall, which is paid once before any leg, 0 to 1,000,000.
     pub flag: u32,
-    /// What each leg costs, 0 to 1,000,000: a row of the legs from the origin and one of those from each place, with a leg to
-    /// each place in order. That from a place to itself is 0.
+    /// What each leg costs, 0 to 1,000,000: a row from the origin, then a row from each place; each row has a leg to every
+    /// place in order. The leg from a place to itself is 0.
     pub legs: Legs,
 }
 
 impl Fares {
-    /// The leg in cents from the origin, which is 0, or from a place, to a place.
+    /// The cost in cents of the leg from the origin, which is 0, or from a place, to a place.
     pub fn leg(&self, from: u8, to: u8) -> u32
         requires facts { IsCheckedFares self.now }
         requires from { from ≤ self.now.places }
@@ -117,13 +117,13 @@ fn first_own_leg(facts: &Fares) -> Option<u8>
     None
 }
 
-/// Whether the facts are within the limits, or their first fault. The faults come in this order:
+/// Whether the facts are within the limits, or the first fault in this order:
 ///
-/// - `Count` where the members aren't 2 to 10, the places aren't 1 to 12, or the legs aren't `places + 1` rows of `places` legs;
-/// - `Range` with place 0 where the flag fall is above 1,000,000;
-/// - `Range` with the place of the first leg above 1,000,000, row by row: that in `row` and `column`, each from 0, has the place
-///   `1 + row * places + column` (`leg_place_law`);
-/// - `Place` with the first place whose leg to itself isn't 0.
+/// - `Count` if there are not 2 to 10 members, or not 1 to 12 places, or the legs are not `places + 1` rows of `places` legs;
+/// - `Range` with place 0 if the flag fall is above 1,000,000;
+/// - `Range` with the place of the first leg above 1,000,000, row by row: the leg in `row` and `column`, each from 0, has the
+///   place `1 + row * places + column` (`leg_place_law`);
+/// - `Place` with the first place whose leg to itself is not 0.
 pub fn check_fares(facts: &Fares) -> Result<(), BidFault>
     ensures fault { MatchResult result (λ _. IsCheckedFares facts.now) (IsFaultOfFares facts.now) }
     ensures accepted { IsOk result ↔ IsCheckedFares facts.now }
@@ -147,7 +147,7 @@ pub fn check_fares(facts: &Fares) -> Result<(), BidFault>
     Ok(())
 }
 
-/// The place of a leg in a fault: the flag fall stands at place 0, and the legs after it, row by row. No leg is above the limit.
+/// The place of a leg in a fault: the flag fall has place 0, and the legs come after it, row by row. No leg is above the limit.
 pub fn leg_place_law()
     ensures place { (facts : Fares) (row column : ℕ) → HasTable facts → row ≤ facts.places → column < facts.places
         → slice_index (facts.flag ∷ legs_in_order facts) (1 + row * facts.places + column) ≡ leg facts row (column + 1) }

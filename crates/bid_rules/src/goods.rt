@@ -22,20 +22,20 @@ pub struct Goods {
     pub limit: u32,
 }
 
-/// Goods to be shared among those members who bid. They are the players, numbered from 1 in the order of `who`.
+/// Goods to be shared among the members who bid. They are the players, numbered from 1 in the order of `who`.
 #[derive(Debug, Drop, PartialEq, Eq)]
 pub struct GoodsCase {
     /// The counts and the limit.
     pub facts: Goods,
-    /// The member, from 1, who is each player, in rising order.
+    /// By player, the number of the member, from 1, in rising order.
     pub who: MemberList,
-    /// By player the points that they give each good. Each player gives 1000 points.
+    /// By player and by good, the points that the player gives the good. Each player gives 1000 points in all.
     pub values: ValueTable,
 }
 
 impl GoodsCase {
-    /// Whether the facts are within their limits, those who bid are members in rising order, one at least, and each gives points
-    /// for each good, 1000 in sum.
+    /// Whether the facts are within their limits, the players are members in rising order, at least one, and each gives points
+    /// for every good, 1000 in sum.
     pub fn is_valid(&self) -> bool
         ensures { IsTrue result ↔ IsValidGoodsCase self.now }
     {
@@ -91,8 +91,7 @@ fn rises(numbers: &[u8]) -> bool
 
 /// Whether the facts are within the limits, or their first fault.
 ///
-/// `Count` where the members aren't 2 to 12 or the goods aren't 1 to 24, else `Range` with place 0 where the limit isn't 1 to
-/// 200,000.
+/// `Count` if there are not 2 to 12 members and 1 to 24 goods, otherwise `Range` with place 0 if the limit is not 1 to 200,000.
 pub fn check_goods(facts: &Goods) -> Result<(), BidFault>
     ensures fault { MatchResult result (λ _. IsCheckedGoods facts.now) (IsFaultOfGoods facts.now) }
     ensures accepted { IsOk result ↔ IsCheckedGoods facts.now }

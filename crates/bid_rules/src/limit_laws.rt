@@ -4,8 +4,8 @@ ghost use Rattle.bid_rules.specs.FareLimits.{most_cost, most_orders, most_sum};
 
 use crate::limits::MOST_RIDERS;
 
-/// What fares come to is kept whole: a cost in 32 bits, a number of orders in 64, and in 128 with a sign what all riders pay over all
-/// orders, less a cost.
+/// The sums of fares never overflow: a cost fits 32 bits, the number of orders 64 bits, and what all riders pay over all orders, less a
+/// cost, 128 bits with a sign.
 pub fn fare_limits_law()
     ensures costs { most_cost < 2 ^ 32 }
     ensures orders { most_orders < 2 ^ 64 }

@@ -1,4 +1,4 @@
-// The limits of facts, bids and names, and the tables that they size. Each number of them stands here and nowhere else.
+// The limits of facts, bids and names, and the tables that they size. Each number is here and nowhere else.
 use arrayvec::ArrayVec;
 
 /// The fewest members who can share something.
@@ -15,7 +15,7 @@ pub const MOST_GOODS: u8 = 24;
 pub const PAIR: u8 = 2;
 /// The greatest rent, in cents.
 pub const MOST_RENT: u32 = 10_000_000;
-/// The farthest from 0 that an exact amount of cents lies: a price, a fare or what somebody would have.
+/// No exact amount of cents, a price, a fare or a utility, is further from 0.
 pub const MOST_AMOUNT: u64 = 1_000_000_000_000;
 /// The greatest flag fall and the greatest leg, in cents.
 pub const MOST_FARE_CENTS: u32 = 1_000_000;
@@ -23,33 +23,33 @@ pub const MOST_FARE_CENTS: u32 = 1_000_000;
 pub const WHOLE_POINTS: u32 = 1000;
 /// The most steps that a search for the best allocation of goods may be allowed.
 pub const MOST_STEPS: u32 = 200_000;
-/// The steps that it is allowed where nobody says how many.
+/// The steps that it is allowed if a case names no limit.
 pub const USUAL_STEPS: u32 = 100_000;
 /// The length of the longest name or title, in bytes.
 pub const LONGEST_NAME: usize = 40;
 
-/// Room for an entry a member, or a player.
+/// Room for one entry for each member or player.
 pub const MEMBER_ROOM: usize = MOST_MEMBERS as usize;
-/// As many players as a pair is, as the length of a list.
+/// Room for one entry for each of a pair of players.
 pub const PAIR_ROOM: usize = PAIR as usize;
-/// Room for an entry a rider.
+/// Room for one entry for each rider.
 pub const RIDER_ROOM: usize = MOST_RIDERS as usize;
-/// Room for an entry a place.
+/// Room for one entry for each place.
 pub const PLACE_ROOM: usize = MOST_PLACES as usize;
 /// Room for a row of legs from the origin and from each place.
 pub const LEG_ROW_ROOM: usize = PLACE_ROOM + 1;
-/// Room for an entry an item: a room or a good.
+/// Room for one entry for each item: a room or a good.
 pub const ITEM_ROOM: usize = MOST_GOODS as usize;
 
-/// By item, a room or a good: what it is worth to a member, in cents or points.
+/// What each item, a room or a good, is worth to a member, in cents or points.
 pub type Values = ArrayVec<u32, ITEM_ROOM>;
-/// By member or player their values.
+/// The values of each member or player.
 pub type ValueTable = ArrayVec<Values, MEMBER_ROOM>;
 /// Numbers of members.
 pub type MemberList = ArrayVec<u8, MEMBER_ROOM>;
 /// Numbers by rider, or of riders.
 pub type RiderList = ArrayVec<u8, RIDER_ROOM>;
-/// By place the leg to it, in cents.
+/// The leg to each place, in cents.
 pub type LegRow = ArrayVec<u32, PLACE_ROOM>;
 /// The legs from the origin and from each place.
 pub type Legs = ArrayVec<LegRow, LEG_ROW_ROOM>;

@@ -9,9 +9,9 @@ use crate::spread::check_spread;
 /// The facts of a rent, with a room for each member. Money is in cents.
 #[derive(Debug, Drop, PartialEq, Eq)]
 pub struct Rent {
-    /// 2 to 12, which is the number of rooms too.
+    /// How many members share the rent, 2 to 12. There are as many rooms.
     pub members: u8,
-    /// 1 to 10,000,000.
+    /// The rent in cents, 1 to 10,000,000.
     pub rent: u32,
 }
 
@@ -22,7 +22,7 @@ pub struct Rent {
 pub struct RentCase {
     /// The rent and the number of members.
     pub facts: Rent,
-    /// By member what they would pay for each room, in cents.
+    /// By member and by room, what the member would pay for the room, in cents.
     pub values: ValueTable,
 }
 
@@ -57,7 +57,7 @@ impl RentCase {
 
 /// Whether the facts are within their limits, or their first fault.
 ///
-/// `Count` where there aren't 2 to 12 members, else `Range` with place 0 where the rent isn't 1 to 10,000,000 cents.
+/// `Count` if there are not 2 to 12 members, otherwise `Range` with place 0 if the rent is not 1 to 10,000,000 cents.
 pub fn check_rent(facts: &Rent) -> Result<(), BidFault>
     ensures fault { MatchResult result (λ _. IsCheckedRent facts.now) (IsFaultOfRent facts.now) }
     ensures accepted { IsOk result ↔ IsCheckedRent facts.now }

@@ -4,9 +4,9 @@ ghost use Rattle.bid_rules.specs.Facts.{IsFaultOfSpread, IsSpread};
 use crate::BidFault;
 use crate::limits::ITEM_ROOM;
 
-/// Whether the values spread the whole over so many items, or their first fault.
+/// Whether there is a value for each of so many items and they sum to the whole, or their first fault.
 ///
-/// `Count` where there isn't a value for each item, else `Sum` with their sum where it isn't the whole.
+/// `Count` if there is not a value for each item, otherwise `Sum` with their sum if that is not the whole.
 pub(crate) fn check_spread(items: u8, whole: u32, values: &[u32]) -> Result<(), BidFault>
     requires { length values.now ≤ ITEM_ROOM }
     ensures fault { MatchResult result (λ _. IsSpread items whole values.now) (IsFaultOfSpread items whole values.now) }

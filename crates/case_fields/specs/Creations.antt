@@ -8,6 +8,7 @@ use Rattle.case_fields.specs.declared.creations.Creation.{Creation}
 use Rattle.case_fields.specs.declared.limits.TheConstants.{LAST_DEADLINE}
 use Rattle.case_fields.specs.Rules.{IsName, IsTag}
 
+-- a creation as contracts see it: title, names of members and of items, facts, deadline in seconds since 1970, and tag, with texts as lists of bytes
 pub record CreationView : Type 0 where
   pub title : List ℕ
   pub members : List (List ℕ)
@@ -16,9 +17,11 @@ pub record CreationView : Type 0 where
   pub deadline : ℕ
   pub tag : List ℕ
 
+-- the bytes of a text
 abbrev pub text : ArrayString → List ℕ
 text s = s.bytes
 
+-- what contracts see of a creation
 abbrev pub creation_view : Creation → CreationView
 creation_view c = record { title = text c.title; members = map text c.members.items; items = map text c.items.items; facts = c.facts; deadline = c.deadline; tag = text c.tag }
 
@@ -28,7 +31,7 @@ item_count (facts.Rent rent) = rent.members
 item_count (facts.Goods goods) = goods.goods
 item_count (facts.Fares fares) = fares.places
 
--- a creation whose facts are checked, with the counts of its lists, and whose fields keep their rules
+-- a creation without a fault: its facts are checked, its lists are as long as the facts say, and each field keeps its rule
 pub record IsCheckedCreation (c : CreationView) : Type 0 where
   pub facts : IsCheckedFacts c.facts
   pub member_names : length c.members ≡ member_count c.facts

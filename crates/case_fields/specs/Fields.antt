@@ -3,7 +3,7 @@ use Rattle.std.specs.Prelude.{ℕ, List, codes}
 use Rattle.case_fields.specs.declared.fields.FieldName.{FieldName}
 use Rattle.case_fields.specs.declared.fields.FieldName.TheVariants as field
 
--- the key of a field
+-- the name of a field as a body has it
 abbrev pub field_text : FieldName → List ℕ
 field_text field.Kind = codes "kind"
 field_text field.Title = codes "title"

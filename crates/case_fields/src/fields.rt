@@ -6,7 +6,7 @@ ghost use Rattle.case_fields.specs.Fields.{field_text};
 ///
 /// Those of a creation or of a case come first, in the order in which they are tested: each kind has `Kind`, `Title` and `Members`,
 /// then a rent has `Rooms` and `Rent`, goods have `Goods` and `Limit`, and fares have `Places`, `Flag` and `Legs`. A creation
-/// ends with `Deadline` and `Tag`, a case with `Bids`, behind which a proposal has `Owners`. A bid has `Turn`, and then `Values` or `Place`; a withdrawal has `Turn`. A whole
+/// ends with `Deadline` and `Tag`, a case with `Bids`, after which a proposal has `Owners`. A bid has `Turn`, and then `Values` or `Place`; a withdrawal has `Turn`. A whole
 /// number is one that is written as one: `1.0`, `1e2` and `-0` are none, and neither is 2^64.
 #[derive(Clone, Copy, Debug, PartialEq, Eq)]
 pub enum FieldName {
@@ -22,7 +22,7 @@ pub enum FieldName {
     Rent,
     /// A list of the goods' names.
     Goods,
-    /// The most steps that a search may take. The field may be missing, and then the usual limit stands; `null` is not missing.
+    /// The most steps that a search may take. The field may be missing, and then the usual limit holds; `null` is not missing.
     Limit,
     /// A list of the places' names.
     Places,

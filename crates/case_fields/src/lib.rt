@@ -1,5 +1,7 @@
-//! The fields of the bodies of cases, creations and bids, with their names: what is wrong with a body, what a creation and a bid say, and the
-//! small rules that a reader of bodies and the host share.
+//! The fields of the bodies of cases, creations and bids, by name, and the small rules that their
+//! reader and the host share.
+//!
+//! Each of its tests answers yes exactly where the rule holds.
 #![tactic(auto)]
 
 mod bodies;

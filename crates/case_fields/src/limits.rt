@@ -1,4 +1,4 @@
-// The limits of a tag and of a deadline. Those of facts, bids and names stand in `bid_rules`.
+// The limits of a tag and of a deadline. The limits of facts, bids and names are in `bid_rules`.
 use split_base::limits::LAST_MOMENT;
 
 /// The length of the shortest tag, in bytes.

@@ -62,7 +62,7 @@ pub fn is_tag(text: &str) -> bool
     has_length && has_tag_bytes(text)
 }
 
-/// How many members the facts name, at most 12 where they are checked.
+/// How many members the facts name, at most 12 if they are checked.
 pub fn member_count(facts: &Facts) -> usize
     ensures count { result ≡ member_count facts.now }
     ensures few { IsCheckedFacts facts.now → result ≤ MEMBER_ROOM }
@@ -74,7 +74,7 @@ pub fn member_count(facts: &Facts) -> usize
     }
 }
 
-/// The bid, where the facts allow it.
+/// The bid, if the facts allow it.
 #[tactic(auto, unfolding(crate::specs::Rules::allowed_bid))]
 pub fn allowed_bid(facts: &Facts, bid: Bid) -> Option<Bid>
     requires { IsCheckedFacts facts.now }

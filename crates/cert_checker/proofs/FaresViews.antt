@@ -3,7 +3,8 @@ use Rattle.std.proofs.Common.{◌≡◌, ℕ, pos, ◌+◌, ◌-◌, ◌^◌, Li
 use Rattle.std.proofs.lemmas.Nat.{pow_pos}
 use Rattle.cert_reader.specs.declared.forms.Counts.TheVariants.{Fares}
 use Rattle.cert_reader.specs.declared.forms.Word.TheVariants as word
-use Rattle.cert_reader.specs.Forms.{AreCounts, fares_forms, fares_tail, fractions_of, led_by, numbers_of, rider_forms, set_form}
+use Rattle.cert_reader.specs.Forms.{AreCounts, fares_forms, fractions_of, led_by, numbers_of, set_form}
+use Rattle.cert_reader.specs.Order.{fares_tail, rider_forms}
 use Rattle.cert_reader.specs.Sets.{sets_of}
 use Rattle.cert_reader.specs.Text.{CanSay, CanSayAll, Numbers, Said}
 use Rattle.cert_reader.specs.Layout.{FaresView}

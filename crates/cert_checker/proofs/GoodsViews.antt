@@ -2,7 +2,8 @@
 use Rattle.std.proofs.Common.{◌≡◌, ℕ, pos, ◌≤◌, List, [], ◌∷◌, ◌++◌, length, map, get_or, arith, refl, sym, ap, ◌∙◌, subst, replicate}
 use Rattle.bid_rules.specs.declared.limits.TheConstants.{MOST_GOODS, MOST_MEMBERS}
 use Rattle.cert_reader.specs.declared.forms.Word.TheVariants as word
-use Rattle.cert_reader.specs.Forms.{Tree, goods_forms, goods_tail, led_by, numbers_of}
+use Rattle.cert_reader.specs.Forms.{Tree, goods_forms, led_by, numbers_of}
+use Rattle.cert_reader.specs.Order.{goods_tail}
 use Rattle.cert_reader.specs.GoodsViews.{GoodsView}
 use Rattle.cert_reader.specs.Text.{CanSay, CanSayAll, Marks, Numbers, Said}
 use Rattle.cert_reader.specs.Views.{goods_said, says}

@@ -1,14 +1,16 @@
 -- The steps of the judge, whatever the kind of the text.
-use Rattle.std.proofs.Common.{◌≡◌, ℕ, suc, ◌+◌, ◌-◌, ◌<◌, ◌≤◌, List, [], ◌∷◌, ◌++◌, length, map, take, inl, inr, ◌⊎◌, arith, refl, sym, ap, ◌∙◌, subst, length-append, replicate, append_assoc}
+use Rattle.std.proofs.Common.{◌≡◌, ℕ, suc, ◌+◌, ◌-◌, ◌<◌, ◌≤◌, List, [], ◌∷◌, ◌++◌, length, map, take, Some, arith, refl, sym, ap, ◌∙◌, subst, length-append, replicate, append_assoc}
 use Rattle.std.proofs.lemmas.List.{length-map, length-replicate, length-take-le}
 use Rattle.cert_reader.specs.declared.forms.Counts.{Counts}
 use Rattle.cert_reader.specs.declared.forms.Counts.TheVariants as count
 use Rattle.cert_reader.specs.declared.forms.Word.TheVariants as word
-use Rattle.cert_reader.specs.Forms.{AreCounts, fares_forms, forms_of, goods_forms, numbers_of, rent_forms, rent_tail}
+use Rattle.cert_reader.specs.Forms.{AreCounts, fares_forms, forms_of, goods_forms, numbers_of, rent_forms}
 use Rattle.cert_reader.specs.Gathered.{Gathered, line_said, text_said}
 use Rattle.cert_reader.specs.GoodsViews.{GoodsView}
-use Rattle.cert_reader.specs.Kinds.{kind_of}
-use Rattle.cert_reader.specs.Order.{AgreeUpTo}
+use Rattle.cert_reader.specs.Kinds.{TellsKind, kind_number, kind_of}
+use Rattle.cert_reader.specs.declared.kinds.Kind.{Kind}
+use Rattle.cert_reader.specs.declared.kinds.Kind.TheVariants as kind
+use Rattle.cert_reader.specs.Order.{AgreeUpTo, rent_tail}
 use Rattle.cert_reader.specs.Reading.{IsOpen, IsRead, Reading, with_mark}
 use Rattle.cert_reader.specs.Text.{CanSayAll, IsText, Marks, Numbers, Said}
 use Rattle.cert_reader.specs.Layout.{FaresView}
@@ -44,9 +46,9 @@ pub record IsRent (counts : Counts) (lines behind : ℕ) : Type 0 where
   pub few : members ≤ 12
 
 -- counts of the kind of rents are those of a rent, with eleven lines and one a member, and at most twelve members
-pub rent_is : (counts : Counts) (said rest : List Said) (lines : List Gathered) → AreCounts counts → kind_of counts ≡ 1 → CanSayAll (forms_of counts) (said ++ rest) → said ≡ front_said (map line_said lines) → IsRent counts (length lines) (length rest)
-rent_is (count.Goods n goods) said rest lines are kind fits is = absurd (omega arith)
-rent_is (count.Fares n places) said rest lines are kind fits is = absurd (omega arith)
+pub rent_is : (counts : Counts) (said rest : List Said) (lines : List Gathered) → AreCounts counts → kind_of counts ≡ Some kind.Rent → CanSayAll (forms_of counts) (said ++ rest) → said ≡ front_said (map line_said lines) → IsRent counts (length lines) (length rest)
+rent_is (count.Goods n goods) said rest lines are kind fits is = absurd (cc)
+rent_is (count.Fares n places) said rest lines are kind fits is = absurd (cc)
 rent_is (count.Pair goods) said rest lines are kind fits is = absurd are
 rent_is (count.Rent n) said rest lines are kind fits is =
     let many = can_many (rent_forms n) (said ++ rest) fits in
@@ -64,9 +66,9 @@ pub record IsFares (counts : Counts) (said : List Said) : Type 0 where
   pub whole : IsWhole view
 
 -- a text of the kind of fares is said by a whole view of fares with its counts
-pub fares_is : (counts : Counts) (said : List Said) → AreCounts counts → kind_of counts ≡ 3 → CanSayAll (forms_of counts) said → IsFares counts said
-fares_is (count.Rent n) said are kind fits = absurd (omega arith)
-fares_is (count.Goods n goods) said are kind fits = absurd (omega arith)
+pub fares_is : (counts : Counts) (said : List Said) → AreCounts counts → kind_of counts ≡ Some kind.Fares → CanSayAll (forms_of counts) said → IsFares counts said
+fares_is (count.Rent n) said are kind fits = absurd (cc)
+fares_is (count.Goods n goods) said are kind fits = absurd (cc)
 fares_is (count.Pair goods) said are kind fits = absurd are
 fares_is (count.Fares n places) said are kind fits =
     let v = fares_view_of n places said are fits in
@@ -84,9 +86,9 @@ pub record IsGoods (counts : Counts) (said : List Said) : Type 0 where
   pub whole : IsWholeGoods view
 
 -- a text of the kind of goods is said by a whole view of goods with its counts
-pub goods_is : (counts : Counts) (said : List Said) → AreCounts counts → kind_of counts ≡ 2 → CanSayAll (forms_of counts) said → IsGoods counts said
-goods_is (count.Rent n) said are kind fits = absurd (omega arith)
-goods_is (count.Fares n places) said are kind fits = absurd (omega arith)
+pub goods_is : (counts : Counts) (said : List Said) → AreCounts counts → kind_of counts ≡ Some kind.Goods → CanSayAll (forms_of counts) said → IsGoods counts said
+goods_is (count.Rent n) said are kind fits = absurd (cc)
+goods_is (count.Fares n places) said are kind fits = absurd (cc)
 goods_is (count.Pair goods) said are kind fits = absurd are
 goods_is (count.Goods n goods) said are kind fits =
     let v = goods_view_of n goods said are.1 are.3 fits in
@@ -97,18 +99,18 @@ pub goods_give : (counts : Counts) (said : List Said) (verdict : Verdict) (g : I
 goods_give counts said verdict g gives = record { view = OfGoods g.view; counted = g.counted; is_said = g.is; rows = g.whole.rows; gives = gives }
 
 -- no text of a rent says a mark
-pub no_rent_mark : (counts : Counts) (said : List Said) (mark : ℕ) (rest : List Said) → kind_of counts ≡ 1 → CanSayAll (forms_of counts) (with_mark said mark ++ rest) → ⊥
+pub no_rent_mark : (counts : Counts) (said : List Said) (mark : ℕ) (rest : List Said) → kind_of counts ≡ Some kind.Rent → CanSayAll (forms_of counts) (with_mark said mark ++ rest) → ⊥
 no_rent_mark (count.Rent n) said mark rest kind fits = no_mark_said (rent_forms n) said mark rest (no_tree_rent n) fits
-no_rent_mark (count.Goods n goods) said mark rest kind fits = omega arith
-no_rent_mark (count.Fares n places) said mark rest kind fits = omega arith
-no_rent_mark (count.Pair goods) said mark rest kind fits = omega arith
+no_rent_mark (count.Goods n goods) said mark rest kind fits = absurd (cc)
+no_rent_mark (count.Fares n places) said mark rest kind fits = absurd (cc)
+no_rent_mark (count.Pair goods) said mark rest kind fits = absurd (cc)
 
 -- no text of fares says a mark
-pub no_fares_mark : (counts : Counts) (said : List Said) (mark : ℕ) (rest : List Said) → kind_of counts ≡ 3 → CanSayAll (forms_of counts) (with_mark said mark ++ rest) → ⊥
+pub no_fares_mark : (counts : Counts) (said : List Said) (mark : ℕ) (rest : List Said) → kind_of counts ≡ Some kind.Fares → CanSayAll (forms_of counts) (with_mark said mark ++ rest) → ⊥
 no_fares_mark (count.Fares n places) said mark rest kind fits = no_mark_said (fares_forms n places) said mark rest (no_tree_fares n places) fits
-no_fares_mark (count.Goods n goods) said mark rest kind fits = omega arith
-no_fares_mark (count.Rent n) said mark rest kind fits = omega arith
-no_fares_mark (count.Pair goods) said mark rest kind fits = omega arith
+no_fares_mark (count.Goods n goods) said mark rest kind fits = absurd (cc)
+no_fares_mark (count.Rent n) said mark rest kind fits = absurd (cc)
+no_fares_mark (count.Pair goods) said mark rest kind fits = absurd (cc)
 
 -- the kind stays from the second line on
 pub kind_stays : (k : ℕ) (known counts : Counts) → 2 ≤ k → AgreeUpTo k known counts → kind_of counts ≡ kind_of known
@@ -148,15 +150,24 @@ some_lines (count.Goods n goods) = omega arith
 some_lines (count.Fares n places) = omega arith
 some_lines (count.Pair goods) = omega arith
 
--- kinds are rents, goods and fares
-pub kinds : (counts : Counts) → AreCounts counts → (kind_of counts ≡ 1) ⊎ (kind_of counts ≡ 2) ⊎ (kind_of counts ≡ 3)
-kinds (count.Rent n) are = inl refl
-kinds (count.Goods n goods) are = inr (inl refl)
-kinds (count.Fares n places) are = inr (inr refl)
-kinds (count.Pair goods) are = absurd are
+-- kinds with one number are one kind
+pub kinds_once : (one other : Kind) → kind_number one ≡ kind_number other → one ≡ other
+kinds_once kind.Rent kind.Rent same = refl
+kinds_once kind.Goods kind.Goods same = refl
+kinds_once kind.Fares kind.Fares same = refl
+kinds_once kind.Rent kind.Goods same = absurd (omega arith)
+kinds_once kind.Rent kind.Fares same = absurd (omega arith)
+kinds_once kind.Goods kind.Rent same = absurd (omega arith)
+kinds_once kind.Goods kind.Fares same = absurd (omega arith)
+kinds_once kind.Fares kind.Rent same = absurd (omega arith)
+kinds_once kind.Fares kind.Goods same = absurd (omega arith)
+
+-- a number that tells the kind of a text tells that of its lines
+pub told_lines : (number : ℕ) (counts : Counts) (lines : Lines) → TellsKind number counts → number ≡ kind_number (kind_of_lines lines) → kind_of counts ≡ Some (kind_of_lines lines)
+told_lines number counts lines tells is = tells.1 ∙ ap Some (kinds_once tells.0 (kind_of_lines lines) (sym tells.2 ∙ is))
 
 -- a line was read: the text goes on behind it
-pub line_goes : (lines : Lines) (a b : Reading) (said rest : List Said) (last : Said) (taken : List ℕ) → KnowsLines said lines → kind_of a.counts ≡ kind_of_lines lines → 2 ≤ a.lines → length said ≡ a.lines
+pub line_goes : (lines : Lines) (a b : Reading) (said rest : List Said) (last : Said) (taken : List ℕ) → KnowsLines said lines → kind_of a.counts ≡ Some (kind_of_lines lines) → 2 ≤ a.lines → length said ≡ a.lines
     → b.lines ≡ a.lines + 1 → AgreeUpTo a.lines a.counts b.counts → IsRead b taken (said ++ last ∷ []) → IsOpen b → CanSayAll (forms_of b.counts) ((said ++ last ∷ []) ++ rest)
     → (next : Said) × (more : List Said) × GoesOn lines said (last ∷ next ∷ more)
 line_goes lines a b said rest last taken knows kind some long one agree read to_come fits =
@@ -186,7 +197,7 @@ mark_long (Marks marks ∷ line ∷ lines) mark = (let more = mark_long (line �
 mark_long (Numbers numbers ∷ lines) mark = (let more = mark_long lines mark in omega (arith, more))
 
 -- a mark was read: the text goes on with it
-pub mark_goes : (lines : Lines) (a b : Reading) (said rest : List Said) (mark : ℕ) (taken : List ℕ) → KnowsLines said lines → kind_of a.counts ≡ kind_of_lines lines → b.counts ≡ a.counts
+pub mark_goes : (lines : Lines) (a b : Reading) (said rest : List Said) (mark : ℕ) (taken : List ℕ) → KnowsLines said lines → kind_of a.counts ≡ Some (kind_of_lines lines) → b.counts ≡ a.counts
     → IsRead b taken (with_mark said mark) → CanSayAll (forms_of b.counts) (with_mark said mark ++ rest) → MarkGoesOn lines said mark
 mark_goes lines a b said rest mark taken knows kind same read fits = record {
   counts = b.counts;
@@ -205,7 +216,7 @@ mark_some a b said mark taken some long read =
     omega (arith, some, long, more, all)
 
 -- the end was read
-abbrev pub end_goes : (lines : Lines) (a b : Reading) (said : List Said) (taken : List ℕ) → KnowsLines said lines → kind_of a.counts ≡ kind_of_lines lines → 2 ≤ a.lines → AgreeUpTo a.lines a.counts b.counts
+abbrev pub end_goes : (lines : Lines) (a b : Reading) (said : List Said) (taken : List ℕ) → KnowsLines said lines → kind_of a.counts ≡ Some (kind_of_lines lines) → 2 ≤ a.lines → AgreeUpTo a.lines a.counts b.counts
     → IsText taken b.counts (said ++ says [] ∷ []) → GoesOn lines said (says [] ∷ [])
 end_goes lines a b said taken knows kind some agree text = record {
   counts = b.counts;
@@ -222,7 +233,7 @@ judged_so taken counts said verdict text gives =
     judged taken gives.view verdict (record { is_text = is_text; rows = gives.rows }) gives.gives
 
 -- a rent of which all lines were gathered
-pub rent_so : (counts : Counts) (said : List Said) (lines : List Gathered) → AreCounts counts → kind_of counts ≡ 1 → CanSayAll (forms_of counts) (said ++ says [] ∷ []) → said ≡ front_said (map line_said lines)
+pub rent_so : (counts : Counts) (said : List Said) (lines : List Gathered) → AreCounts counts → kind_of counts ≡ Some kind.Rent → CanSayAll (forms_of counts) (said ++ says [] ∷ []) → said ≡ front_said (map line_said lines)
     → (counts ≡ count.Rent (length lines - 8)) × (said ++ says [] ∷ [] ≡ text_said lines) × CanSayAll (rent_forms (length lines - 8)) (text_said lines)
 rent_so counts said lines are kind fits is =
     let r = rent_is counts said (says [] ∷ []) lines are kind fits is in

@@ -1,5 +1,5 @@
 -- The steps of the judge in a tree, mark by mark.
-use Rattle.std.proofs.Common.{◌≡◌, ℕ, ◌<◌, ◌≤◌, ◌∙◌, List, ◌++◌, length, ap, subst, sym}
+use Rattle.std.proofs.Common.{◌≡◌, ℕ, Some, ◌<◌, ◌≤◌, ◌∙◌, List, ◌++◌, length, ap, subst, sym}
 use Rattle.cert_reader.specs.Kinds.{kind_of}
 use Rattle.cert_reader.specs.Reading.{IsOpen, IsRead, Reading, with_mark}
 use Rattle.cert_reader.specs.Text.{CanSayAll, Said}
@@ -19,7 +19,7 @@ pub up_to_mark : (before after : Lines) (a b : Reading) (taken more : List ℕ) 
 up_to_mark before after a b taken more mark up_to same read to_come kind knows = record {
   said = with_mark up_to.said mark;
   read = read;
-  kind = ap kind_of same ∙ up_to.kind ∙ sym kind;
+  kind = ap kind_of same ∙ up_to.kind ∙ ap Some (sym kind);
   knows = knows;
   to_come = to_come;
   some = mark_some a b up_to.said mark (taken ++ more) up_to.some up_to.long read;

@@ -1,7 +1,8 @@
 -- Texts of rents and of fares have no tree.
 use Rattle.std.proofs.Common.{ℕ, zero, suc, ◌+◌, List, [], ◌∷◌, ◌++◌, map, replicate}
 use Rattle.cert_reader.specs.declared.forms.LineForm.{LineForm}
-use Rattle.cert_reader.specs.Forms.{Form, Line, Tree, fares_forms, fares_tail, numbers_of, rent_forms, rent_tail, rider_forms, set_form}
+use Rattle.cert_reader.specs.Forms.{Form, Line, Tree, fares_forms, numbers_of, rent_forms, set_form}
+use Rattle.cert_reader.specs.Order.{fares_tail, rent_tail, rider_forms}
 use Rattle.cert_reader.specs.declared.forms.Word.TheVariants as word
 use Rattle.cert_reader.specs.Sets.{sets_of}
 use Rattle.cert_reader.specs.Text.{CanSayAll, Marks, Numbers, Said}

@@ -1,7 +1,8 @@
 -- Each text of a rent says some view.
 use Rattle.std.proofs.Common.{◌≡◌, ℕ, pos, List, [], ◌∷◌, ◌++◌, length, map, get_or, sym, ap, ◌∙◌, replicate}
 use Rattle.cert_reader.specs.declared.forms.Word.TheVariants as word
-use Rattle.cert_reader.specs.Forms.{fractions_of, led_by, numbers_of, rent_forms, rent_tail}
+use Rattle.cert_reader.specs.Forms.{fractions_of, led_by, numbers_of, rent_forms}
+use Rattle.cert_reader.specs.Order.{rent_tail}
 use Rattle.cert_reader.specs.Text.{CanSayAll, Numbers, Said}
 use Rattle.cert_reader.specs.Layout.{RentView}
 use Rattle.cert_reader.specs.Views.{rent_said, says}

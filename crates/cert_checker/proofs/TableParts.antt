@@ -126,27 +126,6 @@ next_set view said numbers table next h some =
     set_here view numbers h.taken h.more (next.next ∷ next.rest) h.sets (omega arith) next.whole.sets
     (left_said view said (Numbers numbers ∷ next.next ∷ next.rest) table h next.is ∙ ap (λ l. map line_said l ++ Numbers numbers ∷ next.next ∷ next.rest) none)
 
--- a line behind those of all sets
-pub behind_sets : (view : FaresView) (said : List Said) (line : Gathered) (old new : TableLines) → IsBehindHead view said old → old.left ≡ 0 → new.state ≡ old.state → new.left ≡ old.left
-    → new.last.items ≡ old.last.items ++ line ∷ [] → IsBehindHead view (said ++ line_said line ∷ []) new
-behind_sets view said line old new h none state left last =
-    let head = head_said view in
-    let sets = sets_said 1 h.taken in
-    let lines = map line_said old.last.items in
-    record {
-      state = subst IsState (sym state) h.state;
-      taken = h.taken;
-      more = h.more;
-      sets = h.sets;
-      left = left ∙ h.left;
-      stands = subst (StandsFor view h.taken) (sym state) h.stands;
-      order = λ some. (let many = h.left in omega arith);
-      is = ap (λ s. s ++ line_said line ∷ []) h.is
-          ∙ ap front_said
-          (append_assoc head (sets ++ lines) (line_said line ∷ []) ∙ ap (λ s. head ++ s) (append_assoc sets lines (line_said line ∷ []))
-          ∙ ap (λ s. head ++ (sets ++ s)) (sym (map-append line_said old.last.items (line ∷ [])) ∙ ap (map line_said) (sym last)));
-    }
-
 -- the line of a set
 pub behind_set : (view : FaresView) (said : List Said) (line : Gathered) (old new : TableLines) (h : IsBehindHead view said old) → 0 < old.left → (s : HasSet (map fraction_of line.items) h.taken h.more)
     → IsState new.state → StandsFor view (h.taken ++ s.row ∷ []) new.state → new.left + 1 ≡ old.left → new.last.items ≡ old.last.items → IsBehindHead view (said ++ line_said line ∷ []) new

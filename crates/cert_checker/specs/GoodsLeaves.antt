@@ -14,26 +14,27 @@ use Rattle.goods_rules.specs.Tree.{IsTree}
 use Rattle.nash_bounds.specs.Bound.{IsBound}
 use Rattle.nash_bounds.specs.Prefixes.{highest, top_of}
 
--- the pair is behind the answer's for a list: below it, or the same and the list is after the answer's first goods of that length
+-- a division with this pair that begins with these owners cannot come before the answer: the pair is less than the answer's, or it is the same and these owners
+-- come later in the search order
 abbrev pub IsBeyond : GoodsCase → List ℕ → List ℕ → Pair → Type 0
 IsBeyond case answer owners pair =
     IsLess pair (pair_of case answer) ⊎ ((pair ≡ pair_of case answer) × (slice_cmp nat_cmp owners (take (length owners) answer) ≡ Greater))
 
--- a `-` may stand at the node of these owners: the greatest pair of any whole list between what the players have and what they may have, with a sum of
--- at most the top, is beyond the answer's
+-- a `-` may stand at the node of these owners: no division that begins with them comes before the answer, by the greatest pair of any list between what each
+-- player has and what each may have, with a sum of at most the top
 pub record MayStand (case : GoodsCase) (answer owners : List ℕ) : Type 0 where
   pub bound : Pair
   pub is_bound : IsBound (utilities case owners) (highest case owners) (top_of case owners) bound
   pub beyond : IsBeyond case answer owners bound
 
--- each `-` above the length of all goods may stand
+-- each `-` at a node with goods still to give may stand
 abbrev pub StandsAbove : GoodsCase → List ℕ → List ℕ → ℕ → Type 0
 StandsAbove case answer owners mark = mark ≡ LEFT_OUT → length owners < case.facts.goods → MayStand case answer owners
 
--- each `-` at that length may stand
+-- each `-` at a node where all goods are given may stand
 abbrev pub StandsAtLeaf : GoodsCase → List ℕ → List ℕ → ℕ → Type 0
 StandsAtLeaf case answer owners mark = mark ≡ LEFT_OUT → case.facts.goods ≤ length owners → MayStand case answer owners
 
--- the printed marks are one tree, of each leaf of which this is so, by the printed case and answer, the leaf's owners and its mark
+-- the printed marks are one tree, and this holds of each of its leaves, by its owners and its mark, under the printed case and answer
 abbrev pub HasLeaves : (GoodsCase → List ℕ → List ℕ → ℕ → Type 0) → GoodsView → Type 0
 HasLeaves leaf view = IsTree (leaf (printed_case view) (printed_answer view)) (player_count (printed_case view)) view.goods view.marks

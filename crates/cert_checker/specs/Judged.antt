@@ -1,4 +1,4 @@
--- What a judge says of certificate text, and what its yes shows.
+-- What a judge says of certificate text, and what a yes shows.
 use Rattle.std.specs.Prelude.{◌≡◌, ℕ, ◌<◌, ◌≤◌, List, length, Option, Result, Ok, Err}
 use Rattle.std.specs.Io.KnownBytes.{IsAtEnd}
 use Rattle.bid_rules.specs.Facts.{IsValidFareCase}
@@ -22,25 +22,25 @@ use Rattle.rule_verdicts.specs.declared.verdict.Verdict.{Verdict}
 use Rattle.rule_verdicts.specs.declared.verdict.Verdict.TheVariants.{Yes, No}
 use Rattle.rule_verdicts.specs.Verdicts.{IsVerdictOf, rule_at}
 
--- the rules of the view's kind, in their order
+-- the rules of the certificate's kind, in order
 abbrev pub rules_of : CertificateView → List (Type 0)
 rules_of (OfRent view) = rules_of_rent view
 rules_of (OfGoods view) = rules_of_goods view
 rules_of (OfFares view) = rules_of_fares view
 
--- the rule of a number, from 1
+-- the rule with this number, counted from 1
 abbrev pub rule_of : CertificateView → ℕ → Type 0
 rule_of view number = rule_at (rules_of view) number
 
--- how many rules its kind has
+-- how many rules the certificate's kind has
 abbrev pub rule_count : CertificateView → ℕ
 rule_count view = length (rules_of view)
 
--- the verdict of the rules of its kind
+-- this is the verdict of the rules of the certificate's kind
 abbrev pub GivesVerdict : CertificateView → Verdict → Type 0
 GivesVerdict view verdict = IsVerdictOf (rules_of view) verdict
 
--- the bytes are certificate text, and the view is what it says
+-- the bytes are certificate text that says this
 pub record SaysView (bytes : List ℕ) (view : CertificateView) : Type 0 where
   pub is_text : IsText bytes (counts_of view) (said_of view)
   pub rows : HasRows view
@@ -51,7 +51,7 @@ pub record IsCertificate (bytes : List ℕ) : Type 0 where
   pub says : SaysView bytes view
   pub rules : (number : ℕ) → 1 ≤ number → number ≤ rule_count view → rule_of view number
 
--- the bytes are certificate text, and of the rules of its kind this is the first that does not hold
+-- the bytes are certificate text, and this is the first rule of its kind that does not hold
 pub record BreaksRule (bytes : List ℕ) (number : ℕ) : Type 0 where
   pub view : CertificateView
   pub says : SaysView bytes view
@@ -60,12 +60,12 @@ pub record BreaksRule (bytes : List ℕ) (number : ℕ) : Type 0 where
   pub before : (other : ℕ) → 1 ≤ other → other < number → rule_of view other
   pub broken : rule_of view number → ⊥
 
--- the verdict on bytes: yes where they are a certificate, and no with the first rule that they break, where they are certificate text
+-- the verdict on certificate text: yes if it is a certificate, and no with the first rule that it breaks
 abbrev pub IsJudged : List ℕ → Verdict → Type 0
 IsJudged bytes Yes = IsCertificate bytes
 IsJudged bytes (No number) = BreaksRule bytes number
 
--- no verdict is that on the bytes
+-- no verdict is the right one for the bytes
 abbrev pub HasNoVerdict : List ℕ → Type 0
 HasNoVerdict bytes = (verdict : Verdict) → IsJudged bytes verdict → ⊥
 
@@ -73,7 +73,7 @@ HasNoVerdict bytes = (verdict : Verdict) → IsJudged bytes verdict → ⊥
 abbrev pub IsNoText : List ℕ → Type 0
 IsNoText bytes = (counts : Counts) (said : List Said) → IsText bytes counts said → ⊥
 
--- the printed case is valid, and the printed division is the one that its rule gives for the case; owners are printed by good number
+-- the printed case is valid, and the printed division is the best division of the case; owners are printed in the order of the goods
 abbrev pub IsBest : CertificateView → Type 0
 IsBest (OfRent view) = IsValidRentCase (rent.printed_case view) × RentBest (rent.printed_case view) (rent.printed_rooms view) view.prices
 IsBest (OfGoods view) = IsValidGoodsCase (goods.printed_case view) × GoodsBest (goods.printed_case view) (goods.printed_answer view)
@@ -86,7 +86,7 @@ pub record PrintsBest (bytes : List ℕ) : Type 0 where
   pub is_text : IsText bytes (counts_of view) (said_of view)
   pub best : IsBest view
 
--- what is answered of all bytes that were taken: the verdict on them, where they are text, or why there is none
+-- the bytes taken from the source are certificate text, the answer is the verdict on them, and the source has ended; or the answer is why they are no text
 abbrev pub IsJudgement : Option (List ℕ) → List ℕ → Result Verdict TextEnd → Type 0
 IsJudgement left taken (Ok verdict) = IsJudged taken verdict × (length taken ≤ MOST_BYTES) × IsAtEnd left
 IsJudgement left taken (Err end) = IsEnd end left taken

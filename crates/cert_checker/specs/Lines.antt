@@ -1,7 +1,9 @@
--- The lines of a text, one after another, and what the judge knows behind them.
-use Rattle.std.specs.Prelude.{◌≡◌, ℕ, ◌≤◌, List, ◌∷◌, ◌++◌, length, map, Option, Result, Ok, Err, ⊤}
+-- The lines of a text in order, and what the judge knows after each.
+use Rattle.std.specs.Prelude.{◌≡◌, ℕ, ◌≤◌, List, ◌∷◌, ◌++◌, length, map, Option, Some, Result, Ok, Err, ⊤}
 use Rattle.cert_reader.specs.declared.ends.TextEnd.{TextEnd}
 use Rattle.cert_reader.specs.declared.forms.Counts.{Counts}
+use Rattle.cert_reader.specs.declared.kinds.Kind.{Kind}
+use Rattle.cert_reader.specs.declared.kinds.Kind.TheVariants as kind
 use Rattle.cert_reader.specs.Forms.{AreCounts, forms_of}
 use Rattle.cert_reader.specs.Gathered.{line_said}
 use Rattle.cert_reader.specs.Kinds.{kind_of}
@@ -17,36 +19,36 @@ use Rattle.cert_checker.specs.Judged.{GivesVerdict}
 use Rattle.cert_checker.specs.declared.lines.Lines.{Lines}
 use Rattle.cert_checker.specs.declared.lines.Lines.TheVariants.{Fares, Goods, Rent}
 
--- the number of the kind
-abbrev pub kind_of_lines : Lines → ℕ
-kind_of_lines (Rent lines) = 1
-kind_of_lines (Goods lines) = 2
-kind_of_lines (Fares lines) = 3
+-- the kind of the text whose lines come
+abbrev pub kind_of_lines : Lines → Kind
+kind_of_lines (Rent lines) = kind.Rent
+kind_of_lines (Goods lines) = kind.Goods
+kind_of_lines (Fares lines) = kind.Fares
 
--- the state behind lines that say this, whichever text they begin
+-- the judge knows the lines said so far, in any text that begins with them
 abbrev pub KnowsLines : List Said → Lines → Type 0
 KnowsLines said (Rent lines) = said ≡ front_said (map line_said lines.lines.items)
 KnowsLines said (Goods lines) = IsAtGoods said lines
 KnowsLines said (Fares lines) = (view : FaresView) (next : Said) (rest : List Said) → IsWhole view → fares_said view ≡ said ++ next ∷ rest → IsAt view said lines
 
--- a text of the kind goes on with these lines behind those that the state knows
+-- after the lines that the judge knows, a text of its kind goes on with these lines
 pub record GoesOn (lines : Lines) (said : List Said) (rest : List Said) : Type 0 where
   pub counts : Counts
   pub are_counts : AreCounts counts
-  pub kind : kind_of counts ≡ kind_of_lines lines
+  pub kind : kind_of counts ≡ Some (kind_of_lines lines)
   pub fits : CanSayAll (forms_of counts) (said ++ rest)
   pub knows : KnowsLines said lines
 
--- and it goes on with a mark
+-- after the lines that the judge knows, a text of its kind goes on with this mark
 pub record MarkGoesOn (lines : Lines) (said : List Said) (mark : ℕ) : Type 0 where
   pub counts : Counts
   pub are_counts : AreCounts counts
-  pub kind : kind_of counts ≡ kind_of_lines lines
+  pub kind : kind_of counts ≡ Some (kind_of_lines lines)
   pub rest : List Said
   pub fits : CanSayAll (forms_of counts) (with_mark said mark ++ rest)
   pub knows : KnowsLines said lines
 
--- what the lines of a text with these counts say is a certificate to which the rules give this verdict
+-- the lines of a text with these counts say a certificate on which the rules give this verdict
 pub record GivesOf (counts : Counts) (said : List Said) (verdict : Verdict) : Type 0 where
   pub view : CertificateView
   pub counted : counts_of view ≡ counts
@@ -54,17 +56,17 @@ pub record GivesOf (counts : Counts) (said : List Said) (verdict : Verdict) : Ty
   pub rows : HasRows view
   pub gives : GivesVerdict view verdict
 
--- the bytes taken are lines that say this, behind which others come, and the state is the one behind them
+-- the bytes taken are lines that the judge knows, and at least one line is still to come
 pub record IsUpTo (pieces : Reading) (lines : Lines) (taken : List ℕ) : Type 0 where
   pub said : List Said
   pub read : IsRead pieces taken said
-  pub kind : kind_of pieces.counts ≡ kind_of_lines lines
+  pub kind : kind_of pieces.counts ≡ Some (kind_of_lines lines)
   pub knows : KnowsLines said lines
   pub to_come : IsOpen pieces
   pub some : 2 ≤ pieces.lines
   pub long : length said ≡ pieces.lines
 
--- the reading went on up to these bytes, or ended with them
+-- the reading went on, and the judge knows the bytes taken; or the reading ended, and this is why
 abbrev pub IsGoneOn : Reading → Lines → Option (List ℕ) → List ℕ → Result ⊤ TextEnd → Type 0
 IsGoneOn pieces lines left taken (Ok done) = IsUpTo pieces lines taken
 IsGoneOn pieces lines left taken (Err end) = IsEnd end left taken

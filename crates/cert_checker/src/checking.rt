@@ -13,8 +13,8 @@ use goods_rules::{end_goods, goods_certificate_law, start_goods, take_mark};
 use rent_rules::{check_rent, rent_certificate_law};
 use rule_verdicts::Verdict;
 
-/// Whether all rules of its kind hold for the certificate, or the first that does not: so this is the verdict on the bytes from which it was read, the one
-/// that `judge` gives of them. It takes no memory.
+/// Whether all rules of its kind hold for the certificate, or the first that does not. This is the verdict that `judge` gives on the bytes from which the
+/// certificate was read. It takes no memory.
 pub fn check(certificate: &Certificate) -> Verdict
     ensures verdict { GivesVerdict (view_of certificate.now) result }
     ensures judged { (bytes : List ℕ) → IsText bytes (counts_of (view_of certificate.now)) (said_of (view_of certificate.now)) → IsJudged bytes result }

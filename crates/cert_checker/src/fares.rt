@@ -1,51 +1,53 @@
 // The lines of a certificate of fares: those of the head are gathered, those of the sets are judged as they come.
-ghost use Rattle.std.specs.Prelude.{◌≡◌, ◌+◌, ◌<◌, ◌++◌, ◌∷◌, [], List, length, map, IsTrue, ◌↔◌};
+ghost use Rattle.std.specs.Prelude.{◌≡◌, ◌+◌, ◌-◌, ◌<◌, ◌++◌, ◌∷◌, [], List, length, map, IsTrue, ◌↔◌};
 ghost use Rattle.split_frac.specs.Frac.{fraction_of};
 ghost use Rattle.cert_reader.specs.Gathered.{Gathered, line_said};
 ghost use Rattle.cert_reader.specs.Text.{Numbers, Said};
 ghost use Rattle.cert_reader.specs.Layout.{FaresView};
 ghost use Rattle.cert_reader.specs.Views.{fares_said, says};
-ghost use Rattle.cert_reader.specs.declared.places.TheConstants.{FARES_PLACES};
+ghost use Rattle.cert_reader.specs.declared.places.TheConstants.{FARES_PLACES, KIND_LINES};
 ghost use Rattle.fare_rules.specs.Rules.{rules_of_fares};
 ghost use Rattle.rule_verdicts.specs.Verdicts.{IsVerdictOf};
+ghost use Rattle.cert_checker.specs.declared.fares.TheConstants.{FIXED_LINES};
 ghost use Rattle.cert_checker.specs.FaresLines.{HasNoTable, IsAt, IsBehindHead, IsNext, IsWhole, front_said, head_said};
 
 use arrayvec::ArrayVec;
 use bid_rules::limits::{LEG_ROW_ROOM, RIDER_ROOM};
 use cert_reader::limits::MOST_NUMBERS;
 use cert_reader::places::{
-    FARES_FARES, FARES_FLAG, FARES_LAST_LINES, FARES_LEGS, FARES_PLACES, FARES_ROUTE,
+    FARES_END, FARES_FARES, FARES_FLAG, FARES_LEGS, FARES_PLACES, FARES_ROUTE, FARES_SETS,
+    KIND_LINES,
 };
 use cert_reader::{LineNumbers, number_at, row_at, rows_of, set_count, whole_row};
 use fare_rules::{FaresState, PrintedRow, end_fares, start_fares, take_set};
 use rule_verdicts::Verdict;
 
-/// The lines of the head whose number no count fixes: `riders`, `places`, `flag`, the legs from the origin, `who` and `at`.
-const FIXED_LINES: usize = 6;
+/// The lines of the head besides the legs from the places: `riders`, `places`, `flag`, the legs from the origin, `who` and `at`.
+const FIXED_LINES: usize = FARES_LEGS - KIND_LINES + 1 + FARES_SETS;
 /// The most lines of the head.
-const HEAD_LINES: usize = 5 + LEG_ROW_ROOM;
+const HEAD_LINES: usize = FIXED_LINES - 1 + LEG_ROW_ROOM;
 
-/// The lines of the head, as they are gathered.
+/// The lines of the head so far.
 type HeadLines = ArrayVec<LineNumbers, HEAD_LINES>;
 
-/// The lines of fares so far, behind the two that say the kind.
+/// The lines of fares so far, after the two that say the kind.
 #[derive(Drop)]
 pub(crate) enum FaresLines {
     /// Some of the head.
     Head(HeadLines),
-    /// The head, and some behind it.
+    /// The head, and some lines after it.
     Table(TableLines),
 }
 
-/// What is known behind the head.
+/// What is known after the head.
 #[derive(Drop)]
 pub(crate) struct TableLines {
     /// The judge of the lines of sets.
     state: FaresState,
     /// How many lines of sets are still to come.
     left: u32,
-    /// The lines behind them.
-    last: ArrayVec<LineNumbers, FARES_LAST_LINES>,
+    /// The lines after these.
+    last: ArrayVec<LineNumbers, FARES_END>,
 }
 
 impl FaresLines {
@@ -56,8 +58,8 @@ impl FaresLines {
         FaresLines::Head(HeadLines::new())
     }
 
-    /// Takes a line of the head, and begins with the sets where it was the last. The state of the sets is large, so that it is made here and not where each
-    /// line is taken.
+    /// Takes a line of the head, and begins with the sets if it was the last. The state of the sets is large, so it is made here and not where each line is
+    /// taken.
     #[inline(never)]
     fn take_head(&mut self, numbers: LineNumbers)
         requires head { HasNoTable self.old }
@@ -88,7 +90,7 @@ impl FaresLines {
         }
     }
 
-    /// The verdict, where all lines have come but `end`.
+    /// The verdict, once all lines before `end` have come.
     pub(crate) fn verdict(&self) -> Verdict
         requires { (view : FaresView) × (said : List Said) × IsWhole view × (fares_said view ≡ said ++ says [] ∷ []) × IsAt view said self.now }
         ensures { (view : FaresView) (said : List Said) → IsWhole view → fares_said view ≡ said ++ says [] ∷ [] → IsAt view said self.now → IsVerdictOf (rules_of_fares view) result }
@@ -103,33 +105,33 @@ impl FaresLines {
 /// Whether these are all lines of a head.
 fn is_whole(lines: &[LineNumbers]) -> bool
     requires { (view : FaresView) × (rest : List Said) × IsWhole view × (head_said view ≡ map line_said lines.now ++ rest) }
-    ensures { (view : FaresView) (rest : List Said) → IsWhole view → head_said view ≡ map line_said lines.now ++ rest → IsTrue result ↔ length lines.now ≡ view.places + 6 }
+    ensures { (view : FaresView) (rest : List Said) → IsWhole view → head_said view ≡ map line_said lines.now ++ rest → IsTrue result ↔ length lines.now ≡ view.places + FIXED_LINES }
 {
-    lines.len() > FARES_PLACES && lines.len() == FIXED_LINES + places_of(lines)
+    lines.len() > FARES_PLACES - KIND_LINES && lines.len() == FIXED_LINES + places_of(lines)
 }
 
 /// How many places the head counts.
 fn places_of(lines: &[LineNumbers]) -> usize
     requires head { (view : FaresView) × (rest : List Said) × IsWhole view × (head_said view ≡ map line_said lines.now ++ rest) }
-    requires counted { FARES_PLACES < length lines.now }
+    requires counted { FARES_PLACES - KIND_LINES < length lines.now }
     ensures { (view : FaresView) (rest : List Said) → IsWhole view → head_said view ≡ map line_said lines.now ++ rest → result ≡ view.places }
 {
-    number_at(lines, FARES_PLACES) as usize
+    number_at(lines, FARES_PLACES - KIND_LINES) as usize
 }
 
-/// Begins with the sets behind the lines of a head.
+/// Begins with the sets, after the lines of a head.
 fn begin(lines: &[LineNumbers]) -> TableLines
     requires { (view : FaresView) × IsWhole view × (map line_said lines.now ≡ head_said view) }
     ensures { (view : FaresView) → IsWhole view → map line_said lines.now ≡ head_said view → IsBehindHead view (front_said (map line_said lines.now)) result }
 {
     let at = lines.len() - 1;
     let who = at - 1;
-    let legs: ArrayVec<PrintedRow, LEG_ROW_ROOM> = rows_of(&lines[FARES_LEGS..who]);
+    let legs: ArrayVec<PrintedRow, LEG_ROW_ROOM> = rows_of(&lines[FARES_LEGS - KIND_LINES..who]);
     let members: ArrayVec<i128, RIDER_ROOM> = row_at(lines, who);
     let stops: ArrayVec<i128, RIDER_ROOM> = row_at(lines, at);
     let state = start_fares(
         places_of(lines) as u8,
-        number_at(lines, FARES_FLAG),
+        number_at(lines, FARES_FLAG - KIND_LINES),
         legs.as_slice(),
         members.as_slice(),
         stops.as_slice(),
@@ -157,7 +159,7 @@ impl TableLines {
         }
     }
 
-    /// The verdict, where all lines have come but `end`.
+    /// The verdict, once all lines before `end` have come.
     fn verdict(&self) -> Verdict
         requires { (view : FaresView) × (said : List Said) × IsWhole view × (fares_said view ≡ said ++ says [] ∷ []) × IsBehindHead view said self.now }
         ensures { (view : FaresView) (said : List Said) → IsWhole view → fares_said view ≡ said ++ says [] ∷ [] → IsBehindHead view said self.now → IsVerdictOf (rules_of_fares view) result }

@@ -14,20 +14,22 @@ ghost use Rattle.rule_verdicts.specs.Verdicts.{IsVerdictOf};
 
 use arrayvec::ArrayVec;
 use bid_rules::limits::{ITEM_ROOM, MEMBER_ROOM};
-use cert_reader::places::{GOODS_COUNT, GOODS_LAST_LINES, GOODS_LIMIT, GOODS_VALUES, GOODS_WHO};
+use cert_reader::places::{
+    GOODS_COUNT, GOODS_LIMIT, GOODS_TREE, GOODS_VALUES, GOODS_WHO, KIND_LINES,
+};
 use cert_reader::{LineNumbers, number_at, row_at, rows_of};
 use goods_rules::{GoodsState, PrintedRow, end_goods, start_goods, take_mark};
 use rule_verdicts::Verdict;
 
-/// The lines before the tree whose number no count fixes: `players`, `goods`, `limit`, `who`, `owners` and `steps`.
-const FIXED_LINES: usize = 6;
+/// The lines before the tree that are no row of values: `players`, `goods`, `limit`, `who`, `owners` and `steps`.
+const FIXED_LINES: usize = GOODS_VALUES - KIND_LINES + GOODS_TREE;
 /// The most lines before the tree.
 const HEAD_LINES: usize = FIXED_LINES + MEMBER_ROOM;
 
-/// The lines before the tree, as they are gathered.
+/// The lines before the tree so far.
 type HeadLines = ArrayVec<LineNumbers, HEAD_LINES>;
 
-/// The lines of goods so far, behind the two that say the kind.
+/// The lines of goods so far, after the two that say the kind.
 #[derive(Drop)]
 pub(crate) enum GoodsLines {
     /// Some of those before the tree.
@@ -44,7 +46,7 @@ impl GoodsLines {
         GoodsLines::Head(HeadLines::new())
     }
 
-    /// Takes the numbers of the next line, behind which there are others.
+    /// Takes the numbers of the next line, which is not the last.
     pub(crate) fn take(&mut self, numbers: LineNumbers)
         requires { (said : List Said) × (next : Said) × (rest : List Said) × GoodsGoOn said (Numbers (map fraction_of numbers.items) ∷ next ∷ rest) × IsAtGoods said self.old }
         ensures { (said : List Said) (next : Said) (rest : List Said) → GoodsGoOn said (Numbers (map fraction_of numbers.items) ∷ next ∷ rest) → IsAtGoods said self.old
@@ -56,7 +58,7 @@ impl GoodsLines {
         }
     }
 
-    /// Takes the first mark of the tree. The state of the tree is large, so that it is made here and not where each mark is taken.
+    /// Takes the first mark of the tree. The state of the tree is large, so it is made here and not where each mark is taken.
     #[inline(never)]
     fn begin_tree(&mut self, mark: u8)
         requires head { HasNoTree self.old }
@@ -84,7 +86,7 @@ impl GoodsLines {
         }
     }
 
-    /// The verdict, where all lines have come but `end`.
+    /// The verdict, once all lines before `end` have come.
     pub(crate) fn verdict(&self) -> Verdict
         requires { (said : List Said) × GoodsGoOn said (says [] ∷ []) × IsAtGoods said self.now }
         ensures { (said : List Said) (goes : GoodsGoOn said (says [] ∷ [])) → IsAtGoods said self.now → IsVerdictOf (rules_of_goods goes.view) result }
@@ -96,19 +98,21 @@ impl GoodsLines {
     }
 }
 
-/// Begins with the tree behind the lines before it.
+/// Begins with the tree, after the lines before it.
 fn begin(lines: &[LineNumbers]) -> GoodsState
     requires { (view : GoodsView) × IsWholeGoods view × (before_tree view ≡ map line_said lines.now) }
     ensures state { IsState result }
     ensures stands { (view : GoodsView) → IsWholeGoods view → before_tree view ≡ map line_said lines.now → StandsFor view [] result }
 {
-    let last = lines.len() - GOODS_LAST_LINES;
-    let who: ArrayVec<i128, MEMBER_ROOM> = row_at(lines, GOODS_WHO);
-    let values: ArrayVec<PrintedRow, MEMBER_ROOM> = rows_of(&lines[GOODS_VALUES..last]);
+    let last = lines.len() - GOODS_TREE;
+    let who: ArrayVec<i128, MEMBER_ROOM> = row_at(lines, GOODS_WHO - KIND_LINES);
+    let values: ArrayVec<PrintedRow, MEMBER_ROOM> = rows_of(
+        &lines[GOODS_VALUES - KIND_LINES..last],
+    );
     let owners: ArrayVec<i128, ITEM_ROOM> = row_at(lines, last);
     start_goods(
-        number_at(lines, GOODS_COUNT) as u8,
-        number_at(lines, GOODS_LIMIT),
+        number_at(lines, GOODS_COUNT - KIND_LINES) as u8,
+        number_at(lines, GOODS_LIMIT - KIND_LINES),
         who.as_slice(),
         values.as_slice(),
         owners.as_slice(),

@@ -56,7 +56,7 @@ pub fn judge_text<S: Source>(source: &mut S) -> Result<Verdict, TextEnd>
     }
 }
 
-/// Judges certificate text as `judge_text` does, and answers with the reasons of a reader who keeps what it reads. `NoMemory` never comes.
+/// Judges certificate text as `judge_text` does, and answers with the reasons of a reader that keeps what it reads. `NoMemory` never comes.
 pub fn judge<S: Source>(source: &mut S) -> Result<Verdict, ReadEnd>
     ensures judged { (taken : List ℕ) × Consumes (S.left source.old) (S.left source.new) taken × OfAnswer (IsJudgement (S.left source.new) taken) result }
     ensures best { result ≡ Ok Verdict.Yes → (taken : List ℕ) × Consumes (S.left source.old) (S.left source.new) taken × IsCertificate taken × PrintsBest taken }
@@ -69,7 +69,7 @@ pub fn judge<S: Source>(source: &mut S) -> Result<Verdict, ReadEnd>
     read_answer(judge_text(source))
 }
 
-/// Takes the other marks of a tree that is being read, to the end of its line, where any are left. A mark is read alone, since a piece has room for a line.
+/// Takes the other marks of a tree that is being read, to the end of its line. Each mark is read alone, since a piece has room for a whole line.
 fn take_marks<S: Source>(
     pieces: &mut Pieces,
     source: &mut S,

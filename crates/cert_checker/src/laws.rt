@@ -21,9 +21,9 @@ use goods_rules::goods_certificate_law;
 use nash_bounds::{bound_law, open_prefixes_law, whole_list_law};
 use rent_rules::rent_certificate_law;
 
-/// Bytes have at most one verdict, and none where they have a broken line. Text says a view, and has the verdict of the rules on it, yes or no:
-/// bytes without a verdict are no text. So has the text of a certificate that was read: what `check` says of the certificate. Text whose rules all hold is a certificate, and
-/// certificates print a valid case and the division that its rule gives: best rooms and prices, owners, or fares and a route.
+/// Bytes have at most one verdict, and none if they have a broken line. Certificate text has a verdict, that of its rules, yes or no; bytes without a verdict
+/// are no text. For a certificate that was read, this is what `check` says. Text whose rules all hold is a certificate, and a certificate prints a valid case
+/// and its best division: rooms and prices, owners, or fares and a route.
 pub fn certificate_verdict_law()
     ensures one { (bytes : List ℕ) (verdict other : Verdict) → IsJudged bytes verdict → IsJudged bytes other → other ≡ verdict }
     ensures whole { (bytes : List ℕ) (verdict : Verdict) (line : ℕ) → IsJudged bytes verdict → IsBrokenText bytes line → ⊥ }
@@ -41,10 +41,10 @@ pub fn certificate_verdict_law()
     fares_certificate_law();
 }
 
-/// What the fourth and the fifth rule of goods ask, with the bound by its definition. The rules say it by a function: a node may be left out exactly where
-/// the greatest pair of any list that the node allows is below the answer's pair, or the same and the node's owners are after the answer's first ones. So
-/// the rules hold exactly where the marks are one tree whose `-` may all stand, by that definition, above the length of all goods or at it. There the
-/// greatest pair is the allocation's own.
+/// What the fourth and the fifth rule of goods ask, with the bound by its definition. The rules say it by a function: a node may be left out exactly if the
+/// greatest pair of any list that the node allows is less than the answer's pair, or is the same and the node's owners come later than the answer's first
+/// ones. So the rules hold exactly if the marks are one tree whose `-` may all stand by that definition, where goods are still to give or where all are
+/// given. Where all are given, the greatest pair is that of the allocation itself.
 pub fn goods_leaves_law()
     ensures stands { (case : GoodsCase) (answer owners : List ℕ) → IsValidGoodsCase case → may_be_left case answer owners ≡ true ↔ MayStand case answer owners }
     ensures above { (view : GoodsView) → IsValidGoodsCase (printed_case view) → goods_rule view 4 ↔ HasLeaves StandsAbove view }

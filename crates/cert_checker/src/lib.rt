@@ -1,4 +1,8 @@
 //! The judge of certificates: one pass, in fixed memory. Its yes alone shows the printed division best.
+//!
+//! Bytes have one verdict at most, and none where they have a broken line
+//! (`certificate_verdict_law`). No allocator is handed in. The cuts of a tree are judged by what a
+//! bound means (`goods_leaves_law`).
 #![tactic(auto)]
 
 mod checking;

@@ -1,20 +1,21 @@
 // The lines of a text as they come, kind by kind.
-ghost use Rattle.std.specs.Prelude.{◌≡◌, ◌⊎◌, ◌++◌, ◌∷◌, [], List, map};
+ghost use Rattle.std.specs.Prelude.{◌≡◌, ◌++◌, ◌∷◌, [], List, map};
 ghost use Rattle.split_frac.specs.Frac.{fraction_of};
+ghost use Rattle.cert_reader.specs.Kinds.{kind_number};
 ghost use Rattle.cert_reader.specs.Text.{Numbers, Said};
 ghost use Rattle.cert_reader.specs.Views.{says};
 ghost use Rattle.cert_checker.specs.FaresLines.{front_said};
 ghost use Rattle.cert_checker.specs.Lines.{GivesOf, GoesOn, KnowsLines, MarkGoesOn, kind_of_lines};
 ghost use Rattle.cert_reader.specs.Reading.{with_mark};
+ghost use Rattle.cert_reader.specs.declared.kinds.Kind.{Kind};
 
 use crate::fares::FaresLines;
 use crate::goods::GoodsLines;
 use crate::rent::RentLines;
-use cert_reader::LineNumbers;
-use cert_reader::places::{GOODS, RENT};
+use cert_reader::{Kind, LineNumbers};
 use rule_verdicts::Verdict;
 
-/// What the judge knows of a text behind some of its lines.
+/// What the judge knows of a text after some of its lines.
 #[derive(Drop)]
 pub(crate) enum Lines {
     /// Of kind rent.
@@ -26,22 +27,21 @@ pub(crate) enum Lines {
 }
 
 impl Lines {
-    /// Behind the two lines that say the kind.
-    pub(crate) fn new(kind: u8) -> Lines
-        requires { (kind ≡ 1) ⊎ (kind ≡ 2) ⊎ (kind ≡ 3) }
-        ensures kind { kind_of_lines result ≡ kind }
+    /// After the two lines that say the kind, by the number of the kind.
+    pub(crate) fn new(number: u8) -> Lines
+        requires { (kind : Kind) × (number ≡ kind_number kind) }
+        ensures kind { number ≡ kind_number (kind_of_lines result) }
         ensures knows { KnowsLines (front_said []) result }
     {
-        if kind == RENT {
-            Lines::Rent(RentLines::new())
-        } else if kind == GOODS {
-            Lines::Goods(GoodsLines::new())
-        } else {
-            Lines::Fares(FaresLines::new())
+        match Kind::of_number(number) {
+            Some(Kind::Rent) => Lines::Rent(RentLines::new()),
+            Some(Kind::Goods) => Lines::Goods(GoodsLines::new()),
+            Some(Kind::Fares) => Lines::Fares(FaresLines::new()),
+            None => unreachable!(),
         }
     }
 
-    /// Takes the numbers of the next line, behind which there are others.
+    /// Takes the numbers of the next line, which is not the last.
     pub(crate) fn take(&mut self, numbers: LineNumbers)
         requires { (said : List Said) × (next : Said) × (rest : List Said) × GoesOn self.old said (Numbers (map fraction_of numbers.items) ∷ next ∷ rest) }
         ensures kind { kind_of_lines self.new ≡ kind_of_lines self.old }
@@ -68,7 +68,7 @@ impl Lines {
         }
     }
 
-    /// The verdict, where only the last line, `end`, is still to come.
+    /// The verdict, once only the last line, `end`, is still to come.
     pub(crate) fn verdict(&self) -> Verdict
         requires { (said : List Said) × GoesOn self.now said (says [] ∷ []) }
         ensures { (said : List Said) (goes : GoesOn self.now said (says [] ∷ [])) → GivesOf goes.counts (said ++ says [] ∷ []) result }

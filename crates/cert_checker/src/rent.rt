@@ -9,16 +9,17 @@ ghost use Rattle.cert_checker.specs.declared.rent.TheConstants.{LIST_LINES, RENT
 
 use arrayvec::ArrayVec;
 use bid_rules::limits::MEMBER_ROOM;
+use cert_reader::places::{KIND_LINES, RENT_END, RENT_VALUES};
 use cert_reader::{LineNumbers, rent_text};
 use rent_rules::check_rent;
 use rule_verdicts::Verdict;
 
-/// The lines whose number no count fixes: `members`, `rent`, and six lists behind the values.
-const LIST_LINES: usize = 8;
+/// The lines that are no row of values: `members`, `rent`, and six lists after the values.
+const LIST_LINES: usize = RENT_VALUES - KIND_LINES + RENT_END;
 /// The most lines between the two that say the kind and `end`.
 const RENT_LINES: usize = LIST_LINES + MEMBER_ROOM;
 
-/// The lines of a rent so far, behind the two that say the kind.
+/// The lines of a rent so far, after the two that say the kind.
 #[derive(Drop)]
 pub(crate) struct RentLines {
     lines: ArrayVec<LineNumbers, RENT_LINES>,
@@ -42,7 +43,7 @@ impl RentLines {
         self.lines.push(numbers);
     }
 
-    /// The verdict, where all lines have come but `end`.
+    /// The verdict, once all lines before `end` have come.
     pub(crate) fn verdict(&self) -> Verdict
         requires counts { AreCounts (count.Rent (length self.now.lines.items - LIST_LINES)) }
         requires lines { CanSayAll (rent_forms (length self.now.lines.items - LIST_LINES)) (text_said self.now.lines.items) }

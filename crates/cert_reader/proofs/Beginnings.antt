@@ -16,10 +16,6 @@ use Rattle.cert_reader.proofs.UsualForms.{some_said, usual_drop, usual_forms}
 length_take : (k : ℕ) (forms : List Form) → k ≤ length forms → length (take k forms) ≡ k
 length_take k forms h = omega (arith, length-take {A = Form} k forms)
 
--- no line was read
-pub begins_none : {series : Series} → (bytes : List ℕ) (counts : Counts) → AreCountsOf series counts → Begins series bytes 0 counts [] bytes
-begins_none bytes counts are = record { are_counts = are; within = omega arith; fits = tt; text = refl }
-
 -- more bytes behind
 pub begins_grown : {series : Series} → (bytes more rest : List ℕ) (k : ℕ) (counts : Counts) (said : List Said) → Begins series bytes k counts said rest → Begins series (bytes ++ more) k counts said (rest ++ more)
 begins_grown bytes more rest k counts said h = record {
@@ -137,17 +133,6 @@ text_begins bytes counts said h =
       within = omega arith;
       fits = subst (λ fs. CanSayAll fs said) (sym whole) h.fits;
       text = h.text ∙ sym (append-nil (text_of forms said)) ∙ ap (λ fs. text_of fs said ++ []) (sym whole);
-    }
-
--- bytes that are all lines of some counts, with nothing behind, are a text
-pub begins_text : {series : Series} → (bytes rest : List ℕ) (k : ℕ) (counts : Counts) (said : List Said) → Begins series bytes k counts said rest → k ≡ length (forms_of counts) → rest ≡ [] → IsTextOf series bytes counts said
-begins_text bytes rest k counts said h all none =
-    let forms = forms_of counts in
-    let whole : take k forms ≡ forms = take_all k forms (omega arith) in
-    record {
-      are_counts = h.are_counts;
-      fits = subst (λ fs. CanSayAll fs said) whole h.fits;
-      text = h.text ∙ ap (λ xs. text_of (take k forms) said ++ xs) none ∙ append-nil (text_of (take k forms) said) ∙ ap (λ fs. text_of fs said) whole;
     }
 
 -- no line can follow these: not those of any text

@@ -55,11 +55,6 @@ cut c r xs ys bytes e out stop h =
 pub decimal_apart : (m n : ℕ) → m < 10 ^ 25 → n < 10 ^ 25 → decimal m ≡ decimal n → m ≡ n
 decimal_apart m n a b e = sym (decimal_is_IsNumeral_wide m (omega arith)).1 ∙ ap (digits_value 10) e ∙ (decimal_is_IsNumeral_wide n (omega arith)).1
 
--- both sides of a result turned
-pub match_map : {T : Type 0} {P Q : Type 0} {R S : T → Type 0} → (r : Option T) → (P → Q) → ((x : T) → R x → S x) → MatchOption r P R → MatchOption r Q S
-match_map None f g h = f h
-match_map (Some x) f g h = g x h
-
 -- a text that begins with a minus sign and has no number behind it
 pub minus_none : (token digits : List ℕ) → get_or token 0 0 ≡ 45 → digits ≡ drop 1 token → ((n : ℕ) → 0 < n → n < 10 ^ 25 → digits ≡ decimal n → ⊥)
     → (z : ℤ) → unsigned_abs z < 10 ^ 25 → token ≡ signed_decimal z → ⊥

@@ -10,6 +10,7 @@ use Rattle.bid_rules.specs.Fractions.{Fraction}
 use Rattle.split_frac.specs.declared.frac.Frac.{Frac}
 use Rattle.split_frac.specs.Frac.{fraction_of, pair_text}
 use Rattle.split_frac.specs.Texts.{line, numbers_text}
+use Rattle.cert_reader.specs.declared.limits.TheConstants.{LONGEST_LINE, MOST_NUMBERS}
 use Rattle.cert_reader.specs.declared.forms.LineForm.{LineForm}
 use Rattle.cert_reader.specs.declared.forms.Word.{Word}
 use Rattle.cert_reader.specs.declared.forms.Word.TheVariants as word
@@ -192,8 +193,8 @@ numbers_short whole (n ∷ ns) h =
     let more = numbers_short whole ns (All-tail (IsNumber whole) n ns h) in
     omega (arith, length-append (pair_text n) (numbers_text ns))
 
--- a line of at most 24 numbers is within the longest
-pub line_short : (form : LineForm) (said : Said) (text : List ℕ) → form.count ≤ 24 → IsLineOf (Line form) said text → length text ≤ 1024
+-- a line of the most numbers is within the longest
+pub line_short : (form : LineForm) (said : Said) (text : List ℕ) → form.count ≤ MOST_NUMBERS → IsLineOf (Line form) said text → length text ≤ LONGEST_LINE
 line_short form (Numbers numbers) text few is =
     let h = line_to form numbers text is in
     let same = ap length h.1 in

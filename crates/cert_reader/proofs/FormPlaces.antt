@@ -5,10 +5,12 @@ use Rattle.std.proofs.lemmas.List.{get_or-append_right, length-map, get_or-map, 
 use Rattle.std.proofs.lemmas.List.FromFn.{length-range_with_len, get_or-range_with_len}
 use Rattle.std.proofs.Math.ListN.{get_or-append}
 use Rattle.bid_rules.specs.declared.limits.TheConstants.{MOST_RIDERS}
+use Rattle.cert_reader.specs.declared.limits.TheConstants.{MOST_LINES}
 use Rattle.cert_reader.specs.declared.forms.Counts.{Counts}
 use Rattle.cert_reader.specs.declared.forms.Counts.TheVariants as count
 use Rattle.cert_reader.specs.declared.forms.Word.TheVariants as word
-use Rattle.cert_reader.specs.Forms.{AreCountsOf, AreInRange, Form, Pairs, fares_forms, fares_head, fares_tail, forms_of, goods_forms, goods_head, goods_tail, numbers_of, pair_forms, rent_forms, rent_head, rent_tail, rider_forms, set_form}
+use Rattle.cert_reader.specs.Forms.{AreCountsOf, AreInRange, Form, Pairs, fares_forms, forms_of, goods_forms, numbers_of, pair_forms, rent_forms, set_form}
+use Rattle.cert_reader.specs.Order.{fares_head, fares_tail, goods_head, goods_tail, rent_head, rent_tail, rider_forms}
 use Rattle.cert_reader.specs.Sets.{sets_of}
 
 -- each place of a repeated form has it
@@ -173,8 +175,8 @@ lines_some (count.Goods n goods) = let long = length_goods n goods in omega arit
 lines_some (count.Fares n places) = let long = length_fares n places in omega arith
 lines_some (count.Pair goods) = let long = length_pair goods in omega arith
 
--- and at most 1046
-pub lines_few : (counts : Counts) → AreInRange counts → length (forms_of counts) ≤ 1046
+-- and no more than the most
+pub lines_few : (counts : Counts) → AreInRange counts → length (forms_of counts) ≤ MOST_LINES
 lines_few (count.Rent n) are = let long = length_rent n in let few = are.1 in omega arith
 lines_few (count.Goods n goods) are = let long = length_goods n goods in let few = are.1 in omega arith
 lines_few (count.Fares n places) are = let long = length_fares n places in let few = sets_few n are.1 in let near = are.3 in omega arith

@@ -3,6 +3,7 @@ use Rattle.std.proofs.Common.{◌≡◌, ℕ, pos, suc, ◌+◌, ◌-◌, ◌≤
 use Rattle.std.proofs.lemmas.List.{length-drop, length-map, map-append}
 use Rattle.std.proofs.Math.Seq.{get_or-append_seam}
 use Rattle.split_frac.specs.Frac.{fraction_of}
+use Rattle.cert_reader.specs.declared.places.TheConstants.{GOODS_TREE, GOODS_VALUES}
 use Rattle.cert_reader.specs.declared.forms.Counts.TheVariants.{Goods}
 use Rattle.cert_reader.specs.declared.forms.Word.TheVariants as word
 use Rattle.cert_reader.specs.Forms.{Tree, goods_forms}
@@ -34,7 +35,7 @@ tree_can : (n goods : ℕ) (lines : List Gathered) (marks : List ℕ) → CanSay
 tree_can n goods lines marks h many =
     let each : length (map line_said lines) ≡ length lines = length-map lines line_said in
     let long = length_goods n goods in
-    let place : suc (suc (length (map line_said lines))) ≡ 8 + n = omega (arith, each, many) in
+    let place : suc (suc (length (map line_said lines))) ≡ GOODS_VALUES + n + GOODS_TREE = omega (arith, each, many) in
     let can = can_at (goods_forms n goods) (tree_said lines marks) (suc (suc (length (map line_said lines)))) h (omega arith) in
     subst (CanSay Tree) (get_or-append_seam (map line_said lines) (Marks marks) (says [] ∷ []) (Marks []))
     (subst (λ f. CanSay f (get_or (map line_said lines ++ Marks marks ∷ says [] ∷ []) (length (map line_said lines)) (Marks []))) (goods_tree n goods (suc (suc (length (map line_said lines)))) place) can)

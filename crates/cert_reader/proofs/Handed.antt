@@ -1,26 +1,17 @@
 -- Bytes handed out one after another.
 use Rattle.std.proofs.Common.{◌≡◌, ◌≢◌, ℕ, ◌+◌, ◌<◌, ◌≤◌, List, [], ◌∷◌, ◌++◌, length, get_or, arith, refl, sym, ap, ◌∙◌, subst, length-append, append_assoc, append-nil, ⊎_elim, Bool, true, false}
 use Rattle.std.specs.Prelude.{Option}
-use Rattle.std.specs.Io.KnownBytes.{Consumes}
 use Rattle.std.proofs.KnownBytes.{Consumes-nil, Consumes-trans}
 use Rattle.std.proofs.lemmas.Bool.{cases_lt}
 use Rattle.std.proofs.Math.ListN.{get_or-append}
 use Rattle.std.proofs.Math.Seq.{get_or-append_seam}
 use Rattle.cert_reader.specs.declared.ends.TextEnd.{TextEnd}
+use Rattle.cert_reader.specs.declared.limits.TheConstants.{LONGEST_LINE}
 use Rattle.cert_reader.specs.Stream.{Hands, Held, IsPlain, IsStopAt, IsStopped, taken_count}
 
 -- nothing was handed out
 pub hands_none : (a b : Held) (left : Option (List ℕ)) → b.ahead ≡ a.ahead → b.given ≡ a.given → Hands a b left left []
 hands_none a b left ahead given = record { more = []; took = Consumes-nil left; seam = append-nil a.ahead ∙ sym ahead; given = given ∙ (let e : a.given ≡ a.given + 0 = omega arith in e) }
-
--- a byte that was held
-pub hands_held : (a b : Held) (left : Option (List ℕ)) (byte : ℕ) → a.ahead ≡ byte ∷ b.ahead → b.given ≡ a.given + 1 → Hands a b left left (byte ∷ [])
-hands_held a b left byte ahead given = record { more = []; took = Consumes-nil left; seam = append-nil a.ahead ∙ ahead; given = given }
-
--- bytes that were taken from the source, where none were held
-pub hands_taken : (a m b : Held) (before after : Option (List ℕ)) (handed : List ℕ) → a.ahead ≡ [] → Consumes before after m.ahead → m.given ≡ a.given → m.ahead ≡ handed ++ b.ahead → b.given ≡ m.given + length handed
-    → Hands a b before after handed
-hands_taken a m b before after handed none took same ahead given = record { more = m.ahead; took = took; seam = ap (λ xs. xs ++ m.ahead) none ∙ ahead; given = given ∙ ap (λ n. n + length handed) same }
 
 -- bytes behind others
 pub hands_trans : (a b c : Held) (x y z : Option (List ℕ)) (first second : List ℕ) → Hands a b x y first → Hands b c y z second → Hands a c x z (first ++ second)
@@ -54,7 +45,7 @@ plain_more text b h other = record {
 }
 
 -- a line for which there is no more room is longer than any
-pub over_more : (long : Bool) (line text : List ℕ) (b : ℕ) → (long ≡ false → line ≡ text) → (long ≡ true → 1024 < length text) → 1024 ≤ length line → 1024 < length (text ++ b ∷ [])
+pub over_more : (long : Bool) (line text : List ℕ) (b : ℕ) → (long ≡ false → line ≡ text) → (long ≡ true → LONGEST_LINE < length text) → LONGEST_LINE ≤ length line → LONGEST_LINE < length (text ++ b ∷ [])
 over_more true line text b kept over full = let high = over refl in omega (arith, length-append text (b ∷ []))
 over_more false line text b kept over full = let same = ap length (kept refl) in omega (arith, length-append text (b ∷ []))
 

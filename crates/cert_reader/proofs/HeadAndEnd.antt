@@ -12,7 +12,7 @@ use Rattle.cert_reader.specs.declared.forms.Word.{Word}
 use Rattle.cert_reader.specs.declared.forms.Word.TheVariants as word
 use Rattle.cert_reader.specs.declared.pieces.Piece.TheVariants.{Done, Kind}
 use Rattle.cert_reader.specs.Forms.{AreCounts, Certificates, Tree, fares_forms, forms_of, goods_forms, led_by, numbers_of, rent_forms}
-use Rattle.cert_reader.specs.Kinds.{kind_of}
+use Rattle.cert_reader.specs.Kinds.{TellsKind}
 use Rattle.cert_reader.specs.Order.{AgreeUpTo, form_in}
 use Rattle.cert_reader.specs.Reading.{Goes, IsAnswer, IsEnd, IsFinished, IsLineRead, IsRead, Reading}
 use Rattle.cert_reader.specs.Text.{CanSay, CanSayAll, IsText, Marks, Numbers, Said}
@@ -68,7 +68,7 @@ end_said counts said last h =
     (subst (λ f. CanSay f (get_or (said ++ last ∷ []) (length said) (Marks []))) (ap (form_in counts) at ∙ end_form counts) can))
 
 -- two lines were read
-pub kind_read : (a b c : Reading) (x y z : Option (List ℕ)) (first second : ArrayVec Frac 24 (Unit {0})) (kind : ℕ) → a.lines ≡ 0 → c.lines ≡ 2 → kind ≡ kind_of c.counts
+pub kind_read : (a b c : Reading) (x y z : Option (List ℕ)) (first second : ArrayVec Frac 24 (Unit {0})) (kind : ℕ) → a.lines ≡ 0 → c.lines ≡ 2 → TellsKind kind c.counts
     → Goes a x y (λ taken said. IsLineRead Certificates a b y taken said (Ok first)) → Goes b y z (λ taken said. IsLineRead Certificates b c z taken said (Ok second))
     → Goes a x z (λ taken said. IsAnswer a c z taken said (Ok (Kind kind)))
 kind_read a b c x y z first second kind none two is p q =

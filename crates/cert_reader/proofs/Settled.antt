@@ -1,6 +1,7 @@
 -- The next line may follow, or no line that may follow stands there.
 use Rattle.std.proofs.Common.{◌≡◌, ℕ, ◌<◌, List, [], ◌∷◌, ◌++◌, length, arith, refl, sym, ap, ◌∙◌, subst, append_assoc}
 use Rattle.std.specs.Prelude.{Option}
+use Rattle.cert_reader.specs.declared.limits.TheConstants.{LONGEST_LINE}
 use Rattle.cert_reader.specs.declared.ends.TextEnd.{TextEnd}
 use Rattle.cert_reader.specs.declared.ends.TextEnd.TheVariants.{NotText, ReadFault, TooLong}
 use Rattle.cert_reader.specs.declared.forms.Counts.{Counts}
@@ -31,7 +32,7 @@ no_line_behind index known text rest plain none counts said more are agree withi
     none counts said are agree within (can, ap (λ xs. xs ++ 10 ∷ []) both.0 ∙ sym s.ended)
 
 -- a line that is too long is none of numbers
-pub no_line_long : (index : ℕ) (known : Counts) (text rest : List ℕ) → 1024 < length text → IsPlain text → (form_in known index ≡ Tree → ⊥) → HasNoLine index known (text ++ 10 ∷ rest)
+pub no_line_long : (index : ℕ) (known : Counts) (text rest : List ℕ) → LONGEST_LINE < length text → IsPlain text → (form_in known index ≡ Tree → ⊥) → HasNoLine index known (text ++ 10 ∷ rest)
 no_line_long index known text rest long plain line =
     no_line_behind index known text rest plain (λ counts said are agree within is. let short = short_in counts index said text are within (agree_line index known counts agree line) is in omega arith)
 

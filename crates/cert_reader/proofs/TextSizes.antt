@@ -2,6 +2,7 @@
 use Rattle.std.proofs.Common.{◌≡◌, ℕ, ℤ, suc, pos, ◌+◌, ◌*◌, ◌≤◌, List, [], ◌∷◌, ◌++◌, length, map, arith, refl, ap, ◌∙◌, sym}
 use Rattle.std.specs.List.{enumerate_from}
 use Rattle.std.proofs.lemmas.List.{length-append}
+use Rattle.cert_reader.specs.declared.limits.TheConstants.{LONGEST_LINE, MOST_BESIDE_MARKS, MOST_NUMBERS}
 use Rattle.cert_reader.specs.declared.forms.Counts.TheVariants.{Pair}
 use Rattle.cert_reader.specs.Forms.{AreCountsOf, AreInRange, Certificates, Form, Line, Tree, forms_of}
 use Rattle.cert_reader.specs.Pairs.{IsPairText, pair_said}
@@ -30,8 +31,8 @@ unfolding mark_count
 count_more (Numbers numbers) more = omega arith
 count_more (Marks marks) more = refl
 
--- a line of at most 24 numbers, or of marks
-line_size : (form : Form) (said : Said) → count_in form ≤ 24 → CanSay form said → length (said_text form said) ≤ 1025 + marks_in said
+-- a line of at most so many numbers, or of marks
+line_size : (form : Form) (said : Said) → count_in form ≤ MOST_NUMBERS → CanSay form said → length (said_text form said) ≤ LONGEST_LINE + 1 + marks_in said
 unfolding line
 line_size (Line form) (Numbers numbers) few can =
     let p = said_line (Line form) (Numbers numbers) can in
@@ -46,7 +47,7 @@ line_size Tree (Marks marks) few can =
     omega (arith, front, whole)
 
 -- lines one after another
-lines_size : (forms : List Form) (said : List Said) → AreUsual forms → CanSayAll forms said → length (text_of forms said) ≤ 1025 * length forms + mark_count said
+lines_size : (forms : List Form) (said : List Said) → AreUsual forms → CanSayAll forms said → length (text_of forms said) ≤ (LONGEST_LINE + 1) * length forms + mark_count said
 unfolding AreUsual
 lines_size [] [] h can = omega arith
 lines_size [] (one ∷ said) h can = absurd can
@@ -86,7 +87,7 @@ in_range (OfGoods view) h = h
 in_range (OfFares view) h = h
 
 -- a text is short but for its marks
-pub text_size : (bytes : List ℕ) (view : CertificateView) → IsText bytes (counts_of view) (said_of view) → length bytes ≤ 1072150 + length (marks_of view)
+pub text_size : (bytes : List ℕ) (view : CertificateView) → IsText bytes (counts_of view) (said_of view) → length bytes ≤ MOST_BESIDE_MARKS + length (marks_of view)
 text_size bytes view text =
     let are = in_range view text.are_counts in
     let short = lines_size (forms_of (counts_of view)) (said_of view) (usual_forms (counts_of view) are) text.fits in
@@ -96,7 +97,7 @@ text_size bytes view text =
     omega (arith, short, few, marks, same)
 
 -- the text of a pair is short
-pub pair_size : (bytes : List ℕ) (view : PairView) → IsPairText bytes view → length bytes ≤ 1072150
+pub pair_size : (bytes : List ℕ) (view : PairView) → IsPairText bytes view → length bytes ≤ MOST_BESIDE_MARKS
 pair_size bytes view text =
     let short = lines_size (forms_of (Pair view.goods)) (pair_said view) (usual_forms (Pair view.goods) text.are_counts) text.fits in
     let few = length_pair view.goods in

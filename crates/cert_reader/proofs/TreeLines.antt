@@ -8,9 +8,9 @@ use Rattle.split_frac.specs.Texts.{line}
 use Rattle.cert_reader.specs.declared.forms.Counts.{Counts}
 use Rattle.cert_reader.specs.declared.forms.Counts.TheVariants.{Fares, Goods, Pair, Rent}
 use Rattle.cert_reader.specs.declared.forms.Word.TheVariants as word
-use Rattle.cert_reader.specs.Forms.{Form, Line, Tree, forms_of, goods_forms, goods_head, numbers_of}
+use Rattle.cert_reader.specs.Forms.{Form, Line, Tree, forms_of, goods_forms, numbers_of}
 use Rattle.std.specs.Prelude.{replicate}
-use Rattle.cert_reader.specs.Order.{HasNoLine, form_in}
+use Rattle.cert_reader.specs.Order.{HasNoLine, form_in, goods_head}
 use Rattle.cert_reader.specs.Reading.{with_mark}
 use Rattle.cert_reader.specs.Text.{CanSay, CanSayAll, IsMark, Marks, Numbers, Said, said_text}
 use Rattle.cert_reader.specs.TreeLines.{GoesNotOn, HasNoTree, tree_front}

@@ -5,8 +5,9 @@ use Rattle.cert_reader.specs.declared.forms.Counts.{Counts}
 use Rattle.cert_reader.specs.declared.forms.Counts.TheVariants.{Fares, Goods, Pair, Rent}
 use Rattle.cert_reader.specs.declared.forms.LineForm.{LineForm}
 use Rattle.cert_reader.specs.declared.forms.Word.TheVariants as word
-use Rattle.cert_reader.specs.Forms.{AreCountsOf, Form, Line, Pairs, Tree, fares_forms, fares_tail, forms_of, goods_forms, goods_head, goods_tail, numbers_of, pair_forms, rent_forms, rent_tail, rider_forms, set_form}
-use Rattle.cert_reader.specs.Order.{AgreeUpTo, form_in}
+use Rattle.cert_reader.specs.declared.places.TheConstants.{GOODS_TREE, GOODS_VALUES}
+use Rattle.cert_reader.specs.Forms.{AreCountsOf, Form, Line, Pairs, Tree, fares_forms, forms_of, goods_forms, numbers_of, pair_forms, rent_forms, set_form}
+use Rattle.cert_reader.specs.Order.{AgreeUpTo, fares_tail, form_in, goods_head, goods_tail, rent_tail, rider_forms}
 use Rattle.cert_reader.specs.Sets.{sets_of}
 use Rattle.cert_reader.proofs.Agreeing.{agree_whole}
 use Rattle.cert_reader.proofs.FormPlaces.{goods_in_head, goods_in_tail, goods_in_values, length_goods, length_pair}
@@ -69,8 +70,8 @@ pairs_lines_only (Rent n) i are low e = absurd are
 pairs_lines_only (Goods n goods) i are low e = absurd are
 pairs_lines_only (Fares n places) i are low e = absurd are
 
--- goods have a tree behind eight lines and one a player
-pub goods_tree : (n goods i : ℕ) → i ≡ 8 + n → form_in (Goods n goods) i ≡ Tree
+-- goods have a tree in its place after the values
+pub goods_tree : (n goods i : ℕ) → i ≡ GOODS_VALUES + n + GOODS_TREE → form_in (Goods n goods) i ≡ Tree
 goods_tree n goods i e = goods_in_tail n goods i 2 Tree (omega arith)
 
 -- no line of the head of goods is a tree
@@ -87,7 +88,7 @@ tail_place goods (suc (suc (suc zero))) low e = absurd (cc)
 tail_place goods (suc (suc (suc (suc j)))) low e = omega arith
 
 -- and they have none elsewhere
-pub goods_place : (n goods i : ℕ) → i < length (goods_forms n goods) → form_in (Goods n goods) i ≡ Tree → i ≡ 8 + n
+pub goods_place : (n goods i : ℕ) → i < length (goods_forms n goods) → form_in (Goods n goods) i ≡ Tree → i ≡ GOODS_VALUES + n + GOODS_TREE
 goods_place n goods i low e = ⊎_elim
     (λ (a : i < 6). absurd (head_line n goods i a (sym (goods_in_head n goods i Tree a) ∙ e)))
     (λ (b : 6 ≤ i).

@@ -7,6 +7,7 @@ use Rattle.std.proofs.lemmas.List.{length-replicate}
 use Rattle.std.proofs.lemmas.List.Elements.{All-cons, All-nil, All-replicate}
 use Rattle.bid_rules.specs.declared.limits.TheConstants.{MOST_RIDERS}
 use Rattle.bid_rules.specs.Fractions.{Fraction}
+use Rattle.cert_reader.specs.declared.limits.TheConstants.{LONGEST_LINE, MOST_NUMBERS}
 use Rattle.cert_reader.specs.declared.forms.Counts.{Counts}
 use Rattle.cert_reader.specs.declared.forms.Counts.TheVariants.{Fares, Goods, Pair, Rent}
 use Rattle.cert_reader.specs.declared.forms.Word.{Word}
@@ -27,7 +28,7 @@ count_in Tree = 0
 
 -- a form of at most 24 numbers, of which some line exists
 pub record Usual (form : Form) : Type 0 where
-  pub short : count_in form ≤ 24
+  pub short : count_in form ≤ MOST_NUMBERS
   pub said : Said
   pub can : CanSay form said
 
@@ -57,15 +58,15 @@ zeros : (whole : Bool) (n : ℕ) → All (IsNumber whole) (replicate n (pos 0, 1
 zeros whole n = All-replicate (IsNumber whole) n (pos 0, 1) (number_written whole 0 (omega arith))
 
 -- a form of at most 24 whole numbers is usual
-usual_numbers : (w : Word) (n : ℕ) → n ≤ 24 → Usual (numbers_of w n)
+usual_numbers : (w : Word) (n : ℕ) → n ≤ MOST_NUMBERS → Usual (numbers_of w n)
 usual_numbers w n few = record { short = few; said = Numbers (replicate n (pos 0, 1)); can = record { each = length-replicate n (pos 0, 1); written = zeros true n; first = tt } }
 
 -- a form of at most 24 fractions is usual
-usual_fractions : (w : Word) (n : ℕ) → n ≤ 24 → Usual (fractions_of w n)
+usual_fractions : (w : Word) (n : ℕ) → n ≤ MOST_NUMBERS → Usual (fractions_of w n)
 usual_fractions w n few = record { short = few; said = Numbers (replicate n (pos 0, 1)); can = record { each = length-replicate n (pos 0, 1); written = zeros false n; first = tt } }
 
 -- a form of at most 24 whole numbers, of which the first is set to one of at most 25 digits, is usual
-usual_led : (w : Word) (lead n : ℕ) → lead < 10 ^ 25 → n < 24 → Usual (led_by w lead (n + 1))
+usual_led : (w : Word) (lead n : ℕ) → lead < 10 ^ 25 → n < MOST_NUMBERS → Usual (led_by w lead (n + 1))
 usual_led w lead n small few = record {
   short = omega arith;
   said = Numbers ((pos lead, 1) ∷ replicate n (pos 0, 1));
@@ -217,9 +218,9 @@ some_said [] h = ([], tt)
 some_said (f ∷ forms) h = (h.0.said ∷ (some_said forms h.1).0, (h.0.can, (some_said forms h.1).1))
 
 -- a line of numbers of a text is within the longest
-pub short_in : (counts : Counts) (i : ℕ) (said : Said) (text : List ℕ) → AreInRange counts → i < length (forms_of counts) → (form_in counts i ≡ Tree → ⊥) → IsLineOf (form_in counts i) said text → length text ≤ 1024
+pub short_in : (counts : Counts) (i : ℕ) (said : Said) (text : List ℕ) → AreInRange counts → i < length (forms_of counts) → (form_in counts i ≡ Tree → ⊥) → IsLineOf (form_in counts i) said text → length text ≤ LONGEST_LINE
 short_in counts i said text are within line is = within_longest (form_in counts i) (usual_at (forms_of counts) i (usual_forms counts are) within).short line is
   where
-    within_longest : (form : Form) → count_in form ≤ 24 → (form ≡ Tree → ⊥) → IsLineOf form said text → length text ≤ 1024
+    within_longest : (form : Form) → count_in form ≤ MOST_NUMBERS → (form ≡ Tree → ⊥) → IsLineOf form said text → length text ≤ LONGEST_LINE
     within_longest (Line form) short line is = line_short form said text short is
     within_longest Tree short line is = absurd (line refl)

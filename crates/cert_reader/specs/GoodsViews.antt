@@ -1,8 +1,8 @@
 -- What a certificate of goods says, as lists.
 use Rattle.std.specs.Prelude.{ℕ, ℤ, List}
 
--- a certificate of goods: how many goods, the step limit, member numbers by player, points by player and good, owners by good number, the step count,
--- and the characters of the tree
+-- what a certificate of goods says: how many goods, the step limit, the member number of each player, points by player and good, the owner of each good, the
+-- step count, and the marks of the tree
 pub record GoodsView : Type 0 where
   pub goods : ℕ
   pub limit : ℤ

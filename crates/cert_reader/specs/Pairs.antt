@@ -12,7 +12,7 @@ use Rattle.cert_reader.specs.Reading.{IsEndOf}
 use Rattle.cert_reader.specs.Text.{IsTextOf, Said}
 use Rattle.cert_reader.specs.Views.{said_in}
 
--- what the lines say, from the first to `end`
+-- what all lines of the text of a pair say, in order
 abbrev pub pair_said : PairView → List Said
 pair_said view = said_in view (pair_layout view.goods)
 
@@ -20,7 +20,7 @@ pair_said view = said_in view (pair_layout view.goods)
 abbrev pub IsPairText : List ℕ → PairView → Type 0
 IsPairText bytes view = IsTextOf Pairs bytes (count.Pair view.goods) (pair_said view)
 
--- a text that was read
+-- what a text that was read says
 abbrev pub pair_view : PairText → PairView
 pair_view text = record {
   goods = text.goods;
@@ -31,7 +31,7 @@ pair_view text = record {
   total = fraction_of text.total;
 }
 
--- all bytes of the source are the text of a pair that says this; or why they are none
+-- the bytes taken from the source are the text of a pair, the answer is what it says, and the source has ended; or the answer is why they are none
 abbrev pub IsReadPair : Option (List ℕ) → List ℕ → Result PairText TextEnd → Type 0
 IsReadPair left taken (Ok text) = IsPairText taken (pair_view text) × (length taken ≤ MOST_BYTES) × IsAtEnd left
 IsReadPair left taken (Err end) = IsEndOf Pairs end left taken

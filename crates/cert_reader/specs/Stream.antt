@@ -1,4 +1,4 @@
--- What stands between a source and the lines that were read from it.
+-- What stands between a source and the lines read from it.
 use Rattle.std.specs.Prelude.{◌≡◌, ◌≢◌, ℕ, ◌+◌, ◌<◌, ◌≤◌, List, [], ◌∷◌, ◌++◌, length, take, slice_index, Option, Result, Ok, Err}
 use Rattle.std.specs.Io.KnownBytes.{Consumes, IsAtEnd}
 use Rattle.split_base.specs.Faults.{counted}
@@ -10,7 +10,7 @@ use Rattle.cert_reader.specs.declared.stream.Cut.TheVariants.{Line, Long, Unende
 use Rattle.cert_reader.specs.declared.stream.Front.{Front}
 use Rattle.cert_reader.specs.declared.stream.Front.TheVariants.{Ended, Other, Whole}
 
--- the bytes that were taken from the source and not handed out yet, how many were handed out, and the line that was read last
+-- the bytes taken from the source and not handed out yet, how many bytes were handed out, and the line that was read last
 pub record Held : Type 0 where
   pub ahead : List ℕ
   pub given : ℕ
@@ -20,14 +20,14 @@ pub record Held : Type 0 where
 abbrev pub taken_count : Held → ℕ
 taken_count held = held.given + length held.ahead
 
--- these bytes were handed out: they and what is held now are what was held before and what was taken from the source
+-- these bytes were handed out: what was held before and what was taken since are these bytes and what is held now
 pub record Hands (before after : Held) (left_before left_after : Option (List ℕ)) (handed : List ℕ) : Type 0 where
   pub more : List ℕ
   pub took : Consumes left_before left_after more
   pub seam : before.ahead ++ more ≡ handed ++ after.ahead
   pub given : after.given ≡ before.given + length handed
 
--- how many bytes in all may have been taken where the reading stops: exactly one more than a text has where it is too long, never more after a fault
+-- how many bytes may have been taken when the reading stops: exactly one more than the limit if the text is too long, and at most the limit after a failed read
 abbrev pub IsStopAt : TextEnd → ℕ → Type 0
 IsStopAt TooLong total = total ≡ MOST_BYTES + 1
 IsStopAt ReadFault total = total ≤ MOST_BYTES
@@ -37,24 +37,24 @@ IsStopAt (NotText line) total = ⊥
 abbrev pub IsStopped : Held → Option (List ℕ) → Option (List ℕ) → TextEnd → Type 0
 IsStopped held before after stop = (more : List ℕ) × Consumes before after more × IsStopAt stop (taken_count held + length more)
 
--- what the source's count of faults is then: one more after a failed read, which is not tried again, and else the same
+-- the source's count of faults after the answer: one more after a failed read, which is not tried again, and else the same
 abbrev pub faults_after : {T : Type 0} → ℕ → Result T TextEnd → ℕ
 faults_after before (Ok answer) = before
 faults_after before (Err ReadFault) = counted before
 faults_after before (Err TooLong) = before
 faults_after before (Err (NotText line)) = before
 
--- no LF
+-- the text has no LF
 pub record IsPlain (text : List ℕ) : Type 0 where
   pub none : (k : ℕ) → k < length text → slice_index text k ≢ 10
 
--- what was handed out: a line, one that is longer than any of a text, or what stands at the end without LF
+-- what was handed out is a line; or a line that is longer than any line of a text; or what stands at the end without an LF
 abbrev pub IsCut : Held → Held → Option (List ℕ) → Option (List ℕ) → Cut → Type 0
 IsCut before after left left_after Line = IsPlain after.line × Hands before after left left_after (after.line ++ 10 ∷ [])
 IsCut before after left left_after Long = (text : List ℕ) × (LONGEST_LINE < length text) × IsPlain text × Hands before after left left_after (text ++ 10 ∷ [])
 IsCut before after left left_after Unended = (text : List ℕ) × IsPlain text × Hands before after left left_after text × (after.ahead ≡ []) × IsAtEnd left_after
 
--- how much of these bytes was handed out: all of them; some, and then another byte than the next of them; or some, and then the input had ended
+-- how much of these bytes was handed out: all of them; some of them and then a different byte; or some of them and then the end
 abbrev pub IsFrontTaken : Held → Held → Option (List ℕ) → Option (List ℕ) → List ℕ → Front → Type 0
 IsFrontTaken before after left left_after front Whole = Hands before after left left_after front
 IsFrontTaken before after left left_after front Other =

@@ -3,6 +3,7 @@ use Rattle.std.specs.Prelude.{ℕ, List, codes}
 use Rattle.cert_reader.specs.declared.forms.Word.{Word}
 use Rattle.cert_reader.specs.declared.forms.Word.TheVariants as word
 
+-- the letters of the word
 abbrev pub word_text : Word → List ℕ
 word_text word.Fairsplit = codes "fairsplit"
 word_text word.FairsplitPair = codes "fairsplit pair"

@@ -13,8 +13,8 @@ use crate::line::LineNumbers;
 use crate::order::set_count;
 use crate::places::{
     FARES_AT, FARES_FARES, FARES_FLAG, FARES_LEGS, FARES_SETS, GOODS_LIMIT, GOODS_STEPS,
-    GOODS_VALUES, GOODS_WHO, RENT_AMOUNT, RENT_LEFT, RENT_PRICES, RENT_RANKS, RENT_RIGHT,
-    RENT_VALUES, RENT_WALKS,
+    GOODS_VALUES, GOODS_WHO, KIND_LINES, RENT_AMOUNT, RENT_LEFT, RENT_PRICES, RENT_RANKS,
+    RENT_RIGHT, RENT_VALUES, RENT_WALKS,
 };
 use crate::rows::{fractions_at, number_at, push_rows, row_at, rows_of};
 use crate::table::Table;
@@ -22,16 +22,16 @@ use crate::tree::Tree;
 use split_base::NoMemory;
 use std::alloc::Global;
 
-/// The certificate of a rent whose lines, between the head of two and `end`, were read. It takes no memory.
+/// The certificate of a rent from its lines, without the two that say the kind and without `end`. It takes no memory.
 pub fn rent_text(members: u8, lines: &[LineNumbers]) -> RentText
     requires counts { AreCounts (count.Rent members) }
     requires lines { CanSayAll (rent_forms members) (text_said lines.now) }
     ensures said { rent_said (rent_view result) ≡ text_said lines.now }
     ensures members { length result.rooms.items ≡ members }
 {
-    let first = RENT_VALUES + members as usize;
-    let rent = number_at(lines, RENT_AMOUNT);
-    let values = rows_of(&lines[RENT_VALUES..first]);
+    let first = RENT_VALUES - KIND_LINES + members as usize;
+    let rent = number_at(lines, RENT_AMOUNT - KIND_LINES);
+    let values = rows_of(&lines[RENT_VALUES - KIND_LINES..first]);
     let rooms = row_at(lines, first);
     let left = row_at(lines, first + RENT_LEFT);
     let right = row_at(lines, first + RENT_RIGHT);
@@ -50,7 +50,7 @@ pub fn rent_text(members: u8, lines: &[LineNumbers]) -> RentText
     }
 }
 
-/// The certificate of goods whose lines, between the head of two and the tree, and whose tree were read. It takes no memory.
+/// The certificate of goods from its lines between the two that say the kind and the tree, and from the marks of its tree. It takes no memory.
 pub(crate) fn goods_text(players: u8, goods: u8, lines: &[LineNumbers], marks: Vec<u8>) -> GoodsText
     requires counts { AreCounts (count.Goods players goods) }
     requires lines { CanSayAll (goods_forms players goods) (tree_said lines.now marks.items) }
@@ -58,10 +58,10 @@ pub(crate) fn goods_text(players: u8, goods: u8, lines: &[LineNumbers], marks: V
     ensures players { length result.who.items ≡ players }
     ensures goods { result.goods ≡ goods }
 {
-    let first = GOODS_VALUES + players as usize;
-    let limit = number_at(lines, GOODS_LIMIT);
-    let who = row_at(lines, GOODS_WHO);
-    let values = rows_of(&lines[GOODS_VALUES..first]);
+    let first = GOODS_VALUES - KIND_LINES + players as usize;
+    let limit = number_at(lines, GOODS_LIMIT - KIND_LINES);
+    let who = row_at(lines, GOODS_WHO - KIND_LINES);
+    let values = rows_of(&lines[GOODS_VALUES - KIND_LINES..first]);
     let owners = row_at(lines, first);
     let steps = number_at(lines, first + GOODS_STEPS);
     GoodsText {
@@ -75,7 +75,7 @@ pub(crate) fn goods_text(players: u8, goods: u8, lines: &[LineNumbers], marks: V
     }
 }
 
-/// The certificate of fares whose lines, between the head of two and `end`, were read. It takes memory for the table alone.
+/// The certificate of fares from its lines, without the two that say the kind and without `end`. It takes memory only for the table.
 pub(crate) fn fares_text(
     alloc: Global,
     riders: u8,
@@ -88,13 +88,13 @@ pub(crate) fn fares_text(
     ensures riders { IfOk result (λ text. length text.who.items ≡ riders) }
     ensures places { IfOk result (λ text. text.places ≡ places) }
 {
-    let first = FARES_LEGS + 1 + places as usize;
+    let first = FARES_LEGS - KIND_LINES + 1 + places as usize;
     let sets = first + FARES_SETS;
     let last = sets + set_count(riders) as usize;
     let mut numbers = Vec::new(alloc);
     push_rows(&mut numbers, &lines[sets..last])?;
-    let flag = number_at(lines, FARES_FLAG);
-    let legs = rows_of(&lines[FARES_LEGS..first]);
+    let flag = number_at(lines, FARES_FLAG - KIND_LINES);
+    let legs = rows_of(&lines[FARES_LEGS - KIND_LINES..first]);
     let who = row_at(lines, first);
     let at = row_at(lines, first + FARES_AT);
     let route = row_at(lines, last);
@@ -111,7 +111,7 @@ pub(crate) fn fares_text(
     })
 }
 
-/// The certificate whose lines, between the head of two and `end`, were read, the tree of goods apart from the others.
+/// The certificate from its lines, without the two that say the kind and without `end`. The marks of the tree of goods come apart.
 pub(crate) fn certificate_of(
     alloc: Global,
     counts: Counts,

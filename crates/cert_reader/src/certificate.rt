@@ -11,7 +11,7 @@ use arrayvec::ArrayVec;
 use bid_rules::limits::{ITEM_ROOM, LEG_ROW_ROOM, MEMBER_ROOM, PLACE_ROOM, RIDER_ROOM};
 use split_frac::Frac;
 
-/// A certificate text that was read: the numbers of its lines. Whether they show a best division is for its rules to say.
+/// A certificate text that was read: the numbers of its lines. Its rules decide whether they show a best division.
 #[derive(Debug, Drop)]
 pub enum Certificate {
     Rent(RentText),

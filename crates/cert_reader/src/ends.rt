@@ -2,33 +2,33 @@
 ghost use Rattle.std.specs.Prelude.{◌≡◌, IfOk, IsErrOf, Ok};
 ghost use Rattle.cert_reader.specs.Ends.{read_answer};
 
-/// Why bytes are no text of which the lines are read one by one: no memory is needed for them.
+/// Why a reader that keeps nothing found no text. It needs no memory.
 #[derive(Clone, Copy, Debug, PartialEq, Eq)]
 pub enum TextEnd {
-    /// They have at most 4,000,000 bytes and are no such text. They were read to their end.
+    /// The input has at most 4,000,000 bytes and is no such text. It was read to its end.
     NotText {
-        /// The first broken line, counted from 1: the least number such that so many lines are not the first of any such text.
+        /// The first broken line, counted from 1: the least number of first lines with which no such text begins.
         line: u32,
     },
     /// A read failed. It was not tried again.
     ReadFault,
-    /// They have more than 4,000,000 bytes, of which 4,000,001 were read.
+    /// The input has more than 4,000,000 bytes. 4,000,001 were read.
     TooLong,
 }
 
-/// Why bytes were not read as a certificate text.
+/// Why a reader that keeps what it reads found no text.
 #[derive(Clone, Copy, Debug, PartialEq, Eq)]
 pub enum ReadEnd {
-    /// They have at most 4,000,000 bytes and are no certificate text. They were read to their end.
+    /// The input has at most 4,000,000 bytes and is no certificate text. It was read to its end.
     NotText {
-        /// The first broken line, counted from 1: the least number such that so many lines are not the first of any certificate text.
+        /// The first broken line, counted from 1: the least number of first lines with which no certificate text begins.
         line: u32,
     },
     /// A read failed. It was not tried again.
     ReadFault,
-    /// They have more than 4,000,000 bytes, of which 4,000,001 were read.
+    /// The input has more than 4,000,000 bytes. 4,000,001 were read.
     TooLong,
-    /// There was no memory for what they say.
+    /// There was no memory for what the input says.
     NoMemory,
 }
 
@@ -47,7 +47,7 @@ impl From<TextEnd> for ReadEnd {
     }
 }
 
-/// The same answer, with its reason among those that a reader has who keeps what it reads.
+/// The same answer, with its reason among those of a reader that keeps what it reads.
 pub fn read_answer<T>(answer: Result<T, TextEnd>) -> Result<T, ReadEnd>
     ensures same { result ≡ read_answer answer }
     ensures value { IfOk result (λ value. answer ≡ Ok value) }

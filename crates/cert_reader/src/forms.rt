@@ -1,11 +1,8 @@
 // The words of lines and their forms, and what the lines at the head of a text count.
 ghost use Rattle.std.specs.Prelude.{◌≡◌};
-ghost use Rattle.cert_reader.specs.Kinds.{kind_of};
 ghost use Rattle.cert_reader.specs.Words.{word_text};
 
-use crate::places::{FARES, GOODS, RENT};
-
-/// The word with which a line begins. The line of a kind has no numbers, so the kind is part of its word, and `pair` is part of the first word of the text of a pair.
+/// The word with which a line begins. The line of the kind has no numbers, so its word holds the kind too. The first word of the text of a pair holds `pair`.
 #[derive(Clone, Copy, Debug, PartialEq, Eq)]
 pub enum Word {
     Fairsplit,
@@ -93,13 +90,13 @@ pub struct LineForm {
     pub word: Word,
     /// The first number, where the text before the line fixes it.
     pub lead: Option<u64>,
-    /// How many numbers follow the word, the first one counted too.
+    /// How many numbers follow the word, including the first.
     pub count: usize,
-    /// Whether they are whole numbers; else they may be fractions.
+    /// Whether they are whole numbers. If not, they may be fractions.
     pub whole: bool,
 }
 
-/// What the lines at the head of a text count: they fix which lines follow.
+/// What the first lines of a text count. They fix which lines follow.
 #[derive(Clone, Copy, Debug, PartialEq, Eq)]
 pub enum Counts {
     /// A text of kind rent.
@@ -126,18 +123,4 @@ pub enum Counts {
         /// How many goods, 1 to 24.
         goods: u8,
     },
-}
-
-impl Counts {
-    /// The number of the kind: 1 for a rent, 2 for goods, 3 for fares. The text of a pair has none, which is 0.
-    pub fn kind(self) -> u8
-        ensures { result ≡ kind_of self }
-    {
-        match self {
-            Counts::Rent { .. } => RENT,
-            Counts::Goods { .. } => GOODS,
-            Counts::Fares { .. } => FARES,
-            Counts::Pair { .. } => 0,
-        }
-    }
 }

@@ -11,8 +11,9 @@ ghost use Rattle.cert_reader.specs.Shapes.{HasRows};
 ghost use Rattle.cert_reader.specs.Text.{CanSayAll, IsBrokenText, IsBrokenTextOf, IsText, Said};
 ghost use Rattle.cert_reader.specs.Views.{CertificateView, counts_of, marks_of, said_of, view_of};
 
-/// One text has one meaning: its counts and what its lines say are one, and two certificates, or views with all rows, that say it are the same. No text has a
-/// broken line, other bytes have one first broken line, and what was read of a text so far has lines that would complete it. But for the marks of a tree a text is short.
+/// A text has one meaning: its counts and what its lines say are unique, and two certificates with this text are the same, and so are two views that have all
+/// rows. No text has a broken line. Other bytes have exactly one first broken line. What was read of a text so far can be completed. Without the marks of a tree
+/// a text is short.
 pub fn text_law()
     ensures once { (bytes : List ℕ) (counts other : Counts) (said more : List Said) → IsText bytes counts said → IsText bytes other more → (other ≡ counts) × (more ≡ said) }
     ensures fields { (bytes : List ℕ) (certificate other : Certificate) → IsText bytes (counts_of (view_of certificate)) (said_of (view_of certificate))
@@ -25,8 +26,8 @@ pub fn text_law()
     ensures completed { (reading : Reading) (taken : List ℕ) (said : List Said) → IsRead reading taken said → (rest : List Said) × CanSayAll (forms_of reading.counts) (said ++ rest) }
 {}
 
-/// The text of a pair has one meaning: two views that it says are the same. No such text has a broken line, and other bytes have one first broken line. It is short,
-/// and no certificate text.
+/// The text of a pair has one meaning: two views with this text are the same. No such text has a broken line. Other bytes have exactly one first broken line.
+/// The text is short, and it is no certificate text.
 pub fn pair_law()
     ensures once { (bytes : List ℕ) (view other : PairView) → IsPairText bytes view → IsPairText bytes other → other ≡ view }
     ensures whole { (bytes : List ℕ) (view : PairView) (line : ℕ) → IsPairText bytes view → IsBrokenTextOf Pairs bytes line → ⊥ }

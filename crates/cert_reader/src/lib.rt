@@ -1,10 +1,16 @@
-//! Certificate text, and the text of a pair: the types that hold one, what its bytes are, and the first broken line of bytes that are none.
+//! The text of certificates and of adjusted winner: what it says, and the first broken line of
+//! other bytes.
+//!
+//! `next_piece` reads from any source in fixed memory. It answers `NotText` exactly where the bytes
+//! are no text, with the first broken line, and `TooLong` after one byte more than a text may have.
+//! A text has one meaning (`text_law`, `pair_law`).
 #![tactic(auto)]
 
 mod building;
 mod certificate;
 mod ends;
 mod forms;
+mod kinds;
 mod laws;
 pub mod limits;
 mod line;
@@ -28,6 +34,7 @@ pub use building::rent_text;
 pub use certificate::{Certificate, FaresText, GoodsText, RentText};
 pub use ends::{ReadEnd, TextEnd, read_answer};
 pub use forms::{Counts, LineForm, Word};
+pub use kinds::Kind;
 pub use laws::{pair_law, text_law};
 pub use line::LineNumbers;
 pub use order::{set_count, start_count};

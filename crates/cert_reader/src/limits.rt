@@ -1,11 +1,12 @@
-// The limits of certificate texts and of the text of a pair. What they count, members, riders and places, has its limits in `bid_rules`.
+// The limits of certificate texts and of the text of a pair. The limits of members, riders and places are in `bid_rules`.
 
+use crate::places::{FARES_END, FARES_LEGS, FARES_SETS, PAIR_END};
 use bid_rules::limits::{MOST_GOODS, MOST_PLACES, MOST_RIDERS};
 use split_frac::limits::MOST_DENOMINATOR;
 
 /// The most bytes of a certificate text.
 pub const MOST_BYTES: usize = 4_000_000;
-/// The most digits of a number, and of the numerator of a fraction. A sign is none of them.
+/// The most digits of a number, and of the numerator of a fraction. A sign is not a digit.
 pub const MOST_DIGITS: usize = 25;
 /// The greatest denominator of a printed fraction.
 pub const MOST_PRINTED_DENOMINATOR: u64 = 4_294_967_295;
@@ -16,19 +17,28 @@ pub const MOST_NUMBERS: usize = 24;
 pub const LONGEST_LINE: usize = 1024;
 /// How many bytes are taken from a source at a time, at most.
 pub(crate) const PIECE_BYTES: usize = 4096;
-/// The most lines of a text: of a certificate of fares eleven, one a place, and one a set of riders but for the empty one.
-pub(crate) const MOST_LINES: u32 = 11 + MOST_PLACES as u32 + (1 << MOST_RIDERS) - 1;
-/// The most counts that a line leaves open: those of goods.
+/// The most lines of a text, which is a certificate of fares: its fixed lines, one for each place, and one for each set of riders but the empty one.
+pub(crate) const MOST_LINES: usize = FARES_LEGS
+    + 1
+    + MOST_PLACES as usize
+    + FARES_SETS
+    + (1 << MOST_RIDERS)
+    - 1
+    + FARES_END
+    + 1;
+/// How many kinds of certificates there are.
+pub(crate) const KINDS: u8 = 3;
+/// The most ways that a line leaves open: the counts of goods.
 pub(crate) const MOST_CHOICES: u8 = MOST_GOODS;
-/// The most bytes of a text but for the marks of a tree: of so many lines of the longest, each with its LF.
-pub const MOST_BESIDE_MARKS: usize = (LONGEST_LINE + 1) * MOST_LINES as usize;
+/// The most bytes of a text without the marks of a tree: the most lines, each the longest, with its LF.
+pub const MOST_BESIDE_MARKS: usize = (LONGEST_LINE + 1) * MOST_LINES;
 /// How many lines the text of a pair has.
-pub(crate) const PAIR_LINES: u32 = 9;
-/// How many of them stand before `end`.
-pub(crate) const PAIR_LINE_ROOM: usize = PAIR_LINES as usize - 1;
+pub(crate) const PAIR_LINES: usize = PAIR_END + 1;
+/// How many lines of the text of a pair come before `end`.
+pub(crate) const PAIR_LINE_ROOM: usize = PAIR_END;
 
-// What the other limits ask of these: a fraction can be printed; a line has room for a good each, and for the number of a set with a cost a place of departure, of
-// which there is one more than riders; and a text of no tree fits.
+// What the other limits ask of these: each fraction can be printed; a line has room for a number for each good, and for the number of a set with its costs, which
+// are one more than the riders at most; and a text without a tree fits.
 const _: () = prove!(MOST_DENOMINATOR <= MOST_PRINTED_DENOMINATOR);
 
 const _: () = prove!(MOST_GOODS as usize <= MOST_NUMBERS);

@@ -45,7 +45,7 @@ pub(crate) fn read_line(line: &[u8], form: LineForm) -> Option<LineNumbers>
     }
 }
 
-/// What stands behind the word.
+/// What follows the word.
 fn behind<'a>(line: &'a [u8], word: &[u8]) -> Option<&'a [u8]>
     ensures { MatchOption result
         ((rest : List ℕ) → line.now ≡ word.now ++ rest → ⊥)

@@ -1,21 +1,29 @@
-// The forms of lines in their order, and what a line leaves open of those behind it.
+// The forms of lines in their order, and what a line leaves open about the lines after it.
 ghost use Rattle.std.specs.Prelude.{◌≡◌, ◌+◌, ◌-◌, ◌^◌, ◌<◌, ◌≤◌, List, length, map, slice_index_or, ◌↔◌, IsTrue, MatchOption};
 ghost use Rattle.bid_rules.specs.declared.limits.TheConstants.{MOST_GOODS, MOST_MEMBERS, MOST_PLACES, MOST_RIDERS};
 ghost use Rattle.split_frac.specs.Frac.{fraction_of};
 ghost use Rattle.cert_reader.specs.declared.forms.Counts.{Counts};
 ghost use Rattle.cert_reader.specs.declared.forms.Counts.TheVariants as count;
 ghost use Rattle.cert_reader.specs.declared.limits.TheConstants.{MOST_CHOICES, MOST_LINES, MOST_NUMBERS};
-ghost use Rattle.cert_reader.specs.Forms.{AreInRange, Line, Tree, fares_forms, fares_head, fares_tail, forms_of, fractions_of, goods_forms, goods_head, goods_tail, led_by, numbers_of, pair_forms, rent_forms, rent_head, rent_tail};
-ghost use Rattle.cert_reader.specs.Order.{AgreeUpTo, IsLineOf, choice_count, choice_of, form_in};
+ghost use Rattle.cert_reader.specs.declared.places.TheConstants.{FARES_END, FARES_LEGS, GOODS_END, GOODS_TREE, GOODS_VALUES, KIND_LINE, RENT_END, RENT_VALUES};
+ghost use Rattle.cert_reader.specs.Forms.{AreInRange, Line, Tree, fares_forms, forms_of, fractions_of, goods_forms, led_by, numbers_of, pair_forms, rent_forms};
+ghost use Rattle.cert_reader.specs.Order.{AgreeUpTo, IsLineOf, choice_count, choice_of, fares_head, fares_tail, form_in, goods_head, goods_tail, rent_head, rent_tail};
 ghost use Rattle.cert_reader.specs.Sets.{starts};
 ghost use Rattle.cert_reader.specs.Text.{Numbers, Said};
 
 use crate::forms::{Counts, LineForm, Word};
-use crate::limits::PAIR_LINES;
+use crate::limits::{KINDS, PAIR_LINES};
 use crate::line::{LineNumbers, read_line};
+use crate::places::{
+    FARES_AT, FARES_END, FARES_FARES, FARES_LEGS, FARES_PLACES, FARES_RIDERS, FARES_ROUTE,
+    FARES_SETS, GOODS_COUNT, GOODS_END, GOODS_LIMIT, GOODS_OWNERS, GOODS_PLAYERS, GOODS_STEPS,
+    GOODS_TREE, GOODS_VALUES, KIND_LINE, PAIR_GOODS, PAIR_OTHER_VALUES, PAIR_SHARES, PAIR_TOTAL,
+    PAIR_VALUES, PAIR_WEIGHTS, PAIR_WHO, RENT_END, RENT_LEFT, RENT_MEMBERS, RENT_PRICES,
+    RENT_RANKS, RENT_RIGHT, RENT_ROOMS, RENT_VALUES, RENT_WALKS,
+};
 use bid_rules::limits::{MOST_GOODS, MOST_MEMBERS, MOST_PLACES, MOST_RIDERS, PAIR};
 
-/// From how many starts the routes of a set of riders may go: so many numbers the line of the set has behind its own.
+/// From how many places the routes of a set of riders may start. The line of the set has a cost for each.
 pub fn start_count(riders: u8, set: u32) -> usize
     requires { riders ≤ MOST_RIDERS }
     ensures value { result ≡ length (starts riders set) }
@@ -30,7 +38,7 @@ pub fn start_count(riders: u8, set: u32) -> usize
     count
 }
 
-/// A word and so many whole numbers.
+/// A word and this many whole numbers.
 fn numbers(word: Word, count: u8) -> LineForm
     ensures form { Line result ≡ numbers_of word count }
     ensures count { result.count ≡ count }
@@ -43,7 +51,7 @@ fn numbers(word: Word, count: u8) -> LineForm
     }
 }
 
-/// A word and so many fractions.
+/// A word and this many fractions.
 fn fractions(word: Word, count: u8) -> LineForm
     ensures form { Line result ≡ fractions_of word count }
     ensures count { result.count ≡ count }
@@ -56,7 +64,7 @@ fn fractions(word: Word, count: u8) -> LineForm
     }
 }
 
-/// A word and so many whole numbers, of which the first is set.
+/// A word and this many whole numbers, the first of which is fixed.
 fn led(word: Word, lead: u64, count: usize) -> LineForm
     ensures form { Line result ≡ led_by word lead count }
     ensures count { result.count ≡ count }
@@ -70,47 +78,47 @@ fn led(word: Word, lead: u64, count: usize) -> LineForm
 }
 
 /// The first lines of a rent.
-fn rent_head_form(members: u8, index: u32) -> LineForm
-    requires { index < 4 }
+fn rent_head_form(members: u8, index: usize) -> LineForm
+    requires { index < RENT_VALUES }
     ensures form { slice_index_or (rent_head members) index Tree ≡ Line result }
     ensures short { result.count ≤ 1 }
 {
     match index {
         0 => led(Word::Fairsplit, 1, 1),
-        1 => numbers(Word::KindRent, 0),
-        2 => led(Word::Members, u64::from(members), 1),
+        KIND_LINE => numbers(Word::KindRent, 0),
+        RENT_MEMBERS => led(Word::Members, u64::from(members), 1),
         _ => numbers(Word::Rent, 1),
     }
 }
 
 /// The last lines of a rent.
-fn rent_tail_form(members: u8, index: u32) -> LineForm
-    requires { index < 7 }
+fn rent_tail_form(members: u8, index: usize) -> LineForm
+    requires { index ≤ RENT_END }
     ensures form { slice_index_or (rent_tail members) index Tree ≡ Line result }
     ensures short { result.count ≤ members }
 {
     match index {
-        0 => numbers(Word::Rooms, members),
-        1 => numbers(Word::Left, members),
-        2 => numbers(Word::Right, members),
-        3 => numbers(Word::Walks, members),
-        4 => numbers(Word::Ranks, members),
-        5 => fractions(Word::Prices, members),
+        RENT_ROOMS => numbers(Word::Rooms, members),
+        RENT_LEFT => numbers(Word::Left, members),
+        RENT_RIGHT => numbers(Word::Right, members),
+        RENT_WALKS => numbers(Word::Walks, members),
+        RENT_RANKS => numbers(Word::Ranks, members),
+        RENT_PRICES => fractions(Word::Prices, members),
         _ => numbers(Word::End, 0),
     }
 }
 
 /// A line of a rent.
-fn rent_form(members: u8, index: u32) -> LineForm
+fn rent_form(members: u8, index: usize) -> LineForm
     requires members { members ≤ MOST_MEMBERS }
     requires index { index < length (rent_forms members) }
     ensures form { slice_index_or (rent_forms members) index Tree ≡ Line result }
     ensures short { result.count ≤ MOST_NUMBERS }
 {
-    if index < 4 {
+    if index < RENT_VALUES {
         return rent_head_form(members, index);
     }
-    let rooms = 4 + members as u32;
+    let rooms = RENT_VALUES + members as usize;
     if index < rooms {
         return numbers(Word::Values, members);
     }
@@ -118,48 +126,48 @@ fn rent_form(members: u8, index: u32) -> LineForm
 }
 
 /// The first lines of goods.
-fn goods_head_form(players: u8, goods: u8, index: u32) -> LineForm
-    requires { index < 6 }
+fn goods_head_form(players: u8, goods: u8, index: usize) -> LineForm
+    requires { index < GOODS_VALUES }
     ensures form { slice_index_or (goods_head players goods) index Tree ≡ Line result }
     ensures short { result.count ≤ players + 1 }
 {
     match index {
         0 => led(Word::Fairsplit, 1, 1),
-        1 => numbers(Word::KindGoods, 0),
-        2 => led(Word::Players, u64::from(players), 1),
-        3 => led(Word::Goods, u64::from(goods), 1),
-        4 => numbers(Word::Limit, 1),
+        KIND_LINE => numbers(Word::KindGoods, 0),
+        GOODS_PLAYERS => led(Word::Players, u64::from(players), 1),
+        GOODS_COUNT => led(Word::Goods, u64::from(goods), 1),
+        GOODS_LIMIT => numbers(Word::Limit, 1),
         _ => numbers(Word::Who, players),
     }
 }
 
-/// The last lines of goods, but for the tree.
-fn goods_tail_form(goods: u8, index: u32) -> LineForm
-    requires index { index < 4 }
-    requires line { index ≡ 2 → ⊥ }
+/// The last lines of goods except the tree.
+fn goods_tail_form(goods: u8, index: usize) -> LineForm
+    requires index { index ≤ GOODS_END }
+    requires line { index ≡ GOODS_TREE → ⊥ }
     ensures form { slice_index_or (goods_tail goods) index Tree ≡ Line result }
     ensures short { result.count ≤ goods + 1 }
 {
     match index {
-        0 => numbers(Word::Owners, goods),
-        1 => numbers(Word::Steps, 1),
+        GOODS_OWNERS => numbers(Word::Owners, goods),
+        GOODS_STEPS => numbers(Word::Steps, 1),
         _ => numbers(Word::End, 0),
     }
 }
 
-/// A line of goods, but for the tree.
-fn goods_form(players: u8, goods: u8, index: u32) -> LineForm
+/// A line of goods except the tree.
+fn goods_form(players: u8, goods: u8, index: usize) -> LineForm
     requires players { players ≤ MOST_MEMBERS }
     requires goods { goods ≤ MOST_GOODS }
     requires index { index < length (goods_forms players goods) }
-    requires line { index ≡ 8 + players → ⊥ }
+    requires line { index ≡ GOODS_VALUES + players + GOODS_TREE → ⊥ }
     ensures form { slice_index_or (goods_forms players goods) index Tree ≡ Line result }
     ensures short { result.count ≤ MOST_NUMBERS }
 {
-    if index < 6 {
+    if index < GOODS_VALUES {
         return goods_head_form(players, goods, index);
     }
-    let owners = 6 + players as u32;
+    let owners = GOODS_VALUES + players as usize;
     if index < owners {
         return numbers(Word::Values, goods);
     }
@@ -167,34 +175,34 @@ fn goods_form(players: u8, goods: u8, index: u32) -> LineForm
 }
 
 /// The first lines of fares.
-fn fares_head_form(riders: u8, places: u8, index: u32) -> LineForm
-    requires { index < 5 }
+fn fares_head_form(riders: u8, places: u8, index: usize) -> LineForm
+    requires { index < FARES_LEGS }
     ensures form { slice_index_or (fares_head riders places) index Tree ≡ Line result }
     ensures short { result.count ≤ 1 }
 {
     match index {
         0 => led(Word::Fairsplit, 1, 1),
-        1 => numbers(Word::KindFares, 0),
-        2 => led(Word::Riders, u64::from(riders), 1),
-        3 => led(Word::Places, u64::from(places), 1),
+        KIND_LINE => numbers(Word::KindFares, 0),
+        FARES_RIDERS => led(Word::Riders, u64::from(riders), 1),
+        FARES_PLACES => led(Word::Places, u64::from(places), 1),
         _ => numbers(Word::Flag, 1),
     }
 }
 
 /// The last lines of fares.
-fn fares_tail_form(riders: u8, index: u32) -> LineForm
-    requires { index < 3 }
+fn fares_tail_form(riders: u8, index: usize) -> LineForm
+    requires { index ≤ FARES_END }
     ensures form { slice_index_or (fares_tail riders) index Tree ≡ Line result }
     ensures short { result.count ≤ riders }
 {
     match index {
-        0 => numbers(Word::Route, riders),
-        1 => fractions(Word::Fares, riders),
+        FARES_ROUTE => numbers(Word::Route, riders),
+        FARES_FARES => fractions(Word::Fares, riders),
         _ => numbers(Word::End, 0),
     }
 }
 
-/// How many sets of riders there are, but for the empty one.
+/// How many sets of riders there are, without the empty one.
 pub fn set_count(riders: u8) -> u32
     requires { riders ≤ MOST_RIDERS }
     ensures { result ≡ 2 ^ riders - 1 }
@@ -203,36 +211,37 @@ pub fn set_count(riders: u8) -> u32
 }
 
 /// A line of fares.
-fn fares_form(riders: u8, places: u8, index: u32) -> LineForm
+fn fares_form(riders: u8, places: u8, index: usize) -> LineForm
     requires riders { riders ≤ MOST_RIDERS }
     requires places { places ≤ MOST_PLACES }
     requires index { index < length (fares_forms riders places) }
     ensures form { slice_index_or (fares_forms riders places) index Tree ≡ Line result }
     ensures short { result.count ≤ MOST_NUMBERS }
 {
-    if index < 5 {
+    if index < FARES_LEGS {
         return fares_head_form(riders, places, index);
     }
-    let who = 6 + places as u32;
+    let who = FARES_LEGS + 1 + places as usize;
     if index < who {
         return numbers(Word::Legs, places);
     }
     if index == who {
         return numbers(Word::Who, riders);
     }
-    if index == who + 1 {
+    if index == who + FARES_AT {
         return numbers(Word::At, riders);
     }
-    let sets = set_count(riders);
-    if index < who + 2 + sets {
-        let set = index - who - 1;
+    let sets = who + FARES_SETS;
+    let route = sets + set_count(riders) as usize;
+    if index < route {
+        let set = (index - sets) as u32 + 1;
         return led(Word::Set, set as u64, start_count(riders, set) + 1);
     }
-    fares_tail_form(riders, index - who - 2 - sets)
+    fares_tail_form(riders, index - route)
 }
 
 /// A line of the text of a pair.
-fn pair_form(goods: u8, index: u32) -> LineForm
+fn pair_form(goods: u8, index: usize) -> LineForm
     requires goods { goods ≤ MOST_GOODS }
     requires index { index < length (pair_forms goods) }
     ensures form { slice_index_or (pair_forms goods) index Tree ≡ Line result }
@@ -240,32 +249,31 @@ fn pair_form(goods: u8, index: u32) -> LineForm
 {
     match index {
         0 => led(Word::FairsplitPair, 1, 1),
-        1 => led(Word::Goods, u64::from(goods), 1),
-        2 => numbers(Word::Who, PAIR),
-        3 => numbers(Word::Values, goods),
-        4 => numbers(Word::Values, goods),
-        5 => fractions(Word::Shares, goods),
-        6 => numbers(Word::Weights, PAIR),
-        7 => fractions(Word::Total, 1),
+        PAIR_GOODS => led(Word::Goods, u64::from(goods), 1),
+        PAIR_WHO => numbers(Word::Who, PAIR),
+        PAIR_VALUES | PAIR_OTHER_VALUES => numbers(Word::Values, goods),
+        PAIR_SHARES => fractions(Word::Shares, goods),
+        PAIR_WEIGHTS => numbers(Word::Weights, PAIR),
+        PAIR_TOTAL => fractions(Word::Total, 1),
         _ => numbers(Word::End, 0),
     }
 }
 
 /// Whether the line of a tree stands at a place, counted from 0.
-pub(crate) fn is_tree(counts: Counts, index: u32) -> bool
+pub(crate) fn is_tree(counts: Counts, index: usize) -> bool
     requires { index < length (forms_of counts) }
     ensures { IsTrue result ↔ form_in counts index ≡ Tree }
 {
     match counts {
         Counts::Rent { .. } => false,
-        Counts::Goods { players, .. } => index == 8 + players as u32,
+        Counts::Goods { players, .. } => index == GOODS_VALUES + players as usize + GOODS_TREE,
         Counts::Fares { .. } => false,
         Counts::Pair { .. } => false,
     }
 }
 
 /// The form of a line of numbers, counted from 0.
-pub(crate) fn form_at(counts: Counts, index: u32) -> LineForm
+pub(crate) fn form_at(counts: Counts, index: usize) -> LineForm
     requires counts { AreInRange counts }
     requires index { index < length (forms_of counts) }
     requires line { form_in counts index ≡ Tree → ⊥ }
@@ -281,40 +289,44 @@ pub(crate) fn form_at(counts: Counts, index: u32) -> LineForm
 }
 
 /// How many lines a text with these counts has.
-pub(crate) fn line_count(counts: Counts) -> u32
+pub(crate) fn line_count(counts: Counts) -> usize
     requires { AreInRange counts }
     ensures value { result ≡ length (forms_of counts) }
     ensures few { result ≤ MOST_LINES }
     ensures some { 4 < result }
 {
     match counts {
-        Counts::Rent { members } => 11 + members as u32,
-        Counts::Goods { players, .. } => 10 + players as u32,
-        Counts::Fares { riders, places } => 11 + places as u32 + set_count(riders),
+        Counts::Rent { members } => RENT_VALUES + members as usize + RENT_END + 1,
+        Counts::Goods { players, .. } => GOODS_VALUES + players as usize + GOODS_END + 1,
+        Counts::Fares { riders, places } => {
+            let legs = places as usize + 1;
+            let sets = set_count(riders) as usize;
+            FARES_LEGS + legs + FARES_SETS + sets + FARES_END + 1
+        }
         Counts::Pair { .. } => PAIR_LINES,
     }
 }
 
-/// How many ways a line leaves open what the lines before it don't fix.
-fn choices(index: u32, known: Counts) -> u8
+/// How many ways the line at a place leaves open once the lines before it are known.
+fn choices(index: usize, known: Counts) -> u8
     ensures value { result ≡ choice_count index known }
     ensures small { result ≤ MOST_CHOICES }
 {
     match (index, known) {
-        (1, Counts::Pair { .. }) => MOST_GOODS,
-        (1, _) => 3,
-        (2, Counts::Rent { .. }) => MOST_MEMBERS,
-        (2, Counts::Goods { .. }) => MOST_MEMBERS,
-        (2, Counts::Fares { .. }) => MOST_RIDERS,
-        (3, Counts::Goods { .. }) => MOST_GOODS,
-        (3, Counts::Fares { .. }) => MOST_PLACES,
+        (PAIR_GOODS, Counts::Pair { .. }) => MOST_GOODS,
+        (KIND_LINE, _) => KINDS,
+        (RENT_MEMBERS, Counts::Rent { .. }) => MOST_MEMBERS,
+        (GOODS_PLAYERS, Counts::Goods { .. }) => MOST_MEMBERS,
+        (FARES_RIDERS, Counts::Fares { .. }) => MOST_RIDERS,
+        (GOODS_COUNT, Counts::Goods { .. }) => MOST_GOODS,
+        (FARES_PLACES, Counts::Fares { .. }) => MOST_PLACES,
         _ => 1,
     }
 }
 
-/// The least counts of a kind, of which there are three.
+/// The least counts of a kind.
 fn chosen_kind(choice: u8) -> Counts
-    ensures { result ≡ choice_of 1 (count.Rent 1) choice }
+    ensures { result ≡ choice_of KIND_LINE (count.Rent 1) choice }
 {
     match choice {
         0 => Counts::Rent { members: 1 },
@@ -329,30 +341,30 @@ fn chosen_kind(choice: u8) -> Counts
     }
 }
 
-/// The counts that one of the ways stands for.
-fn chosen(index: u32, known: Counts, choice: u8) -> Counts
+/// The counts for which one of the ways stands.
+fn chosen(index: usize, known: Counts, choice: u8) -> Counts
     requires { choice < MOST_CHOICES }
     ensures { result ≡ choice_of index known choice }
 {
     match (index, known) {
-        (1, Counts::Pair { .. }) => Counts::Pair { goods: choice + 1 },
-        (1, _) => chosen_kind(choice),
-        (2, Counts::Rent { .. }) => Counts::Rent {
+        (PAIR_GOODS, Counts::Pair { .. }) => Counts::Pair { goods: choice + 1 },
+        (KIND_LINE, _) => chosen_kind(choice),
+        (RENT_MEMBERS, Counts::Rent { .. }) => Counts::Rent {
             members: choice + 1,
         },
-        (2, Counts::Goods { .. }) => Counts::Goods {
+        (GOODS_PLAYERS, Counts::Goods { .. }) => Counts::Goods {
             players: choice + 1,
             goods: 1,
         },
-        (2, Counts::Fares { .. }) => Counts::Fares {
+        (FARES_RIDERS, Counts::Fares { .. }) => Counts::Fares {
             riders: choice + 1,
             places: 1,
         },
-        (3, Counts::Goods { players, .. }) => Counts::Goods {
+        (GOODS_COUNT, Counts::Goods { players, .. }) => Counts::Goods {
             players,
             goods: choice + 1,
         },
-        (3, Counts::Fares { riders, .. }) => Counts::Fares {
+        (FARES_PLACES, Counts::Fares { riders, .. }) => Counts::Fares {
             riders,
             places: choice + 1,
         },
@@ -361,7 +373,7 @@ fn chosen(index: u32, known: Counts, choice: u8) -> Counts
 }
 
 /// The numbers of the line, where it has the form of its place.
-fn read_at(line: &[u8], index: u32, counts: Counts) -> Option<LineNumbers>
+fn read_at(line: &[u8], index: usize, counts: Counts) -> Option<LineNumbers>
     requires counts { AreInRange counts }
     requires index { index < length (forms_of counts) }
     requires line { form_in counts index ≡ Tree → ⊥ }
@@ -372,8 +384,8 @@ fn read_at(line: &[u8], index: u32, counts: Counts) -> Option<LineNumbers>
     read_line(line, form_at(counts, index))
 }
 
-/// The numbers of the line, where it has the form of its place for some counts that agree with those known so far; and such counts.
-pub(crate) fn settle(line: &[u8], index: u32, known: Counts) -> Option<(Counts, LineNumbers)>
+/// Counts that agree with those known so far and for which the line has the form of its place, and the numbers of the line.
+pub(crate) fn settle(line: &[u8], index: usize, known: Counts) -> Option<(Counts, LineNumbers)>
     requires known { AreInRange known }
     requires index { index < length (forms_of known) }
     requires line { form_in known index ≡ Tree → ⊥ }

@@ -9,6 +9,7 @@ ghost use Rattle.cert_reader.specs.Views.{says};
 
 use crate::line::LineNumbers;
 use crate::pair::PairText;
+use crate::places::{PAIR_SHARES, PAIR_TOTAL, PAIR_VALUES, PAIR_WEIGHTS, PAIR_WHO};
 use crate::rows::{fraction_at, fractions_at, row_at, rows_of};
 
 /// The text of a pair whose lines before `end` were read.
@@ -18,11 +19,11 @@ pub(crate) fn pair_text(goods: u8, lines: &[LineNumbers]) -> PairText
     ensures said { pair_said (pair_view result) ≡ map line_said lines.now ++ says [] ∷ [] }
     ensures goods { result.goods ≡ goods }
 {
-    let who = row_at(lines, 2);
-    let values = rows_of(&lines[3..5]);
-    let shares = fractions_at(lines, 5);
-    let weights = row_at(lines, 6);
-    let total = fraction_at(lines, 7);
+    let who = row_at(lines, PAIR_WHO);
+    let values = rows_of(&lines[PAIR_VALUES..PAIR_SHARES]);
+    let shares = fractions_at(lines, PAIR_SHARES);
+    let weights = row_at(lines, PAIR_WEIGHTS);
+    let total = fraction_at(lines, PAIR_TOTAL);
     PairText {
         goods,
         who,

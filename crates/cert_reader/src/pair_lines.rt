@@ -60,7 +60,7 @@ impl PairLines {
     fn is_open(&self) -> bool
         ensures { IsTrue result ↔ IsOpen self.now }
     {
-        self.lines < line_count(self.counts)
+        (self.lines as usize) < line_count(self.counts)
     }
 
     /// How many goods there are, as far as the lines say it.
@@ -94,7 +94,7 @@ impl PairLines {
         }
     }
 
-    /// Finds the end of the input behind all lines, or reads on to it.
+    /// Finds the end of the input after all lines, or reads on to it.
     fn finish<S: Source>(&mut self, source: &mut S) -> Result<(), TextEnd>
         requires { self.old.lines ≡ length (forms_of self.old.counts) }
         ensures finish { GoesOf Pairs self.old (S.left source.old) (S.left source.new) (λ taken said. IsFinished Pairs self.new (S.left source.new) taken said result) }

@@ -1,5 +1,5 @@
 // A certificate text in pieces, as it is read from a source.
-ghost use Rattle.std.specs.Prelude.{◌≡◌, ◌↔◌, ◌+◌, ◌<◌, ◌≤◌, [], ℕ, List, length, map, IfOk, IsErrOf, IsTrue, OnOk, Ok, None, false, true};
+ghost use Rattle.std.specs.Prelude.{◌≡◌, ◌↔◌, ◌+◌, ◌<◌, ◌≤◌, [], ℕ, List, length, map, IfOk, IsErrOf, IsTrue, OnOk, Ok, None, Some, false, true};
 ghost use Rattle.split_base.specs.Faults.{HasRisen};
 ghost use Rattle.split_frac.specs.Frac.{fraction_of};
 ghost use Rattle.cert_reader.specs.Ends.{OfAnswer};
@@ -13,6 +13,7 @@ ghost use Rattle.cert_reader.specs.declared.limits.TheConstants.{MOST_BYTES};
 
 use crate::ends::{ReadEnd, TextEnd, read_answer};
 use crate::forms::Counts;
+use crate::kinds::Kind;
 use crate::line::LineNumbers;
 use crate::order::{is_tree, line_count};
 use crate::step::{next_settled, refuse};
@@ -29,9 +30,9 @@ pub enum Piece {
         /// 1 for a rent, 2 for goods, 3 for fares.
         kind: u8,
     },
-    /// A line of numbers behind them.
+    /// A later line of numbers.
     Line {
-        /// Its numbers: of the line of a set of riders the set's own number first.
+        /// Its numbers. The line of a set of riders begins with the number of the set.
         numbers: LineNumbers,
     },
     /// A character of a tree.
@@ -90,7 +91,7 @@ impl Pieces {
     fn is_open(&self) -> bool
         ensures { IsTrue result ↔ IsOpen self.now }
     {
-        self.lines < line_count(self.counts)
+        (self.lines as usize) < line_count(self.counts)
     }
 
     /// Whether a tree is being read: its line has begun and not ended.
@@ -105,14 +106,19 @@ impl Pieces {
         requires { IsOpen self.now }
         ensures { IsTrue result ↔ form_in self.now.counts self.now.lines ≡ Tree }
     {
-        is_tree(self.counts, self.lines)
+        is_tree(self.counts, self.lines as usize)
     }
 
-    /// The number of the kind, as far as it was read.
-    fn kind(&self) -> u8
-        ensures { result ≡ kind_of self.now.counts }
+    /// The kind, as far as it was read.
+    fn kind(&self) -> Kind
+        ensures { kind_of self.now.counts ≡ Some result }
     {
-        self.counts.kind()
+        match self.counts {
+            Counts::Rent { .. } => Kind::Rent,
+            Counts::Goods { .. } => Kind::Goods,
+            Counts::Fares { .. } => Kind::Fares,
+            Counts::Pair { .. } => unreachable!(),
+        }
     }
 
     /// What the lines so far count.
@@ -149,7 +155,7 @@ impl Pieces {
         }
     }
 
-    /// Finds the end of the input behind all lines, or reads on to it.
+    /// Finds the end of the input after all lines, or reads on to it.
     fn finish<S: Source>(&mut self, source: &mut S) -> Result<(), TextEnd>
         requires lines { self.old.lines ≡ length (forms_of self.old.counts) }
         requires whole { self.old.in_tree ≡ false }
@@ -169,7 +175,7 @@ impl Pieces {
         }
     }
 
-    /// Takes the first two lines, and tells the kind.
+    /// Takes the first two lines, which say the kind.
     fn next_kind<S: Source>(&mut self, source: &mut S) -> Result<Piece, TextEnd>
         requires lines { self.old.lines ≡ 0 }
         requires whole { self.old.in_tree ≡ false }
@@ -187,7 +193,9 @@ impl Pieces {
             Err(end) => Err(end),
             Ok(_) => match self.next_line(source) {
                 Err(end) => Err(end),
-                Ok(_) => Ok(Piece::Kind { kind: self.kind() }),
+                Ok(_) => Ok(Piece::Kind {
+                    kind: self.kind().number(),
+                }),
             },
         }
     }
@@ -246,7 +254,7 @@ impl Pieces {
         }
     }
 
-    /// The next piece where a line begins, behind the first two.
+    /// The next piece where a line begins, after the first two.
     fn next_at_line<S: Source>(&mut self, source: &mut S) -> Result<Piece, TextEnd>
         requires open { IsOpen self.old }
         requires some { 0 < self.old.lines }
@@ -283,8 +291,8 @@ impl Pieces {
 
     /// The next piece of the text. It takes no memory.
     ///
-    /// The kind comes first. Then each line has one piece, with its numbers, but the tree of goods one for each of its characters, and the last line, `end`,
-    /// none: `Done` comes where it was read and the input has ended behind it. After `Done`, and after a refusal, there is no further piece.
+    /// The kind comes first. Then each line gives one piece, with its numbers. The tree of goods gives one piece for each of its characters. The last line,
+    /// `end`, gives none: `Done` comes when it was read and the input has ended. After `Done` or a refusal there are no more pieces.
     ///
     /// - `NotText` comes exactly where the input has at most 4,000,000 bytes and is no certificate text, with its first broken line. It was read to its end.
     /// - `TooLong` comes exactly where it has more, whatever its lines. 4,000,001 bytes were read.

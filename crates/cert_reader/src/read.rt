@@ -19,7 +19,7 @@ use std::alloc::Global;
 /// - `NotText` comes exactly where the input has at most 4,000,000 bytes and is no certificate text, with its first broken line. It was read to its end.
 /// - `TooLong` comes exactly where it has more, whatever its lines. 4,000,001 bytes were read.
 /// - `ReadFault` comes only where the source's count of faults has risen, and at once: the failed read is not tried again.
-/// - `NoMemory` comes for want of memory alone.
+/// - `NoMemory` comes only when memory runs out.
 pub fn read_certificate<S: Source>(alloc: Global, source: &mut S) -> Result<Certificate, ReadEnd>
     ensures read { (taken : List ℕ) × Consumes (S.left source.old) (S.left source.new) taken × OfReading (IsReadWhole (S.left source.new) taken) (length taken ≤ MOST_BYTES) result }
     ensures faults { OfReading (λ answer. S.faults source.new ≡ faults_after (S.faults source.old) answer) (S.faults source.new ≡ S.faults source.old) result }

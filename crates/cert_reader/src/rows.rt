@@ -13,7 +13,7 @@ use arrayvec::ArrayVec;
 use split_base::NoMemory;
 use split_frac::Frac;
 
-/// A row of whole numbers, of which a line says that it has no others.
+/// A row of the whole numbers of a line that has no others.
 pub fn whole_row<const N: usize>(numbers: &[Frac]) -> ArrayVec<i128, N>
     requires room { length numbers.now ≤ N }
     requires whole { All (IsNumber true) (map fraction_of numbers.now) }
@@ -118,7 +118,7 @@ pub(crate) fn fraction_at(lines: &[LineNumbers], index: usize) -> Frac
     first_fraction(&lines[index])
 }
 
-/// Appends the numbers of a line but for the first.
+/// Appends the numbers of a line after its first.
 fn push_row(table: &mut Vec<i128>, numbers: &[Frac]) -> Result<(), NoMemory>
     requires some { 1 ≤ length numbers.now }
     requires room { length numbers.now ≤ MOST_NUMBERS }
@@ -133,7 +133,7 @@ fn push_row(table: &mut Vec<i128>, numbers: &[Frac]) -> Result<(), NoMemory>
     }
 }
 
-/// Appends the numbers of lines but for the first of each.
+/// Appends the numbers of these lines, each without its first.
 pub(crate) fn push_rows(table: &mut Vec<i128>, lines: &[LineNumbers]) -> Result<(), NoMemory>
     requires some { All (λ line. 1 ≤ length line.items) lines.now }
     requires whole { All (λ line. All (IsNumber true) (map fraction_of line.items)) lines.now }

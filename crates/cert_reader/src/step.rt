@@ -14,7 +14,7 @@ use crate::order::settle;
 use crate::stream::{Bytes, Cut};
 use split_base::Source;
 
-/// Reads on to the end behind a broken line.
+/// Reads on to the end after a broken line.
 pub(crate) fn refuse<S: Source>(bytes: &mut Bytes, source: &mut S, line: u32) -> TextEnd
     ensures end { IsRefused bytes.old bytes.new (S.left source.old) (S.left source.new) line (λ _. Unit {0}) result }
     ensures few { taken_count bytes.new ≤ MOST_BYTES }
@@ -29,7 +29,7 @@ pub(crate) fn refuse<S: Source>(bytes: &mut Bytes, source: &mut S, line: u32) ->
     }
 }
 
-/// Takes the next line of numbers, where it may follow so many lines, and gives the counts with which it does and its numbers. Else reads on to the end.
+/// Takes the next line of numbers if it may stand at its place, and gives counts with which it may and its numbers. If it may not, reads on to the end.
 pub(crate) fn next_settled<S: Source>(
     bytes: &mut Bytes,
     source: &mut S,
@@ -48,7 +48,7 @@ pub(crate) fn next_settled<S: Source>(
 {
     match bytes.next_line(source) {
         Err(stop) => Err(stop),
-        Ok(Cut::Line) => match settle(bytes.line(), index, known) {
+        Ok(Cut::Line) => match settle(bytes.line(), index as usize, known) {
             Some(found) => Ok(found),
             None => Err(refuse(bytes, source, index + 1)),
         },

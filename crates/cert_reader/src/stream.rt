@@ -17,13 +17,13 @@ use std::marker::Model;
 pub(crate) enum Cut {
     /// A line, which is kept.
     Line,
-    /// A line that is longer than any of a certificate text.
+    /// A line that is longer than any line of a certificate text.
     Long,
-    /// What stands at the end without LF, maybe nothing.
+    /// What stands at the end without an LF, perhaps nothing.
     Unended,
 }
 
-/// How far some bytes stand next in the input.
+/// How many of some bytes come next in the input.
 #[derive(Clone, Copy, Debug, PartialEq, Eq)]
 pub(crate) enum Front {
     /// All of them.
@@ -34,7 +34,7 @@ pub(crate) enum Front {
     Ended,
 }
 
-/// The bytes of a source, of which at most 4,000,000 are taken.
+/// The bytes of a source. At most 4,000,000 are taken.
 #[derive(Debug, Drop)]
 pub(crate) struct Bytes {
     piece: [u8; PIECE_BYTES],
@@ -138,7 +138,7 @@ impl Bytes {
         }
     }
 
-    /// Puts a byte behind the line, where there is room.
+    /// Adds a byte to the line if there is room.
     fn keep(&mut self, byte: u8) -> bool
         ensures line { MatchBool result (self.new.line ≡ self.old.line ++ byte ∷ []) ((self.new.line ≡ self.old.line) × (LONGEST_LINE ≤ length self.old.line)) }
         ensures ahead { self.new.ahead ≡ self.old.ahead }

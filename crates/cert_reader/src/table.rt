@@ -3,8 +3,8 @@ ghost use Rattle.std.specs.Prelude.{◌≡◌};
 
 use std::marker::Model;
 
-/// The numbers of all `set` lines in order, the set's own number at the front of each line left out: set by set what its route costs from
-/// the origin and from the place of each rider who is not in it. There are at most 6,133.
+/// The costs of all `set` lines in order, without the number of the set: for each set, what its route costs from the origin and from the place of each
+/// rider who is not in the set. There are at most 6,133.
 #[derive(Debug, Drop)]
 pub struct Table {
     numbers: Vec<i128>,

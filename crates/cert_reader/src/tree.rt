@@ -3,7 +3,7 @@ ghost use Rattle.std.specs.Prelude.{◌≡◌};
 
 use std::marker::Model;
 
-/// The characters of the tree of a certificate of goods, `+`, `-` or `=` each: a node stands before the nodes below it.
+/// The characters of the tree of a certificate of goods, each `+`, `-` or `=`. A node comes before the nodes below it.
 #[derive(Debug, Drop)]
 pub struct Tree {
     marks: Vec<u8>,

@@ -15,7 +15,8 @@ use Rattle.bid_rules.specs.Facts.{IsValidFareCase}
 use Rattle.bid_rules.specs.FareLimits.{most_cost, most_orders}
 use Rattle.bid_rules.specs.Fares.{riders_of, route_cost}
 use Rattle.cert_reader.specs.declared.forms.Word.TheVariants as word
-use Rattle.cert_reader.specs.Forms.{fares_forms, fares_tail, led_by, numbers_of, set_form}
+use Rattle.cert_reader.specs.Forms.{fares_forms, led_by, numbers_of, set_form}
+use Rattle.cert_reader.specs.Order.{fares_tail}
 use Rattle.cert_reader.specs.Numbers.{AreShort, AreSmall, IsSmall}
 use Rattle.cert_reader.specs.Sets.{sets_of, starts}
 use Rattle.cert_reader.specs.Text.{CanSay, CanSayAll, IsText, Numbers, Said}

@@ -6,7 +6,8 @@ use Rattle.bid_rules.specs.declared.goods.GoodsCase.{GoodsCase}
 use Rattle.bid_rules.specs.declared.limits.TheConstants.{MOST_MEMBERS, MOST_STEPS}
 use Rattle.bid_rules.specs.Goods.{IsValidGoodsCase, player_count}
 use Rattle.cert_reader.specs.declared.forms.Word.TheVariants as word
-use Rattle.cert_reader.specs.Forms.{Form, Tree, goods_forms, goods_head, led_by, numbers_of}
+use Rattle.cert_reader.specs.Forms.{Form, Tree, goods_forms, led_by, numbers_of}
+use Rattle.cert_reader.specs.Order.{goods_head}
 use Rattle.cert_reader.specs.GoodsViews.{GoodsView}
 use Rattle.cert_reader.specs.Text.{CanSay, CanSayAll, IsMark, IsText, Marks, Said}
 use Rattle.cert_reader.specs.Views.{OfGoods, counts_of, goods_said, said_of, says}

@@ -1,14 +1,10 @@
 -- Runs of marks of nodes left out are parts of the longest one.
-use Rattle.std.proofs.Common.{◌≡◌, ℕ, ◌-◌, ◌<◌, ◌≤◌, [], ◌∷◌, ◌++◌, replicate, take, drop, IsAscii, arith, refl, ap, ◌∙◌}
+use Rattle.std.proofs.Common.{◌≡◌, ℕ, ◌-◌, ◌<◌, ◌≤◌, [], ◌∷◌, ◌++◌, replicate, take, drop, IsAscii, arith, ap, ◌∙◌}
 use Rattle.std.proofs.lemmas.List.{take-append-le, drop-append-le, take-replicate, drop-replicate, length-replicate}
 use Rattle.std.proofs.lemmas.List.Elements.{All-replicate}
 use Rattle.std.proofs.lemmas.Str.Ascii.{IsAscii-from_all, IsAscii-push}
 use Rattle.cert_reader.specs.declared.marks.TheConstants.{INNER_NODE, LEFT_OUT}
 use Rattle.certificates.specs.declared.marks.TheConstants.{MOST_WAITING, RUN_AND_NODE}
-
--- the longest run, and the mark of a node behind it
-whole_run : RUN_AND_NODE.now ≡ replicate MOST_WAITING LEFT_OUT ++ INNER_NODE ∷ []
-whole_run = refl
 
 -- all of these marks are ASCII characters
 pub ascii_run : IsAscii RUN_AND_NODE.now

@@ -6,7 +6,8 @@ use Rattle.arrayvec.specs.declared.array_vec.ArrayVec.{ArrayVec}
 use Rattle.bid_rules.specs.declared.rents.RentCase.{RentCase}
 use Rattle.bid_rules.specs.Rent.{IsValidRentCase, room_count}
 use Rattle.cert_reader.specs.declared.forms.Word.TheVariants as word
-use Rattle.cert_reader.specs.Forms.{led_by, numbers_of, rent_forms, rent_tail}
+use Rattle.cert_reader.specs.Forms.{led_by, numbers_of, rent_forms}
+use Rattle.cert_reader.specs.Order.{rent_tail}
 use Rattle.cert_reader.specs.Numbers.{AreShort, AreSmall}
 use Rattle.cert_reader.specs.Text.{CanSay, CanSayAll, IsText, Numbers}
 use Rattle.cert_reader.specs.Views.{OfRent, counts_of, rent_said, said_of, says}

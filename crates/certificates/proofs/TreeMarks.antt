@@ -24,11 +24,6 @@ pub marks_left : (case : GoodsCase) (answer : List ℕ) (k : ℕ) (owners : List
 marks_left case answer zero owners e = ap (λ b. cond b (LEFT_OUT ∷ []) (ANSWER_LEAF ∷ [])) e
 marks_left case answer (suc k) owners e = ap (λ b. cond b (LEFT_OUT ∷ []) (INNER_NODE ∷ children_marks case answer k owners (player_count case))) e
 
--- a whole list that may not be left out is the answer's leaf
-pub marks_leaf : (case : GoodsCase) (answer : List ℕ) (k : ℕ) (owners : List ℕ) → k ≡ 0 → may_be_left case answer owners ≡ false → canonical_marks case answer k owners ≡ ANSWER_LEAF ∷ []
-marks_leaf case answer zero owners z e = ap (λ b. cond b (LEFT_OUT ∷ []) (ANSWER_LEAF ∷ [])) e
-marks_leaf case answer (suc k) owners z e = absurd (omega arith)
-
 -- any other node that may not be left out stands before its children
 pub marks_node : (case : GoodsCase) (answer : List ℕ) (k r : ℕ) (owners : List ℕ) → k ≡ suc r → may_be_left case answer owners ≡ false
     → canonical_marks case answer k owners ≡ INNER_NODE ∷ children_marks case answer r owners (player_count case)

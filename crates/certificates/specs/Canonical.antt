@@ -12,11 +12,11 @@ use Rattle.certificates.specs.FareLines.{canonical_fares}
 use Rattle.certificates.specs.GoodsLines.{canonical_goods}
 use Rattle.certificates.specs.RentLines.{canonical_rent}
 
--- the text whose lines say this
+-- the certificate text that says this
 abbrev pub text_saying : CertificateView → List ℕ
 text_saying view = text_of (forms_of (counts_of view)) (said_of view)
 
--- the text that says the case and the division of it, with the numbers that show the division best
+-- the text that says the case, its division, and the numbers that show the division best
 abbrev pub canonical_text : Case → Division → List ℕ
 canonical_text (case.Rent rent) (Rent division) = text_saying (OfRent (canonical_rent rent division))
 canonical_text (case.Goods goods) (Goods division) = text_saying (OfGoods (canonical_goods goods division))

@@ -11,11 +11,11 @@ use Rattle.split_frac.specs.Frac.{fraction_of}
 abbrev pub cost_line : FareCase → ℕ → List ℤ
 cost_line case set = map (λ at. pos (costs_from case at set)) (starts (length case.at.items) set)
 
--- a line for each set of riders, by the numbers of the sets
+-- what the routes of all sets of riders cost, by the numbers of the sets
 abbrev pub cost_lines : FareCase → List (List ℤ)
 cost_lines case = map (cost_line case) (sets_of (length case.at.items))
 
--- the lines for the solver's division
+-- what the canonical certificate of fares says for the solver's division
 abbrev pub canonical_fares : FareCase → FareDivision → FaresView
 canonical_fares case division = record {
   places = case.facts.places;

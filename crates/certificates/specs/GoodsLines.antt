@@ -6,15 +6,15 @@ use Rattle.cert_reader.specs.GoodsViews.{GoodsView}
 use Rattle.certificates.specs.Marks.{canonical_marks}
 use Rattle.nash_search.specs.declared.division.GoodsDivision.{GoodsDivision}
 
--- the answer of a division: its owners in search order
+-- the owners of a division, in the order of the search
 abbrev pub answer_of : GoodsCase → GoodsDivision → List ℕ
 answer_of case division = in_search_order case division.owners.items
 
--- the tree for the solver's division, from the node without owners
+-- the tree of the canonical certificate for the solver's division, from the node without owners on
 abbrev pub canonical_tree : GoodsCase → GoodsDivision → List ℕ
 canonical_tree case division = canonical_marks case (answer_of case division) case.facts.goods []
 
--- the lines for the solver's division
+-- what the canonical certificate of goods says for the solver's division
 abbrev pub canonical_goods : GoodsCase → GoodsDivision → GoodsView
 canonical_goods case division = record {
   goods = case.facts.goods;

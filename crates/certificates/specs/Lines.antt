@@ -5,6 +5,6 @@ use Rattle.cert_reader.specs.declared.forms.Word.{Word}
 use Rattle.cert_reader.specs.Forms.{numbers_of}
 use Rattle.cert_reader.specs.Text.{Numbers, said_text}
 
--- the line of a word and numbers
+-- the bytes of a line with this word and these numbers
 abbrev pub number_line : Word → List Fraction → List ℕ
 number_line word numbers = said_text (numbers_of word (length numbers)) (Numbers numbers)

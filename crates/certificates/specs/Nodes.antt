@@ -7,13 +7,13 @@ use Rattle.nash_bounds.specs.Lanes.{IsLanes}
 use Rattle.certificates.specs.declared.goods_answer.Answer.{Answer}
 use Rattle.certificates.specs.declared.node.Node.{Node}
 
--- an owner for each good, with the pair of these owners as the goal
+-- an owner for each good, and the pair of these owners as the goal
 pub record IsAnswer (case : GoodsCase) (answer : Answer) : Type 0 where
   pub whole : length answer.owners.items ≡ case.facts.goods
   pub goal : IsGoal answer.goal
   pub pair : answer.goal.pair ≡ pair_of case answer.owners.items
 
--- owners of the first few goods of a valid case, and their lanes
+-- owners of the first few goods of a valid case, and what each player has and may have with them
 pub record IsNode (case : GoodsCase) (node : Node) : Type 0 where
   pub valid : IsValidGoodsCase case
   pub short : length node.owners.items ≤ case.facts.goods

@@ -5,8 +5,8 @@ use Rattle.rent_maximin.specs.declared.division.RentDivision.{RentDivision}
 use Rattle.cert_reader.specs.Layout.{RentView}
 use Rattle.split_frac.specs.Frac.{fraction_of}
 
--- `left` are the longest walks over the keys and `right` goes with them, `walks` are the longest walks over the values and
--- `ranks` the fewest steps of such walks: these are the solver's
+-- what the canonical certificate of a rent says for the solver's division: `left` are the longest walks over the keys and `right` goes with them, `walks` are
+-- the longest walks over the values, and `ranks` the fewest steps of such walks
 abbrev pub canonical_rent : RentCase → RentDivision → RentView
 canonical_rent case division = record {
   rent = pos case.facts.rent;

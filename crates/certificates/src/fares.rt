@@ -42,7 +42,7 @@ fn push_riders(text: &mut String, case: &FareCase) -> Result<(), NoMemory>
     Ok(())
 }
 
-/// Appends the lines behind the table: the route and the fares.
+/// Appends the lines after the table: the route and the fares.
 fn push_division(text: &mut String, division: &FareDivision) -> Result<(), NoMemory>
     ensures { OnOk result (string_bytes text.new ≡ string_bytes text.old
         ++ (number_line word.Route (wholes (map pos division.now.route.items)) ++ (number_line word.Fares (map fraction_of division.now.fares.items)

@@ -1,4 +1,9 @@
 //! The division of a case of any kind, and its canonical certificate, whose lines keep the rules of the checker.
+//!
+//! The canonical certificate has at most 4,000,000 bytes, the judge says yes to it, and a case has
+//! at most one (`certificate_law`). One of goods or fares counts no members, so it prints the case
+//! with as many as there may be. What each member pays of a rent is the cent plan of the members'
+//! exact prices (`rent_pays`).
 #![tactic(auto)]
 
 mod division;

@@ -54,7 +54,7 @@ fn run_and_node(count: usize) -> &'static str
     &RUN_AND_NODE[MOST_WAITING - count..]
 }
 
-/// Has the mark of a node left out wait behind others; how many wait then.
+/// Lets the mark of a node left out wait after others, and answers how many wait then.
 fn leave_out(text: &mut String, waiting: usize) -> Result<usize, NoMemory>
     requires { waiting ≤ MOST_WAITING }
     ensures few { IfOk result (λ after. after ≤ MOST_WAITING) }
@@ -78,8 +78,8 @@ fn push_answer(text: &mut String, waiting: usize) -> Result<usize, NoMemory>
     Ok(0)
 }
 
-/// Appends the tree below a node that may not be left out, but for the marks at its end that wait, of which it gives the number. So many
-/// wait before it.
+/// Appends the tree below a node that may not be left out. The marks at its end wait, and it answers how many do. This many wait before
+/// it.
 fn push_tree(
     text: &mut String,
     case: &GoodsCase,
@@ -117,9 +117,9 @@ fn push_tree(
 
 /// Appends the marks of the canonical tree of a case, from its division.
 ///
-/// They are one character a node in preorder, the children in order of the owner of the next good in search order: `-` where the tree
-/// leaves the node out, which it does wherever it may, else `+` where a good is left, and `=` where none is. `NoMemory` comes for want of
-/// memory alone.
+/// They are one character for each node in preorder, the children by the owner of the next good in the order of the search: `-` if the
+/// tree leaves the node out, which it does wherever it may, else `+` if a good is left, and `=` if none is. `NoMemory` comes only when
+/// memory runs out.
 pub fn push_marks(
     text: &mut String,
     case: &GoodsCase,

@@ -1,4 +1,4 @@
-// The nodes of a tree: owners of the first few goods in search order, of whom the tree leaves out those who show no better allocation.
+// The nodes of a tree: owners of the first few goods in the order of the search. The tree leaves out a node below which no allocation is better.
 ghost use Rattle.std.specs.Prelude.{◌≡◌, ℕ, List, ◌<◌, ◌≤◌, ◌++◌, [], ◌∷◌, length, true, false};
 ghost use Rattle.bid_rules.specs.Goods.{AreOwners, IsValidGoodsCase, player_count};
 ghost use Rattle.bid_rules.specs.declared.limits.TheConstants.{MEMBER_ROOM};

@@ -30,7 +30,7 @@ fn push_head(text: &mut String, members: u8, rent: u32) -> Result<(), NoMemory>
     Ok(())
 }
 
-/// Appends the lines behind the values: the rooms and prices, and what shows them best.
+/// Appends the lines after the values: the rooms and prices, and what shows that they are best.
 fn push_division(text: &mut String, division: &RentDivision) -> Result<(), NoMemory>
     ensures { OnOk result (string_bytes text.new ≡ string_bytes text.old
         ++ (number_line word.Rooms (wholes (map pos division.now.best.rooms.items)) ++ (number_line word.Left (wholes division.now.best.left.items)

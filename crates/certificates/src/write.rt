@@ -32,7 +32,7 @@ fn push_certificate(text: &mut String, case: &Case, division: &Division) -> Resu
 /// The canonical certificate of a case: the case, its division, and the numbers that show the division best (certifying algorithms:
 /// McConnell, Mehlhorn, Näher and Schweitzer 2011).
 ///
-/// The division is the solver's for that case. `NoMemory` comes for want of memory alone.
+/// The division is the solver's for that case. `NoMemory` comes only when memory runs out.
 pub fn write_certificate(
     alloc: Global,
     case: &Case,

@@ -34,6 +34,7 @@ pub record Owed : Type 0 where
   pub status : ℕ
   pub text : List ℕ
 
+-- the status and the text that go together
 abbrev pub due : ℕ → List ℕ → Owed
 due status text = record { status = status; text = text }
 

@@ -1,5 +1,5 @@
 -- What a source and a sink tell before and after a command.
-use Rattle.std.specs.Prelude.{◌≡◌, ◌⊎◌, ℕ, ◌+◌, ◌≤◌, List, Option, length, take}
+use Rattle.std.specs.Prelude.{◌≡◌, ◌⊎◌, ℕ, ◌+◌, ◌<◌, ◌≤◌, List, Option, length, take}
 use Rattle.std.specs.Io.KnownBytes.{Appends, Consumes, IsAtEnd}
 use Rattle.split_base.specs.Faults.{HasRisen, counted}
 
@@ -50,8 +50,8 @@ IsTooLong most input = (bytes : List ℕ) × (length bytes ≡ most + 1) × Cons
 abbrev pub HasWritten : ObjectUse → List ℕ → Type 0
 HasWritten output text = Appends output.bytes_before output.bytes_after text
 
--- the text was written, no write failed, and the status is the one that goes with it; or one write failed after a prefix of the text, which shows in the output's count, and the status is 6
+-- the text was written, no write failed, and the status is its own; or one write failed, some byte of the text is missing, and the status is 6
 abbrev pub Ends : ObjectUse → List ℕ → ℕ → ℕ → Type 0
 Ends output text due status =
     ((status ≡ due) × HasWritten output text × HasNoFault output)
-    ⊎ ((status ≡ 6) × HasOneFault output × ((n : ℕ) × (n ≤ length text) × HasWritten output (take n text)))
+    ⊎ ((status ≡ 6) × HasOneFault output × ((n : ℕ) × (n < length text) × HasWritten output (take n text)))

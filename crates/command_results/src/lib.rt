@@ -1,4 +1,6 @@
 //! How a command ends: with its text, or by one of the reasons to stop, each with its status and its line. None of the lines takes memory.
+//!
+//! `owed` gives the status and the line of every ending by one definition.
 #![tactic(auto)]
 
 pub mod limits;

@@ -35,7 +35,7 @@ impl Default for Ef1 {
 
 /// The points that each player gives the goods of each other, less those that they give their own.
 ///
-/// The owners are players by number of the good. Entry (i, j) is above 0 where player i + 1 envies player j + 1.
+/// The owners are players by number of the good. Entry (i, j) is above 0 if player i + 1 envies player j + 1.
 pub fn points_table(
     case: &GoodsCase,
     owners: &[u8],
@@ -190,7 +190,7 @@ fn most_valued(case: &GoodsCase, owners: &[u8], player: u8, owner: u8) -> u8
     best
 }
 
-/// The next good where the owner has it and the player gives it more points than the best before, which is 0 where there is none.
+/// The next good where the owner has it and the player gives it more points than the best before, which is 0 if there is none.
 fn better(case: &GoodsCase, owners: &[u8], player: u8, owner: u8, best: u8, good: u8) -> u8
     requires case { IsValidGoodsCase case.now }
     requires each { length owners.now ≡ case.now.facts.goods }

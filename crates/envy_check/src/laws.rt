@@ -44,14 +44,14 @@ pub fn worked_plans_law()
     ensures thirds { cent_plan ((pos 800, 3) ∷ (negsuc 99, 3) ∷ (pos 200, 3) ∷ []) (pos 300) ≡ pos 267 ∷ negsuc 32 ∷ pos 66 ∷ [] }
 {}
 
-/// Taking the good away to which a player gives most points ends their envy exactly where taking some good of the other away
+/// Taking the good away to which a player gives most points ends their envy exactly if taking some good of the other away
 /// does.
 pub fn ef1_law()
     ensures { (case : GoodsCase) (owners : List ℕ) (player other best : ℕ) → IsMostValued case player (goods_of owners other) best
         → (EndsEnvy case owners player other best ↔ ((good : ℕ) × Contains (goods_of owners other) good × EndsEnvy case owners player other good)) }
 {}
 
-/// An allocation of maximum Nash welfare is envy-free up to one good (Caragiannis and others 2016, theorem 3.2): whoever envies another
+/// An allocation of maximum Nash welfare is envy-free up to one good (Caragiannis and others 2016, theorem 3.2): a player who envies another
 /// stops once that good of the other's is taken away to which they give most points. So its table of answers has no `Fails`.
 pub fn one_good_law()
     ensures up_to_one_good { (case : GoodsCase) (owners : List ℕ) → HasMaximumWelfare case owners → IsEnvyFreeUpToOneGood case (owners_by_good case owners) }

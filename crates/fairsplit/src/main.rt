@@ -1,4 +1,7 @@
 //! The program: the commands over the journal's file, TCP, the system's clock and the standard streams.
+//!
+//! `main` has no contract: it hands the outside to `run` and ends with its status. Where there is
+//! no memory for the words it ends with 9, and writes `no memory` where it can.
 #![tactic(auto)]
 
 use adapters::{

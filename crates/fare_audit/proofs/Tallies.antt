@@ -34,14 +34,6 @@ count_yes e end some above = count_next e end some ∙ ap (λ b. count_below e e
 pub count_no : (e : ℕ → ℤ) (end : ℕ) → 1 ≤ end → e end ≤ℤ pos 0 → count_below e (end + 1) ≡ count_below e end
 count_no e end some low = let h : count_below e end + 0 ≡ count_below e end = omega arith in count_next e end some ∙ ap (λ b. count_below e end + cond b 1 0) (positive_no (e end) low) ∙ h
 
--- no group yet
-pub none_yet : (e : ℕ → ℤ) → IsFirstGreatest e 1 0 (pos 0)
-none_yet e = record {
-  bound = λ other low high. absurd (omega arith);
-  first = λ other low high. absurd (omega arith);
-  reached = inl (omega arith, omega (arith, ints));
-}
-
 -- the greatest is at least 0
 pub not_below : (e : ℕ → ℤ) (end set : ℕ) (most : ℤ) → IsFirstGreatest e end set most → pos 0 ≤ℤ most
 not_below e end set most h = ⊎_elim (λ none. let z = none.1 in omega (arith, ints, z)) (λ some. let z = some.3 in omega (arith, ints, z)) h.reached

@@ -44,7 +44,7 @@ fn copied_case(case: &FareCase) -> FareCase
 
 /// What each coalition of a valid case costs, for 1 to 10 riders.
 ///
-/// It takes about `n^2 * 2^n` steps for n riders, and memory once. `NoMemory` comes for want of memory alone.
+/// It takes about `n^2 * 2^n` steps for n riders, and memory once. `NoMemory` comes only if memory runs out.
 pub fn costs(alloc: Global, case: &FareCase) -> Result<Costs, NoMemory>
     requires { IsValidFareCase case.now }
     ensures { IfOk result (λ costs. costs ≡ case.now) }

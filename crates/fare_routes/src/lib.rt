@@ -1,4 +1,6 @@
 //! What each set of riders costs, and the least of the cheapest routes, by the recursion over sets of riders.
+//!
+//! It makes the rows of all sets in memory of their own, or says that there is none.
 #![tactic(auto)]
 
 mod filling;

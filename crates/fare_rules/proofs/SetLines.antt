@@ -57,15 +57,6 @@ other_last case n taken line other = (
   λ same. other (sym (last_line taken line) ∙ ap (λ k. get_or (taken ++ line ∷ []) k []) (let e : length taken ≡ length taken + 1 - 1 = omega arith in e) ∙ same),
 )
 
--- or it is as it is to be, as those before it
-pub cost_lines_more : (case : FareCase) (n : ℕ) (taken : List (List ℤ)) (line : List ℤ) → line ≡ cost_line case n (length taken + 1) → AreCostLines case n taken → AreCostLines case n (taken ++ line ∷ [])
-cost_lines_more case n taken line is lines set some within = ⊎_elim
-    (λ (early : set < length taken + 1). get_or_append_left taken (line ∷ []) [] (set - 1) (omega (arith, early, some)) ∙ lines set some (omega (arith, early)))
-    (λ (late : length taken + 1 ≤ set).
-    let here : set ≡ length taken + 1 = (let long = length-append taken (line ∷ []) in omega (arith, within, long, late)) in
-    ap (λ k. get_or (taken ++ line ∷ []) k []) (let e : set - 1 ≡ length taken = omega (arith, here) in e) ∙ last_line taken line ∙ is ∙ ap (cost_line case n) (sym here))
-    (cases_lt set (length taken + 1))
-
 -- the line that the state waits for, in the words of the text
 due_line : (view : FaresView) (case : FareCase) (rows taken : ℕ) → case ≡ printed_case view → rows ≡ taken + 1
     → cost_line case (length case.at.items) rows ≡ cost_line (printed_case view) (length view.at) (taken + 1)
@@ -81,22 +72,3 @@ pub stands_broken : (view : FaresView) (taken : List (List ℤ)) (line : List �
     → (line ≡ cost_line case (length case.at.items) (length rows.items) → ⊥) → StandsFor view (taken ++ line ∷ []) (Broken 2)
 stands_broken view taken line case rows stands other =
     inr (refl, stands.0, other_last (printed_case view) (length view.at) taken line (λ e. other (e ∙ sym (due_line view case (length rows.items) (length taken) stands.1 stands.3))))
-
--- it is
-pub stands_more : (view : FaresView) (taken : List (List ℤ)) (line : List ℤ) (case : FareCase) (rows new : ArrayVec (ArrayVec ℕ DEPARTURE_ROOM (Unit {0})) SET_ROOM (Unit {0})) → StandsFor view taken (Filling case rows)
-    → line ≡ cost_line case (length case.at.items) (length rows.items) → ListsCosts case (map (λ row. row.items) new.items) → length new.items ≡ length rows.items + 1
-    → StandsFor view (taken ++ line ∷ []) (Filling case new)
-stands_more view taken line case rows new stands is lists more = (
-  stands.0,
-  stands.1,
-  lists,
-  (let long = length-append taken (line ∷ []) in let before = stands.3 in omega (arith, more, long, before)),
-  subst (λ (k : FareCase). AreCostLines k (length view.at) (taken ++ line ∷ [])) (sym stands.1)
-      (cost_lines_more (printed_case view) (length view.at) taken line (is ∙ due_line view case (length rows.items) (length taken) stands.1 stands.3)
-      (subst (λ (k : FareCase). AreCostLines k (length view.at) taken) stands.1 stands.4)),
-)
-
--- a broken rule stays broken
-pub stands_still : (view : FaresView) (taken : List (List ℤ)) (line : List ℤ) (rule : ℕ) → StandsFor view taken (Broken rule) → StandsFor view (taken ++ line ∷ []) (Broken rule)
-stands_still view taken line rule (inl none) = inl none
-stands_still view taken line rule (inr other) = inr (other.0, other.1, other_more (printed_case view) (length view.at) taken line other.2)

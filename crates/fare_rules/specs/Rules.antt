@@ -12,7 +12,8 @@ use Rattle.cert_reader.specs.Layout.{FaresView}
 use Rattle.fare_rules.specs.Printed.{printed_case, printed_route}
 use Rattle.rule_verdicts.specs.Verdicts.{rule_at}
 
--- the numbers are 0 or more, and a case: flag and legs in range, a place to itself 0, rising members up to 10, each with a place
+-- rule 1: the printed numbers are 0 or more, and they are a valid case: the flag fall and the legs in range, no cost from a place to itself, and members up to
+-- 10 in rising order, each with a place
 pub record HasCase (view : FaresView) : Type 0 where
   pub flag : pos 0 ≤ℤ view.flag
   pub legs : All (λ row. All (λ cents. pos 0 ≤ℤ cents) row) view.legs
@@ -20,20 +21,20 @@ pub record HasCase (view : FaresView) : Type 0 where
   pub at : All (λ place. pos 0 ≤ℤ place) view.at
   pub valid : IsValidFareCase (printed_case view)
 
--- the route is the riders 1 to n in some order
+-- rule 3: the printed route has the riders 1 to n in some order
 pub record HasRoute (view : FaresView) : Type 0 where
   pub positive : All (λ rider. pos 1 ≤ℤ rider) view.route
   pub order : IsPermutation (range_with_len 1 (length view.at)) (printed_route view)
 
--- the fares are the means of the marginal costs over all orders
+-- rule 5: the fare of each rider is the mean of what the rider adds to the cost, over all orders of the riders
 abbrev pub AreMeans : FaresView → Type 0
 AreMeans view = AllZip (λ rider fare. IsQuotient fare (sum_of_marginal_costs (printed_case view) rider) (factorial (length view.at))) (riders_of (printed_case view)) view.fares
 
--- the five rules, in their order
+-- the five rules of a certificate of fares, in order
 abbrev pub rules_of_fares : FaresView → List (Type 0)
 rules_of_fares view = HasCase view ∷ HasLines (printed_case view) (length view.at) view.sets ∷ HasRoute view
     ∷ IsLowestRoute (printed_case view) (entry_of (length view.at) view.sets) 0 (2 ^ length view.at - 1) (printed_route view) ∷ AreMeans view ∷ []
 
--- the rule of a number, from 1
+-- the rule of fares with this number, counted from 1
 abbrev pub fares_rule : FaresView → ℕ → Type 0
 fares_rule view number = rule_at (rules_of_fares view) number

@@ -1,4 +1,4 @@
--- What a state stands for, after the head and some lines of sets.
+-- What the judge of fares knows after the head and some lines of sets.
 use Rattle.std.specs.Prelude.{◌≡◌, ◌⊎◌, ℤ, ◌+◌, List, length, map}
 use Rattle.set_costs.specs.Table.{ListsCosts}
 use Rattle.cert_reader.specs.Layout.{FaresView}
@@ -8,12 +8,12 @@ use Rattle.fare_rules.specs.Printed.{printed_case}
 use Rattle.fare_rules.specs.declared.state.FaresState.{FaresState}
 use Rattle.fare_rules.specs.declared.state.FaresState.TheVariants.{Broken, Filling}
 
--- the rows are those of the first sets of a valid case
+-- the rows are the costs of the first sets of a valid case
 abbrev pub IsState : FaresState → Type 0
 IsState (Broken rule) = Unit {0}
 IsState (Filling case rows) = ListsCosts case (map (λ row. row.items) rows.items)
 
--- the text has no case, or some line so far is another than its set's; else the rows are those of the empty set and of the sets so far
+-- the text prints no case, or one of the lines taken is not that of its set; or the rows are the costs of the empty set and of the sets taken
 abbrev pub StandsFor : FaresView → List (List ℤ) → FaresState → Type 0
 StandsFor view taken (Broken rule) = ((rule ≡ 1) × (HasCase view → ⊥)) ⊎ ((rule ≡ 2) × HasCase view × HasOtherLine (printed_case view) (length view.at) taken)
 StandsFor view taken (Filling case rows) =

@@ -35,7 +35,7 @@ fn facts_of(places: u8, flag: i128, legs: &[PrintedRow]) -> Option<Fares>
     })
 }
 
-/// The printed case, where it is one.
+/// The printed case, if it is valid.
 pub(crate) fn case_of(
     places: u8,
     flag: i128,

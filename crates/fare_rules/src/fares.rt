@@ -12,7 +12,7 @@ use bid_rules::limits::{MOST_FARE_CENTS, MOST_RIDERS};
 use set_costs::{SetCosts, factorial};
 use split_frac::Frac;
 
-/// A number of up to 25 digits, so many times.
+/// A number of up to 25 digits, times another.
 fn times(number: i128, many: u64) -> i128
     requires number { IsSmall number }
     requires many { many ≤ MOST_PRINTED_DENOMINATOR }
@@ -21,7 +21,7 @@ fn times(number: i128, many: u64) -> i128
     number * i128::from(many)
 }
 
-/// Whether a fare is the mean of what has this sum over all orders of so many riders.
+/// Whether a fare is the mean over all orders of this many riders, given the sum over them.
 fn is_mean(fare: &Frac, sum: i128, count: u8) -> bool
     requires count { count ≤ MOST_RIDERS }
     requires numerator { IsSmall fare.now.num }

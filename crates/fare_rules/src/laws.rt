@@ -14,7 +14,7 @@ ghost use Rattle.rule_verdicts.specs.Verdicts.{IsVerdictOf};
 
 use best_laws::{coalition_law, lowest_route_law, route_set_law, without_rider_law};
 
-/// Where all rules hold, the printed case is one, and the printed fares and route are best for it (Shapley 1953). A text has one verdict.
+/// If all rules hold, the printed case is valid, and the printed fares and route are best for it (Shapley 1953). A text has one verdict.
 pub fn fares_certificate_law()
     ensures valid { (view : FaresView) → IsVerdictOf (rules_of_fares view) Yes → IsValidFareCase (printed_case view) }
     ensures best { (view : FaresView) → IsVerdictOf (rules_of_fares view) Yes → FareBest (printed_case view) view.fares (printed_route view) }

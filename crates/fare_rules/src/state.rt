@@ -26,15 +26,15 @@ use split_frac::Frac;
 /// What routes of sets of riders cost, row by row.
 type Rows = ArrayVec<Row, SET_ROOM>;
 
-/// Where the judge of a certificate of fares stands, after the head and some lines of sets.
+/// How far the judge of a certificate of fares is, after the head and some lines of sets.
 #[derive(Drop)]
 pub enum FaresState {
-    /// A rule is broken: the first where the head prints no case, or the second where a line so far is not as it is to be.
+    /// A rule is broken: the first, since the head prints no valid case, or the second, since a line so far is not as it must be.
     Broken {
         /// The rule, from 1.
         rule: u8,
     },
-    /// None of these is broken so far.
+    /// Neither of these rules is broken so far.
     Filling {
         /// The printed case.
         case: FareCase,
@@ -68,7 +68,7 @@ pub fn start_fares(
     FaresState::Filling { case, rows }
 }
 
-/// Adds the row of the next set, and answers whether the line is as it is to be.
+/// Adds the row of the next set, and answers whether the line is as it must be.
 fn push_row(case: &FareCase, rows: &mut Rows, line: &[i128]) -> bool
     requires lists { ListsCosts case.now (map (λ row. row.items) rows.old.items) }
     requires more { length rows.old.items < 2 ^ length case.now.at.items }
@@ -84,7 +84,7 @@ fn push_row(case: &FareCase, rows: &mut Rows, line: &[i128]) -> bool
     is_kept
 }
 
-/// Takes the line of the next set, and answers whether it is as it is to be. Where all sets have had theirs, nothing is done.
+/// Takes the line of the next set, and answers whether it is as it must be. If all sets have had their lines, it does nothing.
 fn fill(case: &FareCase, rows: &mut Rows, line: &[i128]) -> bool
     requires { ListsCosts case.now (map (λ row. row.items) rows.old.items) }
     ensures lists { ListsCosts case.now (map (λ row. row.items) rows.new.items) }
@@ -99,7 +99,7 @@ fn fill(case: &FareCase, rows: &mut Rows, line: &[i128]) -> bool
     push_row(case, rows, line)
 }
 
-/// Takes the line of the next set, its own number left out.
+/// Takes the line of the next set, without the number of the set.
 pub fn take_set(state: &mut FaresState, line: &[i128])
     requires { IsState state.old }
     ensures state { IsState state.new }
@@ -114,7 +114,7 @@ pub fn take_set(state: &mut FaresState, line: &[i128])
     }
 }
 
-/// The verdict, where all sets have had their lines: by the printed route, riders from 1 in the order in which they get off, and the
+/// The verdict, once all sets have had their lines: by the printed route, riders from 1 in the order in which they get off, and the
 /// printed fares, by rider in cents.
 pub fn end_fares(state: &FaresState, route: &[i128], fares: &[Frac]) -> Verdict
     requires state { IsState state.now }
@@ -131,7 +131,7 @@ pub fn end_fares(state: &FaresState, route: &[i128], fares: &[Frac]) -> Verdict
     }
 }
 
-/// The verdict where no line is broken. Where lists have other lengths than the text's, which none has, it is of no text.
+/// The verdict, if no line is broken. Lists of other lengths than the text's do not come from a text.
 fn end_filling(case: &FareCase, rows: &[Row], route: &[i128], fares: &[Frac]) -> Verdict
     requires rows { ListsCosts case.now (map (λ row. row.items) rows.now) }
     requires short { AreShort fares.now }

@@ -10,28 +10,30 @@ pub record IsLineFault (place : ℕ) (file : List ℕ) : Type 0 where
   pub before : take place file ≡ take place start_line
   pub differs : (length file ≤ place) ⊎ (slice_index file place ≢ slice_index start_line place)
 
--- the first byte behind the start line that is missing in the header or at the first gate
+-- the first byte after the start line that is missing in the header or at the first gate
 pub record IsCutHeader (place : ℕ) (file : List ℕ) : Type 0 where
   pub line : take LINE_SIZE file ≡ start_line
   pub size : length file ≡ place
   pub short : place < EMPTY_SIZE
 
+-- the first fault of the file is here, in its start line or where its header is cut
 abbrev pub IsHeaderFault : ℕ → List ℕ → Type 0
 IsHeaderFault place file = IsLineFault place file ⊎ IsCutHeader place file
 
--- the length that stands behind a gate
+-- the number in the bytes of the length after a gate
 abbrev pub length_in : List ℕ → ℕ
 length_in more = from_le_bytes w32 (take LENGTH_SIZE more)
 
--- the fault of a record with an open gate at p, behind which more stands in a file of this size: the file's size where
--- the bytes of the length are missing, p + 1 where the length is out of range, the file's size where the body or the
--- next gate is missing
+-- A record whose gate is open at p has a fault. Its place is p + 1 where the length is out of range. It is the file's size where the
+-- length, the body or the next gate is missing.
 abbrev pub IsShort : List ℕ → Type 0
 IsShort more = (length more < LENGTH_SIZE) ⊎ ((LENGTH_SIZE ≤ length more) × IsLength (length_in more) × (length more < FRONT_SIZE + length_in more))
 
+-- a length comes next that no body may have
 abbrev pub IsOutOfRange : List ℕ → Type 0
 IsOutOfRange more = (LENGTH_SIZE ≤ length more) × (¬ IsLength (length_in more))
 
+-- after a gate at p the fault is here: at the end of the file where it is cut within the record, or at the length where no body may have it
 abbrev pub IsRecordFault : (p : ℕ) (more : List ℕ) (size place : ℕ) → Type 0
 IsRecordFault p more size place = (IsShort more × (place ≡ size)) ⊎ (IsOutOfRange more × (place ≡ p + 1))
 
@@ -48,7 +50,7 @@ pub record IsFaultAfter (version : ℕ) (secret : List ℕ) (bodies : List (List
   pub is : file ≡ header version_gate secret ++ run ++ gate ∷ more
   pub fault : IsRecordFault (place_after bodies) more (length file) place
 
--- whatever the records before it are
+-- such a record stands after some records
 abbrev pub IsFaultBehind : ℕ → List ℕ → Type 0
 IsFaultBehind place file = (version : ℕ) × (secret : List ℕ) × (bodies : List (List ℕ)) × IsFaultAfter version secret bodies place file
 
@@ -56,7 +58,7 @@ IsFaultBehind place file = (version : ℕ) × (secret : List ℕ) × (bodies : L
 abbrev pub IsFault : ℕ → List ℕ → Type 0
 IsFault place file = IsHeaderFault place file ⊎ IsFaultBehind place file
 
--- behind the records of these bodies: the file ends as a journal, it has a fault, or it goes on with the record of a body more
+-- after the records of these bodies the file ends as a journal, has a fault, or goes on with one record more
 abbrev pub GoesOn : ℕ → List ℕ → List (List ℕ) → List ℕ → Type 0
 GoesOn version secret bodies file =
     Stands version secret bodies file ⊎ ((place : ℕ) × IsFaultAfter version secret bodies place file) ⊎ ((body : List ℕ) × All (λ b. b < 2 ^ 8) body × Begins version secret (bodies ++ body ∷ []) file)

@@ -4,7 +4,7 @@ use Rattle.gate_log.specs.declared.log.Log.TheInside.{Inside}
 use Rattle.gate_log.specs.Ahead.{bytes_of}
 use Rattle.gate_log.specs.Log.{LogView}
 
--- what a log tells of itself
+-- the log as contracts see it
 abbrev pub log_view : Inside → LogView
 log_view log = record {
   place = log.place;
@@ -14,7 +14,7 @@ log_view log = record {
   ahead = bytes_of log.ahead;
 }
 
--- the place and what is read ahead lie within the greatest size of a file, and the version is one that a journal may have
+-- the place and the bytes read ahead lie within the greatest size of a file, and the version is 1 or 2
 pub record FitsJournal (log : Inside) : Type 0 where
   pub place : log.place < 2 ^ 63
   pub ahead : log.place + length (bytes_of log.ahead) ≤ 2 ^ 63

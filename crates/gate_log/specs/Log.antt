@@ -13,7 +13,7 @@ pub record LogView : Type 0 where
   pub size : ℕ
   pub ahead : List ℕ
 
--- each image stands for these bodies in the log's version, and the log is at the closed gate behind them
+-- each image stands for these bodies in the log's version, and the log is at the closed gate after them
 pub record IsLogOf (images : List ℕ → Type 0) (log : LogView) (secret : List ℕ) (bodies : List (List ℕ)) : Type 0 where
   pub each : Each images (Stands log.version secret bodies)
   pub place : log.place ≡ place_after bodies
@@ -22,7 +22,7 @@ pub record IsLogOf (images : List ℕ → Type 0) (log : LogView) (secret : List
 abbrev pub IsAhead : List ℕ → ℕ → List ℕ → Type 0
 IsAhead file place ahead = ahead ≡ take (length ahead) (drop place file)
 
--- of this file the header and the records of these bodies were read, and the log is at the gate behind them
+-- the header and the records of these bodies were read from this file, and the log is at the gate after them
 pub record IsReading (file : List ℕ) (log : LogView) (secret : List ℕ) (bodies : List (List ℕ)) : Type 0 where
   pub begins : Begins log.version secret bodies file
   pub place : log.place ≡ place_after bodies
@@ -38,11 +38,11 @@ with_ahead log ahead = record { place = log.place; version = log.version; at_end
 abbrev pub closed : LogView → LogView
 closed log = record { place = log.place; version = log.version; at_end = true; size = log.size; ahead = log.ahead }
 
--- the log behind a record with a body of this length
+-- the log past a record with a body of this length
 abbrev pub past : LogView → ℕ → LogView
 past log n = record { place = log.place + FRONT_SIZE + n; version = log.version; at_end = log.at_end; size = log.size; ahead = drop (FRONT_SIZE + n) log.ahead }
 
--- where the secret stands in a header
+-- the bytes of a header that are the secret
 abbrev pub secret_in : List ℕ → List ℕ
 secret_in bytes = take SECRET_SIZE (drop LINE_SIZE bytes)
 

@@ -21,6 +21,7 @@ IsVersion gate version = ((gate ≡ 0) × (version ≡ 1)) ⊎ ((gate ≢ 0) × 
 abbrev pub IsLength : ℕ → Type 0
 IsLength n = (BODY_LEAST ≤ n) × (n ≤ BODY_MOST)
 
+-- the bytes may be the body of a record: they have a length in range
 abbrev pub IsBody : List ℕ → Type 0
 IsBody body = IsLength (length body)
 
@@ -33,8 +34,8 @@ abbrev pub IsRun : List (List ℕ) → List ℕ → Type 0
 IsRun [] bytes = bytes ≡ []
 IsRun (body ∷ bodies) bytes = (gate : ℕ) × (more : List ℕ) × (gate ≢ 0) × IsBody body × (bytes ≡ entry gate body ++ more) × IsRun bodies more
 
--- The file has this version, this secret and these bodies: the header, their records, and a closed gate behind them.
--- What stands behind that gate takes no part.
+-- The file has this version, this secret and these bodies: the header, their records, and a closed gate after them.
+-- What stands after that gate takes no part.
 pub record Stands (version : ℕ) (secret : List ℕ) (bodies : List (List ℕ)) (file : List ℕ) : Type 0 where
   pub gate : ℕ
   pub run : List ℕ
@@ -49,7 +50,7 @@ abbrev pub HoldsRecords : List ℕ → List (List ℕ) → List ℕ → Type 0
 HoldsRecords secret bodies file = (version : ℕ) × Stands version secret bodies file
 
 -- The file begins with a header of this version and secret and with the whole records of these bodies, and there is a
--- gate behind them, closed or open.
+-- gate after them, closed or open.
 pub record Begins (version : ℕ) (secret : List ℕ) (bodies : List (List ℕ)) (file : List ℕ) : Type 0 where
   pub gate : ℕ
   pub run : List ℕ
@@ -60,7 +61,7 @@ pub record Begins (version : ℕ) (secret : List ℕ) (bodies : List (List ℕ))
   pub is : file ≡ header gate secret ++ run ++ rest
   pub has_gate : 1 ≤ length rest
 
--- the place of the gate behind them
+-- the place of the gate after the records of these bodies
 abbrev pub place_after : List (List ℕ) → ℕ
 place_after bodies = FIRST_GATE + sum_by (λ body. FRONT_SIZE + length body) bodies
 
@@ -68,20 +69,20 @@ place_after bodies = FIRST_GATE + sum_by (λ body. FRONT_SIZE + length body) bod
 abbrev pub IsBeforeOrAfter : ℕ → List ℕ → List (List ℕ) → List ℕ → List ℕ → Type 0
 IsBeforeOrAfter version secret bodies body file = Stands version secret bodies file ⊎ Stands version secret (bodies ++ body ∷ []) file
 
--- what an append writes behind its gate: the length, the body, and the closed gate of the next record
+-- what an append writes after its gate: the length, the body, and the closed gate of the next record
 abbrev pub behind_gate : List ℕ → List ℕ
 behind_gate body = to_le_bytes w32 (length body) ++ body ++ 0 ∷ []
 
--- the file after the first write of an append at the gate at the place
+-- the file after the first write of an append, whose gate is at the place
 abbrev pub IsStaged : (place : ℕ) (body old staged : List ℕ) → Type 0
 IsStaged place body old staged = IsWritten old (place + 1) (behind_gate body) staged
 
--- the file after both: behind the gate, and then the open gate
+-- the file after both writes: what follows the gate, and then the open gate
 abbrev pub IsAppended : (place : ℕ) (body old new : List ℕ) → Type 0
 IsAppended place body old new = (staged : List ℕ) × IsStaged place body old staged × IsWritten staged place (1 ∷ []) new
 
--- what a crash at some moment of an append may leave: an image of before, torn by the first write or not, or the file after
--- that write, torn by the second or not
+-- A crash within an append may leave this: an image from before it, torn by the first write or not, or the file after that write, torn
+-- by the second or not.
 abbrev pub MayBeAppending : (images : List ℕ → Type 0) (place : ℕ) (body old : List ℕ) → List ℕ → Type 0
 MayBeAppending images place body old file = Tears images (place + 1) (length (behind_gate body)) file
     ⊎ ((staged : List ℕ) × IsStaged place body old staged × IsTorn place 1 staged file)

@@ -7,7 +7,7 @@ ghost use Rattle.gate_log.specs.declared.limits.TheConstants.{PIECE};
 use crate::limits::PIECE;
 use split_base::{Disk, Failed};
 
-// The bytes from `from` to `to` of a piece, with room behind them.
+// The bytes from `from` to `to` of a piece, with room after them.
 #[derive(Drop)]
 pub(crate) struct Ahead {
     piece: [u8; PIECE],
@@ -60,7 +60,7 @@ impl Ahead {
         self.to = to - from;
     }
 
-    // Reads on behind what was read ahead from the place on, as much as has room. After a fault the
+    // Reads on after what was read ahead from the place on, as much as there is room for. After a fault the
     // same is there.
     pub(crate) fn read_on<D: Disk>(&mut self, disk: &mut D, place: u64) -> Result<(), Failed>
         requires { place + length (bytes_of self.old) ≤ 2 ^ 63 }
@@ -68,10 +68,11 @@ impl Ahead {
         ensures counted { IsCounted (D.faults disk.old) (D.faults disk.new) result }
         ensures tick { D.is_honest disk.old → D.moment disk.new ≡ D.moment disk.old }
         ensures honest { D.is_honest disk.old ↔ D.is_honest disk.new }
+        ensures still { D.tells disk.old → D.tells disk.new × (D.seen disk.new ≡ D.seen disk.old) }
         ensures rests { D.is_honest disk.old → Rests D.seen D.images D.moment D.left_since disk.old disk.new }
         ensures refused { OnErr result (bytes_of self.new ≡ bytes_of self.old) }
         ensures most { OnOk result (place + length (bytes_of self.new) ≤ 2 ^ 63) }
-        ensures told { D.is_honest disk.old → OnOk result (bytes_of self.new
+        ensures told { D.tells disk.old → OnOk result (bytes_of self.new
             ≡ bytes_of self.old ++ take (PIECE - length (bytes_of self.old)) (drop (place + length (bytes_of self.old)) (D.seen disk.old))) }
     {
         self.move_to_front();

@@ -8,7 +8,7 @@ use crate::limits::{BODY_LEAST, BODY_MOST};
 pub(crate) enum AtGate {
     // The gate is closed.
     Closed,
-    // A whole record with a body of this length, and the gate behind it.
+    // A whole record with a body of this length, and the gate after it.
     Record { length: usize },
     // The length is out of range.
     OutOfRange,

@@ -14,9 +14,9 @@ pub fn journal_law()
     ensures meaning { (file : List ℕ) → All (λ b. b < 2 ^ 8) file → HasMeaning file }
 {}
 
-/// What a file begins with goes together: a journal, and a file with a fault behind its records,
+/// What a file begins with goes together: a journal, and a file with a fault after its records,
 /// begins with these and with no others, and a file that begins with records has a whole header.
-/// A file begins with a header or has a fault there; and behind the records with which it begins it
+/// A file begins with a header or has a fault there; and after the records with which it begins it
 /// ends as a journal, has a fault, or goes on with a record more.
 pub fn beginning_law()
     ensures stands { (v : ℕ) (secret : List ℕ) (bodies : List (List ℕ)) (file : List ℕ) → Stands v secret bodies file → Begins v secret bodies file }

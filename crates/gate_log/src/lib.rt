@@ -1,5 +1,9 @@
 //! A journal in one file: a header with a secret, and records that begin at a gate. A crash at any
 //! moment leaves the records that were kept so far, with or without the one that is being appended.
+//!
+//! Every file has one list of bodies or one first fault, whose place is told (`journal_law`). An
+//! append is two writes, each with a sync, and no other call. A call refuses only where one call of
+//! the disk failed, where the file is at fault, or where memory runs out.
 #![tactic(auto)]
 
 mod ahead;

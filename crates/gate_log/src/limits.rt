@@ -15,7 +15,7 @@ pub const LENGTH_SIZE: usize = 4;
 /// The size of what stands in front of a body: the gate of its record, and its length.
 pub const FRONT_SIZE: usize = GATE_SIZE + LENGTH_SIZE;
 
-/// The place of the version gate, behind the start line and the secret.
+/// The place of the version gate, after the start line and the secret.
 pub const VERSION_GATE: u64 = (LINE_SIZE + SECRET_SIZE) as u64;
 
 /// The place of the first record's gate.
@@ -30,10 +30,10 @@ pub const BODY_LEAST: u32 = 1;
 /// The greatest length of a body.
 pub const BODY_MOST: u32 = 4096;
 
-// The greatest length of a record with the gate behind it: a gate, a length, a body and a gate.
+// The greatest length of a record with the gate after it: a gate, a length, a body and a gate.
 pub(crate) const RECORD_MOST: usize = FRONT_SIZE + BODY_MOST as usize + GATE_SIZE;
 
-// The greatest length of what an append writes behind its gate.
+// The greatest length of what an append writes after its gate.
 pub(crate) const BEHIND_MOST: usize = RECORD_MOST - GATE_SIZE;
 
 // How much of the file is read at a time.

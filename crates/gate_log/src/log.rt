@@ -1,4 +1,4 @@
-// The log of a journal: reading its records in turn, and appending behind the last one.
+// The log of a journal: reading its records in turn, and appending after the last one.
 ghost use Rattle.std.specs.Prelude.{◌≡◌, ◌≢◌, ◌⊎◌, ◌<◌, ◌≤◌, ◌↔◌, ◌+◌, ◌-◌, ◌^◌, ◌++◌, [], ◌∷◌, List, ℕ, true, false, length, take, drop, IfOk, IfErr, OnOk, OnErr, MatchResult, IsTrue, IsFalse, Ok, Err};
 ghost use Rattle.split_base.specs.Faults.{HasCause, HasRisen, IsCounted};
 ghost use Rattle.split_base.specs.Disk.{Each, Only, Rests, LeavesOnly, IsWritten, Tears};
@@ -58,12 +58,13 @@ impl Log {
         ensures disk { result ≡ Err LogFault.Disk → HasRisen (D.faults disk.old) (D.faults disk.new) }
         ensures faults { D.faults disk.new ≡ faults_after (D.faults disk.old) result }
         ensures no_memory { result ≢ Err LogFault.NoMemory }
+        ensures still { D.tells disk.old → D.tells disk.new × (D.seen disk.new ≡ D.seen disk.old) }
         ensures honest { D.is_honest disk.old ↔ D.is_honest disk.new }
         ensures rests { D.is_honest disk.old → Rests D.seen D.images D.moment D.left_since disk.old disk.new }
         ensures tick { D.is_honest disk.old → IfOk result (λ _. D.moment disk.new ≡ D.moment disk.old + 1) }
         ensures one { D.is_honest disk.old → IfOk result (λ _. Only (D.seen disk.new) (D.images disk.new)) }
-        ensures reading { D.is_honest disk.old → IfOk result (λ begun. IsReading (D.seen disk.new) begun.0 begun.1 []) }
-        ensures not_a_log { D.is_honest disk.old → (place : ℕ) → result ≡ Err (LogFault.NotALog place) → IsHeaderFault place (D.seen disk.new) }
+        ensures reading { D.tells disk.old → IfOk result (λ begun. IsReading (D.seen disk.new) begun.0 begun.1 []) }
+        ensures not_a_log { D.tells disk.old → (place : ℕ) → result ≡ Err (LogFault.NotALog place) → IsHeaderFault place (D.seen disk.new) }
     {
         disk.sync()?;
         let size = disk.size()?;
@@ -102,12 +103,12 @@ impl Log {
         self.place
     }
 
-    /// Gives the body of the record at the log's place in `body` and moves behind it, or answers
+    /// Gives the body of the record at the log's place in `body` and moves past it, or answers
     /// false exactly where the gate there is closed; the log is at its end then.
     ///
     /// - `Disk` comes only where the disk's count of faults has risen.
     /// - `NotALog` comes exactly where the record there has a fault, with the place of the fault.
-    /// - `NoMemory` comes for want of memory for the body. `body` may hold anything then.
+    /// - `NoMemory` comes when there is no memory for the body. `body` may hold anything then.
     ///
     /// A refusal leaves the log at its gate, so after `NoMemory` the call can be made again. After
     /// `Disk` the disk's count has risen by one, and else not at all.
@@ -115,12 +116,13 @@ impl Log {
         ensures count { D.faults disk.old ≤ D.faults disk.new }
         ensures disk { result ≡ Err LogFault.Disk → HasRisen (D.faults disk.old) (D.faults disk.new) }
         ensures faults { D.faults disk.new ≡ faults_after (D.faults disk.old) result }
+        ensures still { D.tells disk.old → D.tells disk.new × (D.seen disk.new ≡ D.seen disk.old) }
         ensures honest { D.is_honest disk.old ↔ D.is_honest disk.new }
         ensures tick { D.is_honest disk.old → D.moment disk.new ≡ D.moment disk.old }
         ensures rests { D.is_honest disk.old → Rests D.seen D.images D.moment D.left_since disk.old disk.new }
         ensures version { self.new.version ≡ self.old.version }
         ensures refused { OnErr result (self.new ≡ with_ahead self.old self.new.ahead) }
-        ensures again { D.is_honest disk.old → (secret : List ℕ) (bodies : List (List ℕ)) → IsReading (D.seen disk.old) self.old secret bodies
+        ensures again { D.tells disk.old → (secret : List ℕ) (bodies : List (List ℕ)) → IsReading (D.seen disk.old) self.old secret bodies
             → OnErr result (IsReading (D.seen disk.new) self.new secret bodies) }
         ensures moves { IfOk result (λ more. IsTrue more → (self.new.place ≡ self.old.place + FRONT_SIZE + length body.new.items) × (self.new.place < 2 ^ 63)) }
         ensures goes_on { IfOk result (λ more. IsTrue more → self.new.at_end ≡ self.old.at_end) }
@@ -128,11 +130,11 @@ impl Log {
         ensures at_gate { IfOk result (λ more. IsFalse more → self.new.place ≡ self.old.place) }
         ensures stays { IsTrue self.old.at_end → (result ≡ Ok false) × (self.new ≡ self.old) }
         ensures body { IfOk result (λ more. IsTrue more → IsBody body.new.items) }
-        ensures record { D.is_honest disk.old → (secret : List ℕ) (bodies : List (List ℕ)) → IsReading (D.seen disk.old) self.old secret bodies
+        ensures record { D.tells disk.old → (secret : List ℕ) (bodies : List (List ℕ)) → IsReading (D.seen disk.old) self.old secret bodies
             → IfOk result (λ more. IsTrue more → IsReading (D.seen disk.new) self.new secret (bodies ++ body.new.items ∷ [])) }
-        ensures end { D.is_honest disk.old → (secret : List ℕ) (bodies : List (List ℕ)) → IsReading (D.seen disk.old) self.old secret bodies
+        ensures end { D.tells disk.old → (secret : List ℕ) (bodies : List (List ℕ)) → IsReading (D.seen disk.old) self.old secret bodies
             → IfOk result (λ more. IsFalse more → Stands self.new.version secret bodies (D.seen disk.new)) }
-        ensures not_a_log { D.is_honest disk.old → (secret : List ℕ) (bodies : List (List ℕ)) → IsReading (D.seen disk.old) self.old secret bodies
+        ensures not_a_log { D.tells disk.old → (secret : List ℕ) (bodies : List (List ℕ)) → IsReading (D.seen disk.old) self.old secret bodies
             → (place : ℕ) → result ≡ Err (LogFault.NotALog place) → IsFaultAfter self.old.version secret bodies place (D.seen disk.new) }
     {
         if self.at_end {
@@ -157,7 +159,7 @@ impl Log {
     }
 
     /// Appends a record with this body: four calls of the disk, which write the length, the body and
-    /// a closed gate behind the log's gate, sync, open the gate, and sync. At `Ok` it is acknowledged,
+    /// a closed gate after the log's gate, sync, open the gate, and sync. At `Ok` it is acknowledged,
     /// and the log is at its end again. It takes no memory.
     ///
     /// `Disk` comes only where the disk's count of faults has risen, by one: a call that fails is not
@@ -237,12 +239,13 @@ impl Log {
         ensures cause { HasCause (D.faults disk.old) (D.faults disk.new) result }
         ensures counted { IsCounted (D.faults disk.old) (D.faults disk.new) result }
         ensures tick { D.is_honest disk.old → D.moment disk.new ≡ D.moment disk.old }
+        ensures still { D.tells disk.old → D.tells disk.new × (D.seen disk.new ≡ D.seen disk.old) }
         ensures honest { D.is_honest disk.old ↔ D.is_honest disk.new }
         ensures rests { D.is_honest disk.old → Rests D.seen D.images D.moment D.left_since disk.old disk.new }
         ensures same { self.new ≡ with_ahead self.old self.new.ahead }
-        ensures told { D.is_honest disk.old → self.old.size ≡ length (D.seen disk.old) → IsAhead (D.seen disk.old) self.old.place self.old.ahead
+        ensures told { D.tells disk.old → self.old.size ≡ length (D.seen disk.old) → IsAhead (D.seen disk.old) self.old.place self.old.ahead
             → IsAhead (D.seen disk.old) self.old.place self.new.ahead }
-        ensures far { D.is_honest disk.old → self.old.size ≡ length (D.seen disk.old) → IsAhead (D.seen disk.old) self.old.place self.old.ahead
+        ensures far { D.tells disk.old → self.old.size ≡ length (D.seen disk.old) → IsAhead (D.seen disk.old) self.old.place self.old.ahead
             → OnOk result ((RECORD_MOST ≤ length self.new.ahead) ⊎ (length (D.seen disk.old) ≤ self.old.place + length self.new.ahead)) }
     {
         let have = self.ahead.bytes().len();
@@ -271,7 +274,7 @@ impl Log {
         self.at_end = true;
     }
 
-    // Moves behind a record.
+    // Moves past a record.
     fn pass(&mut self, count: usize)
         requires { FRONT_SIZE + count < length self.old.ahead }
         ensures { self.new ≡ past self.old count }
@@ -293,7 +296,7 @@ fn replace(body: &mut Vec<u8>, bytes: &[u8]) -> Result<(), NoMemory>
     }
 }
 
-// What is written behind a gate: the length, the body, and the closed gate of the next record.
+// What is written after a gate: the length, the body, and the closed gate of the next record.
 fn piece_of(body: &[u8]) -> ArrayVec<u8, BEHIND_MOST>
     requires { IsBody body.now }
     ensures { result.items ≡ behind_gate body.now }

@@ -12,37 +12,36 @@ use Rattle.nash_bounds.specs.Lanes.{has, may_have}
 use Rattle.nash_bounds.specs.OwnerLists.{below}
 use Rattle.nash_bounds.specs.Prefixes.{top_of}
 
--- the prefix leaves room for an allocation that dominates the owners': each player may still have as many points as there, and all players
--- together more
+-- the prefix leaves room for an allocation that dominates this one: each player may still get as many points as here, and all players together may get more
 pub record IsOpen (case : GoodsCase) (owners prefix : List ℕ) : Type 0 where
   pub each : (player : ℕ) → 1 ≤ player → player ≤ player_count case → has case owners player ≤ may_have case prefix player
   pub more : sum (utilities case owners) < top_of case prefix
 
--- the test for it
+-- whether the prefix leaves room for an allocation that dominates this one
 abbrev pub is_open : GoodsCase → List ℕ → List ℕ → Bool
 is_open case owners prefix =
     list_all (λ player. nat_le (has case owners player) (may_have case prefix player)) (range_with_len 1 (player_count case))
     && nat_lt (sum (utilities case owners)) (top_of case prefix)
 
--- the owners of the first few goods in search order, for each number of goods from one to all
+-- all lists of owners of the first few goods in the order of the search, from one good to all goods
 abbrev pub prefixes : GoodsCase → List (List ℕ)
 prefixes case = flat_map (λ owner. below (player_count case) (case.facts.goods - 1) (owner ∷ [])) (range_with_len 1 (player_count case))
 
--- how many prefixes leave room
+-- how many prefixes leave room for an allocation that dominates this one
 abbrev pub open_count : GoodsCase → List ℕ → ℕ
 open_count case owners = count_by (is_open case owners) (prefixes case)
 
--- of the allocations that dominate the owners', the least list of owners in search order
+-- of all allocations that dominate this one, the first in the order of the search
 pub record IsLeastDominating (case : GoodsCase) (owners others : List ℕ) : Type 0 where
   pub allocation : IsAllocation case others
   pub dominates : Dominates case others owners
   pub least : (list : List ℕ) → IsAllocation case list → Dominates case list owners → slice_cmp nat_cmp list others ≡ Less → ⊥
 
--- the owners by good number, as a list in fixed memory
+-- the owner of each good, in the order of the goods and in fixed memory
 abbrev pub OwnersByGood : Type 0
 OwnersByGood = ArrayVec ℕ ITEM_ROOM (Unit {0})
 
--- the least dominating allocation, by good number; or that there is none. The owners that it dominates are in search order
+-- the first allocation that dominates these owners, in the order of the goods; or none if no allocation does. These owners are in the order of the search
 abbrev pub IsBetterDivision : GoodsCase → List ℕ → Option OwnersByGood → Type 0
 IsBetterDivision case owners None = (others : List ℕ) → IsAllocation case others → Dominates case others owners → ⊥
 IsBetterDivision case owners (Some better) = (others : List ℕ) × IsLeastDominating case owners others × (better.items ≡ owners_by_good case others)

@@ -20,36 +20,36 @@ use Rattle.split_frac.specs.Texts.{line_of, spaced}
 abbrev pub audit_title : NamesData → List ℕ
 audit_title given = line_of (codes "audit goods " ∷ given.title ∷ [])
 
--- the line of the pair of the owners' allocation
+-- the line of the pair of the allocation: how many players get points, and the product of their points
 abbrev pub welfare_line : Pair → List ℕ
 welfare_line pair = line_of (codes "positive " ∷ decimal pair.count ∷ codes ", product " ∷ decimal pair.product ∷ [])
 
--- an answer on envy up to one good
+-- the words for an answer on envy up to one good
 abbrev pub ef1_text : Ef1 → List ℕ
 ef1_text Content = codes "content"
 ef1_text (Without good) = codes "without " ++ decimal good
 ef1_text Fails = codes "fails"
 
--- the answer of a table on a player and another
+-- the answer of a table on two players
 abbrev pub answer_at : List (List Ef1) → ℕ → ℕ → Ef1
 answer_at table player other = slice_index_or (slice_index_or table (player - 1) []) (other - 1) Content
 
--- the line of a player and another, in the numbers of members; there is none of a player and themselves
+-- the line on two players, by their member numbers; a player has no line with themselves
 abbrev pub envy_line : GoodsCase → List (List Ef1) → ℕ → ℕ → List ℕ
 envy_line case table player other =
     cond (other == player) [] (line_of (codes "envy " ∷ decimal (player_member case player) ∷ codes " " ∷ decimal (player_member case other)
     ∷ codes ": " ∷ ef1_text (answer_at table player other) ∷ []))
 
--- the lines of a player and each other
+-- the lines on a player and each other player
 abbrev pub envy_lines : GoodsCase → List (List Ef1) → ℕ → List ℕ
 envy_lines case table player = lines_to (player_count case) (envy_line case table player)
 
--- the last line: that no allocation is known to dominate the owners, or one that does, by good, in the numbers of members
+-- the last line: that no allocation is known to dominate this one, or the owners in one that does, by their member numbers
 abbrev pub better_line : GoodsCase → Option (List ℕ) → List ℕ
 better_line case None = line_of (codes "pareto yes" ∷ [])
 better_line case (Some better) = line_of (codes "dominated by" ∷ spaced (map decimal (map (player_member case) better)) ∷ [])
 
--- the audit: the title, the players with their goods, the pair, who envies whom past one good, and whether the owners are dominated
+-- the audit: the title, the players with their goods, the pair, who envies whom by more than one good, and whether the allocation is dominated
 abbrev pub audit_lines : NamesData → GoodsCase → List ℕ → Option (List ℕ) → Pair → List (List Ef1) → List ℕ
 audit_lines given case owners better pair table =
     audit_title given ++ lines_to (player_count case) (player_line given case owners) ++ welfare_line pair
@@ -59,17 +59,17 @@ audit_lines given case owners better pair table =
 abbrev pub answers : List (ArrayVec Ef1 MEMBER_ROOM (Unit {0})) → List (List Ef1)
 answers table = map (λ row. row.items) table
 
--- the text is the audit of the owners, by good number, beside an allocation that is told to dominate them, also by good number
+-- the text is the audit of these owners, beside an allocation that dominates them if one is given; both are in the order of the goods
 abbrev pub IsAuditText : NamesData → GoodsCase → List ℕ → Option (List ℕ) → List ℕ → Type 0
 IsAuditText given case owners better text =
     (table : List (ArrayVec Ef1 MEMBER_ROOM (Unit {0}))) × IsEf1Table case owners table
     × (text ≡ audit_lines given case owners better (pair_of case (in_search_order case owners)) (answers table))
 
--- the text is the audit of a division of goods, which nothing is told to dominate
+-- the text is the audit of a division of goods, beside no other allocation
 abbrev pub IsDivisionAudit : NamesData → GoodsCase → GoodsDivision → List ℕ → Type 0
 IsDivisionAudit given case division text = IsAuditText given case division.owners.items None text
 
--- the text says that no allocation dominates the owners, and of no two players that envy goes past one good
+-- the text says that no allocation dominates this one, and that nobody envies another by more than one good
 abbrev pub SaysFair : NamesData → GoodsCase → List ℕ → List ℕ → Type 0
 SaysFair given case owners text =
     (table : List (ArrayVec Ef1 MEMBER_ROOM (Unit {0}))) × HasNoFails table

@@ -10,7 +10,7 @@ use Rattle.goods_rules.specs.declared.parent.Parent.{Parent}
 use Rattle.goods_rules.specs.declared.path.Path.{Path}
 use Rattle.goods_rules.specs.declared.walk.Walk.{Walk}
 
--- a valid case with its table, and an allocation with its pair as the goal
+-- a valid case with its table, an allocation of it, and the pair of this allocation as the goal
 pub record IsGoodsAnswer (answer : Answer) : Type 0 where
   pub valid : IsValidGoodsCase answer.case
   pub table : IsLaneTable answer.case answer.table
@@ -18,19 +18,19 @@ pub record IsGoodsAnswer (answer : Answer) : Type 0 where
   pub goal : IsGoal answer.goal
   pub pair : answer.goal.pair ≡ pair_of answer.case answer.owners.items
 
--- what the players have and may have with these owners, without the next good, and who could reach the pair with it
+-- what each player has and may have with these owners without the next good, and which players could reach the pair with the next good
 pub record IsParent (case : GoodsCase) (pair : Pair) (owners : List ℕ) (parent : Parent) : Type 0 where
   pub fork : IsFork case owners parent.lanes
   pub contenders : AreContenders case owners pair parent.contenders
 
--- owners of the first few goods, and for each shorter prefix of them, the empty one first, what its children are judged by against the pair
+-- owners of the first few goods, and for each shorter prefix of them, beginning with the empty one, what its children are judged by
 pub record IsPath (case : GoodsCase) (pair : Pair) (path : Path) : Type 0 where
   pub short : length path.owners.items ≤ case.facts.goods
   pub owned : AreOwners case path.owners.items
   pub count : length path.parents.items ≡ length path.owners.items
   pub each : (k : ℕ) (other : Parent) → k < length path.owners.items → IsParent case pair (take k path.owners.items) (slice_index_or path.parents.items k other)
 
--- a path, which is that to the root where the whole tree was read
+-- a path to a node; if the whole tree was read, the node is the root
 pub record IsWalk (case : GoodsCase) (pair : Pair) (walk : Walk) : Type 0 where
   pub path : IsPath case pair walk.path
   pub ended : walk.whole ≡ true → walk.path.owners.items ≡ []

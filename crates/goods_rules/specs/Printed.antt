@@ -5,7 +5,8 @@ use Rattle.bid_rules.specs.declared.limits.TheConstants.{MOST_MEMBERS}
 use Rattle.bid_rules.specs.Goods.{in_search_order}
 use Rattle.cert_reader.specs.GoodsViews.{GoodsView}
 
--- the case with the numbers without a sign. A text counts no members, so they are as many as there may be
+-- the case that a certificate of goods prints, each number without its sign. A text does not say how many members there are, so there are as many as there may
+-- be
 abbrev pub printed_case : GoodsView → GoodsCase
 printed_case view = record {
   facts = record { members = MOST_MEMBERS; goods = view.goods; limit = unsigned_abs view.limit };
@@ -13,10 +14,10 @@ printed_case view = record {
   values = record { items = map (λ row. record { items = map unsigned_abs row }) view.values };
 }
 
--- the owners by good number, without a sign
+-- the owner of each good that a certificate of goods prints, in the order of the goods and without its sign
 abbrev pub printed_owners : GoodsView → List ℕ
 printed_owners view = map unsigned_abs view.owners
 
--- the answer: the owners in search order
+-- the allocation that a certificate of goods prints, in the order of the search
 abbrev pub printed_answer : GoodsView → List ℕ
 printed_answer view = in_search_order (printed_case view) (printed_owners view)

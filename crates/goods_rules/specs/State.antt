@@ -1,4 +1,4 @@
--- What a state stands for, after the lines before the tree and some marks of it.
+-- What the judge of goods knows after the lines before the tree and some of its marks.
 use Rattle.std.specs.Prelude.{◌≡◌, ◌⊎◌, ℕ, ◌++◌, ◌↔◌, List, IsTrue, zero, suc}
 use Rattle.cert_reader.specs.GoodsViews.{GoodsView}
 use Rattle.goods_rules.specs.declared.answer.Answer.{Answer}
@@ -15,7 +15,8 @@ abbrev pub IsState : GoodsState → Type 0
 IsState (Broken rule) = Unit {0}
 IsState (Walking answer walk) = IsGoodsAnswer answer × IsWalk answer.case answer.goal.pair walk
 
--- the printed case and answer, and each rule on the tree asks of the marks to come what it asks of all marks, of which these were taken
+-- the printed case and answer are these, and for each rule: it holds of a whole tree that begins with the marks taken exactly if it holds so far and the marks
+-- to come finish the tree under it
 pub record IsWalked (view : GoodsView) (taken : List ℕ) (answer : Answer) (walk : Walk) : Type 0 where
   pub case : HasCase view
   pub owners : HasOwners view
@@ -23,12 +24,12 @@ pub record IsWalked (view : GoodsView) (taken : List ℕ) (answer : Answer) (wal
   pub is_answer : answer.owners.items ≡ printed_answer view
   pub left : (number : ℕ) (marks : List ℕ) → IsRuledTree answer.case answer.owners.items number (taken ++ marks) ↔ IsLeft answer.case answer.owners.items walk number marks
 
--- the text has no case, or some good no owner; else the walk is that of the marks so far
+-- the text prints no case, or some good has no owner; or the walk is that of the marks taken
 abbrev pub StandsFor : GoodsView → List ℕ → GoodsState → Type 0
 StandsFor view taken (Broken rule) = ((rule ≡ 1) × (HasCase view → ⊥)) ⊎ ((rule ≡ 2) × HasCase view × (HasOwners view → ⊥))
 StandsFor view taken (Walking answer walk) = IsWalked view taken answer walk
 
--- what a walk that took all marks says of each rule
+-- what a walk that took all marks says of the rule with this number
 abbrev pub walk_rule : Walk → ℕ → Type 0
 walk_rule walk zero = Unit {0}
 walk_rule walk (suc zero) = Unit {0}

@@ -12,7 +12,7 @@ use rule_verdicts::{members_between, rows_of_amounts};
 /// A row of printed points, by good.
 pub type PrintedRow = ArrayVec<i128, ITEM_ROOM>;
 
-/// The printed case, where it is one.
+/// The printed case, if it is valid.
 pub(crate) fn case_of(
     goods: u8,
     limit: i128,
@@ -48,7 +48,7 @@ pub(crate) fn case_of(
     if case.is_valid() { Some(case) } else { None }
 }
 
-/// The owners by good, where each is one of so many players.
+/// The owner of each good, if each is one of this many players.
 pub(crate) fn owners_of(owners: &[i128], players: usize) -> Option<Owners>
     requires goods { length owners.now ≤ ITEM_ROOM }
     requires players { players ≤ MEMBER_ROOM }
@@ -58,5 +58,5 @@ pub(crate) fn owners_of(owners: &[i128], players: usize) -> Option<Owners>
     members_between(owners, 1, players as u8)
 }
 
-/// Players, one a good.
+/// A player for each good.
 pub(crate) type Owners = ArrayVec<u8, ITEM_ROOM>;

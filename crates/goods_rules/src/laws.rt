@@ -10,8 +10,8 @@ ghost use Rattle.rule_verdicts.specs.Verdicts.{IsVerdictOf};
 
 use nash_bounds::{bound_law, open_prefixes_law, owners_by_good_law};
 
-/// Where all rules hold, the printed case is one, and the printed owners in search order are best for it (Caragiannis and others 2016); by good
-/// number these are the printed ones. A text has one verdict.
+/// If all rules hold, the printed case is valid, and the printed owners are best for it (Caragiannis and others 2016), in the order of the search
+/// and in the order of the goods. A text has one verdict.
 pub fn goods_certificate_law()
     ensures valid { (view : GoodsView) → IsVerdictOf (rules_of_goods view) Yes → IsValidGoodsCase (printed_case view) }
     ensures best { (view : GoodsView) → IsVerdictOf (rules_of_goods view) Yes → GoodsBest (printed_case view) (printed_answer view) }

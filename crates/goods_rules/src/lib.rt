@@ -1,5 +1,8 @@
 //! The six rules of a certificate of goods, judged mark by mark in fixed memory. Where all hold, the printed owners have the greatest
 //! Nash welfare (Caragiannis and others 2016), the first of equals.
+//!
+//! That is `goods_certificate_law`. `parent_of` gives what the children of a node are judged by, of
+//! a tree that is read or written.
 #![tactic(auto)]
 
 mod answer;

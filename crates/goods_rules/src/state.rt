@@ -11,19 +11,19 @@ use crate::case::{PrintedRow, case_of, owners_of};
 use crate::walk::Walk;
 use rule_verdicts::Verdict;
 
-/// Where the judge of a certificate of goods stands, after the lines before the tree and some marks of it.
+/// How far the judge of a certificate of goods is, after the lines before the tree and some of its marks.
 #[derive(Drop)]
 pub enum GoodsState {
-    /// A rule is broken: the first where no case is printed, or the second where some good has no owner.
+    /// A rule is broken: the first, since no valid case is printed, or the second, since some good has no owner.
     Broken {
         /// The rule, from 1.
         rule: u8,
     },
-    /// Both hold.
+    /// Both of these rules hold.
     Walking {
         /// What the leaves are judged by.
         answer: Answer,
-        /// Where the walk through the tree stands.
+        /// How far the walk through the tree is.
         walk: Walk,
     },
 }
@@ -71,7 +71,7 @@ pub fn take_mark(state: &mut GoodsState, mark: u8)
     }
 }
 
-/// The verdict on the tree where no mark is to come.
+/// The verdict on the tree once no mark is to come.
 fn verdict_of(walk: &Walk) -> Verdict
     ensures { IsVerdict (walk_rule walk.now) 6 result }
 {
@@ -90,7 +90,7 @@ fn verdict_of(walk: &Walk) -> Verdict
     Verdict::Yes
 }
 
-/// The verdict, where all marks were taken.
+/// The verdict, once all marks were taken.
 pub fn end_goods(state: &GoodsState) -> Verdict
     ensures { (view : GoodsView) → StandsFor view view.marks state.now → IsVerdictOf (rules_of_goods view) result }
 {

@@ -16,15 +16,15 @@ use nash_bounds::players;
 pub struct Kept {
     /// The marks are those of a tree.
     pub tree: bool,
-    /// Each `-` above the length of all goods may stand.
+    /// Each `-` with goods still to give may stand.
     pub above: bool,
-    /// Each `-` at that length may stand.
+    /// Each `-` with all goods given may stand.
     pub leaves: bool,
     /// Each `=` is the answer's leaf.
     pub answer: bool,
 }
 
-/// Where a walk through the tree stands.
+/// How far a walk through the tree is.
 #[derive(Drop)]
 pub struct Walk {
     /// The path to the node that comes next.
@@ -93,7 +93,7 @@ impl Walk {
         }
     }
 
-    /// No tree goes on so.
+    /// No tree goes on like this.
     fn give_up(&mut self)
         ensures path { self.new.path ≡ self.old.path }
         ensures whole { self.new.whole ≡ self.old.whole }

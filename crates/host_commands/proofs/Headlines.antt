@@ -1,10 +1,12 @@
 -- The main theorem, from the laws of whole runs.
-use Rattle.std.proofs.Common.{◌≡◌, ◌⊎◌, ℕ, ◌≤◌, List, [], ◌∷◌, Result, Ok, refl, sym, subst, inl, inr, ⊎_elim, le_trans, Contains}
+use Rattle.std.proofs.Common.{◌≡◌, ◌⊎◌, ℕ, ◌≤◌, zero, suc, List, [], ◌∷◌, Option, None, Some, Result, Ok, arith, refl, sym, ap, ◌∙◌, subst, inl, inr, ⊎_elim, le_trans, take, append-nil, Contains}
 use Rattle.command_results.specs.declared.stop.Stop.{Stop}
+use Rattle.gate_log.specs.declared.fault.LogFault.TheVariants as fault
 use Rattle.host_journal.specs.Journal.{HasEvents}
 use Rattle.host_journal.specs.declared.serving.Serving.{Serving}
 use Rattle.host_journal.specs.States.{HasState, IsFile, Passes, State, lists_of}
 use Rattle.serving.specs.Exchanges.{Answered, Exchange, IsExchange}
+use Rattle.serving.specs.Ports.{GivesBack, HandsOut}
 use Rattle.serving.specs.Served.{LinkTells}
 use Rattle.sealed_core.specs.declared.commands.What.{What}
 use Rattle.sealed_core.specs.Host.{EventView}
@@ -12,17 +14,20 @@ use Rattle.serving.specs.Serving.{host_service}
 use Rattle.serving_laws.specs.Accepting.{Accepts}
 use Rattle.serving_laws.specs.Answering.{HasAnswer}
 use Rattle.serving_laws.specs.Crashes.{Acknowledges, IsFileOfOne, Since}
+use Rattle.serving_laws.specs.Heard.{Taken, TakesSteps, WaitsByStep}
 use Rattle.serving_laws.specs.Moving.{Moves}
+use Rattle.serving_laws.specs.Refusing.{RefusesQuietly}
+use Rattle.serving_laws.specs.Sealing.{IsSealedReply}
 use Rattle.split_base.specs.declared.clock.Clock.{Ghosts as ClockSide}
 use Rattle.split_base.specs.declared.disk.Disk.{Ghosts}
 use Rattle.split_base.specs.declared.port.Port.{Ghosts as PortSide}
 use Rattle.split_base.specs.Disk.{Each}
-use Rattle.split_base.specs.Faults.{HasRisen}
 use Rattle.host_commands.specs.Files.{Opens, state_of}
 use Rattle.host_commands.specs.Headline.{HasHeadline, HasNoRun, Headline}
+use Rattle.host_commands.specs.Links.{Every}
 use Rattle.host_commands.specs.Publishing.{AsksFor, Publishes}
-use Rattle.host_commands.specs.Serves.{HasNoLink, RunEnds, Runs, Serves, ServesOpened, served_line}
-use Rattle.host_commands.proofs.Links.{Exchanges, Joined, every_step, links_answered, one_machine}
+use Rattle.host_commands.specs.Serves.{HasNoLink, IsOpened, IsUnopened, RunEnds, Runs, Serves, ServesOpened, served_line}
+use Rattle.host_commands.proofs.Links.{Afterwards, Exchanges, Joined, every_step, links_answered, one_machine}
 use Rattle.host_commands.proofs.Published.{CaseLaws, publishes}
 use Rattle.host_commands.proofs.Sound.{IsSound, sound_response, sound_state}
 
@@ -34,11 +39,15 @@ pub record RunLaws {D : Type 0} (d : Ghosts D) : Type 0 where
   pub files : (serving : Serving) (disk : D) (s : State) → HasState d serving disk s → d.is_honest disk → Each (d.images disk) (IsFile s)
   pub exchanges : Exchanges (host_service d)
   pub joined : Joined (host_service d)
+  pub afterwards : Afterwards (host_service d)
   pub crash : (w : D × State) (run : List (Exchange (D × State))) (new : D × State) → Answered (host_service d) w run new → d.is_honest w.0 → Each (d.images w.0) (IsFile w.1) → Since d new.0 w run
   pub acknowledged : (w : D × State) (run : List (Exchange (D × State))) (new : D × State) → Answered (host_service d) w run new → d.is_honest w.0 → Each (d.images w.0) (IsFile w.1) → Acknowledges d new.0 w run
   pub accepted : (w : D × State) (run : List (Exchange (D × State))) (new : D × State) → Answered (host_service d) w run new → d.is_honest w.0 → Accepts run w.1 new.1
-  pub answered : (x : Exchange (D × State)) → IsExchange (host_service d) x → d.is_honest x.before.0 → (HasRisen (d.faults x.before.0) (d.faults x.after.0) → ⊥) → HasAnswer x
-  pub moved : (x : Exchange (D × State)) → IsExchange (host_service d) x → Moves x
+  pub answered : (x : Exchange (D × State)) → IsExchange (host_service d) x → HasAnswer d x
+  pub moved : (x : Exchange (D × State)) → IsExchange (host_service d) x → Moves d x
+  pub refused : (x : Exchange (D × State)) → IsExchange (host_service d) x → RefusesQuietly d x
+  pub sealed : (x : Exchange (D × State)) → IsExchange (host_service d) x → IsSealedReply d x
+  pub takes : (w : D × State) (run : List (Exchange (D × State))) (new : D × State) → Answered (host_service d) w run new → d.is_honest w.0 → WaitsByStep w.1 → (steps : List Taken) × TakesSteps run steps
 
 -- what a crash since an earlier moment might have left it might have left before the run, or it is a file of one of its states
 before_run : {D : Type 0} (d : Ghosts D) (w : D × State) (run : List (Exchange (D × State))) (new : D × State) → Answered (host_service d) w run new → d.is_honest w.0 → (t : ℕ) → t ≤ d.moment w.0
@@ -55,6 +64,16 @@ before_run {D} d w (x ∷ later) new (at, step, rest) honest t early file left =
     first_of s [] file is = is
     first_of s (y ∷ others) file is = inl is
 
+-- nothing was handed out or given back
+hands_none : {L : Type 0} (come come_now : Option (List L)) → come_now ≡ come → HandsOut come [] come_now
+hands_none None now same = tt
+hands_none (Some links) now same = (links, refl, same)
+
+gives_none : {L : Type 0} (places : ℕ) (back back_now : Option (List L)) → back_now ≡ back → GivesBack back (take places []) back_now
+gives_none places None now same = tt
+gives_none zero (Some links) now same = same ∙ ap Some (sym (append-nil links))
+gives_none (suc places) (Some links) now same = same ∙ ap Some (sym (append-nil links))
+
 module _ {D P L C : Type 0} (d : Ghosts D) (p : PortSide P L) (tells : LinkTells L) (c : ClockSide C) (laws : RunLaws d) (case_laws : CaseLaws) (disk after : D) (port port_after : P) (clock clock_after : C) where
   module _ (serving : Serving) (between : D) (opens : Opens d disk between (Ok serving)) (number : ℕ) (runs : Runs d p tells c (between, state_of opens.opened) after port port_after clock clock_after number) where
     -- the events with which the machine begins
@@ -65,11 +84,21 @@ module _ {D P L C : Type 0} (d : Ghosts D) (p : PortSide P L) (tells : LinkTells
         let one = laws.one_meaning v other opens.opened.secret s.secret opens.opened.kept events (d.seen disk) has holds in
         (one.1, subst (λ (l : List EventView). Contains (lists_of s.kept s.waiting) l) (sym one.2) among)
 
+    -- what holds of each request holds of all of the run
+    each : (P : Exchange (D × State) → Type 0) → ((x : Exchange (D × State)) → IsExchange (host_service d) x → P x) → (run : List (Exchange (D × State))) (new : D × State)
+        → Answered (host_service d) (between, state_of opens.opened) run new → Every P run
+    each P is run new machine =
+        every_step (host_service d) (λ (w : D × State). Unit {0}) P (λ x step good. tt) (λ x step good. is x step) (between, state_of opens.opened) run new machine tt
+
+    -- no event waits where the file was opened
+    none_waits : WaitsByStep (state_of opens.opened)
+    none_waits e some = absurd (cc)
+
     headline : Headline d p tells c disk (between, state_of opens.opened) after port port_after clock clock_after number
     headline =
         let served = runs.served in
-        let (run, written) = links_answered (host_service d) laws.exchanges laws.joined tells served.links served.answers (between, state_of opens.opened) served.new served.run in
-        let machine = one_machine (host_service d) laws.exchanges laws.joined tells served.links served.answers (between, state_of opens.opened) run served.new written in
+        let (run, written) = links_answered (host_service d) laws.exchanges laws.joined laws.afterwards tells served.links served.answers (between, state_of opens.opened) served.new served.run in
+        let machine = one_machine (host_service d) laws.exchanges laws.joined laws.afterwards tells served.links served.answers (between, state_of opens.opened) run served.new written in
         record {
           links = served.links;
           answers = served.answers;
@@ -81,14 +110,16 @@ module _ {D P L C : Type 0} (d : Ghosts D) (p : PortSide P L) (tells : LinkTells
           ended = served.new;
           machine = machine;
           written = written;
+          ready = refl;
           found = opens.opened.file;
           begins = begins;
           serving = runs.serving;
           stands = served.serving;
-          moved = every_step (host_service d) (λ (w : D × State). Unit {0}) Moves (λ x step good. tt) (λ x step good. laws.moved x step) (between, state_of opens.opened) run served.new machine tt;
-          replied = λ h. every_step (host_service d) (λ (w : D × State). d.is_honest w.0)
-              (λ (x : Exchange (D × State)). (HasRisen (d.faults x.before.0) (d.faults x.after.0) → ⊥) → HasAnswer x)
-              (λ x step honest. step.responds.1.honest.0 honest) (λ x step honest. laws.answered x step honest) (between, state_of opens.opened) run served.new machine (opens.honest.0 h);
+          moved = each (Moves d) laws.moved run served.new machine;
+          taken = λ h. laws.takes (between, state_of opens.opened) run served.new machine (opens.honest.0 h) none_waits;
+          refused = each (RefusesQuietly d) laws.refused run served.new machine;
+          sealed = each (IsSealedReply d) laws.sealed run served.new machine;
+          replied = each (HasAnswer d) laws.answered run served.new machine;
           accepted = λ h. laws.accepted (between, state_of opens.opened) run served.new machine (opens.honest.0 h);
           published = every_step (host_service d) (λ (w : D × State). IsSound w.1)
               (λ (x : Exchange (D × State)). (asked : What) → AsksFor x asked → x.due.said.status ≡ 200 → Publishes x asked)
@@ -104,22 +135,42 @@ module _ {D P L C : Type 0} (d : Ghosts D) (p : PortSide P L) (tells : LinkTells
               (laws.files serving between (state_of opens.opened) opens.opened.stands (opens.honest.0 h));
         }
 
-  pub told_headline : (count : ℕ) (text : List ℕ) → Serves d p tells c disk after port port_after clock clock_after count (Ok text)
-      → (number : ℕ) × (text ≡ served_line number) × HasHeadline d p tells c disk after port port_after clock clock_after number
-  told_headline count text (Serves.no_routes still quiet mute is) = absurd (cc)
-  told_headline count text (Serves.not_opened why opens quiet mute is) = absurd (cc)
-  told_headline count text (Serves.opened serving between opens (ServesOpened.deaf still mute none fault is)) = absurd (cc)
-  told_headline count text (Serves.opened serving between opens (ServesOpened.ran number runs (RunEnds.told is faults most few))) =
+  -- a port that failed to listen has handed out no link
+  deaf_runs : (serving : Serving) (between : D) (opens : Opens d disk between (Ok serving)) → after ≡ between → clock_after ≡ clock → HasNoLink p port port_after
+      → Runs d p tells c (between, state_of opens.opened) after port port_after clock clock_after 0
+  deaf_runs serving between opens still mute none = record {
+    serving = serving;
+    served = record {
+      links = [];
+      answers = [];
+      new = (between, state_of opens.opened);
+      number = refl;
+      handed = hands_none (p.to_come port) (p.to_come port_after) none.come;
+      given = gives_none (p.places port) (p.given_back port) (p.given_back port_after) none.back;
+      clock = mute;
+      serving = (sym still, subst (λ (x : D). HasState d serving x (state_of opens.opened)) (sym still) opens.opened.stands);
+      run = (refl, refl);
+    };
+  }
+
+  pub told_headline : (port_number count : ℕ) (text : List ℕ) → Serves d p tells c disk after port port_after clock clock_after port_number count (Ok text)
+      → (number : ℕ) × (number ≤ count) × (text ≡ served_line number) × HasHeadline d p tells c disk after port port_after clock clock_after number
+  told_headline port_number count text (Serves.no_routes still quiet mute is) = absurd (cc)
+  told_headline port_number count text (Serves.not_opened why opens quiet mute is) = absurd (cc)
+  told_headline port_number count text (Serves.opened serving between opens asked (ServesOpened.deaf still mute none failed is)) = absurd (cc)
+  told_headline port_number count text (Serves.opened serving between opens asked (ServesOpened.ran number runs (RunEnds.told is faults most few))) =
       let one : text ≡ served_line number = cc in
-      (number, one, ((between, state_of opens.opened), headline serving between opens number runs))
-  told_headline count text (Serves.opened serving between opens (ServesOpened.ran number runs (RunEnds.cut is fault))) = absurd (cc)
+      (number, most, one, ((between, state_of opens.opened), headline serving between opens number runs))
+  told_headline port_number count text (Serves.opened serving between opens asked (ServesOpened.ran number runs (RunEnds.cut is failed most))) = absurd (cc)
 
-  no_link : port_after ≡ port → HasNoLink p port port_after
-  no_link quiet = subst (λ (q : P). HasNoLink p port q) (sym quiet) (record { come = refl; back = refl; places = refl; ended = (λ e. e, λ e. e) })
-
-  pub any_headline : (count : ℕ) (ending : Result (List ℕ) Stop) → Serves d p tells c disk after port port_after clock clock_after count ending
-      → HasNoRun p port port_after clock clock_after ⊎ ((number : ℕ) × HasHeadline d p tells c disk after port port_after clock clock_after number)
-  any_headline count ending (Serves.no_routes still quiet mute is) = inl (no_link quiet, mute)
-  any_headline count ending (Serves.not_opened why opens quiet mute is) = inl (no_link quiet, mute)
-  any_headline count ending (Serves.opened serving between opens (ServesOpened.deaf still mute none fault is)) = inl (none, mute)
-  any_headline count ending (Serves.opened serving between opens (ServesOpened.ran number runs ends)) = inr (number, ((between, state_of opens.opened), headline serving between opens number runs))
+  pub any_headline : (port_number count : ℕ) (ending : Result (List ℕ) Stop) → Serves d p tells c disk after port port_after clock clock_after port_number count ending
+      → (IsUnopened ending × HasNoRun port port_after clock clock_after)
+      ⊎ ((number : ℕ) × (number ≤ count) × IsOpened number ending × HasHeadline d p tells c disk after port port_after clock clock_after number)
+  any_headline port_number count ending (Serves.no_routes still quiet mute is) = inl ((fault.NoMemory, is), (quiet, mute))
+  any_headline port_number count ending (Serves.not_opened why opens quiet mute is) = inl ((why, is), (quiet, mute))
+  any_headline port_number count ending (Serves.opened serving between opens asked (ServesOpened.deaf still mute none failed is)) =
+      inr (0, omega arith, inr is, ((between, state_of opens.opened), headline serving between opens 0 (deaf_runs serving between opens still mute none)))
+  any_headline port_number count ending (Serves.opened serving between opens asked (ServesOpened.ran number runs (RunEnds.told is faults most few))) =
+      inr (number, most, inl is, ((between, state_of opens.opened), headline serving between opens number runs))
+  any_headline port_number count ending (Serves.opened serving between opens asked (ServesOpened.ran number runs (RunEnds.cut is failed most))) =
+      inr (number, most, inr is, ((between, state_of opens.opened), headline serving between opens number runs))

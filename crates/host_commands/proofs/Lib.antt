@@ -3,3 +3,5 @@ mod Links
 mod Sound
 mod Published
 mod Headlines
+mod OneAnswer
+mod SameRuns

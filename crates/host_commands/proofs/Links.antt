@@ -6,12 +6,18 @@ use Rattle.serving.specs.Exchanges.{Answered, EndsLink, Exchange, IsExchange, Li
 use Rattle.serving.specs.Ports.{PortRun}
 use Rattle.serving.specs.Runs.{LinkRun, Service}
 use Rattle.serving.specs.Served.{LinkTells}
+use Rattle.serving_laws.specs.Last.{EndsAfter}
 use Rattle.host_commands.specs.Links.{Every, LinksAnswered, last_request, requests_of}
 
 -- the run of a link is a list of its requests, and requests behind others are one list with them
 abbrev pub Exchanges : {W : Type 0} → Service W → Type 0
 Exchanges {W} service = (n : ℕ) (all : List ℕ) (answers : List (Option ℕ)) (w : W) (out : List ℕ) (new : W) (end : Ending) → LinkRun service n all answers w out new end
     → LinkExchanges service all answers w out new end
+
+-- it ended by what came last after these requests
+abbrev pub Afterwards : {W : Type 0} → Service W → Type 0
+Afterwards {W} service = (all : List ℕ) (answers : List (Option ℕ)) (w : W) (out : List ℕ) (new : W) (end : Ending) (link : LinkExchanges service all answers w out new end)
+    → EndsAfter link.exchanges service all answers w out new end
 
 abbrev pub Joined : {W : Type 0} → Service W → Type 0
 Joined {W} service = (w : W) (first : List (Exchange W)) (between : W) (second : List (Exchange W)) (new : W) → Answered service w first between → Answered service between second new
@@ -31,8 +37,8 @@ module _ {W : Type 0} (service : Service W) where
   last_answered w rest answers out new end (EndsLink.refused left answer refusal bodiless bytes why clock still are how) = still
   last_answered w rest answers out new end (EndsLink.quiet stops still) = still
 
-  module _ (exchanges : Exchanges service) (joined : Joined service) where
-    link_answered : (all : List ℕ) (answers : List (Option ℕ)) (w : W) (out : List ℕ) (new : W) (end : Ending) (link : LinkExchanges service all answers w out new end) → Answered service w (requests_of link) new
+  module _ (exchanges : Exchanges service) (joined : Joined service) (afterwards : Afterwards service) where
+    pub link_answered : (all : List ℕ) (answers : List (Option ℕ)) (w : W) (out : List ℕ) (new : W) (end : Ending) (link : LinkExchanges service all answers w out new end) → Answered service w (requests_of link) new
     link_answered all answers w out new end link =
         joined w link.exchanges link.mid (last_request link.ends) new link.answered (last_answered link.mid link.rest link.late link.behind new end link.ends)
 
@@ -61,6 +67,7 @@ module _ {W : Type 0} (service : Service W) where
                 counts = served.counts;
                 run = served.run;
                 link = link;
+                ends = afterwards served.input now w served.out mid served.ending link;
                 all = refl;
               },
               others,

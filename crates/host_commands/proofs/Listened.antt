@@ -39,9 +39,9 @@ module _ {D P L C : Type 0} (d : Ghosts D) (p : PortSide P L) (tells : LinkTells
 
     -- no link more could be handed out
     pub was_cut : (e : E) → result ≡ Err e → HasCause (p.faults mid) (p.faults port_after) result → IsCounted (p.faults mid) (p.faults port_after) result
-        → (number : ℕ) × (result ≡ Ok number ⊎ IsErr result) × Ran number → ServesOpened d p tells c w after port port_after clock clock_after count (Err stop.PortFault)
-    was_cut e is cause counts (number, how, ran) =
-        ServesOpened.ran number (runs number ran) (RunEnds.cut refl (subst (λ n. FailedOnce n (p.faults port_after)) heard (failed_by (p.faults mid) (p.faults port_after) result e is cause counts)))
+        → (number : ℕ) × (number ≤ count) × (result ≡ Ok number ⊎ IsErr result) × Ran number → ServesOpened d p tells c w after port port_after clock clock_after count (Err stop.PortFault)
+    was_cut e is cause counts (number, most, how, ran) =
+        ServesOpened.ran number (runs number ran) (RunEnds.cut refl (subst (λ n. FailedOnce n (p.faults port_after)) heard (failed_by (p.faults mid) (p.faults port_after) result e is cause counts)) most)
 
     one_number : (served number : ℕ) → result ≡ Ok served → result ≡ Ok number ⊎ IsErr result → number ≡ served
     one_number served number is (inl same) = cc
@@ -49,7 +49,7 @@ module _ {D P L C : Type 0} (d : Ghosts D) (p : PortSide P L) (tells : LinkTells
 
     -- links were served, as many as are told
     pub was_served : (served : ℕ) (text : List ℕ) → result ≡ Ok served → text ≡ served_line served → IsCounted (p.faults mid) (p.faults port_after) result → served ≤ count → (served < count → p.has_ended port_after)
-        → (number : ℕ) × (result ≡ Ok number ⊎ IsErr result) × Ran number → ServesOpened d p tells c w after port port_after clock clock_after count (Ok text)
-    was_served served text is told counts most few (number, how, ran) =
+        → (number : ℕ) × (number ≤ count) × (result ≡ Ok number ⊎ IsErr result) × Ran number → ServesOpened d p tells c w after port port_after clock clock_after count (Ok text)
+    was_served served text is told counts most few (number, within, how, ran) =
         ServesOpened.ran served (runs served (subst Ran (one_number served number is how) ran))
         (RunEnds.told (ap Ok told) (subst (λ r. IsCounted (p.faults mid) (p.faults port_after) r) is counts ∙ heard) most few)

@@ -119,7 +119,7 @@ module _ (refusals : AreRefusals) (one_more : (secret : List ℕ) (events : List
 settles_other : {D : Type 0} (d : Ghosts D) (disk after : D) (s new : State) (said : SaidView) → said.status ≡ 200 → Settles d disk after s new (Some said) → ⊥
 settles_other d disk after s new said success (Settles.ready none still same is) = absurd (cc)
 settles_other d disk after s new said success (Settles.store_fault e waits faults torn same is) = let one : said ≡ refused_said service.StoreFault = cc in said_other said service.StoreFault refl one success
-settles_other d disk after s new said success (Settles.damaged e place waits faults never same is) =
+settles_other d disk after s new said success (Settles.damaged e place waits faults first never same is) =
     let one : said ≡ refused_said (service.StoreDamaged place) = cc in said_other said (service.StoreDamaged place) refl one success
 settles_other d disk after s new said success (Settles.opened e secret kept waits faults settled can same is) = absurd (cc)
 settles_other d disk after s new said success (Settles.memory e waits faults rests same is) =

@@ -1,5 +1,5 @@
 -- The main theorem: what holds of a whole run of the host, whatever its port, its links and its clock gave.
-use Rattle.std.specs.Prelude.{◌≡◌, ◌⊎◌, ℕ, List, Option, length, map, take, Contains}
+use Rattle.std.specs.Prelude.{◌≡◌, ◌⊎◌, ℕ, List, Option, None, length, map, take, Contains}
 use Rattle.host_journal.specs.Calls.{IsFound}
 use Rattle.host_journal.specs.declared.serving.Serving.{Serving}
 use Rattle.host_journal.specs.States.{IsFile, State, lists_of}
@@ -11,16 +11,17 @@ use Rattle.serving.specs.Serving.{StandsAt, host_service}
 use Rattle.serving_laws.specs.Accepting.{Accepts}
 use Rattle.serving_laws.specs.Answering.{HasAnswer}
 use Rattle.serving_laws.specs.Crashes.{Acknowledges, IsFileOfOne, Since}
+use Rattle.serving_laws.specs.Heard.{Taken, TakesSteps}
 use Rattle.serving_laws.specs.Moving.{Moves}
+use Rattle.serving_laws.specs.Refusing.{RefusesQuietly}
+use Rattle.serving_laws.specs.Sealing.{IsSealedReply}
 use Rattle.split_base.specs.Clocks.{ClockRun}
 use Rattle.split_base.specs.declared.clock.Clock.{Ghosts as ClockSide}
 use Rattle.split_base.specs.declared.disk.Disk.{Ghosts}
 use Rattle.split_base.specs.declared.port.Port.{Ghosts as PortSide}
 use Rattle.split_base.specs.Disk.{Each}
-use Rattle.split_base.specs.Faults.{HasRisen}
 use Rattle.host_commands.specs.Links.{Every, LinksAnswered}
 use Rattle.host_commands.specs.Publishing.{AsksFor, Publishes}
-use Rattle.host_commands.specs.Serves.{HasNoLink}
 
 -- For every list of connections, bytes and clock moments, the host writes the bytes of one machine of accepted commands: each published division
 -- is best for its rule among all divisions of the bids kept, least among equals and the same for every number of workers, its printed certificate
@@ -44,18 +45,26 @@ pub record Headline {D P L C : Type 0} (d : Ghosts D) (p : PortSide P L) (tells 
   pub ended : D × State
   pub machine : Answered (host_service d) begun run ended
   pub written : LinksAnswered (host_service d) tells links answers begun run ended
-  -- the machine begins with the events of the file and no other: where the file was one of a state, with those that this state keeps, or with the one
-  -- more for which it waits; and the host that serves is that of its last state
+  -- the machine begins with the events of the file and no other, and none waits: where the file was one of a state, with those that this state keeps, or
+  -- with the one more for which it waits; and the host that serves is that of its last state
+  pub ready : begun.1.waiting ≡ None
   pub found : d.is_honest disk → IsFound d disk begun.0 begun.1.secret begun.1.kept
   pub begins : d.is_honest disk → (s : State) → Each (d.images disk) (IsFile s) → (begun.1.secret ≡ s.secret) × Contains (lists_of s.kept s.waiting) begun.1.kept
   pub serving : Serving
   pub stands : StandsAt d serving after ended
-  -- each request changes the state by the machine's one step, or by opening the file of a host that waits; and where no call of the disk failed in
-  -- it, it has the reply of that step
-  pub moved : Every Moves run
-  pub replied : d.is_honest disk → Every (λ x. (HasRisen (d.faults x.before.0) (d.faults x.after.0) → ⊥) → HasAnswer x) run
+  -- each request changes the state by at most one event, which one step of the machine makes, kept after those of the state at which it is answered:
+  -- the state before it, or that as which the file of a host that waits is opened. In all the machine takes these steps in order, and no others. Each
+  -- request has the reply of its step, or a refusal of its path or method, or it is told that memory ran out, that a call of the disk failed in it, or
+  -- that its file is no journal, which is never so on an honest disk
+  pub moved : Every (Moves d) run
+  pub taken : d.is_honest disk → (steps : List Taken) × TakesSteps run steps
+  pub replied : Every (HasAnswer d) run
+  -- a request that is refused changes nothing, but by the Close of an instance whose deadline has passed
+  pub refused : Every (RefusesQuietly d) run
   -- of accepted commands: each event that is kept was made by a command of this run, in one step
   pub accepted : d.is_honest disk → Accepts run begun.1 ended.1
+  -- bids are sealed: of an instance that isn't closed a reply tells no more than what its caller may know
+  pub sealed : Every (IsSealedReply d) run
   -- each published division is best for its rule among all divisions of the bids kept, least among equals and the same for every number of workers,
   -- and its printed certificate passes the checker: so of each request for what is published that has a reply with status 200, whatever the disk
   pub published : Every (λ x. (asked : What) → AsksFor x asked → x.due.said.status ≡ 200 → Publishes x asked) run
@@ -70,6 +79,6 @@ pub record Headline {D P L C : Type 0} (d : Ghosts D) (p : PortSide P L) (tells 
 abbrev pub HasHeadline : {D P L C : Type 0} → Ghosts D → PortSide P L → LinkTells L → ClockSide C → (disk after : D) (port port_after : P) (clock clock_after : C) (number : ℕ) → Type 0
 HasHeadline {D} d p tells c disk after port port_after clock clock_after number = (begun : D × State) × Headline d p tells c disk begun after port port_after clock clock_after number
 
--- no link was handed out, and the clock was not asked
-abbrev pub HasNoRun : {P L C : Type 0} → PortSide P L → (port port_after : P) (clock clock_after : C) → Type 0
-HasNoRun p port port_after clock clock_after = HasNoLink p port port_after × (clock_after ≡ clock)
+-- neither the port nor the clock was called
+abbrev pub HasNoRun : {P C : Type 0} → (port port_after : P) (clock clock_after : C) → Type 0
+HasNoRun port port_after clock clock_after = (port_after ≡ port) × (clock_after ≡ clock)

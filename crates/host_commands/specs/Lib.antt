@@ -3,3 +3,4 @@ pub mod Serves
 pub mod Links
 pub mod Publishing
 pub mod Headline
+pub mod SameRuns

@@ -5,15 +5,15 @@ use Rattle.serving.specs.declared.limits.TheConstants.{MAX_REQUESTS}
 use Rattle.serving.specs.Ends.{Ending}
 use Rattle.serving.specs.Exchanges.{EndsLink, Exchange, LinkExchanges}
 use Rattle.serving.specs.Runs.{LinkRun, Service}
-use Rattle.serving.specs.Served.{CountsEnd, LinkTells, link_view}
-use Rattle.split_http.specs.Turns.{IsToldAs}
+use Rattle.serving.specs.Served.{CountsEnd, HaveCome, LinkTells, link_view}
+use Rattle.serving_laws.specs.Last.{EndsAfter}
 
--- P holds of each
+-- this holds of each of them
 abbrev pub Every : {A : Type 0} → (A → Type 0) → List A → Type 0
 Every P [] = Unit {0}
 Every P (x ∷ xs) = P x × Every P xs
 
--- the last request of a link, where it was answered: behind its reply, or a first part of it, the link ended
+-- the last request of a link, where it was answered: after its reply, or a first part of it, the link ended
 abbrev pub last_request : {W : Type 0} {service : Service W} {w : W} {rest : List ℕ} {answers : List (Option ℕ)} {out : List ℕ} {new : W} {end : Ending}
     → EndsLink service w rest answers out new end → List (Exchange W)
 last_request (EndsLink.replied left e input clock at is still got how) = e ∷ []
@@ -26,17 +26,18 @@ abbrev pub requests_of : {W : Type 0} {service : Service W} {all : List ℕ} {an
 requests_of link = link.exchanges ++ last_request link.ends
 
 -- One link, as it was handed out and as it was given back. Of the bytes that came of it the requests were read, at most `MAX_REQUESTS`, and it
--- got the bytes of their replies, each whole but the last, which may be torn by a failed write; and then the link ended. On each side its count
--- tells the failed call that ended it, and no other.
+-- got the bytes of their replies, each whole but the last, which may be torn by a failed write; and then something came last, and the link ended by
+-- it. On each side its count tells the failed call that ended it, and no other.
 pub record LinkAnswered {L W : Type 0} (service : Service W) (tells : LinkTells L) (begun ended : L) (answers : List (Option ℕ)) (w : W) (requests : List (Exchange W)) (new : W) : Type 0 where
   pub input : List ℕ
   pub out : List ℕ
   pub ending : Ending
-  pub told : IsToldAs (tells.left begun) input
+  pub told : HaveCome ending (tells.left begun) (tells.left ended) input
   pub wrote : Appends (tells.written begun) (tells.written ended) out
   pub counts : CountsEnd (link_view tells begun) (link_view tells ended) ending
   pub run : LinkRun service MAX_REQUESTS input answers w out new ending
   pub link : LinkExchanges service input answers w out new ending
+  pub ends : EndsAfter link.exchanges service input answers w out new ending
   pub all : requests ≡ requests_of link
 
 -- The links in order, each from the world that the one before it left. The requests of all of them are these, in order.

@@ -1,5 +1,5 @@
 -- What the serving of a port does with file, port and clock.
-use Rattle.std.specs.Prelude.{◌≡◌, ◌↔◌, ℕ, ◌<◌, ◌≤◌, List, [], ◌∷◌, Result, Ok, Err, codes}
+use Rattle.std.specs.Prelude.{◌≡◌, ◌⊎◌, ◌↔◌, ℕ, ◌<◌, ◌≤◌, List, [], ◌∷◌, Result, Ok, Err, codes}
 use Rattle.std.specs.Fmt.{decimal}
 use Rattle.command_results.specs.declared.stop.Stop.{Stop}
 use Rattle.command_results.specs.declared.stop.Stop.TheVariants as stop
@@ -9,6 +9,7 @@ use Rattle.host_journal.specs.States.{State}
 use Rattle.serving.specs.Ports.{PortServed}
 use Rattle.serving.specs.Served.{LinkTells}
 use Rattle.serving.specs.Serving.{StandsAt, host_service}
+use Rattle.split_base.specs.Asked.{asked_again}
 use Rattle.split_base.specs.Clocks.{ClockRun}
 use Rattle.split_base.specs.declared.clock.Clock.{Ghosts as ClockSide}
 use Rattle.split_base.specs.declared.disk.Disk.{Ghosts}
@@ -35,10 +36,10 @@ pub record Runs {D P L C : Type 0} (d : Ghosts D) (p : PortSide P L) (tells : Li
       (ClockRun c.gives c.faults clock clock_after) (StandsAt d serving after) w number
 
 -- How the run ends: so many links as asked were served, or fewer only where no link comes any more, and their number is told; or the port
--- failed to hand out one more.
+-- failed to hand out one more of as many as were asked.
 pub data RunEnds {P L : Type 0} (p : PortSide P L) (port port_after : P) (count number : ℕ) (ending : Result (List ℕ) Stop) : Type 0 where
   told : ending ≡ Ok (served_line number) → p.faults port_after ≡ p.faults port → number ≤ count → (number < count → p.has_ended port_after) → RunEnds p port port_after count number ending
-  cut : ending ≡ Err stop.PortFault → FailedOnce (p.faults port) (p.faults port_after) → RunEnds p port port_after count number ending
+  cut : ending ≡ Err stop.PortFault → FailedOnce (p.faults port) (p.faults port_after) → number ≤ count → RunEnds p port port_after count number ending
 
 -- From a file that was opened, and stands for this state: the port fails to listen, and neither disk nor clock is called; or it listens, and its
 -- links are served.
@@ -49,13 +50,21 @@ pub data ServesOpened {D P L C : Type 0} (d : Ghosts D) (p : PortSide P L) (tell
   ran : (number : ℕ) → Runs d p tells c w after port port_after clock clock_after number → RunEnds p port port_after count number ending
       → ServesOpened d p tells c w after port port_after clock clock_after count ending
 
--- In this order: the routes, for which there may be no memory; the file, which may not be opened; and then the port. Nothing is called that comes
--- later.
-pub data Serves {D P L C : Type 0} (d : Ghosts D) (p : PortSide P L) (tells : LinkTells L) (c : ClockSide C) (disk after : D) (port port_after : P) (clock clock_after : C) (count : ℕ)
+-- In this order: the routes, for which there may be no memory; the file, which may not be opened; and then the port, which is asked once to
+-- listen, at this number, and at no other. Nothing is called that comes later.
+pub data Serves {D P L C : Type 0} (d : Ghosts D) (p : PortSide P L) (tells : LinkTells L) (c : ClockSide C) (disk after : D) (port port_after : P) (clock clock_after : C) (port_number count : ℕ)
     (ending : Result (List ℕ) Stop) : Type 0 where
-  no_routes : after ≡ disk → port_after ≡ port → clock_after ≡ clock → ending ≡ Err stop.NoMemory → Serves d p tells c disk after port port_after clock clock_after count ending
+  no_routes : after ≡ disk → port_after ≡ port → clock_after ≡ clock → ending ≡ Err stop.NoMemory → Serves d p tells c disk after port port_after clock clock_after port_number count ending
   not_opened : (why : LogFault) → Opens d disk after (Err why) → port_after ≡ port → clock_after ≡ clock → ending ≡ Err (stop_of why)
-      → Serves d p tells c disk after port port_after clock clock_after count ending
-  opened : (serving : Serving) (between : D) (opens : Opens d disk between (Ok serving))
+      → Serves d p tells c disk after port port_after clock clock_after port_number count ending
+  opened : (serving : Serving) (between : D) (opens : Opens d disk between (Ok serving)) → p.asked port_after ≡ asked_again port_number (p.asked port)
       → ServesOpened d p tells c (between, state_of opens.opened) after port port_after clock clock_after count ending
-      → Serves d p tells c disk after port port_after clock clock_after count ending
+      → Serves d p tells c disk after port port_after clock clock_after port_number count ending
+
+-- the file was not opened: its disk failed, it is no journal, or there was no memory
+abbrev pub IsUnopened : Result (List ℕ) Stop → Type 0
+IsUnopened ending = (why : LogFault) × (ending ≡ Err (stop_of why))
+
+-- the file was opened: the number of links that were served is told, or the port failed
+abbrev pub IsOpened : ℕ → Result (List ℕ) Stop → Type 0
+IsOpened number ending = (ending ≡ Ok (served_line number)) ⊎ (ending ≡ Err stop.PortFault)

@@ -13,7 +13,7 @@ use std::alloc::Global;
 ///
 /// - `BadJournal` comes exactly where the file is no journal, with the place of its first fault.
 /// - `StoreFault` comes only where the disk's count of faults has risen, by one.
-/// - `NoMemory` comes for want of memory alone.
+/// - `NoMemory` comes only where memory runs out.
 ///
 /// No other stop comes. No byte but that of the version is written, and none before `BadJournal`.
 pub fn dump<D: Disk>(alloc: Global, disk: &mut D) -> Result<Text, Stop>

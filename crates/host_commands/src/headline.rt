@@ -1,9 +1,9 @@
 // The main theorem, as the contract of a function that does nothing.
-ghost use Rattle.std.specs.Prelude.{◌≡◌, ◌⊎◌, ℕ, List, Ok, Result};
+ghost use Rattle.std.specs.Prelude.{◌≡◌, ◌⊎◌, ◌≤◌, ℕ, List, Ok, Result};
 ghost use Rattle.command_results.specs.declared.stop.Stop.{Stop};
 ghost use Rattle.serving.specs.Served.{tells_of};
 ghost use Rattle.host_commands.specs.Headline.{HasHeadline, HasNoRun};
-ghost use Rattle.host_commands.specs.Serves.{Serves, served_line};
+ghost use Rattle.host_commands.specs.Serves.{IsOpened, IsUnopened, Serves, served_line};
 
 use bid_rules::case_law;
 use cert_checker::certificate_verdict_law;
@@ -13,23 +13,27 @@ use host_results::{instance_law, one_publication_law};
 use reply_texts::refusal_status_law;
 use sealed_core::{machine_law, publication_law};
 use serving::link_law;
-use serving_laws::{accepted_law, acknowledged_law, answered_law, crash_law, moved_law};
+use serving_laws::{
+    accepted_law, acknowledged_law, answered_law, crash_law, ends_law, moved_law, refused_law,
+    sealed_law, sealed_runs_law,
+};
 use split_base::{Clock, Disk, Port};
 
 /// The headline: for every list of connections, bytes and clock moments, the host writes the bytes of one machine of accepted commands: each
 /// published division is best for its rule among all divisions of the bids kept, least among equals and the same for every number of workers, its
 /// printed certificate passes the checker, and a crash at any moment leaves a prefix of the commands holding each acknowledged one.
 ///
-/// It holds of whatever `serve_port` says of a file, a port and a clock: where it tells how many links were served, of these, and else of those that
-/// were served until the port failed, unless no link was handed out.
+/// It holds of whatever `serve_port` says of a file, a port and a clock, once the file was opened: where it tells how many links were served, of
+/// these, and else of those that were served until the port failed, which are none where it failed to listen. Where the file was not opened, neither
+/// the port nor the clock was called.
 pub fn headline_law<D: Disk, P: Port, C: Clock>()
-    ensures told { (disk after : D) (port port_after : P) (clock clock_after : C) (count : ℕ) (text : List ℕ)
-        → Serves D.Disk P.Port (tells_of P.Link.Source P.Link.Sink) C.Clock disk after port port_after clock clock_after count (Ok text)
-        → (number : ℕ) × (text ≡ served_line number) × HasHeadline D.Disk P.Port (tells_of P.Link.Source P.Link.Sink) C.Clock disk after port port_after clock clock_after number }
-    ensures any { (disk after : D) (port port_after : P) (clock clock_after : C) (count : ℕ) (ending : Result (List ℕ) Stop)
-        → Serves D.Disk P.Port (tells_of P.Link.Source P.Link.Sink) C.Clock disk after port port_after clock clock_after count ending
-        → HasNoRun P.Port port port_after clock clock_after
-        ⊎ ((number : ℕ) × HasHeadline D.Disk P.Port (tells_of P.Link.Source P.Link.Sink) C.Clock disk after port port_after clock clock_after number) }
+    ensures told { (disk after : D) (port port_after : P) (clock clock_after : C) (port_number count : ℕ) (text : List ℕ)
+        → Serves D.Disk P.Port (tells_of P.Link.Source P.Link.Sink) C.Clock disk after port port_after clock clock_after port_number count (Ok text)
+        → (number : ℕ) × (number ≤ count) × (text ≡ served_line number) × HasHeadline D.Disk P.Port (tells_of P.Link.Source P.Link.Sink) C.Clock disk after port port_after clock clock_after number }
+    ensures any { (disk after : D) (port port_after : P) (clock clock_after : C) (port_number count : ℕ) (ending : Result (List ℕ) Stop)
+        → Serves D.Disk P.Port (tells_of P.Link.Source P.Link.Sink) C.Clock disk after port port_after clock clock_after port_number count ending
+        → (IsUnopened ending × HasNoRun port port_after clock clock_after)
+        ⊎ ((number : ℕ) × (number ≤ count) × IsOpened number ending × HasHeadline D.Disk P.Port (tells_of P.Link.Source P.Link.Sink) C.Clock disk after port port_after clock clock_after number) }
 {
     accepted_law::<D>();
     acknowledged_law::<D>();
@@ -38,6 +42,7 @@ pub fn headline_law<D: Disk, P: Port, C: Clock>()
     certificate_law();
     certificate_verdict_law();
     crash_law::<D>();
+    ends_law::<D>();
     events_law();
     files_law::<D>();
     instance_law();
@@ -47,4 +52,7 @@ pub fn headline_law<D: Disk, P: Port, C: Clock>()
     one_publication_law();
     publication_law();
     refusal_status_law();
+    refused_law::<D>();
+    sealed_law::<D>();
+    sealed_runs_law::<D>();
 }

@@ -1,8 +1,9 @@
 // Serving the links of a port from the file of a host.
-ghost use Rattle.std.specs.Prelude.{◌≤◌, ◌↔◌};
+ghost use Rattle.std.specs.Prelude.{◌≡◌, ◌≤◌, ◌↔◌};
 ghost use Rattle.command_results.specs.Endings.{ending_of};
 ghost use Rattle.host_journal.specs.States.{State};
 ghost use Rattle.serving.specs.Served.{tells_of};
+ghost use Rattle.split_base.specs.Asked.{asked_again};
 ghost use Rattle.search_workers.specs.declared.limits.TheConstants.{MOST_WORKERS};
 ghost use Rattle.serving.specs.Serving.{StandsAt};
 ghost use Rattle.host_commands.specs.Serves.{Serves, ServesOpened};
@@ -24,7 +25,7 @@ use std::thread::Threads;
 /// - `StoreFault` comes only where the disk's count of faults has risen, by one, in the opening. A fault of the disk within a request is that
 ///   request's reply, and no stop.
 /// - `PortFault` comes only where the port's count of faults has risen, by one: it failed to listen, or to hand out one more link.
-/// - `NoMemory` comes for want of memory alone, and only before the port listens.
+/// - `NoMemory` comes only where memory runs out, and only before the port listens.
 ///
 /// No other stop comes. Before the file is opened neither the port nor the clock is called. Goods are searched by 1 to `MOST_WORKERS` workers, and
 /// the last searches are kept, so that a closed round is not searched for each request. Neither takes part in what is written.
@@ -41,7 +42,7 @@ pub fn serve_port<D: Disk, P: Port, C: Clock, R: Threads + Sync, G: Gate + Sync>
     gate: &G,
 ) -> Result<Text, Stop>
     requires { (1 ≤ workers) × (workers ≤ MOST_WORKERS) }
-    ensures serves { Serves D.Disk P.Port (tells_of P.Link.Source P.Link.Sink) C.Clock disk.old disk.new port.old port.new clock.old clock.new count (ending_of result) }
+    ensures serves { Serves D.Disk P.Port (tells_of P.Link.Source P.Link.Sink) C.Clock disk.old disk.new port.old port.new clock.old clock.new number count (ending_of result) }
     ensures disk { D.faults disk.old ≤ D.faults disk.new }
     ensures honest { D.is_honest disk.old ↔ D.is_honest disk.new }
     ensures port { P.faults port.old ≤ P.faults port.new }
@@ -76,6 +77,7 @@ fn serve_opened<D: Disk, P: Port, C: Clock, R: Threads + Sync, G: Gate + Sync>(
     requires { (1 ≤ workers) × (workers ≤ MOST_WORKERS) }
     ensures serves { (w : D × State) → StandsAt D.Disk serving disk.old w
         → ServesOpened D.Disk P.Port (tells_of P.Link.Source P.Link.Sink) C.Clock w disk.new port.old port.new clock.old clock.new count (ending_of result) }
+    ensures asked { P.asked port.new ≡ asked_again number (P.asked port.old) }
     ensures disk { D.faults disk.old ≤ D.faults disk.new }
     ensures honest { D.is_honest disk.old ↔ D.is_honest disk.new }
     ensures port { P.faults port.old ≤ P.faults port.new }

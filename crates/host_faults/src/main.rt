@@ -1,4 +1,4 @@
-//! Tries a host over a whole round of requests, in memory, in which a call of its link, its clock or its disk fails, each call in turn.
+//! Tries a host in memory over a whole round of requests, in which each call fails in turn.
 //!
 //! The round stands in the input. What each request is replied to without a fault is found first; nothing of it is listed here. The rule that the
 //! tables then hold it to is one for all of them:

@@ -101,18 +101,19 @@ module _ {D T : Type 0} (d : Ghosts D) (serving : Serving) (disk after : D) (s :
     is = case;
   }
 
-  no_damage : NoFault → (place : ℕ) → (d.is_honest disk → IsFirstFault place (d.seen after)) → (d.is_honest disk → Rests d.seen d.images d.moment d.left_since disk after) → d.is_honest disk → ⊥
-  no_damage law place damaged rests h =
+  -- the file of a state has no fault
+  no_damage : NoFault → (place : ℕ) → (d.is_honest disk → IsFirstFault place (d.seen disk)) → d.is_honest disk → ⊥
+  no_damage law place damaged h =
       let (events, among, (v, has)) = files h (d.seen disk) (seen h) in
-      law v place s.secret events (d.seen disk) has (subst (IsFirstFault place) (rests h).same (damaged h))
+      law v place s.secret events (d.seen disk) has (damaged h)
 
   -- each fault of the opening
-  pub was_faulty : NoFault → (f : LogFault) → result ≡ Err f → d.faults after ≡ counted_by (d.faults disk) f
+  pub was_faulty : NoFault → (d.is_honest disk → d.tells disk) → (f : LogFault) → result ≡ Err f → d.faults after ≡ counted_by (d.faults disk) f
       → (d.is_honest disk → Each (d.images after) (Tears (d.images disk) VERSION_GATE 1))
-      → (d.is_honest disk → (place : ℕ) → f ≡ fault.NotALog place → IsFirstFault place (d.seen after))
+      → (d.tells disk → (place : ℕ) → f ≡ fault.NotALog place → IsFirstFault place (d.seen disk))
       → (d.is_honest disk → f ≢ fault.Disk → Rests d.seen d.images d.moment d.left_since disk after)
       → Leads d serving disk after s (λ new. Reopens d disk after s new result)
-  was_faulty law fault.Disk is faults torn damaged rests = was_closed (Reopens.failed event waits is faults torn refl)
-  was_faulty law (fault.NotALog place) is faults torn damaged rests =
-      was_closed (Reopens.damaged event place waits is faults (no_damage law place (λ h. damaged h place refl) (λ h. rests h (λ e. cc))) refl)
-  was_faulty law fault.NoMemory is faults torn damaged rests = was_closed (Reopens.memory event waits is faults (λ h. rests h (λ e. cc)) refl)
+  was_faulty law tells fault.Disk is faults torn damaged rests = was_closed (Reopens.failed event waits is faults torn refl)
+  was_faulty law tells (fault.NotALog place) is faults torn damaged rests =
+      was_closed (Reopens.damaged event place waits is faults (λ t. damaged t place refl) (no_damage law place (λ h. damaged (tells h) place refl)) refl)
+  was_faulty law tells fault.NoMemory is faults torn damaged rests = was_closed (Reopens.memory event waits is faults (λ h. rests h (λ e. cc)) refl)

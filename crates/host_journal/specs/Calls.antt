@@ -1,4 +1,4 @@
--- What the calls of a host before its disk lead to.
+-- What each call of a host on its journal leads to.
 use Rattle.std.specs.Prelude.{◌≡◌, ◌⊎◌, ℕ, ◌+◌, List, [], ◌∷◌, ◌++◌, Some, Result, Err, IsOk}
 use Rattle.split_base.specs.declared.disk.Disk.{Ghosts}
 use Rattle.split_base.specs.Disk.{Each, Only, Rests, Tears}
@@ -6,19 +6,19 @@ use Rattle.split_base.specs.Faults.{counted}
 use Rattle.gate_log.specs.declared.fault.LogFault.{LogFault}
 use Rattle.gate_log.specs.declared.fault.LogFault.TheVariants as fault
 use Rattle.gate_log.specs.declared.limits.TheConstants.{VERSION_GATE}
-use Rattle.host_journal.specs.Journal.{HasEvents, HasRaised, HoldsEvents, LeftAlone}
+use Rattle.host_journal.specs.Journal.{HasEvents, HasRaised, HoldsEvents, IsFirstFault, LeftAlone}
 use Rattle.sealed_core.specs.Host.{EventView}
 use Rattle.host_journal.specs.States.{HasState, Passes, State, ready_with, waits_with}
 use Rattle.host_journal.specs.declared.serving.Serving.{Serving}
 
--- the serving stands for a new state that has this, and the disk went on from the one state to the other
+-- the serving stands for a new state, this holds of it, and the disk went on from the state before to it
 pub record Leads {D : Type 0} (d : Ghosts D) (serving : Serving) (disk after : D) (s : State) (case : State → Type 0) : Type 0 where
   pub new : State
   pub stands : HasState d serving after new
   pub passes : Passes d disk s after new
   pub is : case new
 
--- an append that is done: four calls of the disk, after which each image holds the events
+-- an append was done by four calls of the disk, and each image then holds the events
 pub record IsAppended {D : Type 0} (d : Ghosts D) (disk after : D) (secret : List ℕ) (events : List EventView) : Type 0 where
   pub calls : d.moment after ≡ d.moment disk + 4
   pub holds : Each (d.images after) (HoldsEvents secret events)
@@ -45,14 +45,15 @@ pub record IsSettled {D : Type 0} (d : Ghosts D) (disk after : D) (s : State) (e
   pub file : IsFound d disk after secret kept
 
 -- The file of a host that waits was opened, and the host is that of its events. Or a call of the disk failed, and no byte but the version
--- gate may be torn; or the file is no journal, or there was no memory: then no byte changed.
+-- gate may be torn. Or the file is no journal, which is never so on an honest disk, and the place of its first fault is told. Or there was no
+-- memory, and no byte changed.
 pub data Reopens {D T : Type 0} (d : Ghosts D) (disk after : D) (s new : State) (result : Result T LogFault) : Type 0 where
   opened : (event : EventView) (secret : List ℕ) (kept : List EventView) → s.waiting ≡ Some event → IsOk result → d.faults after ≡ d.faults disk
       → (d.is_honest disk → IsSettled d disk after s event secret kept) → new ≡ ready_with secret kept → Reopens d disk after s new result
   failed : (event : EventView) → s.waiting ≡ Some event → result ≡ Err fault.Disk → d.faults after ≡ counted (d.faults disk)
       → (d.is_honest disk → Each (d.images after) (Tears (d.images disk) VERSION_GATE 1)) → new ≡ s → Reopens d disk after s new result
   damaged : (event : EventView) (place : ℕ) → s.waiting ≡ Some event → result ≡ Err (fault.NotALog place) → d.faults after ≡ d.faults disk
-      → (d.is_honest disk → ⊥) → new ≡ s → Reopens d disk after s new result
+      → (d.tells disk → IsFirstFault place (d.seen disk)) → (d.is_honest disk → ⊥) → new ≡ s → Reopens d disk after s new result
   memory : (event : EventView) → s.waiting ≡ Some event → result ≡ Err fault.NoMemory → d.faults after ≡ d.faults disk
       → (d.is_honest disk → Rests d.seen d.images d.moment d.left_since disk after) → new ≡ s → Reopens d disk after s new result
 

@@ -10,7 +10,7 @@ use Rattle.sealed_core.specs.Runs.{CanApplyAll, host_of}
 use Rattle.sealed_core.specs.Sealed.{empty}
 use Rattle.host_journal.specs.Spelling.{IsEvent, IsOfVersion, Spells, spelling}
 
--- events of the file's version, each of which may be applied at its turn from the empty host on
+-- each event is one of the file's version, and may be applied at its turn from the empty host on
 pub record AreKept (version : ℕ) (secret : List ℕ) (events : List EventView) : Type 0 where
   pub each : All IsEvent events
   pub of_version : All (IsOfVersion version) events
@@ -21,7 +21,7 @@ pub record HasEvents (version : ℕ) (secret : List ℕ) (events : List EventVie
   pub stands : Stands version secret (map spelling events) file
   pub kept : AreKept version secret events
 
--- in either version
+-- the file has this secret and these events, in either version
 abbrev pub HoldsEvents : List ℕ → List EventView → List ℕ → Type 0
 HoldsEvents secret events file = (version : ℕ) × HasEvents version secret events file
 
@@ -38,26 +38,26 @@ pub record IsHostOf (host : HostView) (secret : List ℕ) (events : List EventVi
   pub may_apply : CanApplyAll (empty secret) events
   pub is_host : host ≡ host_of secret events
 
--- each image stands for these events in the log's version, the log is at the closed gate behind them, and the host is
+-- each image stands for these events in the log's version, the log is at the closed gate after them, and the host is
 -- the one that they make
 pub record IsJournalOf (images : List ℕ → Type 0) (log : LogView) (host : HostView) (secret : List ℕ) (events : List EventView) : Type 0 where
   pub is_log : IsLogOf images log secret (map spelling events)
   pub kept : AreKept log.version secret events
   pub is_host : host ≡ host_of secret events
 
--- a body that is no event of the file's version, or none that may be applied at its turn
+-- the body is no event of the file's version that may be applied at its turn
 abbrev pub IsNoEvent : ℕ → HostView → List ℕ → Type 0
 IsNoEvent version h body = (e : EventView) → Spells e body → IsOfVersion version e → CanApply h e → ⊥
 
--- behind the records of these events the file has a whole record with such a body, its gate at the place
+-- after the records of these events the file has a whole record with such a body, its gate at the place
 pub record IsEventFault (version : ℕ) (secret : List ℕ) (events : List EventView) (place : ℕ) (file : List ℕ) : Type 0 where
   pub body : List ℕ
   pub begins : Begins version secret (map spelling events ++ body ∷ []) file
   pub no_event : IsNoEvent version (host_of secret events) body
   pub at : place ≡ place_after (map spelling events)
 
--- A whole header and the whole records of these events, and then a record with an open gate and a fault: of its form, or of
--- its body, which is then a fault at its gate's place.
+-- The file has a whole header and the whole records of some events. Then comes a record with an open gate and a fault: one of its form, or
+-- its body is no such event, which is a fault at the place of its gate.
 pub record IsFaultBehindEvents (place : ℕ) (file : List ℕ) : Type 0 where
   pub version : ℕ
   pub secret : List ℕ
@@ -65,18 +65,18 @@ pub record IsFaultBehindEvents (place : ℕ) (file : List ℕ) : Type 0 where
   pub kept : AreKept version secret events
   pub fault : IsFaultAfter version secret (map spelling events) place file ⊎ IsEventFault version secret events place file
 
--- the first fault of a file
+-- the file has its first fault at this place
 abbrev pub IsFirstFault : ℕ → List ℕ → Type 0
 IsFirstFault place file = IsHeaderFault place file ⊎ IsFaultBehindEvents place file
 
--- while the file is read: the header and the records of these events were read, the log is at the gate behind them, and the
--- host is the one that they make
+-- While the file is read: the header and the records of these events were read, the log is at the gate after them, and the
+-- host is the one that they make.
 pub record IsReplaying (file : List ℕ) (log : LogView) (host : HostView) (secret : List ℕ) (events : List EventView) : Type 0 where
   pub reading : IsReading file log secret (map spelling events)
   pub kept : AreKept log.version secret events
   pub is_host : host ≡ host_of secret events
 
--- when it was read: these are its events, the log is at the closed gate behind them, and the host is the one that they make
+-- the file was read: these are its events, the log is at the closed gate after them, and the host is the one that they make
 pub record IsReplayed (file : List ℕ) (log : LogView) (host : HostView) (secret : List ℕ) (events : List EventView) : Type 0 where
   pub has : HasEvents log.version secret events file
   pub place : log.place ≡ place_after (map spelling events)
@@ -90,7 +90,7 @@ HoldsFrom version secret bodies file = (later : ℕ) × (version ≤ later) × S
 abbrev pub HoldsOne : List ℕ → List (List EventView) → List ℕ → Type 0
 HoldsOne secret lists file = (events : List EventView) × Contains lists events × HoldsEvents secret events file
 
--- the host is that of these events, on any disk; and this is told of the file of an honest one
+-- the host is that of these events, whatever the disk, and this is told of the disk's file
 pub record IsHostOfFile (host : HostView) (secret : List ℕ) (events : List EventView) (told : Type 0) : Type 0 where
   pub of_events : IsHostOf host secret events
   pub of_file : told
@@ -109,12 +109,12 @@ pub record IsOpened (old new : List ℕ) (images : List ℕ → Type 0) (log : L
   pub after : HasEvents 2 secret events new
   pub journal : IsJournalOf images log host secret events
 
--- an opening that raised nothing: the file is as it was, after one sync
+-- the opening raised nothing: the file is as it was, after one sync
 pub record LeftAlone {D : Type 0} (seen : D → List ℕ) (moment : D → ℕ) (old new : D) : Type 0 where
   pub same : seen new ≡ seen old
   pub calls : moment new ≡ moment old + 1
 
--- an opening of a file of version 1: after that sync its version gate was written, and synced
+-- the opening raised a file of version 1: after that sync its version gate was written, and synced
 pub record HasRaised {D : Type 0} (seen : D → List ℕ) (moment : D → ℕ) (old new : D) : Type 0 where
   pub secret : List ℕ
   pub events : List EventView

@@ -1,4 +1,4 @@
--- Reading a body from left to right: a value, and the bytes behind it.
+-- Reading a body from left to right: a value, and the bytes after it.
 use Rattle.std.specs.Prelude.{ℕ, zero, suc, ◌+◌, List, [], ◌∷◌, length, take, drop, Option, Some, None, nat_lt, ◌==◌, if◌then◌else◌, ⊤}
 use Rattle.std.specs.Int.{Width, w32, w64, byte_len, from_le_bytes}
 use Rattle.std.specs.Str.{is_utf8}
@@ -16,10 +16,12 @@ abbrev pub ◌>>=◌ : {A B : Type 0} → Option A → (A → Option B) → Opti
 (Some x) >>= f = f x
 None >>= f = None
 
+-- the byte at the front, and the bytes after it
 abbrev pub byte_at : List ℕ → Option (ℕ × List ℕ)
 byte_at [] = None
 byte_at (b ∷ bytes) = Some (b, bytes)
 
+-- the number of this width at the front, least byte first, and the bytes after it
 abbrev pub number_at : Width → List ℕ → Option (ℕ × List ℕ)
 number_at w bytes = if nat_lt (length bytes) (byte_len w) then None else Some (from_le_bytes w (take (byte_len w) bytes), drop (byte_len w) bytes)
 
@@ -45,11 +47,13 @@ names_at room bytes = do
   n ← byte_at bytes
   if nat_lt room n.0 then None else many_at (text_at LONGEST_NAME) n.0 n.1
 
+-- the legs from one place at the front, and the bytes after them
 unfoldable pub row_at : ℕ → List ℕ → Option (ArrayVec ℕ PLACE_ROOM (Unit {0}) × List ℕ)
 row_at places bytes = do
   legs ← many_at (number_at w32) places bytes
   Some (record { items = legs.0 }, legs.1)
 
+-- the facts of a taxi at the front, and the bytes after them
 unfoldable pub fares_at : ℕ → ℕ → List ℕ → Option (Facts × List ℕ)
 fares_at members places bytes = do
   flag ← number_at w32 bytes
@@ -64,6 +68,7 @@ facts_at kind members items bytes =
     else if kind == 3 then (if nat_lt PLACE_ROOM items then None else fares_at members items bytes)
     else None
 
+-- the creation with this deadline at the front, and the bytes after it
 unfoldable pub creation_at : ℕ → List ℕ → Option (CreationView × List ℕ)
 creation_at deadline bytes = do
   kind ← byte_at bytes
@@ -74,11 +79,13 @@ creation_at deadline bytes = do
   facts ← facts_at kind.0 (length members.0) (length items.0) items.1
   Some (record { title = title.0; members = members.0; items = items.0; facts = facts.0; deadline = deadline; tag = tag.0 }, facts.1)
 
+-- the values of a bid at the front, and the bytes after them
 unfoldable pub values_at : List ℕ → Option (Bid × List ℕ)
 values_at bytes = do
   n ← byte_at bytes
   if nat_lt ITEM_ROOM n.0 then None else (many_at (number_at w32) n.0 n.1 >>= λ values. Some (bid.Values (record { items = values.0 }), values.1))
 
+-- the bid at the front, values or a place, and the bytes after it
 unfoldable pub bid_at : List ℕ → Option (Bid × List ℕ)
 bid_at bytes = do
   form ← byte_at bytes
@@ -86,6 +93,7 @@ bid_at bytes = do
       else if form.0 == 2 then (byte_at form.1 >>= λ place. Some (bid.Place place.0, place.1))
       else None
 
+-- the event of a creation at the front, without its first byte, and the bytes after it
 unfoldable pub created_at : List ℕ → Option (EventView × List ℕ)
 created_at bytes = do
   moment ← number_at w64 bytes
@@ -93,6 +101,7 @@ created_at bytes = do
   creation ← creation_at deadline.0 deadline.1
   Some (Created moment.0 creation.0, creation.1)
 
+-- the event of a kept bid at the front, without its first byte, and the bytes after it
 unfoldable pub bid_kept_at : List ℕ → Option (EventView × List ℕ)
 bid_kept_at bytes = do
   moment ← number_at w64 bytes
@@ -102,12 +111,14 @@ bid_kept_at bytes = do
   given ← bid_at turn.1
   Some (BidKept moment.0 id.0 member.0 turn.0 given.0, given.1)
 
+-- the event of a close at the front, without its first byte, and the bytes after it
 unfoldable pub closed_at : List ℕ → Option (EventView × List ℕ)
 closed_at bytes = do
   moment ← number_at w64 bytes
   id ← number_at w32 moment.1
   Some (Closed moment.0 id.0, id.1)
 
+-- the event of a withdrawal at the front, without its first byte, and the bytes after it
 unfoldable pub withdrawn_at : List ℕ → Option (EventView × List ℕ)
 withdrawn_at bytes = do
   moment ← number_at w64 bytes
@@ -116,6 +127,7 @@ withdrawn_at bytes = do
   turn ← byte_at member.1
   Some (Withdrawn moment.0 id.0 member.0 turn.0, turn.1)
 
+-- the event at the front, told by its first byte, and the bytes after it
 unfoldable pub event_at : List ℕ → Option (EventView × List ℕ)
 event_at bytes = do
   kind ← byte_at bytes
@@ -125,7 +137,7 @@ event_at bytes = do
       else if kind.0 == 4 then withdrawn_at kind.1
       else None
 
--- an event, and nothing behind it
+-- an event, and nothing after it
 unfoldable pub whole_at : List ℕ → Option EventView
 whole_at bytes = do
   event ← event_at bytes

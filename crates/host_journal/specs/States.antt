@@ -26,16 +26,16 @@ ready_with secret kept = record { secret = secret; kept = kept; waiting = None }
 abbrev pub waits_with : State → EventView → State
 waits_with s event = record { secret = s.secret; kept = s.kept; waiting = Some event }
 
--- the lists of events of which the file holds one: those kept, and where the host waits those with the one more
+-- the file holds one of these lists: the events kept, or where the host waits also those with the one more
 abbrev pub lists_of : List EventView → Option EventView → List (List EventView)
 lists_of kept None = kept ∷ []
 lists_of kept (Some event) = kept ∷ (kept ++ event ∷ []) ∷ []
 
--- a file of a state
+-- the file holds the events that the state keeps, and maybe the one that waits
 abbrev pub IsFile : State → List ℕ → Type 0
 IsFile s file = HoldsOne s.secret (lists_of s.kept s.waiting) file
 
--- a file of one of two states
+-- the file is one of the first state or of the second
 abbrev pub IsEither : State → State → List ℕ → Type 0
 IsEither s new file = IsFile s file ⊎ IsFile new file
 
@@ -45,7 +45,7 @@ IsFileOf images log host secret kept None = IsJournalOf images log host secret k
 IsFileOf images log host secret kept (Some event) = Each images (HoldsOne secret (lists_of kept (Some event)))
 
 -- The serving and its disk stand for the state. The events kept may be applied one after another, and make the host; the one that waits
--- may be applied behind them.
+-- may be applied after them.
 pub record HasState {D : Type 0} (d : Ghosts D) (serving : Serving) (disk : D) (s : State) : Type 0 where
   pub host : IsHostOf serving.host.content s.secret s.kept
   pub waiting : option_map event_view serving.waiting ≡ s.waiting

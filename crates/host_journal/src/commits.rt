@@ -26,7 +26,7 @@ pub struct CommitFault {
 /// - `Disk` comes only where the disk's count of faults has risen, by one: a call that fails is not
 ///   tried again, and the count stays with every other answer. The host is as before; the file
 ///   holds the event or doesn't. The log isn't at its end: the file is opened anew.
-/// - `NoMemory` comes for want of memory, before the first call of the disk, which is as before.
+/// - `NoMemory` comes when memory runs out, before the first call of the disk, which is as before.
 ///
 /// Each hands the event back; `NotALog` never comes.
 pub fn commit<D: Disk>(

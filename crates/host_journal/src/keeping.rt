@@ -15,7 +15,7 @@ use std::alloc::Global;
 ///
 /// - `Disk` comes only where the disk's count of faults has risen, by one. The host is as before, and
 ///   waits with the event.
-/// - `NoMemory` comes for want of memory alone, before the first call of the disk. Nothing has changed
+/// - `NoMemory` comes only when memory runs out, before the first call of the disk. Nothing has changed
 ///   then.
 ///
 /// `NotALog` never comes.

@@ -41,7 +41,7 @@ pub fn size_law()
 {}
 
 /// A journal of events stays below 40 MB: what its header and records take, with the closed gate
-/// behind them. What a crash left behind that gate takes no part.
+/// after them. What a crash left after that gate takes no part.
 pub fn file_law()
     ensures { (version : ℕ) (secret : List ℕ) (events : List EventView) (file : List ℕ) → HasEvents version secret events file
         → place_after (map spelling events) < JOURNAL_MOST }

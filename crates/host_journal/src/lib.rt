@@ -2,6 +2,11 @@
 //! is kept in the journal before it changes the host. Where that fails the host waits until its file is opened again.
 //!
 //! On an honest disk a crash at any moment of a call leaves the events kept before it, with or without the call's own.
+//!
+//! No two events have one spelling (`spelling_law`), and every file has one list of events or one
+//! first fault (`events_law`). An opening writes the version gate of a file of version 1 and no
+//! other byte. The last record of a journal ends below 40 MB (`file_law`); how much a crash leaves
+//! after it is not bounded.
 #![tactic(auto)]
 
 mod commits;

@@ -25,7 +25,7 @@ use std::alloc::Global;
 /// - `NotALog` comes exactly where the file has a fault, with the place of its first. A body that is
 ///   no event of the file's version, or none that may be applied at its turn, is a fault at its gate's
 ///   place.
-/// - `NoMemory` comes for want of memory.
+/// - `NoMemory` comes when memory runs out.
 ///
 /// After `NotALog` and `NoMemory` the file is as it was: it is raised only after it was read whole. A
 /// call of the disk that fails is not tried again: the count has risen by one after `Disk`, and else
@@ -45,7 +45,7 @@ pub fn open_host<D: Disk>(alloc: Global, disk: &mut D) -> Result<(Host, Log), Lo
     // After Ok there is one image, and host and log are those of its events.
     ensures one { D.is_honest disk.old → IfOk result (λ _. Only (D.seen disk.new) (D.images disk.new)) }
     ensures opened { D.is_honest disk.old → IfOk result (λ opened. IsOpened (D.seen disk.old) (D.seen disk.new) (D.images disk.new) opened.1 opened.0.content) }
-    ensures not_a_log { D.is_honest disk.old → (place : ℕ) → result ≡ Err (LogFault.NotALog place) → IsFirstFault place (D.seen disk.new) }
+    ensures not_a_log { D.tells disk.old → (place : ℕ) → result ≡ Err (LogFault.NotALog place) → IsFirstFault place (D.seen disk.old) }
 
     // After Ok the file is as it was, or it was of version 1 and only its version gate was written. At each moment a crash may
     // have torn that byte, and no other.
@@ -76,14 +76,15 @@ fn read_host<D: Disk>(alloc: Global, disk: &mut D) -> Result<(Host, Log), LogFau
     ensures disk { result ≡ Err LogFault.Disk → HasRisen (D.faults disk.old) (D.faults disk.new) }
     ensures faults { D.faults disk.new ≡ faults_after (D.faults disk.old) result }
     ensures honest { D.is_honest disk.old ↔ D.is_honest disk.new }
+    ensures still { D.tells disk.old → D.tells disk.new × (D.seen disk.new ≡ D.seen disk.old) }
     ensures rests { D.is_honest disk.old → Rests D.seen D.images D.moment D.left_since disk.old disk.new }
     ensures tick { D.is_honest disk.old → OnOk result (D.moment disk.new ≡ D.moment disk.old + 1) }
     ensures at_end { IfOk result (λ read. IsTrue read.1.at_end) }
     ensures made { IfOk result (λ read. (secret : List ℕ) × (events : List EventView) × IsHostOfFile read.0.content secret events
-        (D.is_honest disk.old → IsReplayed (D.seen disk.new) read.1 read.0.content secret events)) }
+        (D.tells disk.old → IsReplayed (D.seen disk.new) read.1 read.0.content secret events)) }
     ensures one { D.is_honest disk.old → IfOk result (λ _. Only (D.seen disk.new) (D.images disk.new)) }
-    ensures whole { D.is_honest disk.old → IfOk result (λ read. (secret : List ℕ) × (events : List EventView) × IsReplayed (D.seen disk.new) read.1 read.0.content secret events) }
-    ensures not_a_log { D.is_honest disk.old → (place : ℕ) → result ≡ Err (LogFault.NotALog place) → IsFirstFault place (D.seen disk.new) }
+    ensures whole { D.tells disk.old → IfOk result (λ read. (secret : List ℕ) × (events : List EventView) × IsReplayed (D.seen disk.new) read.1 read.0.content secret events) }
+    ensures not_a_log { D.tells disk.old → (place : ℕ) → result ≡ Err (LogFault.NotALog place) → IsFirstFault place (D.seen disk.new) }
 {
     let (mut log, secret) = Log::start(disk)?;
     let mut host = Host::new(alloc, secret);
@@ -102,15 +103,16 @@ fn replay<D: Disk>(
     ensures disk { result ≡ Err LogFault.Disk → HasRisen (D.faults disk.old) (D.faults disk.new) }
     ensures faults { D.faults disk.new ≡ faults_after (D.faults disk.old) result }
     ensures honest { D.is_honest disk.old ↔ D.is_honest disk.new }
+    ensures still { D.tells disk.old → D.tells disk.new × (D.seen disk.new ≡ D.seen disk.old) }
     ensures rests { D.is_honest disk.old → Rests D.seen D.images D.moment D.left_since disk.old disk.new }
     ensures tick { D.is_honest disk.old → OnOk result (D.moment disk.new ≡ D.moment disk.old) }
     ensures at_end { OnOk result (IsTrue log.new.at_end) }
     ensures made { (secret : List ℕ) (events : List EventView) → IsHostOf host.old.content secret events
         → OnOk result ((all : List EventView) × IsHostOfFile host.new.content secret all
-        (D.is_honest disk.old → IsReplaying (D.seen disk.old) log.old host.old.content secret events → IsReplayed (D.seen disk.new) log.new host.new.content secret all)) }
-    ensures whole { D.is_honest disk.old → (secret : List ℕ) (events : List EventView) → IsReplaying (D.seen disk.old) log.old host.old.content secret events
+        (D.tells disk.old → IsReplaying (D.seen disk.old) log.old host.old.content secret events → IsReplayed (D.seen disk.new) log.new host.new.content secret all)) }
+    ensures whole { D.tells disk.old → (secret : List ℕ) (events : List EventView) → IsReplaying (D.seen disk.old) log.old host.old.content secret events
         → OnOk result ((all : List EventView) × IsReplayed (D.seen disk.new) log.new host.new.content secret all) }
-    ensures not_a_log { D.is_honest disk.old → (secret : List ℕ) (events : List EventView) → IsReplaying (D.seen disk.old) log.old host.old.content secret events
+    ensures not_a_log { D.tells disk.old → (secret : List ℕ) (events : List EventView) → IsReplaying (D.seen disk.old) log.old host.old.content secret events
         → (place : ℕ) → result ≡ Err (LogFault.NotALog place) → IsFaultBehindEvents place (D.seen disk.new) }
 {
     let mut body = Vec::new(alloc);
@@ -129,19 +131,20 @@ fn replay_one<D: Disk>(
     ensures disk { result ≡ Err LogFault.Disk → HasRisen (D.faults disk.old) (D.faults disk.new) }
     ensures faults { D.faults disk.new ≡ faults_after (D.faults disk.old) result }
     ensures honest { D.is_honest disk.old ↔ D.is_honest disk.new }
+    ensures still { D.tells disk.old → D.tells disk.new × (D.seen disk.new ≡ D.seen disk.old) }
     ensures rests { D.is_honest disk.old → Rests D.seen D.images D.moment D.left_since disk.old disk.new }
     ensures tick { D.is_honest disk.old → D.moment disk.new ≡ D.moment disk.old }
     ensures moves { IfOk result (λ more. IsTrue more → (log.old.place < log.new.place) × (log.new.place < 2 ^ 63)) }
     ensures at_end { IfOk result (λ more. IsFalse more → IsTrue log.new.at_end) }
     ensures made { (secret : List ℕ) (events : List EventView) → IsHostOf host.old.content secret events
         → IfOk result (λ more. (all : List EventView) × IsHostOfFile host.new.content secret all
-        (D.is_honest disk.old → IsReplaying (D.seen disk.old) log.old host.old.content secret events
+        (D.tells disk.old → IsReplaying (D.seen disk.old) log.old host.old.content secret events
         → (IsTrue more → IsReplaying (D.seen disk.new) log.new host.new.content secret all) × (IsFalse more → IsReplayed (D.seen disk.new) log.new host.new.content secret all))) }
-    ensures goes_on { D.is_honest disk.old → (secret : List ℕ) (events : List EventView) → IsReplaying (D.seen disk.old) log.old host.old.content secret events
+    ensures goes_on { D.tells disk.old → (secret : List ℕ) (events : List EventView) → IsReplaying (D.seen disk.old) log.old host.old.content secret events
         → IfOk result (λ more. IsTrue more → (e : EventView) × IsReplaying (D.seen disk.new) log.new host.new.content secret (events ++ e ∷ [])) }
-    ensures end { D.is_honest disk.old → (secret : List ℕ) (events : List EventView) → IsReplaying (D.seen disk.old) log.old host.old.content secret events
+    ensures end { D.tells disk.old → (secret : List ℕ) (events : List EventView) → IsReplaying (D.seen disk.old) log.old host.old.content secret events
         → IfOk result (λ more. IsFalse more → IsReplayed (D.seen disk.new) log.new host.new.content secret events) }
-    ensures not_a_log { D.is_honest disk.old → (secret : List ℕ) (events : List EventView) → IsReplaying (D.seen disk.old) log.old host.old.content secret events
+    ensures not_a_log { D.tells disk.old → (secret : List ℕ) (events : List EventView) → IsReplaying (D.seen disk.old) log.old host.old.content secret events
         → (place : ℕ) → result ≡ Err (LogFault.NotALog place) → IsFaultBehindEvents place (D.seen disk.new) }
 {
     let gate = log.place();

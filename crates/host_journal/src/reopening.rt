@@ -18,7 +18,7 @@ use std::alloc::Global;
 /// - `Disk` comes only where the disk's count of faults has risen, by one.
 /// - `NotALog` comes exactly where the file is no journal, with the place of its first fault: never on
 ///   an honest disk with a file of the host's.
-/// - `NoMemory` comes for want of memory alone.
+/// - `NoMemory` comes only when memory runs out.
 ///
 /// After each of these the host waits as before, and with any other answer than `Disk` the count stays.
 pub fn reopen<D: Disk>(alloc: Global, serving: &mut Serving, disk: &mut D) -> Result<(), LogFault>
@@ -28,7 +28,7 @@ pub fn reopen<D: Disk>(alloc: Global, serving: &mut Serving, disk: &mut D) -> Re
     ensures ready { OnOk result (serving.new.waiting ≡ None) }
 
     // Whatever the serving stands for.
-    ensures place { D.is_honest disk.old → (place : ℕ) → result ≡ Err (LogFault.NotALog place) → IsFirstFault place (D.seen disk.old) }
+    ensures place { D.tells disk.old → (place : ℕ) → result ≡ Err (LogFault.NotALog place) → IsFirstFault place (D.seen disk.old) }
     ensures count { D.faults disk.old ≤ D.faults disk.new }
     ensures honest { D.is_honest disk.old ↔ D.is_honest disk.new }
 {
@@ -49,7 +49,7 @@ pub fn reopen<D: Disk>(alloc: Global, serving: &mut Serving, disk: &mut D) -> Re
 /// - `Disk` comes only where the disk's count of faults has risen, by one. With any other answer the
 ///   count stays.
 /// - `NotALog` comes exactly where the file has a fault, with the place of its first.
-/// - `NoMemory` comes for want of memory alone.
+/// - `NoMemory` comes only when memory runs out.
 ///
 /// After `NotALog` and `NoMemory` the file is as it was.
 pub fn open<D: Disk>(alloc: Global, disk: &mut D) -> Result<Serving, LogFault>

@@ -179,7 +179,7 @@ fn put_event(body: &mut Vec<u8>, event: &Event) -> Result<(), NoMemory>
 /// The one spelling of an event, as the body of a record. An event fits its types, and so one that
 /// keeps its rules has a spelling, of a length that a body may have; what may be applied does.
 ///
-/// `NoMemory` comes for want of memory alone.
+/// `NoMemory` comes only when memory runs out.
 pub fn write_event(alloc: Global, event: &Event) -> Result<Vec<u8>, NoMemory>
     ensures spelled { IfOk result (λ body. body.items ≡ spelling (event_view event.now)) }
     ensures fits { OnOk result (FitsTypes (event_view event.now)) }

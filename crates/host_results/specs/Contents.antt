@@ -11,11 +11,13 @@ abbrev pub is_plain : ContentType → Bool
 is_plain Json = false
 is_plain Plain = true
 
+-- the HTTP status of a reply, the type of its text, and the bytes of the text
 pub record ContentView : Type 0 where
   pub status : ℕ
   pub content_type : ContentType
   pub text : List ℕ
 
+-- what a reply tells, as its bytes
 abbrev pub content_view : ReplyContent → ContentView
 content_view told = record { status = told.status; content_type = told.content_type; text = told.text.items }
 

@@ -61,7 +61,7 @@ IsPublished what.Report given case division told = IsText Plain (IsReport given 
 IsPublished what.Audit given case division told = IsAudit given case division told
 IsPublished what.Winner given case division told = ⊥
 
--- why there is no division, told as a refusal; want of memory is not published
+-- why there is no division, told as a refusal; that memory ran out is not published
 abbrev pub TellsFault : SolveFault → ContentView → Type 0
 TellsFault (fault.Void missing) told = told ≡ refusal_told (refusal_of (fault.Void missing))
 TellsFault (fault.OverLimit limit) told = told ≡ refusal_told (refusal_of (fault.OverLimit limit))

@@ -39,7 +39,7 @@ use std::thread::Threads;
 ///
 /// It may be asked before the event that closes the instance is applied: that changes nothing of it. Goods are searched by 1 to
 /// `MOST_WORKERS` workers, unless a kept search is of the same case. Neither they nor the kept searches take part in the answer.
-/// `NoMemory` comes for want of memory alone.
+/// `NoMemory` comes only where memory runs out.
 pub fn publication<R: Threads + Sync, G: Gate + Sync>(
     alloc: Global,
     rt: &R,

@@ -1,4 +1,5 @@
--- The search for a head, of whatever kind: `IsText` says which bytes are the whole text of a head with few enough fields, `IsFound` where one stands.
+-- The search for a head of a kind. `IsText` says which bytes are the whole text of a head with few enough fields, `AsksMore` for which bytes the
+-- parser asks for more, and `IsFound` where a head stands.
 use Rattle.std.specs.Prelude.{◌≡◌, ◌≢◌, ℕ, ◌<◌, ◌≤◌, List, [], ◌++◌, length, Option, IfSome, ⊤}
 use Rattle.httparse.specs.declared.spans.HeaderSpan.{HeaderSpan}
 use Rattle.split_base.specs.Faults.{counted}
@@ -12,41 +13,43 @@ use Rattle.http_heads.specs.declared.search.Ahead.TheVariants as ahead
 abbrev pub HasNone : (List ℕ → Type 0) → List ℕ → Type 0
 HasNone IsText bytes = (text rest : List ℕ) → IsText text → bytes ≢ text ++ rest
 
--- nor will one be, whatever follows
+-- no first part of the bytes is the text of a head, whatever bytes follow them
 abbrev pub NeverHasOne : (List ℕ → Type 0) → List ℕ → Type 0
 NeverHasOne IsText bytes = (more : List ℕ) → HasNone IsText (bytes ++ more)
 
--- there are bytes, and no first part of them is the text of a head, of at most 8,192 bytes
+-- there are bytes, and no first part of them is the text of a head of at most 8,192 bytes
 pub record IsBad (IsText : List ℕ → Type 0) (bytes : List ℕ) : Type 0 where
   pub some : 0 < length bytes
   pub none : (text rest : List ℕ) → IsText text → length text ≤ MAX_HEAD → bytes ≢ text ++ rest
 
--- no head stands at the front of the bytes, and one may yet: they are fewer than a head may have
-pub record IsOpen (IsText : List ℕ → Type 0) (bytes : List ℕ) : Type 0 where
+-- no head stands at the front of the bytes, the parser asks for more of them, and they are fewer than a head may have
+pub record IsOpen (IsText AsksMore : List ℕ → Type 0) (bytes : List ℕ) : Type 0 where
   pub none : 0 < length bytes → HasNone IsText bytes
+  pub asks : 0 < length bytes → AsksMore bytes
   pub few : length bytes < MAX_HEAD
 
--- what a look at the bytes says
-abbrev pub LookSays : {T : Type 0} → (List ℕ → Type 0) → (List ℕ → List HeaderSpan → T → Type 0) → List ℕ → List HeaderSpan → Look T → Type 0
-LookSays IsText IsFound bytes fields (looks.Found spans) = IsFound bytes fields spans
-LookSays IsText IsFound bytes fields looks.Never = NeverHasOne IsText bytes
-LookSays IsText IsFound bytes fields looks.NotYet = HasNone IsText bytes
+-- what a look at the bytes answers: a head stands there; none does, whatever follows; or none does yet, and the parser asks for more
+abbrev pub LookSays : {T : Type 0} → (IsText AsksMore : List ℕ → Type 0) → (List ℕ → List HeaderSpan → T → Type 0) → List ℕ → List HeaderSpan → Look T → Type 0
+LookSays IsText AsksMore IsFound bytes fields (looks.Found spans) = IsFound bytes fields spans
+LookSays IsText AsksMore IsFound bytes fields looks.Never = NeverHasOne IsText bytes
+LookSays IsText AsksMore IsFound bytes fields looks.NotYet = HasNone IsText bytes × AsksMore bytes
 
--- what the carry holds then
-abbrev pub IsAhead : {T : Type 0} → (List ℕ → Type 0) → (List ℕ → List HeaderSpan → T → Type 0) → List ℕ → List HeaderSpan → Ahead T → Type 0
-IsAhead IsText IsFound bytes fields (ahead.Found spans) = IsFound bytes fields spans
-IsAhead IsText IsFound bytes fields ahead.Bad = IsBad IsText bytes
-IsAhead IsText IsFound bytes fields ahead.End = bytes ≡ []
-IsAhead IsText IsFound bytes fields ahead.Fault = IsOpen IsText bytes
+-- what the carry holds after a search: the head that was found; bytes that begin with none; nothing; or, where a read failed, bytes for which the
+-- parser asks for more
+abbrev pub IsAhead : {T : Type 0} → (IsText AsksMore : List ℕ → Type 0) → (List ℕ → List HeaderSpan → T → Type 0) → List ℕ → List HeaderSpan → Ahead T → Type 0
+IsAhead IsText AsksMore IsFound bytes fields (ahead.Found spans) = IsFound bytes fields spans
+IsAhead IsText AsksMore IsFound bytes fields ahead.Bad = IsBad IsText bytes
+IsAhead IsText AsksMore IsFound bytes fields ahead.End = bytes ≡ []
+IsAhead IsText AsksMore IsFound bytes fields ahead.Fault = IsOpen IsText AsksMore bytes
 
--- what all the bytes are that are left, where they are told
+-- what the bytes that are left begin with, where the source tells them
 abbrev pub SearchSays : {T : Type 0} → (List ℕ → Type 0) → Option (List ℕ) → Ahead T → Type 0
 SearchSays IsText left (ahead.Found spans) = ⊤
 SearchSays IsText left ahead.Bad = IfSome left (IsBad IsText)
 SearchSays IsText left ahead.End = IfSome left (λ all. all ≡ [])
 SearchSays IsText left ahead.Fault = ⊤
 
--- the count of faults afterwards
+-- the source's count of faults after a search: one more where a read failed
 abbrev pub faults_by : {T : Type 0} → ℕ → Ahead T → ℕ
 faults_by before (ahead.Found spans) = before
 faults_by before ahead.Bad = before

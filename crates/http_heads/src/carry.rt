@@ -62,7 +62,7 @@ impl Carry {
         self.len -= count;
     }
 
-    /// Reads some more bytes behind those that are there, or none at the end of input.
+    /// Reads some more bytes after those that are there, or none at the end of input.
     pub fn fill<S: Source>(&mut self, source: &mut S) -> Result<usize, Failed>
         requires { length self.old < MAX_HEAD }
         ensures same { Keeps (prepend_known self.old (S.left source.old)) (prepend_known self.new (S.left source.new)) }

@@ -1,4 +1,8 @@
-//! What hosts and readers of their replies both need of HTTP/1.1: the search for a head in bytes that come in pieces, its fields by name, whole numbers.
+//! What hosts and clients both need of HTTP/1.1: to find a head in bytes that come in pieces, its
+//! fields, whole numbers.
+//!
+//! Bytes that were held and are left stay the same bytes, however they come. A failed read is
+//! counted and ends the search.
 #![tactic(auto)]
 
 mod carry;

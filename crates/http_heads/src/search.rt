@@ -21,6 +21,9 @@ pub trait HeadKind {
     /// The bytes are the whole text of a head with at most `MAX_FIELDS` fields.
     ghost IsText: { List ℕ → Type 0 };
 
+    /// The parser asks for more of the bytes, or has no room for all their fields.
+    ghost AsksMore: { List ℕ → Type 0 };
+
     /// Such a head stands at the front of the bytes, at these spans.
     ghost IsFound: { List ℕ → List HeaderSpan → Self.Spans → Type 0 };
 
@@ -32,8 +35,10 @@ pub trait HeadKind {
         ensures found { IfComplete result (λ spans. size spans ≤ MAX_FIELDS → IsFound bytes.now fields.new spans) }
         ensures many { IfComplete result (λ spans. MAX_FIELDS < size spans → NeverHasOne IsText bytes.now) }
         ensures partial { OnPartial result (HasNone IsText bytes.now) }
+        ensures more { OnPartial result (AsksMore bytes.now) }
         ensures invalid { OnInvalid result (NeverHasOne IsText bytes.now) }
-        ensures no_room { OnTooManyHeaders result (HasNone IsText bytes.now) };
+        ensures no_room { OnTooManyHeaders result (HasNone IsText bytes.now) }
+        ensures more_room { OnTooManyHeaders result (AsksMore bytes.now) };
 
     /// The number of its fields.
     fn count(spans: &Self::Spans) -> usize
@@ -47,7 +52,7 @@ pub enum Look<T> {
     Found(T),
     /// They begin with none, whatever follows.
     Never,
-    /// They begin with none yet.
+    /// They begin with none yet, and the parser asks for more of them.
     NotYet,
 }
 
@@ -64,9 +69,10 @@ pub enum Ahead<T> {
     Fault,
 }
 
-/// Looks for a head at the front of the bytes, with at most `MAX_FIELDS` fields.
+/// Looks for a head at the front of the bytes, with at most `MAX_FIELDS` fields. `NotYet` comes only where the parser asks for more of them, or
+/// has no room for all their fields.
 pub fn find_head<K: HeadKind>(bytes: &[u8], fields: &mut [HeaderSpan; ROOM]) -> Look<K::Spans>
-    ensures { LookSays K.IsText K.IsFound bytes.now fields.new result }
+    ensures { LookSays K.IsText K.AsksMore K.IsFound bytes.now fields.new result }
 {
     match K::parse(bytes, fields) {
         Ok(Status::Complete(spans)) => {
@@ -88,14 +94,15 @@ pub fn find_head<K: HeadKind>(bytes: &[u8], fields: &mut [HeaderSpan; ROOM]) -> 
 ///   bytes and with at most `MAX_FIELDS` fields.
 /// - `End` comes where nothing is left.
 /// - `Fault` comes for one failed read, which the source's count of faults tells. Each other answer
-///   leaves that count as it is. A read fails only while no head stands in the carry.
+///   leaves that count as it is. A read is made only while the parser asks for more of what the carry
+///   holds: `Bad` comes at once where that can never become a head.
 pub fn look_ahead<K: HeadKind, S: Source>(
     source: &mut S,
     carry: &mut Carry,
     fields: &mut [HeaderSpan; ROOM],
 ) -> Ahead<K::Spans>
     ensures same { Keeps (prepend_known carry.old (S.left source.old)) (prepend_known carry.new (S.left source.new)) }
-    ensures ahead { IsAhead K.IsText K.IsFound carry.new fields.new result }
+    ensures ahead { IsAhead K.IsText K.AsksMore K.IsFound carry.new fields.new result }
     ensures says { SearchSays K.IsText (prepend_known carry.new (S.left source.new)) result }
     ensures more { (read : List ℕ) × (carry.new ≡ carry.old ++ read) }
     ensures reads { S.faults source.old ≤ S.faults source.new }

@@ -1,4 +1,8 @@
 //! The commands that read an input: what each answers to its bytes, and how it ends. The number of workers never changes it.
+//!
+//! The bytes of the input fix the ending (`input_answer_law`). A yes shows the best division, or a
+//! fair one (`yes_law`), and what `solve` writes calls for a yes (`solved_law`). An input that is
+//! too long is refused after one byte more than it may have, and a failed read is not tried again.
 #![tactic(auto)]
 
 mod command;

@@ -27,9 +27,6 @@ same_places (x ∷ xs) (y ∷ ys) e h =
 pub in_order_again : (case : GoodsCase) (owners : List ℕ) → length owners ≡ case.facts.goods → in_search_order case (owners_by_good case owners) ≡ owners
 in_order_again case owners whole = same_places (in_search_order case (owners_by_good case owners)) owners (count ∙ long ∙ sym whole) at
   where
-    read_good : ℕ → ℕ
-    read_good good = get_or (owners_by_good case owners) (good - 1) 0
-
     count : length (in_search_order case (owners_by_good case owners)) ≡ length (order_of case)
     count = length-map (order_of case) (λ good. get_or (owners_by_good case owners) (good - 1) 0)
 

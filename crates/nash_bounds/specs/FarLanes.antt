@@ -5,20 +5,20 @@ use Rattle.nash_bounds.specs.Levels.{entry_at}
 use Rattle.nash_bounds.specs.declared.reach.Flat.{Flat}
 use Rattle.nash_bounds.specs.declared.limits.TheConstants.{SHARES}
 
--- the lane's bit
+-- the bit of a lane: 1 or 0
 abbrev pub lane_bit : ℕ → ℕ → ℕ
 lane_bit bits lane = bits / 2 ^ lane % 2
 
--- with s points over the entries at a level, a product is at most the entries' times (2 * level + s) / (2 * level - s); so one entry after in
--- place of that before keeps it below the whole, where the entries' product is below these shares of the whole
+-- with `after` in place of `before` among the entries, and `over` points spread over them, their product still stays below the whole: a product grows
+-- by at most (2 * level + over) / (2 * level - over), and the entries' product is below `shares` of the whole
 abbrev pub FallsShort : ℕ → ℕ → ℕ → ℕ → ℕ → Type 0
 FallsShort level before after over shares = (over < 2 * level) × (max after 1 * (2 * level + over) * shares < max before 1 * (2 * level - over) * SHARES)
 
--- fewer are open than counted, or just as many without the bit
+-- fewer lanes are open than counted, or just as many, and the bit is not set
 abbrev pub IsNoMore : ℕ → ℕ → ℕ → Type 0
 IsNoMore open_lanes count bit = (open_lanes < count) ⊎ ((open_lanes ≡ count) × (bit ≡ 0))
 
--- where a lane gets these points, too few lanes may have points for the pair; or just as many, and the product stays below the pair's
+-- a lane with these points leaves the pair out of reach: too few lanes may have points, or just as many with a product that stays below the pair's
 abbrev pub IsFar : ℕ → ℕ → ℕ → Flat → ℕ → ℕ → Pair → Type 0
 IsFar low high points flat before shares pair =
     let open_lanes = flat.open_lanes + (min (high + points) 1 - min high 1) in

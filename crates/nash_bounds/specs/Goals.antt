@@ -1,5 +1,5 @@
 -- A pair to be reached, and who could reach it with the next good.
-use Rattle.std.specs.Prelude.{◌≡◌, ℕ, ◌+◌, ◌-◌, ◌*◌, ◌/◌, ◌%◌, ◌^◌, ◌<◌, ◌≤◌, ◌++◌, ◌∷◌, [], ◌==◌, List, Bool, true, false, cond, ◌⊎◌}
+use Rattle.std.specs.Prelude.{◌≡◌, ℕ, ◌+◌, ◌-◌, ◌*◌, ◌^◌, ◌<◌, ◌≤◌, ◌++◌, ◌∷◌, [], ◌==◌, List, Bool, false, cond, ◌⊎◌}
 use Rattle.bid_rules.specs.declared.goods.GoodsCase.{GoodsCase}
 use Rattle.bid_rules.specs.declared.pair.Pair.{Pair}
 use Rattle.bid_rules.specs.Goods.{player_count}
@@ -10,17 +10,17 @@ use Rattle.nash_bounds.specs.declared.limits.TheConstants.{UNIT_BITS}
 use Rattle.nash_bounds.specs.FarLanes.{lane_bit}
 use Rattle.nash_bounds.specs.Prefixes.{prefix_bound}
 
--- the second pair is at least the first, or above it where it has to be beyond
+-- the second pair is at least the goal, or above it if it has to be beyond
 abbrev pub is_reached : Pair → Bool → Pair → Bool
 is_reached goal beyond pair = cond beyond (is_less goal pair) (is_at_most goal pair)
 
--- so many whole units of a power of two are in the pair's product, or more
+-- the goal's product holds at least so many whole units of a power of two, and few enough of them to be multiplied safely
 pub record IsGoal (goal : Goal) : Type 0 where
   pub shift : goal.shift < 128
   pub within : goal.units * 2 ^ goal.shift ≤ goal.pair.product
   pub few : goal.units < 2 ^ UNIT_BITS
 
--- so many units are above the product, or else above those of the goal
+-- so many units are more than the product, or more than those of the goal
 abbrev pub IsAbove : Goal → ℕ → ℕ → Type 0
 IsAbove goal product units = (product < units * 2 ^ goal.shift) ⊎ (goal.units < units)
 
@@ -28,13 +28,13 @@ IsAbove goal product units = (product < units * 2 ^ goal.shift) ⊎ (goal.units 
 abbrev pub is_contender : Contenders → ℕ → Bool
 is_contender contenders owner = lane_bit contenders.owners (owner - 1) == 1
 
--- whoever is no contender has a bound below the pair with the next good
+-- each player who is no contender would leave a bound below the pair by getting the next good
 abbrev pub AreContenders : GoodsCase → List ℕ → Pair → Contenders → Type 0
 AreContenders case owners pair contenders = (owner : ℕ) → 1 ≤ owner → owner ≤ player_count case → is_contender contenders owner ≡ false
     → IsLess (prefix_bound case (owners ++ owner ∷ [])) pair
 
--- even with so many points more than the entries at a level, a product stays below the goal's: it is at most the entries' product times
--- (2 * level + spare) / (2 * level - spare)
+-- even with so many points spread over the entries at a level, their product stays below the goal's, since it grows by at most (2 * level + spare) /
+-- (2 * level - spare)
 abbrev pub IsShort : ℕ → ℕ → ℕ → Goal → Type 0
 IsShort level spare product goal =
     (spare < 2 * level) × (units : ℕ) × IsAbove goal product units × (units * (2 * level + spare) < goal.units * (2 * level - spare))

@@ -11,27 +11,27 @@ use Rattle.bid_rules.specs.Pairs.{is_less}
 use Rattle.nash_bounds.specs.OwnerLists.{below}
 use Rattle.nash_bounds.specs.Prefixes.{prefix_bound}
 
--- the two pairs are the same
+-- a test whether the two pairs are the same
 abbrev pub is_same : Pair → Pair → Bool
 is_same a b = a.count == b.count && a.product == b.product
 
--- the answer of a comparison is that the first is after the second
+-- a test whether a comparison says that the first comes after the second
 abbrev pub is_greater : Ordering → Bool
 is_greater Less = false
 is_greater Equal = false
 is_greater Greater = true
 
--- the owners are after the answer's first ones
+-- a test whether the owners come after the answer's first owners, as lists
 abbrev pub is_after : List ℕ → List ℕ → Bool
 is_after answer owners = is_greater (slice_cmp nat_cmp owners (take (length owners) answer))
 
--- no allocation that begins with the owners comes before the answer: their bound is below the answer's pair, or equal to it, and they are
--- after its first owners
+-- a prefix may be left out: no allocation that begins with it can be better than the answer, since its bound is below the answer's pair, or equal to
+-- it with owners that come after the answer's
 unfoldable pub may_be_left : GoodsCase → List ℕ → List ℕ → Bool
 may_be_left case answer owners =
     is_less (prefix_bound case owners) (pair_of case answer)
     || (is_same (prefix_bound case owners) (pair_of case answer) && is_after answer owners)
 
--- how many prefixes of all lengths may not be left out
+-- how many prefixes, of whatever length, may not be left out
 abbrev pub open_count : GoodsCase → List ℕ → ℕ
 open_count case answer = count_by (λ owners. not (may_be_left case answer owners)) (below (player_count case) case.facts.goods [])

@@ -5,7 +5,7 @@ use Rattle.bid_rules.specs.Goods.{IsValidGoodsCase, player_count, order_of}
 use Rattle.nash_bounds.specs.declared.prefix.Prefix.{Prefix}
 use Rattle.nash_bounds.specs.Prefixes.{IsPrefix}
 
--- the next good goes to the owner
+-- owners of the first few goods, the next good in search order, and a player who is to get it
 pub record IsNext (case : GoodsCase) (prefix : Prefix) (good owner : ℕ) : Type 0 where
   pub valid : IsValidGoodsCase case
   pub is_prefix : IsPrefix case prefix

@@ -15,7 +15,8 @@ entries_at level [] highs = []
 entries_at level (low ∷ lows) [] = []
 entries_at level (low ∷ lows) (high ∷ highs) = entry_at level low high ∷ entries_at level lows highs
 
--- all lanes, low and high in order and at most all points of a player, none beyond the room for players above 0, and low within top
+-- lows and highs of all lanes: each low is at most its high, each high at most all points of a player, lanes without a player have nothing, and the
+-- lows together are at most the top
 pub record IsSpan (lanes : Lanes) : Type 0 where
   pub lows : length lanes.low ≡ LANES
   pub highs : length lanes.high ≡ LANES
@@ -24,14 +25,13 @@ pub record IsSpan (lanes : Lanes) : Type 0 where
   pub rest : (k : ℕ) → MEMBER_ROOM ≤ k → slice_index lanes.high k ≡ 0
   pub within : sum lanes.low ≤ lanes.top
 
--- the entries at a level that is at most all points of a player, and what they leave over of the top
+-- the entries at a level, and what they leave over of the top
 pub record IsFitting (lanes : Lanes) (at : Fitting) : Type 0 where
   pub most : at.level ≤ WHOLE_POINTS
   pub is_entries : at.entries ≡ entries_at at.level lanes.low lanes.high
   pub is_spare : sum (entries_at at.level lanes.low lanes.high) + at.spare ≡ lanes.top
 
--- the entries at a level that is at most all points of a player, what they leave over of the top, how many lanes may have points, and the
--- entries' product
+-- the entries at a level, what they leave over of the top, how many lanes may have points, and the product of the entries
 pub record IsFlat (lanes : Lanes) (flat : Flat) : Type 0 where
   pub most : flat.level ≤ WHOLE_POINTS
   pub is_entries : flat.entries ≡ entries_at flat.level lanes.low lanes.high

@@ -5,8 +5,7 @@ use Rattle.bid_rules.specs.declared.pair.Pair.{Pair}
 use Rattle.bid_rules.specs.Pairs.{IsAtMost, IsLess}
 use Rattle.bid_rules.specs.Goods.{pair_of}
 
--- what is found serves for the best of all allocations so far: it is that one; or nothing is found, and that one, if there is one, is below
--- the floor
+-- what a search keeps may replace the best of all allocations so far: it is that best one, or nothing is kept and that best one is below the floor
 abbrev pub Serves : GoodsCase → Pair → Option (List ℕ) → Option (List ℕ) → Type 0
 Serves case floor None None = Unit {0}
 Serves case floor None (Some best) = IsLess (pair_of case best) floor

@@ -18,7 +18,7 @@ use std::simd::prelude::*;
 /// Who could reach a goal with the next good.
 #[derive(Clone, Copy, Default)]
 pub struct Contenders {
-    /// Bit k is set where player k + 1 could.
+    /// Bit k is set if player k + 1 could.
     pub owners: u64,
     /// By lane, in points, what the entries at the level leave over of the top where the lane's player gets the good.
     pub over: u16x16,
@@ -133,7 +133,7 @@ fn weighed(entries: u16x16, numbers: u16x16, shares: u32) -> u32x16
         .strict_mul(u32x16::splat(shares))
 }
 
-/// Bit k is set where lane k of the first is at least that of the second.
+/// Bit k is set if lane k of the first is at least that of the second.
 fn at_least(first: u32x16, second: u32x16) -> u64
     requires first { length first ≡ LANES }
     requires second { length second ≡ LANES }
@@ -152,7 +152,7 @@ fn limited(numbers: u16x16, limit: u32) -> u16x16
     numbers.simd_min(u16x16::splat(limit as u16))
 }
 
-/// Bit k is clear only where the entry after in place of that before falls short of these shares.
+/// Bit k is clear only if the entry after in place of that before falls short of these shares.
 fn reaching(before: u16x16, after: u16x16, over: u16x16, level: u32, shares: u32) -> u64
     requires befores { length before ≡ LANES }
     requires afters { length after ≡ LANES }
@@ -170,7 +170,7 @@ fn reaching(before: u16x16, after: u16x16, over: u16x16, level: u32, shares: u32
     at_least(rises, stays)
 }
 
-/// Bit k is set where lane k has points with the good, and none without.
+/// Bit k is set if lane k has points with the good, and none without.
 fn opened(high: u16x16, points: u16x16) -> u64
     requires highs { length high ≡ LANES }
     requires points { length points ≡ LANES }
@@ -192,7 +192,7 @@ fn shares_of(product: u128, goal: &Goal) -> u32
     shares.min(u64::from(SHARES)) as u32
 }
 
-/// Bit k is clear only where too few lanes are open with lane k for the count, or just as many and it doesn't reach the product.
+/// Bit k is clear only if too few lanes are open with lane k for the count, or just as many and it does not reach the product.
 fn among(open_lanes: u8, count: u8, reaching: u64, opened: u64) -> u64
     ensures { (k : ℕ) → k < LANES → lane_bit result k ≡ 0 → IsNoMore (open_lanes + lane_bit opened k) count (lane_bit reaching k) }
 {
@@ -238,8 +238,8 @@ fn contenders_at(
     }
 }
 
-/// Who could reach the goal with the next good: whoever is left out has a bound below the goal's pair with it. They are told apart soonest
-/// where `start` is near the level of the owners' bound.
+/// Who could reach the goal with the next good: a player who is left out has a bound below the goal's pair with it. They are told apart soonest
+/// if `start` is near the level of the owners' bound.
 #[inline(always)]
 pub fn contenders_of(
     case: &GoodsCase,

@@ -61,7 +61,7 @@ fn aim(at: AtLevel, level: u32, top: u32, middle: u32) -> u32
 
 /// The last level at which the sum is at most `top`, where the highest entries sum to more.
 ///
-/// It lies between a level that fits and one that doesn't. The first guess is `start`, any number. Each further one takes the number of rising entries as constant, and so meets
+/// It lies between a level that fits and one that does not. The first guess is `start`, any number. Each further one takes the number of rising entries as constant, and so meets
 /// it as soon as no entry's ends lie between.
 fn last_level(low: u16x16, high: u16x16, top: u32, start: u32) -> Height
     requires lows { length low ≡ LANES }

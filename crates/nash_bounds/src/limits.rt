@@ -1,4 +1,4 @@
-// The limits of bounds, tasks and blocks. Each number of them stands here and nowhere else; those of facts and bids stand in `bid_rules`.
+// The limits of bounds, tasks and blocks. Each number is here and nowhere else; the limits of facts and bids are in `bid_rules`.
 use bid_rules::limits::{MEMBER_ROOM, MOST_GOODS, MOST_MEMBERS, WHOLE_POINTS};
 
 /// The most points that the players have in sum.
@@ -20,7 +20,7 @@ pub const UNIT_BITS: u32 = 32;
 /// The most units in the product of a goal.
 pub const MOST_UNITS: u128 = (1 << UNIT_BITS) - 1;
 
-/// Tasks begin with lists of owners of the least length of which there are so many, or else of the length of all goods.
+/// Tasks begin with lists of owners of the least length for which there are so many lists, or with an owner for each good.
 pub const FEWEST_LISTS: u32 = 64;
 /// The most tasks: at most so many owners go on with each of the fewer lists that are one shorter.
 pub const MOST_TASKS: u32 = (FEWEST_LISTS - 1) * MOST_MEMBERS as u32;

@@ -54,7 +54,7 @@ pub fn pair_so_far(case: &GoodsCase, owners: &[u8], lanes: &Lanes) -> Pair
     }
 }
 
-/// The lanes without the next good at a level at which they fit. It is found soonest where `start` is near the level of the owners' bound.
+/// The lanes without the next good at a level at which they fit. It is found soonest if `start` is near the level of the owners' bound.
 pub(crate) fn flat_of(
     case: &GoodsCase,
     table: &LaneTable,
@@ -151,15 +151,15 @@ fn judge(lanes: &Lanes, start: u32, goal: &Goal, beyond: bool) -> Reached
     }
 }
 
-/// Whether the bound is at least the pair, or above it where it has to be beyond.
+/// Whether the bound is at least the pair, or above it if it has to be beyond.
 fn reaches_by(pair: Pair, beyond: bool, bound: Pair) -> bool
     ensures { result ≡ is_reached pair beyond bound }
 {
     if beyond { pair < bound } else { pair <= bound }
 }
 
-/// Whether the bound of the owners with these lanes is at least the goal's pair, or above it where it has to be beyond. It is found soonest
-/// where `start` is near the bound's level.
+/// Whether the bound of the owners with these lanes is at least the goal's pair, or above it if it has to be beyond. It is found soonest
+/// if `start` is near the bound's level.
 pub fn reaches(
     case: &GoodsCase,
     owners: &[u8],
@@ -177,8 +177,8 @@ pub fn reaches(
     judge(lanes, start, goal, beyond)
 }
 
-/// Whether the bound of the owners with the next good given to this owner is at least the goal's pair, or above it where it has to be beyond.
-/// It is found soonest where `start` is near the bound's level.
+/// Whether the bound of the owners with the next good given to this owner is at least the goal's pair, or above it if it has to be beyond.
+/// It is found soonest if `start` is near the bound's level.
 pub fn next_reaches(
     case: &GoodsCase,
     table: &LaneTable,

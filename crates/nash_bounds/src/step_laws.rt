@@ -35,7 +35,7 @@ pub fn owner_lists_law()
     ensures leaves_rising { (n k : ℕ) (owners : List ℕ) → AllPairs (λ one later. slice_cmp nat_cmp one later ≡ Less) (leaves n k owners) }
 {}
 
-/// A task begins with a list of the least length of which there are `FEWEST_LISTS` or more, or else of the length of all goods. The
+/// A task begins with a list of the least length for which there are `FEWEST_LISTS` or more, or with an owner for each good. The
 /// prefixes that the step count counts at a task are among those that begin with the task's owners, of all lengths from theirs to that of
 /// all goods, each once.
 pub fn tasks_law()
@@ -59,7 +59,7 @@ pub fn allocations_law()
 {}
 
 /// The best allocation of the first few tasks is one of theirs. None of these has a greater pair, and none with the same pair is before
-/// it as a list. There is none where they have no allocation.
+/// it as a list. There is none if they have no allocation.
 pub fn best_before_law()
     ensures found { (case : GoodsCase) (task : ℕ) (owners : List ℕ) → best_before case task ≡ Some owners
         → Contains (flat_map (task_leaves case) (range_with_len 0 task)) owners }
@@ -111,7 +111,7 @@ pub fn steps_law()
 {}
 
 /// The step law: of the prefixes of all lengths, the empty one among them, at most as many as the step count and `MOST_SHORTER` may not be
-/// left out by a tree that shows the best allocation. One may be left out where its bound is below the answer's pair, or the same and it is
+/// left out by a tree that shows the best allocation. One may be left out if its bound is below the answer's pair, or the same and it is
 /// after the answer's first owners: where its bound does not reach the pair, or is not above it where the owners are after the answer's first
 /// ones.
 pub fn open_prefixes_law()

@@ -1,5 +1,5 @@
 -- The better of two that are best among some.
-use Rattle.std.proofs.Common.{◌≡◌, ℕ, List, [], ◌++◌, append-nil, Ordering, Bool, true, false, not, ◌↔◌, Option, Some, None, arith, refl, sym, ap, ◌∙◌, subst, inl, inr}
+use Rattle.std.proofs.Common.{◌≡◌, ℕ, List, [], ◌++◌, Ordering, Bool, true, false, not, ◌↔◌, Option, Some, None, arith, refl, sym, ap, ◌∙◌, subst, inl, inr}
 use Rattle.std.specs.Option.{option_to_list}
 use Rattle.std.specs.Cmp.Lexicographic.{slice_cmp}
 use Rattle.std.specs.Ordering.{nat_cmp, ordering_reverse}
@@ -27,11 +27,6 @@ not_before a b d h k l = go (slice_cmp nat_cmp b d) refl
 -- two lists are not before each other
 both_before : (a b : List ℕ) → slice_cmp nat_cmp a b ≡ Less → slice_cmp nat_cmp b a ≡ Less → ⊥
 both_before a b h k = let e : slice_cmp nat_cmp b a ≡ Greater = nat_list_cmp_total.antisymm b a ∙ ap ordering_reverse h in let f : Less ≡ Greater = sym k ∙ e in cc
-
--- of two allocations with the same pair, by which list comes first
-pub same_behind : (case : GoodsCase) (a b : Found) (before : Bool) → before ≡ true ↔ slice_cmp nat_cmp a.list.items b.list.items ≡ Less → a.pair ≡ b.pair → a.pair ≡ pair_of case a.list.items → b.pair ≡ pair_of case b.list.items
-    → not before ≡ true → IsBehind case a.list.items b.list.items
-same_behind case a b before is same own other h = inr (sym own ∙ same ∙ other, λ l. let e : before ≡ true = is.1 l in let f : not before ≡ false = ap not e in cc)
 
 -- of two with the same pair the one that is before is not behind
 pub same_ahead : (case : GoodsCase) (a b : Found) (before : Bool) → before ≡ true ↔ slice_cmp nat_cmp a.list.items b.list.items ≡ Less → a.pair ≡ b.pair → a.pair ≡ pair_of case a.list.items → b.pair ≡ pair_of case b.list.items
@@ -70,14 +65,6 @@ first_kept case xs ys a b one two behind = record {
   );
   pair = one.pair;
 }
-
--- one of the two has none
-pub none_first : (case : GoodsCase) (xs ys : List (List ℕ)) (found : Option Found) → IsFoundBest case xs None → IsFoundBest case ys found → IsFoundBest case (xs ++ ys) found
-none_first case xs ys found one two = rw one.best two
-
--- the best of some is that of these and of none
-pub none_second : (case : GoodsCase) (xs ys : List (List ℕ)) (found : Option Found) → IsFoundBest case xs found → IsFoundBest case ys None → IsFoundBest case (xs ++ ys) found
-none_second case xs ys found one two = rw (two.best, append-nil xs) one
 
 -- one allocation is the best of itself
 pub own_best : (case : GoodsCase) (found : Option Found) → IsKept case found → IsFoundBest case (option_to_list (list_of found)) found

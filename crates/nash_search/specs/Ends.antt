@@ -5,13 +5,13 @@ use Rattle.nash_search.specs.Best.{IsFoundBest}
 use Rattle.nash_search.specs.declared.task.TaskEnd.{TaskEnd}
 use Rattle.nash_search.specs.declared.task.TaskEnd.TheVariants.{Done, Stopped}
 
--- all counted prefixes are counted, as many as are allowed or fewer, and the best of the counted allocations is found; or they are more than
--- are allowed, and one more than these is counted
+-- a task ends with all its counted prefixes counted, within the allowance, and the best counted allocation found, or it stops one prefix past the
+-- allowance
 abbrev pub EndsTask : GoodsCase → ℕ → List (List ℕ) → ℕ → TaskEnd → Type 0
 EndsTask case count allocations allowance (Done nodes best) = (nodes ≤ allowance) × (nodes ≡ count) × IsFoundBest case allocations best
 EndsTask case count allocations allowance (Stopped nodes) = (nodes ≡ allowance + 1) × (nodes ≤ count)
 
--- the number that an end gives
+-- how many prefixes an end of a task has counted
 abbrev pub nodes_in : TaskEnd → ℕ
 nodes_in (Done nodes best) = nodes
 nodes_in (Stopped nodes) = nodes

@@ -9,8 +9,8 @@ use Rattle.nash_search.specs.Waiting.{IsSettled, IsWalk, to_come, count_all, bes
 use Rattle.nash_search.specs.declared.found.Found.{Found}
 use Rattle.nash_search.specs.declared.walk.Walk.{Walk}
 
--- a walk as contracts see it: its task and the rule by which it counts, how many prefixes it has counted, the best allocation among these,
--- and where it stands
+-- a walk through a task, as contracts see it: the task and the rule of counting, how many prefixes are counted so far, the best allocation among
+-- them, and the place
 pub record Pieces : Type 0 where
   pub task : ℕ
   pub floor : Pair
@@ -19,8 +19,8 @@ pub record Pieces : Type 0 where
   pub best : Option Found
   pub place : Walk
 
--- it walks through its task of the case: what is counted and what waits are together the task's counted prefixes, and their best is the best
--- of the task's counted allocations
+-- a walk through a task of the case: the prefixes counted so far and those still waiting are all that the task counts, and the best of both is the
+-- task's best
 pub record IsTaskWalk (case : GoodsCase) (pieces : Pieces) : Type 0 where
   pub walk : IsWalk case pieces.place
   pub settled : IsSettled pieces.place
@@ -32,8 +32,8 @@ pub record IsTaskWalk (case : GoodsCase) (pieces : Pieces) : Type 0 where
   pub kept : best_all case pieces.floor pieces.above (to_come pieces.place) (list_of pieces.place.best)
       ≡ best case pieces.floor pieces.above (case.facts.goods - depth_of case) (task_list case pieces.task) None
 
--- after a piece: all counted prefixes of the task are counted, at most so many more, and the best of its counted allocations is found; or so
--- many more are counted, and some are left
+-- after a piece of at most so many prefixes, the task is done and its best allocation found, or exactly so many more prefixes are counted and some
+-- are left
 abbrev pub Advanced : GoodsCase → Pieces → Pieces → ℕ → Bool → Type 0
 Advanced case old new most true =
     (new.nodes ≤ old.nodes + most) × (new.nodes ≡ count_task case old.task old.floor old.above) × IsFoundBest case (counted_leaves case old.task old.floor old.above) new.best

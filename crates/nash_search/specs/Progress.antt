@@ -13,18 +13,18 @@ use Rattle.nash_search.specs.Best.{IsFoundBest, IsKept, list_of}
 use Rattle.nash_search.specs.declared.progress.Progress.{Progress}
 use Rattle.nash_search.specs.declared.tally.Tally.{Tally}
 
--- all counted prefixes of the first n tasks of a row are counted, and the best of the counted allocations is found
+-- all counted prefixes of n tasks in a row are counted, and the best of their counted allocations is found
 pub record IsTallied (case : GoodsCase) (floor : Pair) (above : Option Pair) (from n : ℕ) (tally : Tally) : Type 0 where
   pub count : tally.nodes ≡ count_tasks case floor above from n
   pub found : IsFoundBest case (counted_of_tasks case floor above from n) tally.best
 
--- after one task more: no more are counted than are allowed, and so all; or one more than are allowed
+-- after one task more, the tally is whole and within the allowance, or it is one prefix past the allowance
 abbrev pub AfterTask : GoodsCase → Pair → Option Pair → ℕ → ℕ → ℕ → Tally → Bool → Type 0
 AfterTask case floor above from n allowance tally true = (tally.nodes ≤ allowance) × IsTallied case floor above from (n + 1) tally
 AfterTask case floor above from n allowance tally false = (tally.nodes ≡ allowance + 1) × (tally.nodes ≤ count_tasks case floor above from (n + 1))
 
--- the blocks before the next one are searched: their steps are counted and within the limit, and what is found serves for the best of all
--- their allocations
+-- the blocks before the next one are searched: their steps are counted and within the limit, and what is kept may replace the best of their
+-- allocations
 pub record IsProgress (case : GoodsCase) (progress : Progress) : Type 0 where
   pub near : BLOCK_TASKS * progress.block < tasks_of case + BLOCK_TASKS
   pub start : IsStartValue case progress.floor
@@ -33,6 +33,6 @@ pub record IsProgress (case : GoodsCase) (progress : Progress) : Type 0 where
   pub serves : Serves case progress.floor (list_of progress.best) (best_before case (tasks_before case progress.block))
   pub kept : IsKept case progress.best
 
--- the pair that the counted prefixes of the next block exceed
+-- the Nash welfare of the best allocation kept so far, which counted prefixes of the next block have to exceed
 abbrev pub pair_so_far : GoodsCase → Progress → Option Pair
 pair_so_far case progress = pair_kept case (list_of progress.best)

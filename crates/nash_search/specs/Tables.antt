@@ -4,7 +4,7 @@ use Rattle.nash_bounds.specs.Lanes.{IsLaneTable}
 use Rattle.nash_bounds.specs.Tables.{IsTable}
 use Rattle.nash_search.specs.declared.tables.Tables.{Tables}
 
--- both tables are the case's
+-- both tables, of points and of lanes, are those of the case
 pub record AreTables (case : GoodsCase) (tables : Tables) : Type 0 where
   pub points : IsTable case tables.points
   pub lanes : IsLaneTable case tables.lanes

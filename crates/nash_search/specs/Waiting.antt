@@ -13,18 +13,17 @@ use Rattle.nash_search.specs.declared.levels.Level.{Level}
 use Rattle.nash_search.specs.declared.rules.Rules.{Rules}
 use Rattle.nash_search.specs.declared.walk.Walk.{Walk}
 
--- the owners who wait at a level
+-- the owners who wait at a level of the path
 abbrev pub owners_of : Level → List ℕ
 owners_of level = level.owners.items
 
--- the prefixes that wait, in rising order: first those that extend the whole path, by the owners of the last level from its end, and last those
--- that extend none of it
+-- the prefixes that wait, in rising order: first those that extend the whole path, and last those that share no owner with it
 abbrev pub waiting : List ℕ → List ℕ → List (List ℕ) → List (List ℕ)
 waiting above path [] = []
 waiting above [] (level ∷ levels) = map (λ owner. above ++ owner ∷ []) (reverse level)
 waiting above (owner ∷ path) (level ∷ levels) = waiting (above ++ owner ∷ []) path levels ++ map (λ owner. above ++ owner ∷ []) (reverse level)
 
--- those of a walk
+-- the prefixes that a walk has still to visit
 abbrev pub to_come : Walk → List (List ℕ)
 to_come walk = waiting [] walk.path.items (map owners_of walk.levels.items)
 
@@ -32,24 +31,24 @@ to_come walk = waiting [] walk.path.items (map owners_of walk.levels.items)
 abbrev pub count_all : GoodsCase → Pair → Option Pair → List (List ℕ) → ℕ
 count_all case floor above prefixes = sum_by (λ owners. count case floor above (case.facts.goods - length owners) owners) prefixes
 
--- the best of the counted allocations that begin with one of these, after an earlier best
+-- the best of the counted allocations that begin with one of these, and of an earlier best
 abbrev pub best_all : GoodsCase → Pair → Option Pair → List (List ℕ) → Option (List ℕ) → Option (List ℕ)
 best_all case floor above prefixes old = fold (λ kept owners. best case floor above (case.facts.goods - length owners) owners kept) old prefixes
 
--- a pair reaches the goal, or is above it where it has to be, exactly where it is at least floor and greater than above
+-- a pair reaches the walk's goal exactly if it is at least the floor and greater than the pair above
 pub record AreRules (rules : Rules) : Type 0 where
   pub goal : IsGoal rules.goal
   pub same : (pair : Pair) → (is_at_most rules.floor pair && is_above rules.above pair) ≡ is_reached rules.goal.pair rules.beyond pair
 
--- where somebody waits at the level, it has the lanes of these owners, without the next good
+-- if an owner waits at the level, the level keeps what each player has and may have without the next good
 abbrev pub HasFork : GoodsCase → List ℕ → Level → Type 0
 HasFork case owners level = 0 < length level.owners.items → IsFork case owners level.lanes
 
--- each level has those of the path's owners before it
+-- each level of the path keeps what each player has and may have after the owners before it
 abbrev pub HaveForks : GoodsCase → List ℕ → List Level → Type 0
 HaveForks case path levels = (k : ℕ) (other : Level) → k < length levels → HasFork case (take k path) (slice_index_or levels k other)
 
--- owners of the first few goods with a level for each of these and one more, or no level; each prefix that waits is counted
+-- a walk over owners of the first few goods, in which each prefix that waits is a counted one
 pub record IsWalk (case : GoodsCase) (walk : Walk) : Type 0 where
   pub table : IsLaneTable case walk.table
   pub forks : HaveForks case walk.path.items walk.levels.items
@@ -61,11 +60,11 @@ pub record IsWalk (case : GoodsCase) (walk : Walk) : Type 0 where
   pub kept : IsKept case walk.best
   pub rules : AreRules walk.rules
 
--- nothing waits, or the last level has an owner
+-- nothing waits, or an owner waits at the last level
 abbrev pub IsSettled : Walk → Type 0
 IsSettled walk = (walk.levels.items ≡ []) ⊎ ((front : List Level) × (last : Level) × (walk.levels.items ≡ front ++ last ∷ []) × (0 < length last.owners.items))
 
--- what was counted and what is still to come is the same together
+-- the walk goes on: what was counted and what is still to come is the same together
 pub record Goes (case : GoodsCase) (old new : Walk) : Type 0 where
   pub rules : new.rules ≡ old.rules
   pub nodes : old.nodes + count_all case old.rules.floor old.rules.above (to_come old) ≡ new.nodes + count_all case old.rules.floor old.rules.above (to_come new)

@@ -1,6 +1,10 @@
 //! The search for the allocation with the greatest Nash welfare, on one thread, with its exact step count.
 //!
-//! The definitions of bound, tasks, counted prefixes and step count stand in `nash_bounds`, that of the best allocation in `bid_rules`.
+//! Bounds, tasks, counted prefixes and the step count are defined in `nash_bounds`, the best allocation in `bid_rules`.
+//!
+//! It refuses exactly where the step count is above the limit of the case, and takes no memory. A
+//! valid case has one start value, one step count and at most one division (`some_steps_law`,
+//! `step_count_law`, `limit_law`).
 #![tactic(auto)]
 
 mod blocks;

@@ -36,7 +36,7 @@ impl Model for TaskWalk {
     } };
 }
 
-/// A walk that has its whole task to come. It will count the prefixes whose bound is at least `floor` and, where `above` is there, greater
+/// A walk that has its whole task to come. It will count the prefixes whose bound is at least `floor` and, if there is an `above`, greater
 /// than it.
 pub fn start_walk(case: &GoodsCase, task: u32, floor: Pair, above: Option<Pair>) -> TaskWalk
     requires case { IsValidGoodsCase case.now }
@@ -76,7 +76,7 @@ pub fn walk_by(
 }
 
 impl TaskWalk {
-    /// Counts up to so many further prefixes. It answers false exactly where counted prefixes of the task are still not counted, and then it
+    /// Counts up to so many further prefixes. It answers false exactly if counted prefixes of the task are still not counted, and then it
     /// has counted so many more.
     ///
     /// `case` is that with which the walk was started. After true, `nodes` and `best` are those of the whole task.

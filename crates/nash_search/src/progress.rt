@@ -12,7 +12,7 @@ use nash_bounds::{
 /// How far a search has come that goes through the tasks of a case in blocks of `BLOCK_TASKS`.
 ///
 /// In a block the prefixes are counted whose bound exceeds the best pair of the earlier blocks. The best that was found serves for it:
-/// where nothing was found, all earlier allocations are below the start value.
+/// if nothing was found, all earlier allocations are below the start value.
 #[derive(Drop)]
 pub struct Progress {
     /// The start value of the case. Prefixes with a smaller bound are not counted.

@@ -8,7 +8,7 @@ use nash_bounds::{Goal, Pair};
 pub(crate) struct Rules {
     /// A counted prefix has at least this bound.
     pub(crate) floor: Pair,
-    /// A counted prefix has a greater bound, where this is there.
+    /// If there is such a pair, a counted prefix has a greater bound.
     pub(crate) above: Option<Pair>,
     /// What the bound of a counted prefix reaches.
     pub(crate) goal: Goal,

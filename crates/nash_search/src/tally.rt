@@ -7,7 +7,7 @@ use nash_bounds::tasks_in_row_law;
 pub struct Tally {
     /// How many prefixes are counted.
     pub nodes: u32,
-    /// The best of the counted allocations, the least list among equals, or `None` where there are none.
+    /// The best of the counted allocations, the least list among equals, or `None` if there are none.
     pub best: Option<Found>,
 }
 
@@ -31,7 +31,7 @@ impl Tally {
         }
     }
 
-    /// Adds the end of the next task, which was searched with what the earlier ones left of the allowance; false where it was stopped.
+    /// Adds the end of the next task, which was searched with what the earlier ones left of the allowance; false if it was stopped.
     pub fn add(&mut self, end: TaskEnd) -> bool
         requires { self.old.nodes + nodes_in end < 2 ^ 32 }
         ensures { (case : GoodsCase) (floor : Pair) (above : Option Pair) (from n allowance : ℕ) → self.old.nodes ≤ allowance → IsTallied case floor above from n self.old

@@ -18,7 +18,7 @@ use nash_bounds::{Pair, PointTable, Prefix, empty_prefix, extend_by, owner_lists
 /// How the search of a task ended.
 #[derive(Debug, Drop, PartialEq, Eq)]
 pub enum TaskEnd {
-    /// All counted prefixes are counted: how many, and the best allocation among them, `None` where none is an allocation.
+    /// All counted prefixes are counted: how many, and the best allocation among them, `None` if none is an allocation.
     Done { nodes: u32, best: Option<Found> },
     /// The counted prefixes are more than the allowance, and `nodes` is one above it.
     Stopped { nodes: u32 },
@@ -85,10 +85,10 @@ pub(crate) fn task_prefix(case: &GoodsCase, table: &PointTable, task: u32) -> Pr
     prefix
 }
 
-/// Counts the prefixes of a task whose bound is at least `floor` and, where `above` is there, greater than it, and finds the best
+/// Counts the prefixes of a task whose bound is at least `floor` and, if there is an `above`, greater than it, and finds the best
 /// allocation among them, the least list among equals.
 ///
-/// `task` is a task of the case, from 0, and `allowance` at most `MOST_STEPS`. The search stops exactly where more prefixes are counted than
+/// `task` is a task of the case, from 0, and `allowance` at most `MOST_STEPS`. The search stops exactly if more prefixes are counted than
 /// the allowance, and then it has counted one more.
 pub fn search_task(
     case: &GoodsCase,

@@ -140,7 +140,7 @@ impl Walk {
         self.levels[last].turn()
     }
 
-    /// Goes on to the prefix: offers it, where it is an allocation, else sees who waits after it.
+    /// Goes on to the prefix: offers it if it is an allocation, and otherwise sees who waits after it.
     fn enter(&mut self, case: &GoodsCase, turn: &Turn)
         requires case { IsValidGoodsCase case.now }
         requires walk { IsWalk case.now self.old }

@@ -1,16 +1,14 @@
--- A case of fares has best fares, and a least route of all riders.
+-- A case of fares has a least route of all riders.
 use Rattle.std.proofs.Common.{◌≡◌, ◌≢◌, ℕ, ◌<◌, ◌≤◌, ◌⊎◌, List, [], ◌∷◌, length, map, All, Contains, Less, Equal, Greater, arith, refl, sym, ◌∙◌, inl, inr, ⊎_elim}
 use Rattle.std.specs.Cmp.Lexicographic.{slice_cmp}
-use Rattle.std.specs.List.{AllZip}
 use Rattle.std.specs.Ordering.{nat_cmp}
 use Rattle.std.specs.declared.cmp.Ordering.{Ordering}
 use Rattle.std.proofs.lemmas.Bool.{cases_order}
 use Rattle.std.proofs.lemmas.Cmp.{nat_list_cmp_total}
 use Rattle.std.proofs.lemmas.List.Elements.{All-nil, All-cons, All-head, All-tail, All-contains, All-contains_itself}
 use Rattle.bid_rules.specs.declared.cases.FareCase.{FareCase}
-use Rattle.bid_rules.specs.Fares.{FareBest, IsLeastRoute, legs_along, riders_of, route_cost, sum_of_marginal_costs}
-use Rattle.bid_rules.specs.Fractions.{Fraction, IsQuotient}
-use Rattle.bid_rules.specs.Orders.{factorial, orders}
+use Rattle.bid_rules.specs.Fares.{IsLeastRoute, legs_along, riders_of, route_cost}
+use Rattle.bid_rules.specs.Orders.{orders}
 use Rattle.split_lemmas.proofs.OrderLaws.{All-from_map, factorial_pos, length-orders}
 
 -- before as a list, or not
@@ -79,7 +77,7 @@ first_least P f (x ∷ z ∷ zs) some all =
         (cases_order (f x) (f y))
 
 -- there is a least route
-some_route : (case : FareCase) → Contains (map (legs_along case 0) (orders (riders_of case))) (route_cost case 0 (riders_of case))
+pub some_route : (case : FareCase) → Contains (map (legs_along case 0) (orders (riders_of case))) (route_cost case 0 (riders_of case))
     → All (λ sum. route_cost case 0 (riders_of case) ≤ sum) (map (legs_along case 0) (orders (riders_of case))) → (route : List ℕ) × IsLeastRoute case route
 some_route case reached least =
     let riders : List ℕ = riders_of case in
@@ -103,17 +101,3 @@ some_route case reached least =
     All-mapped : {A B : Type 0} (P : B → Type 0) (f : A → B) (xs : List A) → All (λ x. P (f x)) xs → All P (map f xs)
     All-mapped P f [] all = All-nil P
     All-mapped {A} P f (x ∷ xs) all = let Q : A → Type 0 = λ x. P (f x) in All-cons P (f x) (map f xs) (All-head Q x xs all) (All-mapped P f xs (All-tail Q x xs all))
-
--- each element beside its image
-beside : {A B : Type 0} (R : A → B → Type 0) (f : A → B) → ((x : A) → R x (f x)) → (xs : List A) → AllZip R xs (map f xs)
-beside R f h [] = tt
-beside R f h (x ∷ xs) = (h x, beside R f h xs)
-
--- and so there are best fares with it
-pub some_fares : (case : FareCase) → Contains (map (legs_along case 0) (orders (riders_of case))) (route_cost case 0 (riders_of case))
-    → All (λ sum. route_cost case 0 (riders_of case) ≤ sum) (map (legs_along case 0) (orders (riders_of case))) → (fares : List Fraction) × (route : List ℕ) × FareBest case fares route
-some_fares case reached least =
-    let parts : ℕ = factorial (length case.at.items) in
-    let mean : ℕ → Fraction = λ rider. (sum_of_marginal_costs case rider, parts) in
-    let route = some_route case reached least in
-    (map mean (riders_of case), route.0, record { mean = beside (λ rider fare. IsQuotient fare (sum_of_marginal_costs case rider) parts) mean (λ rider. (factorial_pos (length case.at.items), refl)) (riders_of case); least_route = route.1 })

@@ -70,11 +70,11 @@ vertices_of n (x ∷ xs) v ys h =
     (All-cons (λ j. j < n) x xs (All-head (λ j. j < n) x (xs ++ v ∷ ys) h) rest.0, rest.1)
 
 -- a walk with no vertex twice that is as heavy
-record HasShortWalk (n : ℕ) (w : ℕ → ℕ → ℤ) (to : ℕ) (before : List ℕ) : Type 0 where
-  walk : List ℕ
-  vertices : AreVertices n walk
-  distinct : IsDistinct eqb (to ∷ walk)
-  heavy : walk_weight w to before ≤ℤ walk_weight w to walk
+pub record HasShortWalk (n : ℕ) (w : ℕ → ℕ → ℤ) (to : ℕ) (before : List ℕ) : Type 0 where
+  pub walk : List ℕ
+  pub vertices : AreVertices n walk
+  pub distinct : IsDistinct eqb (to ∷ walk)
+  pub heavy : walk_weight w to before ≤ℤ walk_weight w to walk
 
 -- one step more, without the cycle that it may close
 one_more : (n : ℕ) (w : ℕ → ℕ → ℤ) → HasNoPositiveRound n w → (to from : ℕ) (before : List ℕ) → to < n → from < n → HasShortWalk n w from before → HasShortWalk n w to (from ∷ before)
@@ -92,7 +92,7 @@ one_more n w none to from before l known r =
     record { walk = from ∷ r.walk; vertices = vertices; distinct = IsDistinct-cons eqb to (from ∷ r.walk) off r.distinct; heavy = omega (arith, ints, heavy) })
     (cut_or_apart to (from ∷ r.walk))
 
-short_walk : (n : ℕ) (w : ℕ → ℕ → ℤ) → HasNoPositiveRound n w → (to : ℕ) (before : List ℕ) → to < n → AreVertices n before → HasShortWalk n w to before
+pub short_walk : (n : ℕ) (w : ℕ → ℕ → ℤ) → HasNoPositiveRound n w → (to : ℕ) (before : List ℕ) → to < n → AreVertices n before → HasShortWalk n w to before
 short_walk n w none to [] l h = record { walk = []; vertices = All-nil (λ j. j < n); distinct = IsDistinct-cons eqb to [] tt nothing; heavy = omega (arith, ints) }
 short_walk n w none to (from ∷ before) l h =
     let known : from < n = All-head (λ j. j < n) from before h in
@@ -106,30 +106,34 @@ found_below n (x ∷ xs) h q e = ⊎_elim
     (λ (d : eqb q x ≡ false). found_below n xs (All-tail (λ j. j < n) x xs h) q (ap (λ b. b || list_any (eqb q) xs) (sym d) ∙ e))
     (same_or_apart q x)
 
-few_steps : (n to : ℕ) (walk : List ℕ) → to < n → AreVertices n walk → IsDistinct eqb (to ∷ walk) → length walk + 1 ≤ n
+pub few_steps : (n to : ℕ) (walk : List ℕ) → to < n → AreVertices n walk → IsDistinct eqb (to ∷ walk) → length walk + 1 ≤ n
 few_steps n to walk l h d = let count = length-le_from_distinct_below (to ∷ walk) n d (found_below n (to ∷ walk) (All-cons (λ j. j < n) to walk l h)) in omega (arith, count)
 
--- a walk of vertices that no other of at most so many steps exceeds
-record IsHeaviest (n : ℕ) (w : ℕ → ℕ → ℤ) (limit to : ℕ) (walk : List ℕ) : Type 0 where
-  vertices : AreVertices n walk
-  greatest : (before : List ℕ) → AreVertices n before → length before ≤ limit → walk_weight w to before ≤ℤ walk_weight w to walk
+-- a walk of at most so many steps that no other of at most so many exceeds
+pub record IsHeaviest (n : ℕ) (w : ℕ → ℕ → ℤ) (limit to : ℕ) (walk : List ℕ) : Type 0 where
+  pub vertices : AreVertices n walk
+  pub short : length walk ≤ limit
+  pub greatest : (before : List ℕ) → AreVertices n before → length before ≤ limit → walk_weight w to before ≤ℤ walk_weight w to walk
 
--- a walk of vertices that neither no step nor the walks over the first k vertices exceed
-record IsOver (n : ℕ) (w : ℕ → ℕ → ℤ) (to k : ℕ) (walks : ℕ → List ℕ) (walk : List ℕ) : Type 0 where
+-- a walk of at most so many steps that neither no step nor the walks over the first k vertices exceed
+record IsOver (n : ℕ) (w : ℕ → ℕ → ℤ) (limit to k : ℕ) (walks : ℕ → List ℕ) (walk : List ℕ) : Type 0 where
   vertices : AreVertices n walk
+  short : length walk ≤ limit
   low : pos 0 ≤ℤ walk_weight w to walk
   each : (from : ℕ) → from < k → walk_weight w to (from ∷ walks from) ≤ℤ walk_weight w to walk
 
-over_first : (n : ℕ) (w : ℕ → ℕ → ℤ) (to : ℕ) (walks : ℕ → List ℕ) → ((from : ℕ) → AreVertices n (walks from)) → (k : ℕ) → k ≤ n → (walk : List ℕ) × IsOver n w to k walks walk
-over_first n w to walks are zero l = ([], record { vertices = All-nil (λ j. j < n); low = omega (arith, ints); each = λ from m. absurd (omega (arith, m)) })
-over_first n w to walks are (suc k) l =
-    let rest = over_first n w to walks are k (omega (arith, l)) in
+over_first : (n : ℕ) (w : ℕ → ℕ → ℤ) (limit to : ℕ) (walks : ℕ → List ℕ) → ((from : ℕ) → AreVertices n (walks from)) → ((from : ℕ) → length (walks from) ≤ limit) → (k : ℕ) → k ≤ n
+    → (walk : List ℕ) × IsOver n w (suc limit) to k walks walk
+over_first n w limit to walks are short zero l = ([], record { vertices = All-nil (λ j. j < n); short = omega arith; low = omega (arith, ints); each = λ from m. absurd (omega (arith, m)) })
+over_first n w limit to walks are short (suc k) l =
+    let rest = over_first n w limit to walks are short k (omega (arith, l)) in
     let low = rest.1.low in
     by_lt_z (walk_weight w to rest.0) (walk_weight w to (k ∷ walks k))
     (λ (more : walk_weight w to rest.0 <ℤ walk_weight w to (k ∷ walks k)). (
       k ∷ walks k,
       record {
         vertices = All-cons (λ j. j < n) k (walks k) (omega (arith, l)) (are k);
+        short = omega (arith, short k);
         low = omega (arith, ints, low, more);
         each = λ from m. ⊎_elim
             (λ (early : from < k). let h = rest.1.each from early in omega (arith, ints, h, more))
@@ -142,6 +146,7 @@ over_first n w to walks are (suc k) l =
       rest.0,
       record {
         vertices = rest.1.vertices;
+        short = rest.1.short;
         low = low;
         each = λ from m. ⊎_elim
             (λ (early : from < k). rest.1.each from early)
@@ -151,7 +156,7 @@ over_first n w to walks are (suc k) l =
       },
     ))
 
-one_step_more : (n : ℕ) (w : ℕ → ℕ → ℤ) (limit to : ℕ) (walks : ℕ → List ℕ) → ((from : ℕ) → IsHeaviest n w limit from (walks from)) → (walk : List ℕ) → IsOver n w to n walks walk
+one_step_more : (n : ℕ) (w : ℕ → ℕ → ℤ) (limit to : ℕ) (walks : ℕ → List ℕ) → ((from : ℕ) → IsHeaviest n w limit from (walks from)) → (walk : List ℕ) → IsOver n w (suc limit) to n walks walk
     → (before : List ℕ) → AreVertices n before → length before ≤ suc limit → walk_weight w to before ≤ℤ walk_weight w to walk
 one_step_more n w limit to walks are walk over [] v short = over.low
 one_step_more n w limit to walks are walk over (from ∷ before) v short =
@@ -160,8 +165,8 @@ one_step_more n w limit to walks are walk over (from ∷ before) v short =
     omega (arith, ints, rest, one)
 
 -- there is one, for each number of steps
-heaviest : (n : ℕ) (w : ℕ → ℕ → ℤ) (limit to : ℕ) → (walk : List ℕ) × IsHeaviest n w limit to walk
-heaviest n w zero to = ([], record { vertices = All-nil (λ j. j < n); greatest = λ before v short. alone before short })
+pub heaviest : (n : ℕ) (w : ℕ → ℕ → ℤ) (limit to : ℕ) → (walk : List ℕ) × IsHeaviest n w limit to walk
+heaviest n w zero to = ([], record { vertices = All-nil (λ j. j < n); short = omega arith; greatest = λ before v short. alone before short })
   where
     alone : (before : List ℕ) → length before ≤ 0 → walk_weight w to before ≤ℤ pos 0
     alone [] short = omega (arith, ints)
@@ -169,8 +174,8 @@ heaviest n w zero to = ([], record { vertices = All-nil (λ j. j < n); greatest 
 heaviest n w (suc limit) to =
     let walks : ℕ → List ℕ = λ from. (heaviest n w limit from).0 in
     let are : (from : ℕ) → IsHeaviest n w limit from (walks from) = λ from. (heaviest n w limit from).1 in
-    let best = over_first n w to walks (λ from. (are from).vertices) n (omega arith) in
-    (best.0, record { vertices = best.1.vertices; greatest = one_step_more n w limit to walks are best.0 best.1 })
+    let best = over_first n w limit to walks (λ from. (are from).vertices) (λ from. (are from).short) n (omega arith) in
+    (best.0, record { vertices = best.1.vertices; short = best.1.short; greatest = one_step_more n w limit to walks are best.0 best.1 })
 
 -- so each vertex has a greatest weight
 pub greatest_weights : (n : ℕ) (w : ℕ → ℕ → ℤ) → HasNoPositiveRound n w → (weights : List ℤ) × AreGreatestWeights n w weights

@@ -1,6 +1,9 @@
 mod Cycles
+mod FewestSteps
 mod FirstRoutes
 mod HeaviestWalks
+mod KeySizes
+mod SomeFares
 mod SomeRents
 pub mod DateBytes
 pub mod Lengths

@@ -11,7 +11,7 @@ pub record Brings (reply : HttpReply) (text : List ℕ) : Type 0 where
   pub whole : reply.bodiless ≡ false
   pub is_text : reply.text.now ≡ text
 
--- so is the reply that is due
+-- the reply that is due has status 200, lists no methods, and its body is the text
 pub record IsToBring (due : DueView) (text : List ℕ) : Type 0 where
   pub status : due.said.status ≡ OK_STATUS
   pub allow : due.said.allow ≡ None

@@ -12,14 +12,14 @@ use Rattle.split_http.specs.declared.head.Verb.TheVariants as verb
 use Rattle.rule_verdicts.specs.declared.verdict.Verdict.{Verdict}
 use Rattle.rule_verdicts.specs.declared.verdict.Verdict.TheVariants.{Yes}
 
--- yes is what is to be answered of these bytes
+-- a fetch that takes these bytes is to answer yes
 abbrev pub IsYes : List ℕ → Type 0
 IsYes bytes = Fetched bytes (Ok Yes)
 
--- over a link with these bytes a fetch answers nothing but yes, unless a call on the link failed
+-- a fetch over a link with these bytes answers nothing but yes, unless a call on the link fails
 abbrev pub IsYesOnly : List ℕ → Type 0
 IsYesOnly bytes = (result : Result Verdict FetchEnd) → FetchSays (Some bytes) result → result ≢ Err LinkFault → result ≡ Ok Yes
 
--- where the request is a GET for a certificate, and has a reply of status 200, this is so of the bytes of the reply, whatever follows
+-- this holds of the bytes of each reply of status 200 to a GET for a certificate, whatever bytes follow them
 abbrev pub IsOfCertificates : {D : Type 0} → (List ℕ → Type 0) → Exchange (D × State) → Type 0
 IsOfCertificates so x = AsksFor x what.Certificate → x.due.said.status ≡ OK_STATUS → x.head.verb ≡ verb.Get → (rest : List ℕ) → so (x.bytes ++ rest)

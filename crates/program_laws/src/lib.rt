@@ -1,6 +1,10 @@
 //! Laws over the whole: each valid case has a best division, and what a fetch makes of a host's replies.
 //!
 //! Each law is the contract of a function that does nothing.
+//!
+//! A host's certificate is one to which a fetch says yes (`host_certificates_law`). That the host
+//! reads the request of a fetch as one for that certificate is shown by tests alone. Nothing is
+//! built on this crate.
 #![tactic(auto)]
 
 mod divisions;

@@ -1,19 +1,19 @@
 -- Heads are unique, whatever follows, and what is read so far against all the bytes of a link.
-use Rattle.std.proofs.Common.{◌≡◌, ℕ, ◌<◌, ◌≤◌, List, [], ◌++◌, length, take, map, Option, Some, None, Result, Ok, Err, IfSome, refl, sym, ap, ◌∙◌, arith, length-append, subst}
+use Rattle.std.proofs.Common.{◌≡◌, ℕ, ◌<◌, ◌≤◌, List, [], ◌++◌, length, take, map, Option, Some, None, Result, Ok, Err, IfSome, inl, inr, refl, sym, ap, ◌∙◌, arith, length-append, subst}
 use Rattle.std.proofs.lemmas.Grind.{common_steps}
 use Rattle.std.specs.Io.KnownBytes.{Keeps, prepend_known}
-use Rattle.httparse.specs.Grammar.{ResponseHead, print_response}
-use Rattle.httparse.specs.Spans.{IsResponseAt, IsResponseOf, IsResponseWithin, header_bytes, name_and_value}
-use Rattle.httparse.specs.Outcome.{IfComplete}
+use Rattle.httparse.specs.Grammar.{ResponseHead, HasNoResponse, MayBecomeResponse, print_response}
+use Rattle.httparse.specs.Spans.{IsResponseAt, IsResponseOf, IsResponseWithin, ResponseExceeds, header_bytes, name_and_value}
+use Rattle.httparse.specs.Outcome.{IfComplete, OnPartial, OnTooManyHeaders}
 use Rattle.httparse.specs.declared.Error.{Error}
 use Rattle.httparse.specs.declared.Status.{Status}
 use Rattle.httparse.specs.declared.Status.TheVariants.{Complete, Partial}
 use Rattle.httparse.specs.declared.spans.HeaderSpan.{HeaderSpan}
 use Rattle.httparse.specs.declared.spans.ResponseSpans.{ResponseSpans}
 use Rattle.httparse.proofs.GrammarLemmas.{response_prefix_free, print_response-append}
-use Rattle.http_heads.specs.declared.limits.TheConstants.{MAX_FIELDS}
+use Rattle.http_heads.specs.declared.limits.TheConstants.{MAX_FIELDS, ROOM}
 use Rattle.http_heads.specs.Search.{IsBad, NeverHasOne}
-use Rattle.remote_check.specs.Heads.{HasNoHead, IsText}
+use Rattle.remote_check.specs.Heads.{AsksMore, HasNoHead, IsText}
 
 -- as many fields as were written
 fields_count : (bytes : List ℕ) (headers : List HeaderSpan) (r : ResponseSpans) (h : ResponseHead)
@@ -39,6 +39,15 @@ pub many_fields : (bytes : List ℕ) (headers : List HeaderSpan) (result : Resul
 many_fields bytes headers (Ok (Complete spans)) of within = too_many_fields bytes headers spans of within.section.count_fits
 many_fields bytes headers (Ok Partial) of within = tt
 many_fields bytes headers (Err error) of within = tt
+
+-- the parser answers that it asks for more, or that it has no room
+pub asks_partial : (bytes : List ℕ) (result : Result (Status ResponseSpans) Error) → OnPartial result (HasNoResponse bytes) → OnPartial result (MayBecomeResponse bytes) → OnPartial result (AsksMore bytes)
+asks_partial bytes (Ok (Complete spans)) none may = tt
+asks_partial bytes (Ok Partial) none may = inl (none, may)
+asks_partial bytes (Err error) none may = tt
+
+pub asks_room : (bytes : List ℕ) (room : ℕ) (result : Result (Status ResponseSpans) Error) → room ≡ ROOM → OnTooManyHeaders result (ResponseExceeds room bytes) → OnTooManyHeaders result (AsksMore bytes)
+asks_room bytes room result size many is = inr (subst (λ n. ResponseExceeds n bytes) size (many is))
 
 -- bytes that begin with no text of a head begin with no head
 none_bytes : (bytes : List ℕ) → IsBad IsText bytes → HasNoHead bytes

@@ -8,11 +8,11 @@ use Rattle.cert_checker.specs.Judged.{IsJudged}
 use Rattle.rule_verdicts.specs.declared.verdict.Verdict.{Verdict}
 use Rattle.remote_check.specs.declared.limits.TheConstants.{FILLER}
 
--- how many bytes of filler stand behind the awaited ones: more than a certificate has where the input ends within them
+-- how many bytes of filler follow the awaited ones: more than a certificate has where the input ends within them
 abbrev pub filler_of : ℕ → ℕ → List ℕ → ℕ
 filler_of awaited filler input = if nat_lt (length input) awaited then FILLER else filler
 
--- what the judge is given of the input: the awaited bytes, and behind them the filler
+-- what the judge is given of the input: the awaited bytes, and after them the filler
 abbrev pub given_of : ℕ → ℕ → List ℕ → List ℕ
 given_of awaited filler input = take awaited input ++ replicate (filler_of awaited filler input) 0
 

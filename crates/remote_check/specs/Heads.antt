@@ -1,10 +1,10 @@
 -- The head of a response at the front of bytes.
-use Rattle.std.specs.Prelude.{◌≡◌, ◌≢◌, ℕ, ◌≤◌, List, ◌++◌, length, map}
-use Rattle.httparse.specs.Grammar.{ResponseHead, IsResponseHead, print_response}
-use Rattle.httparse.specs.Spans.{IsResponseAt, IsResponseWithin, name_and_value}
+use Rattle.std.specs.Prelude.{◌≡◌, ◌≢◌, ◌⊎◌, ℕ, ◌≤◌, List, ◌++◌, length, map}
+use Rattle.httparse.specs.Grammar.{ResponseHead, HasNoResponse, IsResponseHead, MayBecomeResponse, print_response}
+use Rattle.httparse.specs.Spans.{IsResponseAt, IsResponseWithin, ResponseExceeds, name_and_value}
 use Rattle.httparse.specs.declared.spans.HeaderSpan.{HeaderSpan}
 use Rattle.httparse.specs.declared.spans.ResponseSpans.{ResponseSpans}
-use Rattle.http_heads.specs.declared.limits.TheConstants.{MAX_HEAD, MAX_FIELDS}
+use Rattle.http_heads.specs.declared.limits.TheConstants.{MAX_HEAD, MAX_FIELDS, ROOM}
 use Rattle.http_heads.specs.Fields.{Pair}
 
 -- a head by the grammar of `httparse` (RFC 9112), of at most 8,192 bytes and with at most 64 fields
@@ -21,6 +21,11 @@ HasNoHead bytes = (head : ResponseHead) (rest : List ℕ) → IsHead head → by
 pub record BeginsWith (bytes : List ℕ) (head : ResponseHead) (rest : List ℕ) : Type 0 where
   pub is_head : IsHead head
   pub text : bytes ≡ print_response head ++ rest
+
+-- `httparse` asks for more of the bytes: no head of any number of fields stands at their front, and they become one when the right bytes
+-- follow; or they have more fields than the 256 for which it has room
+abbrev pub AsksMore : List ℕ → Type 0
+AsksMore bytes = (HasNoResponse bytes × MayBecomeResponse bytes) ⊎ ResponseExceeds ROOM bytes
 
 -- the text of such a head, however long
 abbrev pub IsText : List ℕ → Type 0

@@ -16,7 +16,7 @@ use cert_reader::TextEnd;
 use rule_verdicts::Verdict;
 use split_base::Source;
 
-// Judges the body of this length, of which the first bytes, and maybe some behind it, were read ahead.
+// Judges the body of this length, of which the first bytes, and maybe some after it, were read ahead.
 pub(crate) fn judge_body<S: Source>(
     link: &mut S,
     held: &[u8],

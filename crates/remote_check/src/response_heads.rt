@@ -1,5 +1,5 @@
 // Heads of responses, as the search for heads takes them.
-ghost use Rattle.remote_check.specs.Heads.{IsFoundAt, IsText};
+ghost use Rattle.remote_check.specs.Heads.{AsksMore, IsFoundAt, IsText};
 
 use http_heads::{HeadKind, ROOM};
 use httparse::spans::{HeaderSpan, ResponseSpans, parse_response};
@@ -11,6 +11,8 @@ impl HeadKind for ResponseHeads {
     type Spans = ResponseSpans;
 
     ghost IsText = { IsText };
+
+    ghost AsksMore = { AsksMore };
 
     ghost IsFound = { IsFoundAt };
 

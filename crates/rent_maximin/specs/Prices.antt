@@ -15,15 +15,15 @@ pub record HasWalks (case : RentCase) (rooms : List ℕ) (walks : List ℤ) : Ty
   pub walks_count : length walks ≡ room_count case
   pub small : All (λ weight. unsigned_abs weight ≤ MOST_MEMBERS * MOST_STEP) walks
 
--- the number is n times the least utility of the formula
+-- the number is n times the least utility that the formula gives
 pub record IsLeastOf (case : RentCase) (rooms : List ℕ) (walks : List ℤ) (least : ℤ) : Type 0 where
   pub is : least ≡ least_in_parts case rooms walks
   pub small : unsigned_abs least ≤ 200 * MOST_STEP
 
--- the number is n times the price of the room at the place, from 0: that of the member who has it
+-- the number is n times the price of the room at this place, from 0: the price for the member who has the room
 abbrev pub IsPartAt : RentCase → List ℕ → List ℤ → ℕ → ℤ → Type 0
 IsPartAt case rooms walks place part = (member : ℕ) × (member < room_count case) × (slice_index rooms member ≡ place + 1) × (part ≡ price_in_parts case rooms walks member)
 
--- the fraction is the price of the room at the place
+-- the fraction is the price of the room at this place, from 0
 abbrev pub IsPriceAt : RentCase → List ℕ → List ℤ → ℕ → Fraction → Type 0
 IsPriceAt case rooms walks place price = (part : ℤ) × IsPartAt case rooms walks place part × IsQuotient price part (room_count case)

@@ -1,4 +1,8 @@
 //! Rooms and prices of a shared rent by the maximin rule: envy-free, with the greatest least utility.
+//!
+//! `solve_rent` takes no memory and refuses nothing. A case has one division
+//! (`one_rent_division_law`), with each number by its formula and in its range
+//! (`division_range_law`).
 #![tactic(auto)]
 
 mod division;

@@ -10,8 +10,8 @@ ghost use Rattle.rule_verdicts.specs.Verdicts.{IsVerdictOf};
 
 use best_laws::{key_law, shown_rent_law, walk_law};
 
-/// Where all rules hold, the printed case is valid, and the printed rooms and prices are best for it: the dual numbers show the rooms,
-/// and the walks the prices (Gal, Mash, Procaccia and Zick 2016). A certificate has one verdict.
+/// If all rules hold, the printed case is valid, and the printed rooms and prices are best for it: the dual numbers show it of the rooms,
+/// and the walks of the prices (Gal, Mash, Procaccia and Zick 2016). A certificate has one verdict.
 pub fn rent_certificate_law()
     ensures valid { (view : RentView) → IsVerdictOf (rules_of_rent view) Yes → IsValidRentCase (printed_case view) }
     ensures best { (view : RentView) → IsVerdictOf (rules_of_rent view) Yes → RentBest (printed_case view) (printed_rooms view) view.prices }

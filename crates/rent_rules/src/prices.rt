@@ -65,7 +65,7 @@ fn times(count: u8, number: i128) -> i128
     i128::from(count) * number
 }
 
-/// Whether a fraction is a whole number divided into so many parts.
+/// Whether a fraction is this whole number divided by this many.
 fn is_quotient(fraction: &Frac, whole: i128, parts: u8) -> bool
     requires parts { parts ≤ MOST_MEMBERS }
     requires num { IsSmall fraction.now.num }

@@ -19,7 +19,7 @@ use Rattle.shapley_core.specs.declared.division.FareDivision.{FareDivision}
 use Rattle.split_frac.specs.Frac.{fraction_of}
 use Rattle.reply_texts.specs.Values.{list_by, of_cents, of_frac, of_number, of_text}
 
--- the division of a rent: the least utility, by member what each pays by the cent plan of their prices and the room, and by room the price
+-- the division of a rent as JSON: the least utility, by member the room and what the member pays by the cent plan, and by room the exact price
 unfoldable pub of_rent : RentCase → RentDivision → Data
 of_rent case division =
     object (member (codes "kind") (of_text (codes "rent"))
@@ -28,11 +28,11 @@ of_rent case division =
     (member (codes "prices") (list_by of_frac division.prices.items)
     (member (codes "rooms") (list_by of_number division.best.rooms.items) no_members)))))
 
--- the number of the member that a player or a rider is
+-- the number of the member who is this player or rider
 abbrev pub member_of : List ℕ → ℕ → ℕ
 member_of who player = slice_index who (player - 1)
 
--- the division of goods: the pair of the allocation and the step count, by good the member who owns it, the players, and by player the points
+-- the division of goods as JSON: the Nash welfare and the step count, by good the member who owns it, the players, and by player the points
 unfoldable pub of_goods : GoodsCase → GoodsDivision → Data
 of_goods case division =
     object (member (codes "count") (of_number division.pair.count)
@@ -43,7 +43,7 @@ of_goods case division =
     (member (codes "product") (of_text (decimal division.pair.product))
     (member (codes "steps") (of_number division.steps) no_members)))))))
 
--- the division of shared fares: by rider the exact fare and what each pays by the cent plan, the riders, the route and what all cost
+-- the division of a shared fare as JSON: by rider the exact fare and what the rider pays by the cent plan, the riders, the route, and what all cost
 unfoldable pub of_fares : FareCase → FareDivision → Data
 of_fares case division =
     object (member (codes "fares") (list_by of_frac division.fares.items)
@@ -53,7 +53,7 @@ of_fares case division =
     (member (codes "route") (list_by of_number (map (member_of case.who.items) division.route.items))
     (member (codes "total") (of_number division.total) no_members))))))
 
--- the text is that of the division, which is one for the case
+-- the text is the JSON of this division of the case
 abbrev pub IsDivisionText : Case → Division → List ℕ → Type 0
 IsDivisionText (case.Rent rent) (Rent division) text = text ≡ compact_text (of_rent rent division)
 IsDivisionText (case.Goods goods) (Goods division) text = text ≡ compact_text (of_goods goods division)

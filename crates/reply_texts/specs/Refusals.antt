@@ -11,7 +11,7 @@ use Rattle.reply_texts.specs.Values.{list_by, of_number, of_text}
 use Rattle.reply_texts.specs.declared.refusals.ServiceRefusal.{ServiceRefusal}
 use Rattle.reply_texts.specs.declared.refusals.ServiceRefusal.TheVariants as service
 
--- the status and the code of a refusal of the host
+-- the HTTP status and the code of each refusal of the host
 abbrev pub refusal_row : Refusal → ℕ × List ℕ
 refusal_row refusal.NoInstance = (404, codes "no_instance")
 refusal_row refusal.NoKey = (403, codes "no_key")
@@ -28,7 +28,7 @@ refusal_row refusal.NotAll = (409, codes "not_all")
 refusal_row refusal.NotClosed = (409, codes "open")
 refusal_row refusal.NoBid = (409, codes "no_bid")
 
--- what it names beside its code: the field, or the kept turn
+-- what a refusal names beside its code: the field, or the kept turn
 abbrev pub refusal_detail : Refusal → Members
 refusal_detail (refusal.BadField name) = member (codes "field") (of_text (field_text name)) no_members
 refusal_detail (refusal.Turn kept) = member (codes "kept") (of_number kept) no_members
@@ -45,7 +45,7 @@ refusal_detail refusal.NotAll = no_members
 refusal_detail refusal.NotClosed = no_members
 refusal_detail refusal.NoBid = no_members
 
--- the value of the reply
+-- a refusal of the host as JSON
 unfoldable pub of_refusal : Refusal → Data
 of_refusal r = object (member (codes "code") (of_text (refusal_row r).1) (refusal_detail r))
 
@@ -56,10 +56,11 @@ pub record ServiceRow : Type 0 where
   pub detail : Members
   pub closes : Bool
 
+-- such a row, made of its parts
 abbrev pub row : ℕ → List ℕ → Members → Bool → ServiceRow
 row status code detail closes = record { status = status; code = code; detail = detail; closes = closes }
 
--- of each refusal of the service; the place of the damage, the members who lack a bid and the limit are named
+-- how each refusal of the service is told, where the place of the damage, the members without a bid and the limit are named
 abbrev pub service_row : ServiceRefusal → ServiceRow
 service_row service.BadHead = row 400 (codes "bad_head") no_members true
 service_row service.ClockFault = row 503 (codes "clock_fault") no_members true
@@ -78,19 +79,19 @@ service_row (service.StepLimit limit) = row 422 (codes "step_limit") (member (co
 service_row service.NotTwo = row 409 (codes "not_two") no_members false
 service_row service.Memory = row 503 (codes "memory") no_members true
 
--- the value of the reply
+-- a refusal of the service as JSON
 unfoldable pub of_service_refusal : ServiceRefusal → Data
 of_service_refusal r = object (member (codes "code") (of_text (service_row r).code) (service_row r).detail)
 
--- its text
+-- the text of a refusal of the service
 abbrev pub service_text : ServiceRefusal → List ℕ
 service_text r = compact_text (of_service_refusal r)
 
--- the status is one of a refusal (RFC 9110, section 15)
+-- a test whether the HTTP status is that of a refusal (RFC 9110, section 15)
 abbrev pub is_refusal_status : ℕ → Bool
 is_refusal_status status = list_any (λ s. s == status) (400 ∷ 403 ∷ 404 ∷ 405 ∷ 409 ∷ 411 ∷ 413 ∷ 422 ∷ 501 ∷ 503 ∷ [])
 
--- nothing is named beside the code, so that the text is a constant
+-- a test whether nothing is named beside the code, so that the text never varies
 abbrev pub is_code_alone : Members → Bool
 is_code_alone no_members = true
 is_code_alone (member key value rest) = false

@@ -18,23 +18,24 @@ use Rattle.sealed_core.specs.Sealed.{PublicFacts, public_of}
 use Rattle.reply_texts.specs.Refusals.{of_refusal, refusal_row}
 use Rattle.reply_texts.specs.Values.{list_by, of_number, of_text}
 
--- a new instance: its id, the keys of its members in their order, and the key of the organiser
+-- a new instance as JSON: its id, the keys of its members in their order, and the key of the organiser
 unfoldable pub of_created : List ℕ → ℕ → ℕ → Data
 of_created secret id members =
     object (member (codes "id") (of_number id)
     (member (codes "keys") (list_by (λ m. of_text (key_text secret id m)) (range_with_len 1 members))
     (member (codes "organiser") (of_text (key_text secret id 0)) no_members)))
 
--- the numbers of the members who have a bid, in rising order; the list begins with that of the given number
+-- the numbers of the members who have a bid, in rising order, where the list begins with the member of the given number
 abbrev pub bidders_from : ℕ → List Bool → List ℕ
 bidders_from m [] = []
 bidders_from m (true ∷ have) = m ∷ bidders_from (m + 1) have
 bidders_from m (false ∷ have) = bidders_from (m + 1) have
 
+-- the numbers of the members who have a bid, in rising order
 abbrev pub bidders : List Bool → List ℕ
 bidders have = bidders_from 1 have
 
--- the status of a rent: what everyone may know of it, and the number of the caller
+-- the status of a rent as JSON: what everyone may know of it, and the number of the caller
 unfoldable pub of_rent_status : ℕ → ℕ → PublicFacts → Rent → Data
 of_rent_status id you p rent =
     object (member (codes "bids") (list_by of_number (bidders p.have_bid))
@@ -48,7 +49,7 @@ of_rent_status id you p rent =
     (member (codes "title") (of_text p.title)
     (member (codes "you") (of_number you) no_members))))))))))
 
--- the status of goods
+-- the status of goods as JSON: what everyone may know of them, and the number of the caller
 unfoldable pub of_goods_status : ℕ → ℕ → PublicFacts → Goods → Data
 of_goods_status id you p goods =
     object (member (codes "bids") (list_by of_number (bidders p.have_bid))
@@ -62,7 +63,7 @@ of_goods_status id you p goods =
     (member (codes "title") (of_text p.title)
     (member (codes "you") (of_number you) no_members))))))))))
 
--- the status of shared fares
+-- the status of a shared fare as JSON: what everyone may know of it, and the number of the caller
 unfoldable pub of_fares_status : ℕ → ℕ → PublicFacts → Fares → Data
 of_fares_status id you p fares =
     object (member (codes "bids") (list_by of_number (bidders p.have_bid))
@@ -77,39 +78,40 @@ of_fares_status id you p fares =
     (member (codes "title") (of_text p.title)
     (member (codes "you") (of_number you) no_members)))))))))))
 
+-- the status of an instance of this kind as JSON
 abbrev pub of_status_by : ℕ → ℕ → PublicFacts → Facts → Data
 of_status_by id you p (facts.Rent rent) = of_rent_status id you p rent
 of_status_by id you p (facts.Goods goods) = of_goods_status id you p goods
 of_status_by id you p (facts.Fares fares) = of_fares_status id you p fares
 
--- the status of an instance
+-- the status of an instance as JSON
 abbrev pub of_status : ℕ → ℕ → PublicFacts → Data
 of_status id you p = of_status_by id you p p.facts
 
--- a kept turn
+-- a kept turn as JSON
 unfoldable pub of_turn : ℕ → Data
 of_turn turn = object (member (codes "turn") (of_number turn) no_members)
 
--- a bid of values or points, and its turn
+-- a bid of values or points, and its turn, as JSON
 unfoldable pub of_values : ℕ → List ℕ → Data
 of_values turn values = object (member (codes "turn") (of_number turn) (member (codes "values") (list_by of_number values) no_members))
 
--- a bid for a place, and its turn
+-- a bid for a place, and its turn, as JSON
 unfoldable pub of_place : ℕ → ℕ → Data
 of_place turn place = object (member (codes "place") (of_number place) (member (codes "turn") (of_number turn) no_members))
 
--- the member's own kept turn, with the bid if there is one
+-- the member's own kept turn as JSON, with the bid if there is one
 abbrev pub of_own : ℕ → Option Bid → Data
 of_own turn None = of_turn turn
 of_own turn (Some (Values values)) = of_values turn values.items
 of_own turn (Some (Place place)) = of_place turn place
 
--- an asked close
+-- the reply to a close, as JSON
 unfoldable pub of_closed : Data
 of_closed = object (member (codes "closed") (boolean true) no_members)
 
--- the value of a reply over the host after the event; none where it names an instance that isn't there, and for a publication, whose
--- text is made of a division
+-- a reply as JSON, over the host after the event: none if it names an instance that is not there, and none for a publication, whose text comes from a
+-- division
 abbrev pub of_reply : HostView → Reply → Option Data
 of_reply h (reply.Created id) = option_map (of_created h.secret id) (option_map (λ i. length i.creation.members) (instance_at h id))
 of_reply h (reply.Status id you) = option_map (of_status id you) (option_map public_of (instance_at h id))
@@ -119,7 +121,7 @@ of_reply h reply.Closed = Some of_closed
 of_reply h (reply.Publish id what) = None
 of_reply h (reply.Refused r) = Some (of_refusal r)
 
--- the text of a reply: compact, as serde_json writes it
+-- the text of a reply: its JSON in compact form
 abbrev pub text_of : HostView → Reply → Option (List ℕ)
 text_of h r = option_map compact_text (of_reply h r)
 

@@ -12,7 +12,7 @@ use Rattle.sealed_core.specs.Step.{Answer, CommandView, Create, To, step}
 use Rattle.reply_texts.specs.Refusals.{of_refusal}
 use Rattle.reply_texts.specs.Replies.{of_closed, of_own, of_status, of_turn, status_of, text_of}
 
--- the HTTP status and the text of a reply; a publication has its text from a division
+-- what is told in a reply: its HTTP status and its text, which a publication has from a division
 pub record Told : Type 0 where
   pub status : ℕ
   pub text : Option (List ℕ)
@@ -21,7 +21,7 @@ pub record Told : Type 0 where
 abbrev pub told : HostView → ℕ → CommandView → Told
 told h t command = record { status = status_of (step h t command).reply; text = text_of (host_after h t command) (step h t command).reply }
 
--- the value of a reply, from the caller's view alone
+-- a reply as JSON, made from what the caller may see alone
 abbrev pub value_in : View → Reply → Option Data
 value_in v (reply.Created id) = None
 value_in v (reply.Status id you) = option_map (of_status id you) v.public
@@ -31,26 +31,26 @@ value_in v reply.Closed = Some of_closed
 value_in v (reply.Publish id what) = None
 value_in v (reply.Refused r) = Some (of_refusal r)
 
--- what is told, from the view and the reply
+-- what is told in a reply, made from what the caller may see alone
 abbrev pub told_in : View → Reply → Told
 told_in v r = record { status = status_of r; text = option_map compact_text (value_in v r) }
 
--- the status and the text of a sealed reply: what is told in reply to a command on an instance that isn't closed after it, from the view alone
+-- what is told in reply to a command on an instance that is not closed after it, made from what the caller may see alone
 abbrev pub sealed_told : View → ℕ → ℕ → Option (List ℕ) → Ask → Told
 sealed_told v t id key ask = told_in v (sealed_reply v t id key ask)
 
--- where this answers a command on an instance that isn't closed after it, its status and this text are those of the sealed reply
+-- if this answers a command on an instance that is not closed after it, its status and this text are those made from what the caller may see alone
 abbrev pub IsSealedText : HostView → Answer → List ℕ → Type 0
 IsSealedText h a text =
     (t id : ℕ) (key : Option (List ℕ)) (ask : Ask) → a ≡ step h t (To id key ask) → is_closed (applied h a.event) id ≡ false
     → sealed_told (view h id (caller_number h id key)) t id key ask ≡ record { status = status_of a.reply; text = Some text }
 
--- what a caller is told of an instance, step by step, up to and without the step at which it is closed: what is told in reply to their own
--- command on it, else nothing
+-- what a step of a run tells the caller of an instance: the reply if the command is the caller's own and on this instance, and otherwise nothing
 abbrev pub told_of : HostView → ℕ → Caller → ℕ → CommandView → Option Told
 told_of h id caller t (Create body) = None
 told_of h id caller t (To other key ask) = if (other == id) && same_caller (caller_number h other key) caller then Some (told h t (To other key ask)) else None
 
+-- what a caller is told of an instance, step by step, until the step that closes it
 abbrev pub told_all : HostView → ℕ → Caller → List Asked → List (Option Told)
 told_all h id caller [] = []
 told_all h id caller (a ∷ run) = if is_closed (next h a) id then [] else told_of h id caller a.moment a.command ∷ told_all (next h a) id caller run
@@ -59,8 +59,8 @@ told_all h id caller (a ∷ run) = if is_closed (next h a) id then [] else told_
 abbrev pub own_of : ℕ → InstanceView → ℕ × Option Bid
 own_of m i = (kept_turn i m, kept_bid i m)
 
--- Two hosts show the same in a reply: of a creation the secret and the number of members, of a status the public facts, of an own bid the
--- member's own turn and bid, and of any other reply nothing. So keys show in a creation alone, and a tag in none.
+-- two hosts show the same in a reply: for a creation the secret and the number of members, for a status the public facts, for an own bid the member's
+-- turn and bid, and for any other reply nothing of the host
 abbrev pub ShowSame : HostView → HostView → Reply → Type 0
 ShowSame g h (reply.Created id) = (g.secret ≡ h.secret) × (option_map (λ i. length i.creation.members) (instance_at g id) ≡ option_map (λ i. length i.creation.members) (instance_at h id))
 ShowSame g h (reply.Status id you) = option_map public_of (instance_at g id) ≡ option_map public_of (instance_at h id)

@@ -6,11 +6,11 @@ use Rattle.sealed_core.specs.Host.{CreationView, EventView, HostView, InstanceVi
 use Rattle.sealed_core.specs.Sealed.{PublicFacts}
 use Rattle.sealed_core.specs.Step.{Answer, CommandView, IsCheckedCommand, step}
 
--- the answer of the host to some command at some moment
+-- the host answers so to some command at some moment
 abbrev pub IsAnswered : HostView → Answer → Type 0
 IsAnswered h a = (t : ℕ) × (command : CommandView) × IsCheckedCommand command × (a ≡ step h t command)
 
--- the reply is a publication, whose text is made of a division
+-- a test whether the reply is a publication, whose text comes from a division
 abbrev pub is_publication : Reply → Bool
 is_publication (reply.Created id) = false
 is_publication (reply.Status id you) = false
@@ -20,7 +20,7 @@ is_publication reply.Closed = false
 is_publication (reply.Publish id what) = true
 is_publication (reply.Refused r) = false
 
--- what everyone may know of an instance that is closed or not
+-- what everyone may know of an instance that is closed or open
 abbrev pub public_if : Bool → InstanceView → PublicFacts
 public_if closed i = record {
   title = i.creation.title;
@@ -32,7 +32,7 @@ public_if closed i = record {
   have_bid = map is_some i.bids;
 }
 
--- the event is a close
+-- a test whether the event closes an instance
 abbrev pub is_close : Option EventView → Bool
 is_close None = false
 is_close (Some (Created now c)) = false
@@ -40,7 +40,7 @@ is_close (Some (BidKept now id m turn bid)) = false
 is_close (Some (Closed now id)) = true
 is_close (Some (Withdrawn now id m turn)) = false
 
--- the event is none, or the close of this instance
+-- there is no event, or it closes this instance
 abbrev pub IsCloseOf : Option EventView → ℕ → Type 0
 IsCloseOf e id = (e ≡ None) ⊎ ((now : ℕ) × (e ≡ Some (Closed now id)))
 
@@ -48,8 +48,7 @@ IsCloseOf e id = (e ≡ None) ⊎ ((now : ℕ) × (e ≡ Some (Closed now id)))
 abbrev pub IsCreationOf : HostView → Option EventView → ℕ → Type 0
 IsCreationOf h e id = (now : ℕ) × (c : CreationView) × (e ≡ Some (Created now c)) × (id ≡ length h.instances + 1)
 
--- the instance and the member that a reply names are there before the event, but for a new instance, and the event is no other than the
--- reply's own
+-- the instance and the member that a reply names are there before the event, unless the instance is new, and the event is the one that belongs to the reply
 abbrev pub Tells : HostView → Option EventView → Reply → Type 0
 Tells h e (reply.Created id) = (IsSome (instance_at h id) × (e ≡ None)) ⊎ IsCreationOf h e id
 Tells h e (reply.Status id you) = IsSome (instance_at h id) × IsCloseOf e id

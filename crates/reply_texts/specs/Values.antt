@@ -6,22 +6,22 @@ use Rattle.serde_json.specs.View.{items_of}
 use Rattle.split_frac.specs.declared.frac.Frac.{Frac}
 use Rattle.split_frac.specs.Frac.{frac_text}
 
--- a list of values of one kind
+-- a list of values of one kind as JSON
 abbrev pub list_by : {A : Type 0} → (A → Data) → List A → Data
 list_by f xs = array (items_of (map f xs))
 
--- a number
+-- a number as JSON
 abbrev pub of_number : ℕ → Data
 of_number n = number (unsigned n)
 
--- a number of cents, which may be below 0
+-- a number of cents, which may be below 0, as JSON
 abbrev pub of_cents : ℤ → Data
 of_cents cents = number (of_integer cents)
 
--- a text
+-- a text as JSON
 abbrev pub of_text : List ℕ → Data
 of_text text = string text
 
--- a fraction, as a text
+-- a fraction as JSON: the text of it
 abbrev pub of_frac : Frac → Data
 of_frac fraction = of_text (frac_text fraction)

@@ -8,7 +8,8 @@ ghost use Rattle.sealed_core.specs.declared.commands.Ask.{Ask};
 ghost use Rattle.sealed_core.specs.declared.replies.Refusal.{Refusal};
 ghost use Rattle.sealed_core.specs.declared.replies.Reply.{Reply};
 ghost use Rattle.sealed_core.specs.Host.{HostView};
-ghost use Rattle.sealed_core.specs.Sealed.{Asked, Caller, RunAlike, caller_number, empty, host_after, is_closed, view};
+ghost use Rattle.sealed_core.specs.Sealed.{Asked, Caller, RunAlike, caller_number, host_after, is_closed, view};
+ghost use Rattle.sealed_core.specs.Veil.{LookAlike};
 ghost use Rattle.sealed_core.specs.Step.{CommandView, To, step};
 ghost use Rattle.reply_texts.specs.Divisions.{IsDivisionText};
 ghost use Rattle.reply_texts.specs.Refusals.{is_refusal_status, refusal_row, service_row};
@@ -20,7 +21,7 @@ ghost use Rattle.reply_texts.specs.declared.refusals.ServiceRefusal.{ServiceRefu
 use certificates::division_law;
 use sealed_core::{publication_law, sealing_law};
 
-/// Bids are sealed in what is sent, too: where an instance isn't closed after a command on it, the HTTP status and the text of the reply are
+/// Bids are sealed in what is sent, too: if an instance is not closed after a command on it, the HTTP status and the text of the reply are
 /// written from what the caller may know of it, the command and the moment. So at two hosts one command from callers with equal views gets
 /// one status and one text; and in two runs alike (`sealing_law` of `sealed_core`) a caller is told the same, up to the step at which the
 /// instance is closed.
@@ -30,8 +31,8 @@ pub fn text_sealing_law()
     ensures one_step { (g h : HostView) (t id : ℕ) (key : Option (List ℕ)) (ask : Ask) → view g id (caller_number g id key) ≡ view h id (caller_number h id key)
         → is_closed (host_after g t (To id key ask)) id ≡ false
         → told g t (To id key ask) ≡ told h t (To id key ask) }
-    ensures runs { (secret : List ℕ) (id : ℕ) (caller : Caller) (run others : List Asked) → RunAlike (empty secret) (empty secret) id caller run others
-        → told_all (empty secret) id caller run ≡ told_all (empty secret) id caller others }
+    ensures runs { (g h : HostView) (id : ℕ) (caller : Caller) (run others : List Asked) → LookAlike caller g h → RunAlike g h id caller run others
+        → told_all g id caller run ≡ told_all h id caller others }
 {
     sealing_law();
 }

@@ -1,6 +1,10 @@
 //! The replies of a host as JSON: their texts, byte for byte, and their HTTP statuses.
 //!
-//! The text of a reply on an instance that isn't closed follows from what the caller may know of it.
+//! The text of a reply on an instance that is not closed follows from what the caller may know of it.
+//!
+//! A reply is made over the host before its event, for the host after it, so that all memory is
+//! taken before the event is kept. Callers with equal views are told the same (`text_sealing_law`).
+//! No reply shows a tag, and only that to a creation shows keys (`shown_law`).
 #![tactic(auto)]
 
 mod division_texts;

@@ -12,9 +12,9 @@ use serde_json::{Value, json};
 use split_base::NoMemory;
 use std::alloc::{AllocError, Global};
 
-/// Why the service around a host refuses a request, where the host itself doesn't. Of several causes the first is told, in this order; what
-/// the host refuses is tested between `StoreDamaged` and `NoAudit`. `StoreFault` comes where the store is opened, its place here, and last of
-/// all where an event is kept. `Memory` may come at any point.
+/// Why the service around a host refuses a request that the host itself does not. Of several causes the first is told, in this order; what
+/// the host refuses is tested between `StoreDamaged` and `NoAudit`. `StoreFault` comes when the store is opened, which is its place here, and last
+/// of all when an event is kept. `Memory` may come at any point.
 #[derive(Debug, Drop, PartialEq, Eq)]
 pub enum ServiceRefusal {
     /// The bytes are no head of a request.
@@ -23,9 +23,9 @@ pub enum ServiceRefusal {
     ClockFault,
     /// HTTP/1.1 without exactly one Host, or HTTP/1.0 with two or more.
     BadHost,
-    /// A Transfer-Encoding stands.
+    /// The request has a Transfer-Encoding.
     Framing,
-    /// Two or more Content-Length stand, or the value is no number.
+    /// The request has two or more Content-Length fields, or the value is no number.
     BadLength,
     /// A POST without Content-Length.
     LengthMissing,
@@ -33,7 +33,7 @@ pub enum ServiceRefusal {
     BodyTooLarge,
     /// No route matches the path.
     NoRoute,
-    /// The route hasn't the method.
+    /// The route has not the method.
     Method,
     /// The disk failed in this request.
     StoreFault,
@@ -45,7 +45,7 @@ pub enum ServiceRefusal {
     Void { missing: Missing },
     /// The search would take more steps than the case allows. With its limit.
     StepLimit { limit: u32 },
-    /// The winner of an instance that isn't one of goods with two players.
+    /// The winner of an instance that is not one of goods with two players.
     NotTwo,
     /// Memory ran out.
     Memory,
@@ -231,7 +231,7 @@ fn written_refusal(alloc: Global, refusal: &ServiceRefusal) -> Result<Vec<u8>, A
     written(alloc, &value)
 }
 
-/// The text of a refusal of the service. `NoMemory` where memory ran out.
+/// The text of a refusal of the service. `NoMemory`: memory ran out.
 pub fn service_refusal_text(alloc: Global, refusal: &ServiceRefusal) -> Result<Vec<u8>, NoMemory>
     ensures { IfOk result (λ text. text.items ≡ service_text refusal.now) }
 {
@@ -242,7 +242,7 @@ pub fn service_refusal_text(alloc: Global, refusal: &ServiceRefusal) -> Result<V
 }
 
 /// The text of a refusal that names nothing beside its code, or `None` for one that does. It takes no memory, so that such a refusal can be
-/// told where there is none.
+/// told if there is none.
 pub fn constant_text(refusal: &ServiceRefusal) -> Option<&'static [u8]>
     ensures there { IsSome result ↔ (is_code_alone (service_row refusal.now).detail ≡ true) }
     ensures text { IfSome result (λ text. text.now ≡ service_text refusal.now) }
@@ -268,7 +268,7 @@ pub fn constant_text(refusal: &ServiceRefusal) -> Option<&'static [u8]>
     Some(text)
 }
 
-/// The text of the reply where memory ran out. It takes no memory.
+/// The text of the reply if memory ran out. It takes no memory.
 pub fn memory_text() -> &'static [u8]
     ensures { result.now ≡ service_text ServiceRefusal.Memory }
 {

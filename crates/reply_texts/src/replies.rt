@@ -233,10 +233,10 @@ fn text_after(alloc: Global, host: &Host, answered: &Answered) -> Result<Vec<u8>
     written(alloc, &value)
 }
 
-/// The text of what a host answered to a command, unless the answer is a publication: over the host after the event, which isn't applied.
+/// The text of what a host answered to a command, unless the answer is a publication: over the host after the event, which is not applied.
 ///
-/// The host is the one before the event. Where the instance that was asked isn't closed after the event, the status and the text are those
-/// of the sealed reply, written from what the caller may know of it. `NoMemory` where memory ran out.
+/// The host is the one before the event. If the instance that was asked is not closed after the event, the status and the text are those
+/// of the sealed reply, written from what the caller may know of it. `NoMemory`: memory ran out.
 pub fn reply_text(alloc: Global, host: &Host, answered: &Answered) -> Result<Vec<u8>, NoMemory>
     requires answered { IsAnswered host.now.content (answer_view answered.now) }
     requires reply { is_publication answered.now.reply ≡ false }

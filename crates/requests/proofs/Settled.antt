@@ -4,6 +4,7 @@ use Rattle.split_base.specs.declared.disk.Disk.{Ghosts}
 use Rattle.gate_log.specs.declared.fault.LogFault.{LogFault}
 use Rattle.gate_log.specs.declared.fault.LogFault.TheVariants as fault
 use Rattle.host_journal.specs.Calls.{Reopens}
+use Rattle.host_journal.specs.Journal.{IsFirstFault}
 use Rattle.host_journal.specs.States.{IsFile, State, ready_with}
 use Rattle.reply_texts.specs.declared.refusals.ServiceRefusal.TheVariants as service
 use Rattle.sealed_core.specs.Host.{EventView}
@@ -17,27 +18,28 @@ module _ {D T : Type 0} (d : Ghosts D) (disk after : D) (s new : State) where
   pub settled_ok : (x : T) → CanApplyAll (empty new.secret) new.kept → Reopens {T = T} d disk after s new (Ok x) → Settles d disk after s new None
   settled_ok x can (Reopens.opened e secret kept waits ok count told is) = Settles.opened e secret kept waits count told (subst (λ (y : State). CanApplyAll (empty y.secret) y.kept) is can) is refl
   settled_ok x can (Reopens.failed e waits bad count torn is) = absurd (cc)
-  settled_ok x can (Reopens.damaged e place waits bad count never is) = absurd (cc)
+  settled_ok x can (Reopens.damaged e place waits bad count first never is) = absurd (cc)
   settled_ok x can (Reopens.memory e waits bad count rests is) = absurd (cc)
 
   settled_fault : (said : SaidView) → said ≡ refused_said service.StoreFault → Reopens {T = T} d disk after s new (Err fault.Disk) → Settles d disk after s new (Some said)
   settled_fault said same (Reopens.opened e secret kept waits ok count told is) = absurd (cc)
   settled_fault said same (Reopens.failed e waits was count torn is) = Settles.store_fault e waits count torn is (ap Some same)
-  settled_fault said same (Reopens.damaged e place waits bad count never is) = absurd (cc)
+  settled_fault said same (Reopens.damaged e place waits bad count first never is) = absurd (cc)
   settled_fault said same (Reopens.memory e waits bad count rests is) = absurd (cc)
 
   -- where the text of the place found no memory, that is said
   settled_damaged : (place : ℕ) (said : SaidView) → FaultSays (fault.NotALog place) said → Reopens {T = T} d disk after s new (Err (fault.NotALog place)) → Settles d disk after s new (Some said)
   settled_damaged place said same (Reopens.opened e secret kept waits ok count told is) = absurd (cc)
   settled_damaged place said same (Reopens.failed e waits bad count torn is) = absurd (cc)
-  settled_damaged place said same (Reopens.damaged e other waits was count never is) =
-      ⊎_elim (λ told. Settles.damaged e place waits count never is (ap Some told)) (λ memory. Settles.memory e waits count (λ h. absurd (never h)) is (ap Some memory)) same
+  settled_damaged place said same (Reopens.damaged e other waits was count first never is) =
+      let same_place : other ≡ place = cc was in
+      ⊎_elim (λ told. Settles.damaged e place waits count (λ tells. subst (λ (p : ℕ). IsFirstFault p (d.seen disk)) same_place (first tells)) never is (ap Some told)) (λ memory. Settles.memory e waits count (λ h. absurd (never h)) is (ap Some memory)) same
   settled_damaged place said same (Reopens.memory e waits bad count rests is) = absurd (cc)
 
   settled_memory : (said : SaidView) → said ≡ memory_said → Reopens {T = T} d disk after s new (Err fault.NoMemory) → Settles d disk after s new (Some said)
   settled_memory said same (Reopens.opened e secret kept waits ok count told is) = absurd (cc)
   settled_memory said same (Reopens.failed e waits bad count torn is) = absurd (cc)
-  settled_memory said same (Reopens.damaged e place waits bad count never is) = absurd (cc)
+  settled_memory said same (Reopens.damaged e place waits bad count first never is) = absurd (cc)
   settled_memory said same (Reopens.memory e waits was count rests is) = Settles.memory e waits count rests is (ap Some same)
 
   -- what is said of a fault is what the case says
@@ -55,7 +57,7 @@ OpenedFiles = (s : State) (event : EventView) (secret : List ℕ) (kept : List E
 pub settled_files : OpenedFiles → {D : Type 0} (d : Ghosts D) (disk after : D) (s new : State) → Settles d disk after s new None → d.is_honest disk → (file : List ℕ) → IsFile new file → IsFile s file
 settled_files law d disk after s new (Settles.ready waits same is none) honest file here = subst (λ (x : State). IsFile x file) is here
 settled_files law d disk after s new (Settles.store_fault e waits count torn is bad) honest file here = absurd (cc)
-settled_files law d disk after s new (Settles.damaged e place waits count never is bad) honest file here = absurd (cc)
+settled_files law d disk after s new (Settles.damaged e place waits count first never is bad) honest file here = absurd (cc)
 settled_files law d disk after s new (Settles.opened e secret kept waits count told can is none) honest file here =
     law s e secret kept waits (told honest).secret_stays (told honest).either file (subst (λ (x : State). IsFile x file) is here)
 settled_files law d disk after s new (Settles.memory e waits count rests is bad) honest file here = absurd (cc)

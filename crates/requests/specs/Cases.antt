@@ -1,4 +1,4 @@
--- The cases of a request that was read whole, in the order in which they are tested. Want of memory may come in place of any of them. Each
+-- The cases of a request that was read whole, in the order in which they are tested. Memory may run out in place of any of them. Each
 -- says what becomes of the state, what is said, which calls of the disk failed, and what calls were made of an honest one.
 use Rattle.std.specs.Prelude.{◌≡◌, ℕ, List, ◌∷◌, [], ◌++◌, Option, Some, None, Ok, Err}
 use Rattle.split_base.specs.declared.disk.Disk.{Ghosts}
@@ -6,6 +6,7 @@ use Rattle.split_base.specs.Disk.{Each, Rests, Tears}
 use Rattle.split_base.specs.Faults.{counted}
 use Rattle.gate_log.specs.declared.limits.TheConstants.{VERSION_GATE}
 use Rattle.host_journal.specs.Calls.{IsAppended, IsSettled}
+use Rattle.host_journal.specs.Journal.{IsFirstFault}
 use Rattle.host_journal.specs.States.{Passes, State, host_in, ready_with, waits_with}
 use Rattle.host_results.specs.Contents.{ContentView}
 use Rattle.reply_texts.specs.declared.refusals.ServiceRefusal.TheVariants as service
@@ -22,14 +23,14 @@ use Rattle.requests.specs.Commands.{command_of}
 use Rattle.requests.specs.Replies.{Replies}
 use Rattle.requests.specs.Said.{SaidView, content_said, memory_said, method_said, refused_said}
 
--- Before the step: nothing where the host is ready, else its file is opened again. A result is the reply to a request that goes no further.
+-- Before the step a host that waits opens its file again, and a ready one does nothing. A result is the reply to a request that goes no further.
 pub data Settles {D : Type 0} (d : Ghosts D) (disk after : D) (s new : State) (result : Option SaidView) : Type 0 where
   ready : s.waiting ≡ None → after ≡ disk → new ≡ s → result ≡ None → Settles d disk after s new result
   -- a call of the disk failed in the reopening, and it isn't tried again
   store_fault : (event : EventView) → s.waiting ≡ Some event → d.faults after ≡ counted (d.faults disk) → (d.is_honest disk → Each (d.images after) (Tears (d.images disk) VERSION_GATE 1))
       → new ≡ s → result ≡ Some (refused_said service.StoreFault) → Settles d disk after s new result
-  -- the file is no journal: never on an honest disk
-  damaged : (event : EventView) (place : ℕ) → s.waiting ≡ Some event → d.faults after ≡ d.faults disk → (d.is_honest disk → ⊥)
+  -- the file is no journal, and the place of its first fault is told: never on an honest disk
+  damaged : (event : EventView) (place : ℕ) → s.waiting ≡ Some event → d.faults after ≡ d.faults disk → (d.tells disk → IsFirstFault place (d.seen disk)) → (d.is_honest disk → ⊥)
       → new ≡ s → result ≡ Some (refused_said (service.StoreDamaged place)) → Settles d disk after s new result
   -- the file was opened, and the state is that of events that may be applied in turn: on an honest disk those for which the file stands, which are
   -- those kept, with the one more or without it

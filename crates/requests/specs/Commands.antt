@@ -7,7 +7,7 @@ use Rattle.split_http.specs.declared.routes.Place.{Place}
 use Rattle.split_http.specs.declared.routes.Place.TheVariants as place
 use Rattle.split_json.specs.Bodies.{bid_body_in, creation_in}
 
--- by the place to which the request leads, with its id, the key that it shows and its body
+-- the command follows from the place to which the request leads, its id, the key that it shows and its body
 abbrev pub command_of : Place → ℕ → Option (List ℕ) → List ℕ → CommandView
 command_of place.Instances id key body = Create (creation_in body)
 command_of place.Instance id key body = To id key asks.Status

@@ -11,8 +11,8 @@ use Rattle.sealed_core.specs.Host.{HostView, InstanceView, instance_at}
 use Rattle.sealed_core.specs.Sealed.{host_after}
 use Rattle.sealed_core.specs.Step.{CommandView, step}
 
--- a reply with a text of its own tells it as JSON, with its status; a publication, which has none, what is published of the instance that
--- it names, by what is asked
+-- A reply with a text of its own tells it as JSON, with its status. A publication has none: it tells what is asked for of the instance that
+-- it names.
 pub data Shows (h : HostView) (r : Reply) (told : ContentView) : Type 0 where
   own : (bytes : List ℕ) → text_of h r ≡ Some bytes → told ≡ record { status = status_of r; content_type = Json; text = bytes } → Shows h r told
   published : (id : ℕ) (asked : What) (i : InstanceView) → r ≡ reply.Publish id asked → instance_at h id ≡ Some i → IsPublication (case_data i) asked told → Shows h r told

@@ -1,4 +1,4 @@
--- What is said in reply to a request, whoever asked and when.
+-- What is said in reply to a request.
 use Rattle.std.specs.Prelude.{ℕ, Bool, List, Option, true, false, Some, None}
 use Rattle.host_results.specs.Contents.{ContentView, is_plain}
 use Rattle.reply_texts.specs.declared.refusals.ServiceRefusal.{ServiceRefusal}
@@ -9,7 +9,7 @@ use Rattle.requests.specs.declared.said.ReplyText.TheVariants as text
 use Rattle.requests.specs.declared.said.Said.{Said}
 use Rattle.split_http.specs.declared.replies.Allow.{Allow}
 
--- what is said: the status, the kind of the text, the text, the methods that are told, and whether it says that memory ran out
+-- what is said: the status, whether the text is plain or JSON, the text, the methods that are told, and whether memory ran out
 pub record SaidView : Type 0 where
   pub status : ℕ
   pub plain : Bool
@@ -17,14 +17,16 @@ pub record SaidView : Type 0 where
   pub allow : Option Allow
   pub memory : Bool
 
+-- the bytes of a text that was written or is constant
 abbrev pub bytes_of : ReplyText → List ℕ
 bytes_of (text.Written bytes) = bytes.items
 bytes_of (text.Constant bytes) = bytes.now
 
+-- what a reply of the code says
 abbrev pub said_view : Said → SaidView
 said_view said = record { status = said.status; plain = is_plain said.content_type; text = bytes_of said.text; allow = said.allow; memory = said.memory }
 
--- this content, with no methods
+-- this content is said, with no methods
 abbrev pub content_said : ContentView → SaidView
 content_said told = record { status = told.status; plain = is_plain told.content_type; text = told.text; allow = None; memory = false }
 
@@ -36,6 +38,6 @@ refused_said refusal = record { status = (service_row refusal).status; plain = f
 abbrev pub method_said : Allow → SaidView
 method_said allow = record { status = (service_row service.Method).status; plain = false; text = service_text service.Method; allow = Some allow; memory = false }
 
--- memory ran out
+-- it is said that memory ran out
 abbrev pub memory_said : SaidView
 memory_said = record { status = (service_row service.Memory).status; plain = false; text = service_text service.Memory; allow = None; memory = true }

@@ -1,7 +1,10 @@
-//! A request that was read whole: its command, its reply with all of its text, and the event that is kept before the reply is sent.
+//! A request that was read whole: its command, its reply, and the event that goes with it.
 //!
 //! A host whose append failed waits: the next request opens its file again. On an honest disk a crash at any moment of a request leaves
 //! the events kept before it, with or without its own.
+//!
+//! Each failed call of the disk is counted once and ends the request. A store fault is said only in
+//! a request in which a call failed. That memory ran out may be said at any point, with no event.
 #![tactic(auto)]
 
 mod commands;

@@ -29,9 +29,10 @@ use std::thread::Threads;
 /// - Then the command is answered: its reply is made, with all of its text, and all memory is taken; its event is kept; and then the reply is
 ///   said.
 ///
-/// A store fault is said only where a call of the disk failed in this request, which is counted once and not tried again; that the file is
-/// no journal, never on an honest disk. That memory ran out may be said at any point, with no event of the request. On an honest disk a
-/// crash at any moment leaves the events kept before, with or without the one of the request. The kept searches take no part in what is said.
+/// A store fault is said only where a call of the disk failed in this request, which is counted once and not tried again. That the file is no
+/// journal is said with the place of its first fault, wherever the disk tells its bytes, and never on an honest disk. That memory ran out may be
+/// said at any point, with no event of the request. On an honest disk a crash at any moment leaves the events kept before, with or without the
+/// one of the request. The kept searches take no part in what is said.
 #[allow(clippy::too_many_arguments)]
 pub fn respond<D: Disk, R: Threads + Sync, G: Gate + Sync>(
     alloc: Global,

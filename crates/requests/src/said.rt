@@ -1,4 +1,4 @@
-// What is said in reply to a request, whoever asked and when.
+// What is said in reply to a request.
 ghost use Rattle.std.specs.Prelude.{IsTrue};
 ghost use Rattle.split_http.specs.Replies.{is_host_status};
 
@@ -25,7 +25,7 @@ pub struct Said {
     pub text: ReplyText,
     /// The methods of the route, where they are told.
     pub allow: Option<Allow>,
-    /// Whether it says that memory ran out: the connection is closed behind it then.
+    /// Whether it says that memory ran out: the connection is closed after it then.
     pub memory: bool,
     ghost known: { IsTrue (is_host_status status) },
 }

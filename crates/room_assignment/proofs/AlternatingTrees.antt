@@ -188,30 +188,6 @@ grown n m key left right rooms in_tree labelled in_tree' labelled' plan plan' k 
           (cases_eq i h);
     }
 
--- the tree of one member
-pub rooted : (n m : ℕ) (key : ℕ → ℕ → ℤ) (left right : ℕ → ℤ) (rooms : List ℕ) (in_tree labelled : ℕ → Bool) (plan : ℕ → List ℕ) → m < n → IsMatched n m key left right rooms
-    → in_tree m ≡ true → ((i : ℕ) → i ≢ m → in_tree i ≡ false) → ((r : ℕ) → labelled r ≡ false) → plan m ≡ rooms → IsAlternatingTree n m key left right rooms in_tree labelled plan
-rooted n m key left right rooms in_tree labelled plan low g root others none e = record {
-  permutation = g.permutation;
-  bound = g.bound;
-  top = g.top;
-  zero = g.zero;
-  free = λ i a l. none (get_or rooms i 0);
-  root = root;
-  high = λ i a l. others i (λ (x : i ≡ m). omega arith);
-  plans = λ k l t. ⊎_elim
-      (λ (x : k ≡ m). subst (λ j. LeavesFree n m j key left right rooms in_tree labelled (plan j)) (sym x)
-      (subst (LeavesFree n m m key left right rooms in_tree labelled) (sym e) (record {
-        permutation = g.permutation;
-        over = refl;
-        tight = λ i a apart. g.tight i (⊎_elim (λ (y : i < m). y) (λ (y : m ≤ i). absurd (apart (omega arith))) (cases_lt i m));
-        same = λ i a apart. others i apart ∙ sym (none (get_or rooms i 0));
-        others = λ i a u. refl;
-      })))
-      (λ (x : k ≡ m → ⊥). absurd (both_ways (in_tree k) (others k x) t))
-      (cases_eq k m);
-}
-
 -- nobody is matched
 pub nobody_matched : (n : ℕ) (key : ℕ → ℕ → ℤ) (left right : ℕ → ℤ) → Bounds n key left right → ((i : ℕ) → i < n → left i ≤ℤ pos MOST_KEY) → ((j : ℕ) → right j ≡ pos 0) → IsMatched n 0 key left right (range_with_len 0 n)
 nobody_matched n key left right bound top none = record {

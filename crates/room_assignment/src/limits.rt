@@ -1,4 +1,4 @@
-// How far from 0 keys, weights and dual numbers lie. Each number of them stands here and nowhere else.
+// How far from 0 keys, weights and dual numbers lie. Each number is here and nowhere else.
 
 /// The farthest from 0 that a key lies, 10^20: a value of at most 10^7 cents times 12^12, less a digit to the base 12.
 pub const MOST_KEY: u128 = 100_000_000_000_000_000_000;

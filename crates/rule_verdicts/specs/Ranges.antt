@@ -1,6 +1,6 @@
 -- The ranges of printed numbers.
 use Rattle.std.specs.Prelude.{ℕ, ℤ, pos, ◌≤ℤ◌, List, All}
 
--- each of the numbers is from least to most
+-- each number is between the least and the most, both included
 abbrev pub AreBetween : ℕ → ℕ → List ℤ → Type 0
 AreBetween least most numbers = All (λ number. (pos least ≤ℤ number) × (number ≤ℤ pos most)) numbers

@@ -4,9 +4,9 @@ ghost use Rattle.rule_verdicts.specs.Ranges.{AreBetween};
 
 use arrayvec::ArrayVec;
 
-/// The numbers, in their order, where each is from `least` to `most`.
+/// The numbers in their order, if each is from `least` to `most`.
 ///
-/// None where one is less than `least` or greater than `most`.
+/// None if one is less than `least` or greater than `most`.
 pub fn members_between<const ROOM: usize>(
     numbers: &[i128],
     least: u8,

@@ -4,9 +4,9 @@ ghost use Rattle.rule_verdicts.specs.Ranges.{AreBetween};
 
 use arrayvec::ArrayVec;
 
-/// The numbers, in their order, where each is from 0 to `most`.
+/// The numbers in their order, if each is from 0 to `most`.
 ///
-/// None where one is less than 0 or greater than `most`.
+/// None if one is less than 0 or greater than `most`.
 pub fn amounts<const ROOM: usize>(numbers: &[i128], most: u32) -> Option<ArrayVec<u32, ROOM>>
     requires room { length numbers.now ≤ ROOM }
     ensures { MatchOption result (AreBetween 0 most numbers.now → ⊥)
@@ -23,9 +23,9 @@ pub fn amounts<const ROOM: usize>(numbers: &[i128], most: u32) -> Option<ArrayVe
     Some(row)
 }
 
-/// The rows, in their order, where each of their numbers is from 0 to `most`.
+/// The rows in their order, if each of their numbers is from 0 to `most`.
 ///
-/// None where one is less than 0 or greater than `most`.
+/// None if one is less than 0 or greater than `most`.
 pub fn rows_of_amounts<const PRINTED: usize, const ROOM: usize, const ROWS: usize>(
     rows: &[ArrayVec<i128, PRINTED>],
     most: u32,

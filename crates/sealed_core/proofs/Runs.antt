@@ -8,7 +8,8 @@ use Rattle.sealed_core.specs.declared.replies.Reply.{Reply}
 use Rattle.sealed_core.specs.Host.{InstanceView, HostView, EventView, BidKept, instance_at, kept_turn, apply}
 use Rattle.sealed_core.specs.Step.{CommandView, Create, To, step}
 use Rattle.sealed_core.specs.Sealed.{Caller, View, public_of, view_of, view, own_turn, own_bid, caller_number, sealed_reply, is_shut, is_closed, applied, host_after, Asked, next, same_caller, heard_of, heard, views, KeepsBid, AreAlike, RunAlike}
-use Rattle.sealed_core.proofs.Veil.{veil, veiled, is_own, bid_seen, event_seen, other_place, have_bid_veiled, own_bid_veiled, instance_veiled, apply_veiled}
+use Rattle.sealed_core.specs.Veil.{veil, veiled}
+use Rattle.sealed_core.proofs.Veil.{is_own, bid_seen, event_seen, other_place, have_bid_veiled, own_bid_veiled, instance_veiled, apply_veiled}
 use Rattle.sealed_core.proofs.SameEvents.{step_veiled, caller_veiled}
 use Rattle.sealed_core.proofs.Fits.{Fits, IsBy, step_fits}
 use Rattle.sealed_core.proofs.Sealing.{sealed}

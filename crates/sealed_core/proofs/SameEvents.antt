@@ -18,7 +18,8 @@ use Rattle.sealed_core.specs.Host.{CreationView, InstanceView, HostView, EventVi
 use Rattle.sealed_core.specs.Sameness.{is_kept, same_text}
 use Rattle.sealed_core.specs.Sealed.{Caller, caller_with, caller_number}
 use Rattle.sealed_core.specs.Step.{Answer, CommandView, Create, To, Standing, standing_of, says, refused, bid_turn, bid_form, bid_body, checked, form_of, withdrawal_turn, withdrawal_body, answer_ask, is_over, may_ask, answer_to, caller_by, caller_in, holder, tagged_from, new_creation, answer_creation, step}
-use Rattle.sealed_core.proofs.Veil.{veil, veiled, have_bid_veiled, has_bid_veiled, instance_veiled}
+use Rattle.sealed_core.specs.Veil.{veil, veiled}
+use Rattle.sealed_core.proofs.Veil.{have_bid_veiled, has_bid_veiled, instance_veiled}
 
 -- how a caller stands, field by field
 abbrev pub standing : Facts → Bool → List Bool → ℕ → Option Bid → Standing

@@ -16,26 +16,26 @@ use Rattle.sealed_core.specs.Keys.{key_text}
 use Rattle.sealed_core.specs.Runs.{HoldsLeast}
 use Rattle.sealed_core.specs.Step.{CommandView, Create, To, Standing, standing_of, form_of, form_field, may_ask, tagged_from}
 
--- the refusal of a body that is at fault
+-- a body at fault is refused by this
 abbrev pub refusal_of : BodyFault → Refusal
 refusal_of Json = refusal.BadJson
 refusal_of (Field name) = refusal.BadField name
 
--- of a creation: its tag stands with another, or it is new and the host is full
+-- a creation is refused where its body is at fault, its tag stands with another, or it is new and the host is full
 abbrev pub CauseOfCreation : List InstanceView → Result CreationView BodyFault → Refusal → Type 0
 CauseOfCreation instances (Err fault) r = r ≡ refusal_of fault
 CauseOfCreation instances (Ok c) r =
     ((id : ℕ) × (found : CreationView) × (tagged_from 1 instances c.tag ≡ Some (id, found)) × (found ≢ c) × (r ≡ refusal.TagTaken))
     ⊎ (All (λ i. i.creation.tag ≢ c.tag) instances × (MOST_INSTANCES ≤ length instances) × (r ≡ refusal.HostFull))
 
--- of a bid with a right body: the instance is closed; the turn is neither the next one nor that of an equal kept bid; all turns are used
+-- a bid with a right body is refused where the instance is closed; the turn is neither the next one nor that of an equal kept bid; all turns are used
 abbrev pub CauseOfBid : Standing → ℕ → Bid → Refusal → Type 0
 CauseOfBid s turn given r =
     ((s.closed ≡ true) × (r ≡ refusal.Closed))
     ⊎ (((s.closed ≡ false) × (turn ≢ s.turn + 1) × ((turn ≡ s.turn) × (s.bid ≡ Some given) → ⊥) × (r ≡ refusal.Turn s.turn))
     ⊎ ((s.closed ≡ false) × (turn ≡ s.turn + 1) × (s.turn ≡ MOST_TURNS) × (r ≡ refusal.TurnsUsed)))
 
--- of a withdrawal with a turn: the instance is closed; the turn is neither the next one nor a kept turn above 0 that left no bid; all
+-- a withdrawal with a turn is refused where the instance is closed; the turn is neither the next one nor a kept turn above 0 that left no bid; all
 -- turns are used; there is no bid
 abbrev pub CauseOfWithdrawal : Standing → ℕ → Refusal → Type 0
 CauseOfWithdrawal s turn r =
@@ -44,23 +44,23 @@ CauseOfWithdrawal s turn r =
     ⊎ (((s.closed ≡ false) × (turn ≡ s.turn + 1) × (s.turn ≡ MOST_TURNS) × (r ≡ refusal.TurnsUsed))
     ⊎ ((s.closed ≡ false) × (turn ≡ s.turn + 1) × (s.turn ≢ MOST_TURNS) × (s.bid ≡ None) × (r ≡ refusal.NoBid))))
 
--- of the form of a bid: it isn't a checked one of the kind that the facts ask for; else that of the bid
+-- a bid is refused where it isn't a checked one of the kind that the facts ask for, or for its turn
 abbrev pub CauseOfForm : Standing → ℕ → Option Bid → Refusal → Type 0
 CauseOfForm s turn form r =
     (((given : Bid) → form ≡ Some given → IsCheckedBid s.facts given → ⊥) × (r ≡ refusal.BadField (form_field s.facts)))
     ⊎ ((given : Bid) × (form ≡ Some given) × IsCheckedBid s.facts given × CauseOfBid s turn given r)
 
--- of the body of a bid: it has no turn; else that of its form
+-- the body of a bid is refused where it has no turn, or for the bid in it
 abbrev pub CauseOfBidBody : Standing → BidBody → Option ℕ → Refusal → Type 0
 CauseOfBidBody s body None r = r ≡ refusal.BadField field.Turn
 CauseOfBidBody s body (Some turn) r = CauseOfForm s turn (form_of s.facts body) r
 
--- of the body of a withdrawal, which looks at the turn alone
+-- the body of a withdrawal is refused for its turn alone
 abbrev pub CauseOfWithdrawalBody : Standing → Option ℕ → Refusal → Type 0
 CauseOfWithdrawalBody s None r = r ≡ refusal.BadField field.Turn
 CauseOfWithdrawalBody s (Some turn) r = CauseOfWithdrawal s turn r
 
--- of what is asked by a caller who may ask it
+-- what is asked by a caller who may ask it is refused for this
 abbrev pub CauseOfAsk : Standing → Ask → Refusal → Type 0
 CauseOfAsk s asks.Status r = ⊥
 CauseOfAsk s (asks.Bid (Err fault)) r = r ≡ refusal_of fault
@@ -75,23 +75,23 @@ CauseOfAsk s (asks.Withdraw (Ok body)) r = CauseOfWithdrawalBody s body.turn r
 abbrev pub is_past : ℕ → InstanceView → Bool
 is_past now i = i.closed || nat_le i.creation.deadline now
 
--- of a caller: they may not ask it, or what they ask is refused
+-- a caller is refused where they may not ask it, or what they ask is refused
 abbrev pub CauseOfCaller : ℕ → InstanceView → ℕ → Ask → Refusal → Type 0
 CauseOfCaller now i m ask r = ((may_ask m ask ≡ false) × (r ≡ refusal.Role)) ⊎ ((may_ask m ask ≡ true) × CauseOfAsk (standing_of i m (is_past now i)) ask r)
 
--- of a key: it is that of nobody in the instance, or its least holder is refused
+-- a key is refused where nobody in the instance has it, or its least holder is refused
 abbrev pub CauseOfKey : ℕ → List ℕ → ℕ → InstanceView → List ℕ → Ask → Refusal → Type 0
 CauseOfKey now secret id i key ask r =
     (((m : ℕ) → m ≤ length i.creation.members → key_text secret id m ≢ key) × (r ≡ refusal.WrongKey))
     ⊎ ((m : ℕ) × HoldsLeast secret id (length i.creation.members) key m × CauseOfCaller now i m ask r)
 
--- of a command on an instance: none has the id, no key is shown, or the key is refused
+-- a command on an instance is refused where no instance has the id, no key is shown, or the key is refused
 abbrev pub CauseOn : ℕ → List ℕ → ℕ → Option InstanceView → Option (List ℕ) → Ask → Refusal → Type 0
 CauseOn now secret id None key ask r = r ≡ refusal.NoInstance
 CauseOn now secret id (Some i) None ask r = r ≡ refusal.NoKey
 CauseOn now secret id (Some i) (Some key) ask r = CauseOfKey now secret id i key ask r
 
--- of a command
+-- a command is refused for this
 abbrev pub Cause : HostView → ℕ → CommandView → Refusal → Type 0
 Cause h t (Create body) r = CauseOfCreation h.instances body r
 Cause h t (To id key ask) r = CauseOn (max t h.moment) h.secret id (instance_at h id) key ask r

@@ -27,15 +27,18 @@ pub record Holding : Type 0 where
   pub content : HostView
   pub spare : ℕ
 
+-- an event: a creation, a kept bid, a close or a withdrawal, each with its moment
 pub data EventView : Type 0 where
   Created : (moment : ℕ) → CreationView → EventView
   BidKept : (moment id member turn : ℕ) → Bid → EventView
   Closed : (moment id : ℕ) → EventView
   Withdrawn : (moment id member turn : ℕ) → EventView
 
+-- what an instance of the code says
 abbrev pub instance_view : Instance → InstanceView
 instance_view i = record { creation = creation_view i.creation; turns = i.turns.items; bids = i.bids.items; closed = i.closed }
 
+-- what an event of the code says
 abbrev pub event_view : Event → EventView
 event_view (event.Create moment creation) = Created moment (creation_view creation)
 event_view (event.Bid moment id member turn bid) = BidKept moment id member turn bid
@@ -50,7 +53,7 @@ pub record IsCheckedInstance (i : InstanceView) : Type 0 where
   pub used : All (λ turn. turn ≤ MOST_TURNS) i.turns
   pub checked : All (λ bid. IfSome bid (IsCheckedBid i.creation.facts)) i.bids
 
--- what holds of all of them
+-- what holds of all instances of a host
 pub record AreCheckedInstances (instances : List InstanceView) : Type 0 where
   pub each : All IsCheckedInstance instances
   pub few : length instances ≤ MOST_INSTANCES
@@ -63,6 +66,7 @@ instance_at h id = if id == 0 then None else slice_get h.instances (id - 1)
 abbrev pub kept_turn : InstanceView → ℕ → ℕ
 kept_turn i m = if m == 0 then 0 else slice_index i.turns (m - 1)
 
+-- the bid of a member, from 1, that is kept; the organiser, 0, has none
 abbrev pub kept_bid : InstanceView → ℕ → Option Bid
 kept_bid i m = if m == 0 then None else slice_index_or i.bids (m - 1) None
 
@@ -101,6 +105,7 @@ fresh c = record { creation = c; turns = replicate (length c.members) 0; bids = 
 abbrev pub with_turn : ℕ → ℕ → Option Bid → InstanceView → InstanceView
 with_turn m turn bid i = record { creation = i.creation; turns = set i.turns (m - 1) turn; bids = set i.bids (m - 1) bid; closed = i.closed }
 
+-- the same instance, closed
 abbrev pub as_closed : InstanceView → InstanceView
 as_closed i = record { creation = i.creation; turns = i.turns; bids = i.bids; closed = true }
 
@@ -114,6 +119,7 @@ changed f (x ∷ xs) (suc place) = x ∷ changed f xs place
 abbrev pub change : (InstanceView → InstanceView) → List InstanceView → ℕ → List InstanceView
 change f instances id = changed f instances (id - 1)
 
+-- the instances after an event
 abbrev pub instances_after : List InstanceView → EventView → List InstanceView
 instances_after instances (Created now c) = instances ++ fresh c ∷ []
 instances_after instances (BidKept now id m turn bid) = change (with_turn m turn (Some bid)) instances id

@@ -6,3 +6,4 @@ pub mod Runs
 pub mod Sameness
 pub mod Sealed
 pub mod Step
+pub mod Veil

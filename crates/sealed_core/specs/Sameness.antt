@@ -7,12 +7,15 @@ use Rattle.bid_rules.specs.declared.bids.Facts.{Facts}
 use Rattle.bid_rules.specs.declared.bids.Facts.TheVariants.{Rent, Goods, Fares}
 use Rattle.sealed_core.specs.Host.{CreationView}
 
+-- the texts are equal, byte for byte
 abbrev pub same_text : List ℕ → List ℕ → Bool
 same_text a b = pointwise nat_eq a b
 
+-- the lists of texts are equal
 abbrev pub same_texts : List (List ℕ) → List (List ℕ) → Bool
 same_texts a b = pointwise same_text a b
 
+-- the facts are of one kind and equal
 abbrev pub same_facts : Facts → Facts → Bool
 same_facts (Rent a) (Rent b) = (a.members == b.members) && (a.rent == b.rent)
 same_facts (Goods a) (Goods b) = (a.members == b.members) && (a.goods == b.goods) && (a.limit == b.limit)
@@ -28,6 +31,7 @@ same_facts (Fares a) (Goods b) = false
 abbrev pub same_creation : CreationView → CreationView → Bool
 same_creation a b = same_text a.title b.title && same_texts a.members b.members && same_texts a.items b.items && same_facts a.facts b.facts && (a.deadline == b.deadline) && same_text a.tag b.tag
 
+-- the bids are both values or both places, and equal
 abbrev pub same_bid : Bid → Bid → Bool
 same_bid (Values a) (Values b) = pointwise nat_eq a.items b.items
 same_bid (Place a) (Place b) = a == b

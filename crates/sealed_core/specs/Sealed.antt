@@ -20,6 +20,7 @@ pub record PublicFacts : Type 0 where
   pub closed : Bool
   pub have_bid : List Bool
 
+-- what everybody in the round may know of it
 abbrev pub public_of : InstanceView → PublicFacts
 public_of i = record {
   title = i.creation.title;
@@ -35,11 +36,13 @@ public_of i = record {
 abbrev pub Caller : Type 0
 Caller = Option ℕ
 
+-- who shows this key at an instance that was found: a member from 1, the organiser 0, or nobody
 abbrev pub caller_with : List ℕ → ℕ → Option InstanceView → Option (List ℕ) → Caller
 caller_with secret id None key = None
 caller_with secret id (Some i) None = None
 caller_with secret id (Some i) (Some key) = holder secret id i key
 
+-- who shows this key at the instance of a host
 abbrev pub caller_number : HostView → ℕ → Option (List ℕ) → Caller
 caller_number h id key = caller_with h.secret id (instance_at h id) key
 
@@ -52,16 +55,19 @@ pub record View : Type 0 where
   pub turn : ℕ
   pub bid : Option Bid
 
+-- the caller's own kept turn, 0 where there is none
 abbrev pub own_turn : Option InstanceView → Caller → ℕ
 own_turn None caller = 0
 own_turn (Some i) None = 0
 own_turn (Some i) (Some m) = kept_turn i m
 
+-- the caller's own kept bid
 abbrev pub own_bid : Option InstanceView → Caller → Option Bid
 own_bid None caller = None
 own_bid (Some i) None = None
 own_bid (Some i) (Some m) = kept_bid i m
 
+-- what a caller may know of an instance that was found, at a moment
 abbrev pub view_of : ℕ → Option InstanceView → Caller → View
 view_of moment found caller = record {
   caller = caller;
@@ -71,6 +77,7 @@ view_of moment found caller = record {
   bid = own_bid found caller;
 }
 
+-- what a caller may know of an instance of a host
 abbrev pub view : HostView → ℕ → Caller → View
 view h id caller = view_of h.moment (instance_at h id) caller
 
@@ -82,18 +89,22 @@ standing_in public v = record { facts = public.facts; closed = public.closed; ha
 abbrev pub reply_in : ℕ → ℕ → Ask → View → PublicFacts → ℕ → Reply
 reply_in now id ask v public m = if not (may_ask m ask) then reply.Refused refusal.Role else (answer_ask now id m (standing_in public v) ask).reply
 
+-- the reply from the view, to a holder of the key or to nobody
 abbrev pub reply_by : ℕ → ℕ → Ask → View → PublicFacts → Caller → Reply
 reply_by now id ask v public None = reply.Refused refusal.WrongKey
 reply_by now id ask v public (Some m) = reply_in now id ask v public m
 
+-- the reply from the view, with a key or without one
 abbrev pub reply_under : ℕ → ℕ → Ask → View → PublicFacts → Option (List ℕ) → Reply
 reply_under now id ask v public None = reply.Refused refusal.NoKey
 reply_under now id ask v public (Some key) = reply_by now id ask v public v.caller
 
+-- the reply from the view, on an instance or on none
 abbrev pub reply_on : ℕ → ℕ → Ask → View → Option (List ℕ) → Option PublicFacts → Reply
 reply_on now id ask v key None = reply.Refused refusal.NoInstance
 reply_on now id ask v key (Some public) = reply_under now id ask v public key
 
+-- the reply that follows from the view, the command and its moment alone
 abbrev pub sealed_reply : View → ℕ → ℕ → Option (List ℕ) → Ask → Reply
 sealed_reply v t id key ask = reply_on (max t v.moment) id ask v key v.public
 
@@ -102,6 +113,7 @@ abbrev pub is_shut : Option InstanceView → Bool
 is_shut None = false
 is_shut (Some i) = i.closed
 
+-- the instance of a host is closed
 abbrev pub is_closed : HostView → ℕ → Bool
 is_closed h id = is_shut (instance_at h id)
 
@@ -110,6 +122,7 @@ abbrev pub applied : HostView → Option EventView → HostView
 applied h None = h
 applied h (Some e) = apply h e
 
+-- the host after a command
 abbrev pub host_after : HostView → ℕ → CommandView → HostView
 host_after h t command = applied h (step h t command).event
 
@@ -118,6 +131,7 @@ abbrev pub IsSealed : HostView → ℕ → CommandView → Answer → Type 0
 IsSealed h t (Create body) a = Unit {0}
 IsSealed h t (To id key ask) a = is_closed (applied h a.event) id ≡ false → a.reply ≡ sealed_reply (view h id (caller_number h id key)) t id key ask
 
+-- the reply is a refusal
 abbrev pub is_refused : Reply → Bool
 is_refused (reply.Created id) = false
 is_refused (reply.Status id you) = false
@@ -141,6 +155,7 @@ pub record Asked : Type 0 where
   pub moment : ℕ
   pub command : CommandView
 
+-- the host after a command that was asked at its moment
 abbrev pub next : HostView → Asked → HostView
 next h a = host_after h a.moment a.command
 
@@ -151,6 +166,7 @@ same_caller None (Some m) = false
 same_caller (Some k) None = false
 same_caller (Some k) (Some m) = k == m
 
+-- the reply that a caller gets to a command, where it is their own command on the instance
 abbrev pub heard_of : HostView → ℕ → Caller → ℕ → CommandView → Option Reply
 heard_of h id caller t (Create body) = None
 heard_of h id caller t (To other key ask) = if (other == id) && same_caller (caller_number h other key) caller then Some (step h t (To other key ask)).reply else None
@@ -173,12 +189,13 @@ KeepsBid h id m a = (now turn : ℕ) × (given : Bid) × ((step h a.moment a.com
 abbrev pub AreAlike : HostView → HostView → ℕ → Caller → Asked → Asked → Type 0
 AreAlike g h id caller a b = (a ≡ b) ⊎ ((a.moment ≡ b.moment) × ((m : ℕ) × (caller ≢ Some m) × KeepsBid g id m a × KeepsBid h id m b))
 
--- two lists of one length, from two hosts, whose steps are alike pair by pair
+-- the two lists have one length, and their steps are alike pair by pair, each at its own host
 abbrev pub RunAlike : HostView → HostView → ℕ → Caller → List Asked → List Asked → Type 0
 RunAlike g h id caller [] [] = Unit {0}
 RunAlike g h id caller [] (b ∷ others) = ⊥
 RunAlike g h id caller (a ∷ run) [] = ⊥
 RunAlike g h id caller (a ∷ run) (b ∷ others) = AreAlike g h id caller a b × RunAlike (next g a) (next h b) id caller run others
 
+-- the host with no instances
 abbrev pub empty : List ℕ → HostView
 empty secret = record { secret = secret; moment = 0; instances = [] }

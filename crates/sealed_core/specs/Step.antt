@@ -32,10 +32,12 @@ pub data CommandView : Type 0 where
   Create : Result CreationView BodyFault → CommandView
   To : (id : ℕ) → (key : Option (List ℕ)) → Ask → CommandView
 
+-- what a creation that was read says, or its fault
 abbrev pub creation_seen : Result Creation BodyFault → Result CreationView BodyFault
 creation_seen (Ok creation) = Ok (creation_view creation)
 creation_seen (Err fault) = Err fault
 
+-- what a command of the code asks
 abbrev pub command_view : Command → CommandView
 command_view (command.Create body) = Create (creation_seen body)
 command_view (command.Status id key) = To id key asks.Status
@@ -45,19 +47,24 @@ command_view (command.Close id key) = To id key asks.Close
 command_view (command.Publish id key what) = To id key (asks.Publish what)
 command_view (command.Withdraw id key body) = To id key (asks.Withdraw body)
 
+-- at most one event, and a reply
 pub record Answer : Type 0 where
   pub event : Option EventView
   pub reply : Reply
 
+-- what an answer of the code says
 abbrev pub answer_view : Answered → Answer
 answer_view a = record { event = option_map event_view a.event; reply = a.reply }
 
+-- this reply, with no event
 abbrev pub says : Reply → Answer
 says r = record { event = None; reply = r }
 
+-- this refusal, with no event
 abbrev pub refused : Refusal → Answer
 refused r = says (reply.Refused r)
 
+-- the refusal of a body with this fault
 abbrev pub broken : BodyFault → Answer
 broken Json = refused refusal.BadJson
 broken (Field name) = refused (refusal.BadField name)
@@ -67,11 +74,12 @@ abbrev pub tagged_from : ℕ → List InstanceView → List ℕ → Option (ℕ 
 tagged_from id [] tag = None
 tagged_from id (i ∷ instances) tag = if same_text i.creation.tag tag then Some (id, i.creation) else tagged_from (id + 1) instances tag
 
--- a creation whose tag stands, or doesn't
+-- the answer to a creation, whose tag stands or not
 abbrev pub new_creation : ℕ → ℕ → CreationView → Option (ℕ × CreationView) → Answer
 new_creation now count c None = if nat_lt count MOST_INSTANCES then record { event = Some (Created now c); reply = reply.Created (count + 1) } else refused refusal.HostFull
 new_creation now count c (Some found) = if same_creation found.1 c then says (reply.Created found.0) else refused refusal.TagTaken
 
+-- the answer to a creation that was read
 abbrev pub answer_creation : ℕ → List InstanceView → Result CreationView BodyFault → Answer
 answer_creation now instances (Err fault) = broken fault
 answer_creation now instances (Ok c) = new_creation now (length instances) c (tagged_from 1 instances c.tag)
@@ -81,14 +89,17 @@ abbrev pub caller_by : InstanceView → Option ℕ → Result (InstanceView × �
 caller_by i None = Err refusal.WrongKey
 caller_by i (Some m) = Ok (i, m)
 
+-- who holds a key at an instance: a member from 1, the organiser 0, or nobody
 abbrev pub holder : List ℕ → ℕ → InstanceView → List ℕ → Option ℕ
 holder secret id i key = first_holder secret id key (length i.creation.members + 1) 0
 
+-- the instance that was found with its caller, or the refusal of the key
 abbrev pub caller_in : List ℕ → ℕ → Option InstanceView → Option (List ℕ) → Result (InstanceView × ℕ) Refusal
 caller_in secret id None key = Err refusal.NoInstance
 caller_in secret id (Some i) None = Err refusal.NoKey
 caller_in secret id (Some i) (Some key) = caller_by i (holder secret id i key)
 
+-- the instance with its caller, or the refusal of the key
 abbrev pub caller_of : HostView → ℕ → Option (List ℕ) → Result (InstanceView × ℕ) Refusal
 caller_of h id key = caller_in h.secret id (instance_at h id) key
 
@@ -109,10 +120,11 @@ pub record Standing : Type 0 where
   pub turn : ℕ
   pub bid : Option Bid
 
+-- what the answer to a member depends on
 abbrev pub standing_of : InstanceView → ℕ → Bool → Standing
 standing_of i m closed = record { facts = i.creation.facts; closed = closed; have_bid = map is_some i.bids; turn = kept_turn i m; bid = kept_bid i m }
 
--- a bid whose body is right
+-- the answer to a bid with a right body
 abbrev pub bid_turn : ℕ → ℕ → ℕ → Standing → ℕ → Bid → Answer
 bid_turn now id m standing turn given =
     if standing.closed then refused refusal.Closed
@@ -127,27 +139,32 @@ form_of (Rent facts) body = option_map bid.Values body.values
 form_of (Goods facts) body = option_map bid.Values body.values
 form_of (Fares facts) body = option_map bid.Place body.place
 
+-- the field of a bid for these facts: values, or a place
 abbrev pub form_field : Facts → FieldName
 form_field (Rent facts) = field.Values
 form_field (Goods facts) = field.Values
 form_field (Fares facts) = field.Place
 
+-- the bid, where the rule of these facts allows it
 abbrev pub checked : Facts → Option Bid → Option Bid
 checked facts given = option_and_then (allowed_bid facts) given
 
+-- the answer to a bid by its form
 abbrev pub bid_form : ℕ → ℕ → ℕ → Standing → ℕ → Option Bid → Answer
 bid_form now id m standing turn None = refused (refusal.BadField (form_field standing.facts))
 bid_form now id m standing turn (Some given) = bid_turn now id m standing turn given
 
+-- the answer to a bid by its turn and its form
 abbrev pub bid_body : ℕ → ℕ → ℕ → Standing → BidBody → Option ℕ → Answer
 bid_body now id m standing body None = refused (refusal.BadField field.Turn)
 bid_body now id m standing body (Some turn) = bid_form now id m standing turn (checked standing.facts (form_of standing.facts body))
 
+-- the answer to a bid that was read
 abbrev pub answer_bid : ℕ → ℕ → ℕ → Standing → Result BidBody BodyFault → Answer
 answer_bid now id m standing (Err fault) = broken fault
 answer_bid now id m standing (Ok body) = bid_body now id m standing body body.turn
 
--- a withdrawal whose body is right
+-- the answer to a withdrawal with a right body
 abbrev pub withdrawal_turn : ℕ → ℕ → ℕ → Standing → ℕ → Answer
 withdrawal_turn now id m standing turn =
     if standing.closed then refused refusal.Closed
@@ -157,15 +174,17 @@ withdrawal_turn now id m standing turn =
     else if is_none standing.bid then refused refusal.NoBid
     else record { event = Some (Withdrawn now id m turn); reply = reply.Kept turn }
 
+-- the answer to a withdrawal by its turn
 abbrev pub withdrawal_body : ℕ → ℕ → ℕ → Standing → Option ℕ → Answer
 withdrawal_body now id m standing None = refused (refusal.BadField field.Turn)
 withdrawal_body now id m standing (Some turn) = withdrawal_turn now id m standing turn
 
+-- the answer to a withdrawal that was read
 abbrev pub answer_withdrawal : ℕ → ℕ → ℕ → Standing → Result BidBody BodyFault → Answer
 answer_withdrawal now id m standing (Err fault) = broken fault
 answer_withdrawal now id m standing (Ok body) = withdrawal_body now id m standing body.turn
 
--- an asked close
+-- the answer to a close that is asked for
 abbrev pub answer_close : ℕ → ℕ → Standing → Answer
 answer_close now id standing =
     if standing.closed then refused refusal.Closed
@@ -192,6 +211,7 @@ answer_caller now id ask i m =
     else if is_over now i then record { event = Some (Closed now id); reply = (answer_ask now id m (standing_of i m true) ask).reply }
     else answer_ask now id m (standing_of i m i.closed) ask
 
+-- the answer on an instance, to its caller or with the refusal of the key
 abbrev pub answer_to : ℕ → ℕ → Ask → Result (InstanceView × ℕ) Refusal → Answer
 answer_to now id ask (Err r) = refused r
 answer_to now id ask (Ok caller) = answer_caller now id ask caller.0 caller.1

@@ -16,9 +16,11 @@ ghost use Rattle.sealed_core.specs.Host.{BidKept, CanApply, CreationView, EventV
 ghost use Rattle.sealed_core.specs.Origins.{ComesOf};
 ghost use Rattle.sealed_core.specs.Runs.{AreChecked, CanApplyAll, HoldsLeast, host_of, kept, last};
 ghost use Rattle.sealed_core.specs.Sealed.{Asked, Caller, IsLateClose, RunAlike, caller_number, empty, heard, host_after, is_closed, sealed_reply, view, views};
+ghost use Rattle.sealed_core.specs.Veil.{LookAlike};
 
-/// Bids are sealed until their instance is closed. Take two runs from one empty host whose steps are equal pair by pair, but that
-/// some of them may be two bids on the instance by the same member other than the caller, at the same moment, each of them kept.
+/// Bids are sealed until their instance is closed. Take two hosts that differ in nothing but what others than the caller have bid, and a run from
+/// each, whose steps are equal pair by pair, but that some of them may be two bids on the instance by the same member other than the caller, at the
+/// same moment, each of them kept.
 /// Then the caller hears the same of the instance in both, and their view of it is the same, up to the step at which it is closed.
 /// The reply to a command is written from the caller's view, the command and the moment where the instance isn't closed after the step.
 /// So at any two hosts, one command from two callers with equal views gets one reply where the instance isn't closed after the step; and
@@ -31,10 +33,10 @@ pub fn sealing_law()
         → (step g t (To id key ask)).reply ≡ (step h t (To id key ask)).reply }
     ensures closed_alike { (g h : HostView) (t id : ℕ) (key : Option (List ℕ)) (ask : Ask) → view g id (caller_number g id key) ≡ view h id (caller_number h id key)
         → is_closed (host_after g t (To id key ask)) id ≡ is_closed (host_after h t (To id key ask)) id }
-    ensures heard { (secret : List ℕ) (id : ℕ) (caller : Caller) (run others : List Asked) → RunAlike (empty secret) (empty secret) id caller run others
-        → heard (empty secret) id caller run ≡ heard (empty secret) id caller others }
-    ensures views { (secret : List ℕ) (id : ℕ) (caller : Caller) (run others : List Asked) → RunAlike (empty secret) (empty secret) id caller run others
-        → views (empty secret) id caller run ≡ views (empty secret) id caller others }
+    ensures heard { (g h : HostView) (id : ℕ) (caller : Caller) (run others : List Asked) → LookAlike caller g h → RunAlike g h id caller run others
+        → heard g id caller run ≡ heard h id caller others }
+    ensures views { (g h : HostView) (id : ℕ) (caller : Caller) (run others : List Asked) → LookAlike caller g h → RunAlike g h id caller run others
+        → views g id caller run ≡ views h id caller others }
 {}
 
 /// A run from the empty host keeps events each of which may be applied at its turn, and its host is the one that they make. The host of

@@ -3,6 +3,11 @@
 //! `answer` says what a host replies to a command at a moment, and which event goes before the reply; `apply` makes the event's change.
 //! Until an instance is closed, what a caller hears of it follows from the public facts, their own bid and kept turn, and the greatest
 //! moment of a kept event alone.
+//!
+//! Each refusal comes exactly where it has its cause. `machine_law` says of each kept event which
+//! command it comes from, `publication_law` what is published, `key_law` what a key is, and
+//! `sameness_law` which creations and bids pass for equal. That a key is hard to guess is not
+//! proved.
 #![tactic(auto)]
 
 mod answers;

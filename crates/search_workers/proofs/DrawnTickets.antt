@@ -1,5 +1,5 @@
 -- What a worker has after a draw.
-use Rattle.std.proofs.Common.{◌≡◌, ℕ, zero, suc, ◌+◌, ◌-◌, ◌*◌, ◌<◌, ◌≤◌, List, [], ◌∷◌, ◌++◌, Option, None, append-nil, length, get_or, sym, refl, ap, ◌∙◌, subst, arith, All}
+use Rattle.std.proofs.Common.{◌≡◌, ℕ, zero, suc, ◌+◌, ◌-◌, ◌*◌, ◌<◌, ◌≤◌, List, [], ◌∷◌, ◌++◌, Option, append-nil, length, get_or, sym, refl, ap, ◌∙◌, subst, arith, All}
 use Rattle.std.proofs.lemmas.List.{flat_map_more, length-append, get_or_append_left}
 use Rattle.std.proofs.lemmas.List.Elements.{Contains-push}
 use mathlib.Core.Logic.{dite}
@@ -15,15 +15,6 @@ use Rattle.search_workers.specs.Crews.{AtWork, IsSteep}
 use Rattle.search_workers.specs.Works.{HasWhole, count_at, count_of_tickets, counted_at, counted_of_tickets}
 use Rattle.search_workers.proofs.Sums.{sum_last}
 use Rattle.search_workers.proofs.TicketTasks.{count_inside, count_past, counted_inside, counted_past}
-
--- before the first draw
-pub work_start : (case : GoodsCase) (rule : BlockRule) → AtWork case rule [] 0 None
-work_start case rule = record {
-  steep = λ k h. absurd (omega (arith, h));
-  of_tasks = λ k h. absurd (omega (arith, h));
-  count = refl;
-  found = record { best = refl; pair = tt };
-}
 
 -- a worker has at most as many tickets as the block has tasks
 pub few_drawn : (case : GoodsCase) (rule : BlockRule) (tickets : List ℕ) (nodes : ℕ) (best : Option Found) → AtWork case rule tickets nodes best → length tickets ≤ BLOCK_TASKS
@@ -97,11 +88,6 @@ work_more case rule t nodes piece best more xs w above here count found = record
   count = let a = w.count in let b = count_more case rule xs t here in omega (arith, a, b, count);
   found = subst (λ ys. IsFoundBest case ys more) (counted_more case rule xs t here) found;
 }
-
--- after a task that is walked in part
-pub work_part : (case : GoodsCase) (rule : BlockRule) (t nodes piece : ℕ) (best : Option Found) (xs : List ℕ) → AtWork case rule xs nodes best → t < tasks_in case rule.block
-    → piece ≤ count_task case (BLOCK_TASKS * rule.block + t) rule.floor rule.above → nodes + piece ≤ count_of_tickets case rule.floor rule.above rule.block (xs ++ t ∷ [])
-work_part case rule t nodes piece best xs w here count = let a = w.count in let b = count_more case rule xs t here in omega (arith, a, b, count)
 
 -- after a ticket past the last task
 pub work_ended : (case : GoodsCase) (rule : BlockRule) (t nodes : ℕ) (best : Option Found) (xs : List ℕ) → AtWork case rule xs nodes best → tasks_in case rule.block ≤ t

@@ -17,14 +17,14 @@ use Rattle.search_workers.specs.Works.{HasWhole}
 abbrev pub crew_of : GoodsCase → ℕ → ℕ → ℕ
 crew_of case block workers = min workers (tasks_in case block)
 
--- the counted prefixes of the block's tasks are no more than are left: all are counted, and the best of the counted allocations is found. Or
--- they are more, and of them more than are left are counted, by at most a piece a worker
+-- a block ends with all its counted prefixes counted, no more than are left, and the best counted allocation found, or with more than are left, by at
+-- most one piece for each worker
 abbrev pub EndsBlock : GoodsCase → Pair → Option Pair → ℕ → ℕ → ℕ → BlockEnd → Type 0
 EndsBlock case floor above block left workers (Done nodes best) =
     (nodes ≤ left) × (nodes ≡ count_block case floor above block) × IsFoundBest case (counted_of_block case floor above block) best
 EndsBlock case floor above block left workers (Over nodes) = (left < nodes) × (nodes ≤ left + LONGEST_PIECE * workers) × (nodes ≤ count_block case floor above block)
 
--- the view of each worker has all tasks of its tickets whole, and a ticket past the last task
+-- each worker has walked every task of its tickets whole, and has drawn a ticket past the last task
 abbrev pub AreWalkedWhole : GoodsCase → Pair → Option Pair → ℕ → List DeskView → Type 0
 AreWalkedWhole case floor above block views = (place : ℕ) (view : DeskView) → get_elem? views place ≡ some view → 0 < view.allot
     → (best : Option Found) × HasWhole case floor above block view.tickets view.reported best

@@ -12,11 +12,11 @@ use Rattle.search_workers.specs.declared.worker.BlockRule.{BlockRule}
 use Rattle.search_workers.specs.Views.{desk_view}
 use Rattle.search_workers.specs.Works.{HasWhole, count_of_tickets, counted_of_tickets}
 
--- a worker who has done nothing
+-- a worker who has drawn and counted nothing yet
 abbrev pub IsReady : TableId → ℕ → ℕ → Worker → Type 0
 IsReady desk left workers worker = (worker.seat.table_id ≡ desk) × (worker.seat.me.1 ≡ []) × (worker.seat.me.0 ≡ desk_view [] 0 1 0 left workers)
 
--- what a view stands for that some workers left, and the best that they found: without a stop they have all their tickets' tasks
+-- what some workers have left together, and the best that they found: unless one stopped, they have walked all tasks of their tickets
 pub record AccountsFor (case : GoodsCase) (rule : BlockRule) (workers allot : ℕ) (view : DeskView) (best : Option Found) : Type 0 where
   pub allot_is : view.allot ≡ allot
   pub left_is : view.left ≡ rule.left
@@ -38,7 +38,7 @@ pub record HasEnded (case : GoodsCase) (rule : BlockRule) (desk : TableId) (work
 abbrev pub IsSteep : List ℕ → Type 0
 IsSteep xs = (place : ℕ) → place < length xs → place ≤ slice_index_or xs place 0
 
--- a worker between two draws: the tickets rise and are of tasks, which are counted whole
+-- a worker between two draws: the tickets rise, each is of a task, and every task drawn is counted whole
 pub record AtWork (case : GoodsCase) (rule : BlockRule) (tickets : List ℕ) (nodes : ℕ) (best : Option Found) : Type 0 where
   pub steep : IsSteep tickets
   pub of_tasks : (place : ℕ) → place < length tickets → slice_index_or tickets place 0 < tasks_in case rule.block

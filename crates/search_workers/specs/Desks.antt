@@ -11,11 +11,11 @@ use Rattle.search_workers.specs.declared.view.DeskView.{DeskView}
 use Rattle.search_workers.specs.declared.view.DeskSize.{DeskSize}
 use Rattle.search_workers.specs.Views.{spent}
 
--- a desk's two words and all views, of dropped seats too
+-- the two words of a desk, and the views of all its seats, also of those that were given back
 abbrev pub DeskState : Type 0
 DeskState = State (Unit {0}) DeskView
 
--- the seat is one of the desk's, which has two words
+-- the seat is one of this desk, which has two words
 abbrev pub IsAt : TableId → TableId → Type 0
 IsAt seat desk = (seat ≡ desk) × (desk.words ≡ 2)
 
@@ -27,43 +27,46 @@ ticket_word state = slice_index state.words 0
 abbrev pub node_word : DeskState → ℕ
 node_word state = slice_index state.words 1
 
--- a weight of each ticket, over all views
+-- the sum of a weight over all tickets of all views
 abbrev pub all_tickets : (ℕ → ℕ) → List DeskView → ℕ
 all_tickets weight views = sum_by (λ (view : DeskView). sum_by weight view.tickets) views
 
--- what all views reported
+-- how many prefixes all views together have reported
 abbrev pub all_reported : List DeskView → ℕ
 all_reported views = sum_by (λ (view : DeskView). view.reported) views
 
--- the stops of all views
+-- how many stops all views together have
 abbrev pub all_stops : List DeskView → ℕ
 all_stops views = sum_by (λ (view : DeskView). view.stops) views
 
--- the workers for whom all views stand
+-- for how many workers all views together account
 abbrev pub all_allots : List DeskView → ℕ
 all_allots views = sum_by (λ (view : DeskView). view.allot) views
 
--- a view is spent, or stands for a worker at least and has the desk's two numbers; it has few tickets and stops
+-- a view accounts for no worker, or for some at this desk, with few tickets and few stops for each of them
 pub record IsViewOf (left workers : ℕ) (view : DeskView) : Type 0 where
   pub stands : (view ≡ spent) ⊎ ((0 < view.allot) × (view.left ≡ left) × (view.workers ≡ workers))
   pub few_tickets : length view.tickets ≤ MOST_TICKETS * view.allot
   pub few_stops : view.stops ≤ view.allot
 
--- the rule. The tickets of all views are the numbers below the ticket word, each once: any weight of them is that of these numbers. The node
--- word is what all views reported. It is above what is left exactly where a view has a stop, and then by at most a piece for each stop
+-- the rule of a desk: all views together hold each ticket drawn once, the node word is what they reported, and it exceeds what is left only after a
+-- stop, by at most one piece for each stop
 pub record IsDesk (left workers : ℕ) (state : DeskState) : Type 0 where
   pub two_words : length state.words ≡ 2
   pub small : left ≤ MOST_STEPS
   pub one_worker : 1 ≤ workers
   pub few : workers ≤ MOST_WORKERS
+  -- the tickets of all views are the numbers below the ticket word, each once: any weight of them sums to that of these numbers
   pub tickets : (weight : ℕ → ℕ) → all_tickets weight state.views ≡ sum_by weight (range_with_len 0 (ticket_word state))
+  -- the node word is what all views together have reported
   pub nodes : all_reported state.views ≡ node_word state
+  -- it is above what is left exactly if a view has a stop, and then by at most one piece for each stop
   pub over : left < node_word state → 1 ≤ all_stops state.views
   pub under : node_word state ≤ left → all_stops state.views ≡ 0
   pub most : node_word state ≤ left + LONGEST_PIECE * all_stops state.views
   pub allots : all_allots state.views ≡ workers
   pub views : (place : ℕ) (view : DeskView) → get_elem? state.views place ≡ some view → IsViewOf left workers view
 
--- the rule of a desk that is made for these numbers
+-- the desk keeps its rule for the numbers it was made with
 abbrev pub Kept : DeskSize → DeskState → Type 0
 Kept size state = IsDesk size.left size.workers state

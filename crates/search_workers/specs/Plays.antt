@@ -10,12 +10,12 @@ use Rattle.search_workers.specs.Views.{drawn, told}
 abbrev pub SeatState : Type 0
 SeatState = Me (Unit {0}) DeskView
 
--- the old word joins the tickets, and is above all that were there
+-- a draw: the old ticket word joins the seat's tickets, and is above all that it had
 abbrev pub Draws : Step (Unit {0}) → SeatState → ℕ → SeatState → Type 0
 Draws step seat found after = (after ≡ (drawn seat.0 found, seat.1)) × All (λ ticket. ticket < found) seat.0.tickets
 
--- what a report of so many prefixes tells, where the node word was as it was found: no more than is left is reported so far, or no more than
--- that and a piece for each worker
+-- after a report of so many prefixes, the view has counted them, and all reports together are within what is left, or exceed it by at most one piece
+-- for each worker
 pub record IsReported (view : DeskView) (count found : ℕ) (after : DeskView) : Type 0 where
   pub told : after ≡ told view count found
   pub within : found + count ≤ view.left → after.reported ≤ view.left
@@ -23,11 +23,11 @@ pub record IsReported (view : DeskView) (count found : ℕ) (after : DeskView) :
   pub small : after.reported ≤ MOST_REPORTED
   pub found_small : found ≤ MOST_REPORTED
 
--- the operand joins what is reported
+-- a report: the prefixes that the step names join what the seat has reported
 abbrev pub Reports : Step (Unit {0}) → SeatState → ℕ → SeatState → Type 0
 Reports step seat found after = IsReported seat.0 step.first found after.0 × (after.1 ≡ seat.1)
 
--- the view that stands for all workers has all tickets and reports
+-- one view that accounts for all workers: it has every ticket drawn, and has more reported than is left exactly if one of them stopped
 pub record HasAll (view : DeskView) (tickets_drawn : ℕ) : Type 0 where
   pub all_tickets : (weight : ℕ → ℕ) → sum_by weight view.tickets ≡ sum_by weight (range_with_len 0 tickets_drawn)
   pub over : 1 ≤ view.stops → view.left < view.reported
@@ -35,6 +35,6 @@ pub record HasAll (view : DeskView) (tickets_drawn : ℕ) : Type 0 where
   pub most : view.reported ≤ view.left + LONGEST_PIECE * view.stops
   pub few : view.stops ≤ view.allot
 
--- the ticket word is seen by the seat that stands for all workers
+-- the seat that accounts for all workers sees the ticket word
 abbrev pub Learns : Step (Unit {0}) → SeatState → ℕ → SeatState → Type 0
 Learns step seat found after = (after ≡ seat) × HasAll seat.0 found

@@ -4,11 +4,11 @@ use Rattle.search_workers.specs.declared.view.DeskView.{DeskView}
 use Rattle.search_workers.specs.Desks.{DeskState, node_word, ticket_word}
 use Rattle.search_workers.specs.Views.{drawn, fewer, fresh, joined, spent, told, whole}
 
--- both words are 0, and one view stands for all workers
+-- a desk at its beginning: both words are 0, and one view accounts for all workers
 abbrev pub begun_desk : ℕ → ℕ → DeskState
 begun_desk left workers = record { words = 0 ∷ 0 ∷ []; homes = []; views = whole left workers ∷ [] }
 
--- the view at a place draws the next ticket
+-- the desk after the view at a place has drawn the next ticket
 abbrev pub after_draw : DeskState → ℕ → DeskView → DeskState
 after_draw state place view = record {
   words = slice_set state.words 0 (ticket_word state + 1);
@@ -16,7 +16,7 @@ after_draw state place view = record {
   views = slice_set state.views place (drawn view (ticket_word state));
 }
 
--- the view at a place reports so many prefixes
+-- the desk after the view at a place has reported so many prefixes
 abbrev pub after_report : DeskState → ℕ → DeskView → ℕ → DeskState
 after_report state place view count = record {
   words = slice_set state.words 1 (node_word state + count);
@@ -24,10 +24,10 @@ after_report state place view count = record {
   views = slice_set state.views place (told view count (node_word state));
 }
 
--- a worker of the view at a place gets a view of its own
+-- the desk after one worker of the view at a place has got a view of its own
 abbrev pub after_split : DeskState → ℕ → DeskView → DeskState
 after_split state place view = record { words = state.words; homes = state.homes; views = slice_set state.views place (fewer view) ++ fresh view ∷ [] }
 
--- the view at a place takes in that at another, which is spent
+-- the desk after the view at a place has taken in that at another, which is then spent
 abbrev pub after_join : DeskState → ℕ → DeskView → ℕ → DeskView → DeskState
 after_join state place view from other = record { words = state.words; homes = state.homes; views = slice_set (slice_set state.views place (joined view other)) from spent }

@@ -2,38 +2,38 @@
 use Rattle.std.specs.Prelude.{ℕ, ◌+◌, ◌-◌, ◌++◌, List, [], ◌∷◌, nat_lt, cond}
 use Rattle.search_workers.specs.declared.view.DeskView.{DeskView}
 
--- a view by its parts
+-- a view made of its parts
 abbrev pub desk_view : List ℕ → ℕ → ℕ → ℕ → ℕ → ℕ → DeskView
 desk_view tickets reported allot stops left workers = record { tickets = tickets; reported = reported; allot = allot; stops = stops; left = left; workers = workers }
 
--- the view that stands for no worker
+-- the view that accounts for no worker
 abbrev pub spent : DeskView
 spent = desk_view [] 0 0 0 0 0
 
--- the view with which a desk begins: it stands for all workers, and nothing is done
+-- the view with which a desk begins: it accounts for all workers, and nothing is done
 abbrev pub whole : ℕ → ℕ → DeskView
 whole left workers = desk_view [] 0 workers 0 left workers
 
--- with one ticket more
+-- the view with one ticket more
 abbrev pub drawn : DeskView → ℕ → DeskView
 drawn view ticket = desk_view (view.tickets ++ ticket ∷ []) view.reported view.allot view.stops view.left view.workers
 
--- 1 where the node word is above what is left, else 0
+-- 1 if the node word is above what is left, and otherwise 0
 abbrev pub stop_of : ℕ → ℕ → ℕ
 stop_of left node = cond (nat_lt left node) 1 0
 
--- with so many more reported, where the node word was as it was found
+-- the view with so many more prefixes reported, where the node word was `found` before
 abbrev pub told : DeskView → ℕ → ℕ → DeskView
 told view count found = desk_view view.tickets (view.reported + count) view.allot (view.stops + stop_of view.left (found + count)) view.left view.workers
 
--- for one worker less
+-- the view with one worker less
 abbrev pub fewer : DeskView → DeskView
 fewer view = desk_view view.tickets view.reported (view.allot - 1) view.stops view.left view.workers
 
--- for one worker, who has done nothing
+-- the view of one worker who has done nothing
 abbrev pub fresh : DeskView → DeskView
 fresh view = desk_view [] 0 1 0 view.left view.workers
 
--- two views as one
+-- two views taken together
 abbrev pub joined : DeskView → DeskView → DeskView
 joined view other = desk_view (view.tickets ++ other.tickets) (view.reported + other.reported) (view.allot + other.allot) (view.stops + other.stops) view.left view.workers

@@ -11,32 +11,32 @@ use Rattle.nash_search.specs.declared.found.Found.{Found}
 use Rattle.search_workers.specs.declared.view.DeskView.{DeskView}
 use Rattle.search_workers.specs.Views.{desk_view}
 
--- how many prefixes of a ticket's task are counted; past the last task of the block there are none
+-- how many prefixes of a ticket's task are counted, which are none past the last task of the block
 abbrev pub count_at : GoodsCase → Pair → Option Pair → ℕ → ℕ → ℕ
 count_at case floor above block ticket = cond (nat_lt ticket (tasks_in case block)) (count_task case (BLOCK_TASKS * block + ticket) floor above) 0
 
--- the counted allocations of a ticket's task
+-- the counted allocations of a ticket's task, which are none past the last task of the block
 abbrev pub counted_at : GoodsCase → Pair → Option Pair → ℕ → ℕ → List (List ℕ)
 counted_at case floor above block ticket = cond (nat_lt ticket (tasks_in case block)) (counted_leaves case (BLOCK_TASKS * block + ticket) floor above) []
 
--- how many prefixes of the tickets' tasks are counted
+-- how many prefixes of all the tickets' tasks are counted
 abbrev pub count_of_tickets : GoodsCase → Pair → Option Pair → ℕ → List ℕ → ℕ
 count_of_tickets case floor above block tickets = sum_by (count_at case floor above block) tickets
 
--- their counted allocations
+-- the counted allocations of all the tickets' tasks
 abbrev pub counted_of_tickets : GoodsCase → Pair → Option Pair → ℕ → List ℕ → List (List ℕ)
 counted_of_tickets case floor above block tickets = flat_map (counted_at case floor above block) tickets
 
--- all tasks of the tickets are counted whole, and their best allocation is found; and a ticket past the last task was drawn
+-- every task of the tickets is counted whole and the best counted allocation is found, and a ticket past the last task was drawn
 pub record HasWhole (case : GoodsCase) (floor : Pair) (above : Option Pair) (block : ℕ) (tickets : List ℕ) (nodes : ℕ) (best : Option Found) : Type 0 where
   pub past : (ticket : ℕ) × (tasks_in case block ≤ ticket) × Contains tickets ticket
   pub count : nodes ≡ count_of_tickets case floor above block tickets
   pub found : IsFoundBest case (counted_of_tickets case floor above block tickets) best
 
--- 1 for a worker who has stopped, else 0
+-- 1 for a worker who has stopped, and otherwise 0
 abbrev pub stop_count : Bool → ℕ
 stop_count stopped = cond stopped 1 0
 
--- a view after so many more prefixes were reported, and one stop more where the walk has stopped
+-- a view after so many more prefixes were reported, with one stop more if the walk has stopped
 abbrev pub walked_on : DeskView → ℕ → Bool → DeskView
 walked_on view nodes stopped = desk_view view.tickets (view.reported + nodes) view.allot (view.stops + stop_count stopped) view.left view.workers

@@ -21,7 +21,7 @@ use std::thread::Threads;
 /// How the search of a block ended.
 #[derive(Debug, Drop, PartialEq, Eq)]
 pub enum BlockEnd {
-    /// All counted prefixes of the block's tasks are counted: how many, and the best allocation among them, `None` where none is one.
+    /// All counted prefixes of the block's tasks are counted: how many, and the best allocation among them, `None` if none is one.
     Done { nodes: u32, best: Option<Found> },
     /// They are more than were left, and so many of them are counted.
     Over { nodes: u32 },
@@ -133,8 +133,8 @@ pub(crate) fn run_by<R: Threads + Sync, G: Gate + Sync>(
 
 /// Searches a block by several workers, who draw its tasks and share the budget `left`, at most `MOST_STEPS`.
 ///
-/// Those prefixes of the tasks are counted whose bound is at least `floor` and, where `above` is there, greater than it. `Over` comes exactly
-/// where they are more than `left`. The end is the same for every number of workers and whoever walks which task, but for the number that
+/// Those prefixes of the tasks are counted whose bound is at least `floor` and, if there is an `above`, greater than it. `Over` comes exactly
+/// where they are more than `left`. The end is the same for every number of workers and whichever walks which task, but for the number that
 /// `Over` gives.
 ///
 /// It takes no more workers than the block has tasks, the calling thread among them. Where it takes one, or no memory is found for the desk or

@@ -13,10 +13,10 @@ use std::alloc::Global;
 use std::thread::Threads;
 
 /// What `search_alone` gives, by 1 to `MOST_WORKERS` workers: the allocation with the greatest Nash welfare, with its pair and the step
-/// count, or the limit of the case exactly where the step count is above it.
+/// count, or the limit of the case exactly if the step count is above it.
 ///
 /// Neither the number of workers nor their order takes part in the answer. A block takes no more workers than it has tasks, and the calling
-/// thread walks a block of one task alone. It never wants memory: where none is found for a block's desk, the calling thread walks that block
+/// thread walks a block of one task alone. It never fails for memory: if there is none for a block's desk, the calling thread walks that block
 /// alone.
 pub fn search<R: Threads + Sync, G: Gate + Sync>(
     alloc: Global,

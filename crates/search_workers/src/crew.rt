@@ -181,7 +181,7 @@ pub(crate) fn gather(
     settle(desk, all, case, rule, workers)
 }
 
-/// The end of a block, from the seat that stands for all workers.
+/// The end of a block, from the seat that accounts for all workers.
 fn settle(desk: &Desk, all: Worker, case: &GoodsCase, rule: &BlockRule, workers: u8) -> BlockEnd
     requires of { desk.now.shared.table_id.words ≡ 2 }
     requires ended { HasEnded case.now rule.now desk.now.shared.table_id workers workers all }

@@ -20,7 +20,7 @@ const TICKETS: usize = 0;
 
 const NODES: usize = 1;
 
-/// A desk with both words 0, and a seat that stands for all workers.
+/// A desk with both words 0, and a seat that accounts for all workers.
 pub fn open_desk(alloc: Global, size: &DeskSize) -> Result<(Desk, DeskSeat), AllocError>
     requires left { size.now.left ≤ MOST_STEPS }
     requires workers { (1 ≤ size.now.workers) × (size.now.workers ≤ MOST_WORKERS) }
@@ -60,7 +60,7 @@ pub fn report(desk: &Desk, seat: &mut DeskSeat, count: u16, left: u32) -> bool
     found + count > u64::from(left)
 }
 
-/// A seat for one worker, which the first seat then stands for no more.
+/// A seat for one worker, for whom the first seat then no longer accounts.
 pub fn split_desk(desk: &Desk, seat: &mut DeskSeat) -> DeskSeat
     requires of { IsAt seat.old.table_id desk.now.shared.table_id }
     requires allot { 2 ≤ seat.old.me.0.allot }
@@ -83,7 +83,7 @@ pub fn join_desk(desk: &Desk, seat: &mut DeskSeat, other: DeskSeat)
     desk.shared.join_seat::<Both>(seat, other);
 }
 
-/// The ticket word, as the seat sees it that stands for all workers: it has all tickets and reports.
+/// The ticket word, as the seat sees it that accounts for all workers: it has all tickets and reports.
 pub fn learn(desk: &Desk, seat: &mut DeskSeat) -> u64
     requires of { IsAt seat.old.table_id desk.now.shared.table_id }
     requires all { (1 ≤ seat.old.me.0.allot) × (seat.old.me.0.allot ≡ seat.old.me.0.workers) }

@@ -36,7 +36,7 @@ pub fn report_law()
         × (all_allots (after_report state place view count).views ≡ all_allots state.views) }
 {}
 
-/// A split, of a view that stands for two workers or more and leaves room for what it has, keeps the rule. Nothing changes in sum.
+/// A split, of a view that accounts for two workers or more and leaves room for what it has, keeps the rule. Nothing changes in sum.
 pub fn split_law()
     ensures keeps { (left workers place : ℕ) (state : DeskState) (view : DeskView) → IsDesk left workers state → get_elem? state.views place ≡ some view
         → 2 ≤ view.allot → length view.tickets ≤ MOST_TICKETS * (view.allot - 1) → view.stops ≤ view.allot - 1 → IsDesk left workers (after_split state place view) }

@@ -1,6 +1,10 @@
 //! The search for the allocation with the greatest Nash welfare, by several workers: it gives what one thread gives.
 //!
 //! The workers of a block draw tasks at a desk and share one budget of counted prefixes.
+//!
+//! `search` has the four clauses of `search_alone`, in which neither the number of workers nor
+//! their order occurs. Each task of a block is drawn once and walked whole (`drawn_tickets_law`,
+//! `walked_block_law`). Where there is no memory for a desk, one thread goes on without it.
 #![tactic(auto)]
 
 mod block;

@@ -1,4 +1,4 @@
-// The limits of workers and their desk. Each number of them stands here and nowhere else.
+// The limits of workers and their desk. Each number is here and nowhere else.
 use bid_rules::limits::MOST_STEPS;
 use nash_bounds::limits::BLOCK_TASKS;
 

@@ -30,7 +30,7 @@ impl Play<(), DeskView> for Tell {
     ghost then = { Reports };
 }
 
-/// The seat that stands for all workers sees the ticket word.
+/// The seat that accounts for all workers sees the ticket word.
 pub(crate) struct Learn;
 
 impl Play<(), DeskView> for Learn {

@@ -19,7 +19,7 @@ ghost use Rattle.search_workers.specs.Works.{HasWhole, count_of_tickets};
 
 use nash_bounds::tasks_in_row_law;
 
-/// A desk begins within the rule: with both words 0, and one view that stands for all workers and has done nothing.
+/// A desk begins within the rule: with both words 0, and one view that accounts for all workers and has done nothing.
 pub fn begun_desk_law()
     ensures { (left workers : ℕ) → left ≤ MOST_STEPS → 1 ≤ workers → workers ≤ MOST_WORKERS → IsDesk left workers (begun_desk left workers) }
 {}
@@ -35,7 +35,7 @@ pub fn drawn_tickets_law()
 {}
 
 /// Both words stay below bounds that the number of workers gives, and so far below the greatest value of a word. The node word is above what
-/// is left exactly where a view has a stop.
+/// is left exactly if a view has a stop.
 pub fn word_limits_law()
     ensures tickets { (left workers : ℕ) (state : DeskState) → IsDesk left workers state → ticket_word state ≤ MOST_TICKETS * workers }
     ensures stops { (left workers : ℕ) (state : DeskState) → IsDesk left workers state → all_stops state.views ≤ workers }
@@ -45,7 +45,7 @@ pub fn word_limits_law()
     ensures most_nodes { (left workers : ℕ) (state : DeskState) → IsDesk left workers state → node_word state ≤ MOST_REPORTED }
 {}
 
-/// Where one view stands for all workers, all others are spent, and it has all tickets, reports and stops.
+/// If one view accounts for all workers, all others are spent, and it has all tickets, reports and stops.
 pub fn whole_view_law()
     ensures others { (left workers place other : ℕ) (state : DeskState) (view seen : DeskView) → IsDesk left workers state → get_elem? state.views place ≡ some view
         → view.allot ≡ workers → other ≢ place → get_elem? state.views other ≡ some seen → seen ≡ spent }

@@ -8,7 +8,7 @@ pub struct DeskView {
     pub ghost tickets: { List ℕ },
     /// How many prefixes it reported.
     pub ghost reported: { ℕ },
-    /// The workers that it stands for.
+    /// For how many workers it accounts.
     pub ghost allot: { ℕ },
     /// How often a report of it found the node word above what is left.
     pub ghost stops: { ℕ },

@@ -21,7 +21,7 @@ use split_base::Gate;
 pub struct Walked {
     /// How many prefixes it counted and reported.
     pub nodes: u32,
-    /// The best of the counted allocations, the least list among equals; where the worker has stopped, nothing is said of it.
+    /// The best of the counted allocations, the earliest list among equals; nothing is said of it if the worker has stopped.
     pub best: Option<Found>,
     /// Whether a report found the node word above what is left.
     pub stopped: bool,
@@ -34,7 +34,7 @@ pub(crate) struct BlockRule {
     pub(crate) block: u32,
     /// A counted prefix has at least this bound.
     pub(crate) floor: Pair,
-    /// A counted prefix has a greater bound, where this is there.
+    /// If there is such a pair, a counted prefix has a greater bound.
     pub(crate) above: Option<Pair>,
     /// How many prefixes are left to be counted.
     pub(crate) left: u32,
@@ -177,11 +177,11 @@ pub(crate) fn work_by<G: Gate>(
 
 /// One worker of a block: draws tickets, and walks the task of each.
 ///
-/// A ticket t below the block's number of tasks stands for the task `BLOCK_TASKS * block + t`. The worker counts the task's prefixes whose
-/// bound is at least `floor` and, where `above` is there, greater than it, in pieces of at most `LONGEST_PIECE`, and reports each piece that
+/// A ticket t below the block's number of tasks means the task `BLOCK_TASKS * block + t`. The worker counts the task's prefixes whose
+/// bound is at least `floor` and, if there is an `above`, greater than it, in pieces of at most `LONGEST_PIECE`, and reports each piece that
 /// is not empty. It ends at the first ticket that is not below the block's number of tasks, or at the first report that answers true.
 ///
-/// It asks for a seat that stands for one worker and has done nothing. Where it has not stopped, it has all tasks of its tickets.
+/// It asks for a seat that accounts for one worker and has done nothing. Unless it has stopped, it has all tasks of its tickets.
 pub fn work<G: Gate + Sync>(
     case: &GoodsCase,
     block: u32,

@@ -26,7 +26,7 @@ module _ (link now : LinkView) (due : DueView) (reply : HttpReply) (tells : Says
   torn (bytes, is, (part, rest, whole, missing, wrote)) counts = inr (((bytes, part, (reply, tells, is), (rest, whole, missing), wrote), counts), refl)
 
 -- bytes that are held take no part in it
-pub finish_held : (held : List ℕ) (link now : LinkView) (due : DueView) (result : Option LinkEnd) → FinishSays link now due result → FinishSays (carried held link) (carried held now) due result
+pub finish_held : (held : List ℕ) (link now : LinkView) (due : DueView) (result : Option LinkEnd) → FinishSays link now due result → FinishSays (carried held link) now due result
 finish_held held link now due None says = says
 finish_held held link now due (Some end) says = says
 

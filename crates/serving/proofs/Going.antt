@@ -1,14 +1,15 @@
 -- From head to head: how the run of a link goes on.
 use Rattle.std.proofs.Common.{◌≡◌, ℕ, suc, ◌==◌, Bool, true, false, List, [], ◌∷◌, ◌++◌, Option, None, Some, refl, sym, ap, ◌∙◌, subst, inl, inr, append_assoc, if◌then◌else◌}
-use Rattle.std.proofs.KnownBytes.{Appends-nil, Appends-trans, prepend_known-nil}
+use Rattle.std.proofs.KnownBytes.{Appends-nil, Appends-trans, Consumes-nil, Consumes-trans, prepend_known-nil}
+use Rattle.std.specs.Io.KnownBytes.{Consumes, prepend_known}
 use Rattle.split_base.specs.Clocks.{ClockRun}
 use Rattle.split_http.specs.Turns.{IsToldAs}
 use Rattle.serving.specs.declared.ends.LinkEnd.{LinkEnd}
 use Rattle.serving.specs.Dues.{DueView}
 use Rattle.serving.specs.Ends.{Ending}
-use Rattle.serving.proofs.Hearing.{counts_joined, none_joined, some_told}
+use Rattle.serving.proofs.Hearing.{came_behind, counts_joined, none_joined, some_told}
 use Rattle.serving.specs.Runs.{After, Heads, LastHead, LinkRun, Never, Run, Service, end_of}
-use Rattle.serving.specs.Served.{CountsEnd, CountsServed, FinishSays, Going, HeadServed, HeardQuiet, LinkView, NoneFailed, RanTo, Replied, WentOn, carried}
+use Rattle.serving.specs.Served.{CountsEnd, CountsServed, FinishSays, Going, HaveCome, HeadServed, HeardQuiet, LinkView, NoneFailed, RanTo, Replied, WentOn, carried}
 
 -- calls of a clock, one row of them after the other
 pub clock_trans : {C : Type 0} (gives : C → Option ℕ → C → Type 0) (faults : C → ℕ) (a b c : C) (xs ys : List (Option ℕ))
@@ -21,10 +22,15 @@ pub ends_whole : (link now : LinkView) (memory : Bool) → NoneFailed link now �
 ends_whole link now true none = none
 ends_whole link now false none = none
 
-module _ {W : Type 0} (service : Service W) (link mid now : LinkView) (asked : List (Option ℕ) → Type 0) (stands : W → Type 0) (last : Bool) (w : W) where
+-- a reply that was written is due to all bytes that are told
+came_whole : (ahead left : Option (List ℕ)) (all : List ℕ) (memory : Bool) → IsToldAs ahead all → HaveCome (if memory then Ending.memory else Ending.ended) ahead left all
+came_whole ahead left all true told = told
+came_whole ahead left all false told = told
+
+module _ {W : Type 0} (service : Service W) (link mid : LinkView) (held : List ℕ) (now : LinkView) (asked : List (Option ℕ) → Type 0) (stands : W → Type 0) (last : Bool) (w : W) where
   -- a reply that was due, and then its writing, which takes no byte
-  pub head_served : (due : DueView) (result : Option LinkEnd) → now.ahead ≡ mid.ahead → Replied service link mid asked stands last w due → FinishSays mid now due result
-      → HeadServed service link now asked stands last w result
+  pub head_served : (due : DueView) (result : Option LinkEnd) → prepend_known held now.ahead ≡ mid.ahead → Replied service link mid asked stands last w due → FinishSays mid now due result
+      → HeadServed service link held now asked stands last w result
   head_served due None same r (still, ((bytes, are, wrote), counts)) = record {
     answer = r.answer;
     interim = r.interim;
@@ -37,7 +43,9 @@ module _ {W : Type 0} (service : Service W) (link mid now : LinkView) (asked : L
     wrote = Appends-trans link.written mid.written now.written r.interim bytes r.wrote wrote;
     counts = none_joined link mid now r.counts counts;
     serving = r.serving;
-    replies = λ rest told. r.replies rest (subst (λ z. IsToldAs z rest) same told);
+    taken = (r.goes still).0;
+    took = subst (λ z. Consumes link.ahead z (r.goes still).0) (sym same) (r.goes still).1;
+    replies = (r.goes still).2;
   }
   head_served due (Some end) same r f =
       let rest = some_told mid.ahead in
@@ -50,7 +58,7 @@ module _ {W : Type 0} (service : Service W) (link mid now : LinkView) (asked : L
           new = r.mid;
           ending = end_of due;
           is_end = over.0.1;
-          told = all.1;
+          told = came_whole link.ahead now.ahead all.0 due.said.memory all.1;
           clock = r.clock;
           wrote = Appends-trans link.written mid.written now.written r.interim over.1.0.0 r.wrote over.1.0.2;
           counts = counts_joined link mid now (end_of due) r.counts (ends_whole mid now due.said.memory over.1.1);
@@ -105,9 +113,9 @@ counts_finished link mid now due (Some end) none (inl ((closed, is_end), (bytes,
 counts_finished link mid now due (Some end) none (inr ((bytes, counts), is_end)) = (Ending.write_fault, is_end, counts_joined link mid now Ending.write_fault none counts)
 
 -- no reply was begun
-pub head_quiet : {W : Type 0} (service : Service W) (link now : LinkView) (asked : List (Option ℕ) → Type 0) (stands : W → Type 0) (last : Bool) (w : W) (end : LinkEnd)
-    → HeardQuiet link now asked end → stands w → HeadServed service link now asked stands last w (Some end)
-head_quiet service link now asked stands last w end q st = record {
+pub head_quiet : {W : Type 0} (service : Service W) (link : LinkView) (held : List ℕ) (now : LinkView) (asked : List (Option ℕ) → Type 0) (stands : W → Type 0) (last : Bool) (w : W) (end : LinkEnd)
+    → HeardQuiet link now asked end → stands w → HeadServed service link held now asked stands last w (Some end)
+head_quiet service link held now asked stands last w end q st = record {
   all = q.all;
   answers = q.answers;
   out = q.out;
@@ -156,7 +164,9 @@ going_start service most gives faults clock link stands w st = record {
   wrote = Appends-nil link.written;
   counts = (refl, refl);
   serving = st;
-  goes = λ rest told later tail new end run. (rest, subst (λ z. IsToldAs z rest) (prepend_known-nil link.ahead) told, run);
+  taken = [];
+  took = subst (λ z. Consumes link.ahead z []) (sym (prepend_known-nil link.ahead)) (Consumes-nil link.ahead);
+  goes = λ rest later tail new end run. run;
 }
 
 module _ {W C : Type 0} (service : Service W) (most : ℕ) (gives : C → Option ℕ → C → Type 0) (faults : C → ℕ) (first clock after : C) (link mid now : LinkView)
@@ -176,9 +186,10 @@ module _ {W C : Type 0} (service : Service W) (most : ℕ) (gives : C → Option
         wrote = Appends-trans link.written mid.written now.written so_far.out grown so_far.wrote h.wrote;
         counts = none_joined link mid now so_far.counts h.counts;
         serving = h.serving;
-        goes = λ rest told later tail new end run.
-            let all = h.replies rest told in
-            let this : Heads service (LinkRun service n) (n == 0) all.0 (h.answer ∷ later) so_far.mid (h.interim ++ (h.bytes ++ tail)) new end =
+        taken = so_far.taken ++ h.taken;
+        took = Consumes-trans link.ahead mid.ahead now.ahead so_far.taken h.taken so_far.took h.took;
+        goes = λ rest later tail new end run.
+            let this : Heads service (LinkRun service n) (n == 0) (h.taken ++ rest) (h.answer ∷ later) so_far.mid (h.interim ++ (h.bytes ++ tail)) new end =
             record {
               rest = rest;
               answer = h.answer;
@@ -189,36 +200,33 @@ module _ {W C : Type 0} (service : Service W) (most : ℕ) (gives : C → Option
               due = h.due;
               asked = refl;
               wrote = refl;
-              replies = all.2;
+              replies = h.replies rest;
               after = After.on h.bytes tail h.open_still h.are_bytes refl run;
             } in
-            let whole = so_far.goes all.0 all.1 (h.answer ∷ later) (h.interim ++ (h.bytes ++ tail)) new end (inr this) in (
-              whole.0,
-              whole.1,
-              subst (λ z. LinkRun service most whole.0 z w ((so_far.out ++ grown) ++ tail) new end) (sym (append_assoc so_far.answers (h.answer ∷ []) later))
-                  (subst (λ z. LinkRun service most whole.0 (so_far.answers ++ (h.answer ∷ later)) w z new end)
-                  (ap (λ z. so_far.out ++ z) (sym (append_assoc h.interim h.bytes tail)) ∙ sym (append_assoc so_far.out grown tail)) whole.2),
-            );
+            let whole = so_far.goes (h.taken ++ rest) (h.answer ∷ later) (h.interim ++ (h.bytes ++ tail)) new end (inr this) in
+            subst (λ z. LinkRun service most z ((so_far.answers ++ (h.answer ∷ [])) ++ later) w ((so_far.out ++ grown) ++ tail) new end) (sym (append_assoc so_far.taken h.taken rest))
+            (subst (λ z. LinkRun service most (so_far.taken ++ (h.taken ++ rest)) z w ((so_far.out ++ grown) ++ tail) new end) (sym (append_assoc so_far.answers (h.answer ∷ []) later))
+            (subst (λ z. LinkRun service most (so_far.taken ++ (h.taken ++ rest)) (so_far.answers ++ (h.answer ∷ later)) w z new end)
+            (ap (λ z. so_far.out ++ z) (sym (append_assoc h.interim h.bytes tail)) ∙ sym (append_assoc so_far.out grown tail)) whole));
       }
 
-  -- the last head, behind which some bytes may be held
-  pub going_ends : (held : List ℕ) (end : LinkEnd) → Going service most link mid (ClockRun gives faults first clock) stands_then (suc n) w
-      → ((w : W) → stands_then w → RanTo (LastHead service (n == 0)) mid (carried held now) (ClockRun gives faults clock after) stands w end)
+  -- the last head
+  pub going_ends : (end : LinkEnd) → Going service most link mid (ClockRun gives faults first clock) stands_then (suc n) w
+      → ((w : W) → stands_then w → RanTo (LastHead service (n == 0)) mid now (ClockRun gives faults clock after) stands w end)
       → RanTo (LinkRun service most) link now (ClockRun gives faults first after) stands w end
-  going_ends held end so_far head =
+  going_ends end so_far head =
       let h = head so_far.mid so_far.serving in
-      let whole = so_far.goes h.all h.told h.answers h.out h.new h.ending (last_run service n h.all h.answers so_far.mid h.out h.new h.ending h.run_is) in
       record {
-        all = whole.0;
+        all = so_far.taken ++ h.all;
         answers = so_far.answers ++ h.answers;
         out = so_far.out ++ h.out;
         new = h.new;
         ending = h.ending;
         is_end = h.is_end;
-        told = whole.1;
+        told = came_behind h.ending link.ahead mid.ahead now.ahead so_far.taken h.all so_far.took h.told;
         clock = clock_trans gives faults first clock after so_far.answers h.answers so_far.clock h.clock;
         wrote = Appends-trans link.written mid.written now.written so_far.out h.out so_far.wrote h.wrote;
-        counts = counts_joined link mid (carried held now) h.ending so_far.counts h.counts;
+        counts = counts_joined link mid now h.ending so_far.counts h.counts;
         serving = h.serving;
-        run_is = whole.2;
+        run_is = so_far.goes h.all h.answers h.out h.new h.ending (last_run service n h.all h.answers so_far.mid h.out h.new h.ending h.run_is);
       }

@@ -1,7 +1,7 @@
 -- From what a call over a link says to the cases of the run.
-use Rattle.std.proofs.Common.{◌≡◌, ℕ, ◌+◌, ◌<◌, Bool, false, List, [], ◌∷◌, ◌++◌, length, Option, None, Some, refl, sym, ap, ◌∙◌, subst, inl, inr, append_assoc, length-append}
+use Rattle.std.proofs.Common.{◌≡◌, ℕ, ◌+◌, ◌<◌, Bool, true, false, ◌||◌, List, [], ◌∷◌, ◌++◌, length, Option, None, Some, refl, sym, ap, ◌∙◌, subst, inl, inr, append_assoc, length-append}
 use Rattle.std.specs.Io.KnownBytes.{Appends, Consumes, Keeps, prepend_known}
-use Rattle.std.proofs.KnownBytes.{Appends-nil}
+use Rattle.std.proofs.KnownBytes.{Appends-nil, Consumes-trans}
 use Rattle.split_http.specs.declared.head.Head.{Head}
 use Rattle.split_http.specs.declared.head.Verb.{Verb}
 use Rattle.split_http.specs.declared.bodies.BodyTurn.TheVariants as bodies
@@ -12,10 +12,10 @@ use Rattle.serving.specs.declared.ends.LinkEnd.{LinkEnd}
 use Rattle.serving.specs.declared.ends.LinkEnd.TheVariants as ends
 use Rattle.serving.specs.declared.refusals.HeadRefusal.{HeadRefusal}
 use Rattle.serving.specs.declared.refusals.HeadRefusal.TheVariants as refusals
-use Rattle.serving.specs.Dues.{DueView, closing, is_head, manner_of}
+use Rattle.serving.specs.Dues.{DueView, closes, closing, is_head, manner_of}
 use Rattle.serving.specs.Ends.{Ending, end_as, reads_after, writes_after}
 use Rattle.serving.specs.Runs.{BodyStops, Refuses, Replies, SaysHead, Service, Stops}
-use Rattle.serving.specs.Served.{CountsEnd, HeardQuiet, HeardRefused, HeardRequest, LinkView, NoneFailed, Replied}
+use Rattle.serving.specs.Served.{CountsEnd, HaveCome, HeardQuiet, HeardRefused, HeardRequest, LinkView, NoneFailed, Replied}
 use Rattle.requests.specs.Said.{SaidView}
 
 -- what was told after some bytes were taken is told before, behind them
@@ -34,10 +34,23 @@ pub some_told : (a : Option (List ℕ)) → (xs : List ℕ) × IsToldAs a xs
 some_told None = ([], tt)
 some_told (Some x) = (x, refl)
 
--- bytes that were read and are held stand in front
-told_held : (held : List ℕ) (left : Option (List ℕ)) → (rest : List ℕ) × IsToldAs (prepend_known held left) (held ++ rest)
-told_held held None = ([], tt)
-told_held held (Some x) = (x, refl)
+-- bytes that were read and are held came before those that are left
+came_held : (held : List ℕ) (left : Option (List ℕ)) → Consumes (prepend_known held left) left held
+came_held held None = tt
+came_held held (Some x) = refl
+
+came_kept : (a left : Option (List ℕ)) (held : List ℕ) → Keeps a (prepend_known held left) → Consumes a left held
+came_kept None left held p = tt
+came_kept (Some x) None held p = absurd p
+came_kept (Some x) (Some y) held p = sym p
+
+-- what came after some bytes were taken came before, behind them
+pub came_behind : (ending : Ending) (a b left : Option (List ℕ)) (text come : List ℕ) → Consumes a b text → HaveCome ending b left come → HaveCome ending a left (text ++ come)
+came_behind Ending.ended a b left text come p q = told_back a b text come p q
+came_behind Ending.cut a b left text come p q = told_back a b text come p q
+came_behind Ending.read_fault a b left text come p q = Consumes-trans a b left text come p q
+came_behind Ending.write_fault a b left text come p q = told_back a b text come p q
+came_behind Ending.memory a b left text come p q = told_back a b text come p q
 
 pub appends_none : (a b : Option (List ℕ)) → b ≡ a → Appends a b []
 appends_none a b e = subst (λ z. Appends a z []) (sym e) (Appends-nil a)
@@ -71,22 +84,20 @@ module _ (link now : LinkView) (asked : List (Option ℕ) → Type 0) (same : no
   }
 
   -- a read failed, and the bytes that were read are held
-  pub heard_fault : (held : List ℕ) (left : Option (List ℕ)) → now.ahead ≡ prepend_known held left → Keeps link.ahead now.ahead → IsOpen held → CountsEnd link now Ending.read_fault → asked []
+  pub heard_fault : (held : List ℕ) → Keeps link.ahead (prepend_known held now.ahead) → IsOpen held → CountsEnd link now Ending.read_fault → asked []
       → HeardQuiet link now asked ends.LinkFault
-  heard_fault held left at kept open_still counts clock =
-      let behind = told_held held left in
-      record {
-        all = held ++ behind.0;
-        answers = [];
-        out = [];
-        ending = Ending.read_fault;
-        is_end = refl;
-        told = told_kept link.ahead now.ahead (held ++ behind.0) kept (subst (λ a. IsToldAs a (held ++ behind.0)) (sym at) behind.1);
-        clock = clock;
-        wrote = appends_none link.written now.written same;
-        counts = counts;
-        stops = Stops.head_fault held behind.0 refl open_still refl refl refl;
-      }
+  heard_fault held kept open_still counts clock = record {
+    all = held;
+    answers = [];
+    out = [];
+    ending = Ending.read_fault;
+    is_end = refl;
+    told = came_kept link.ahead now.ahead held kept;
+    clock = clock;
+    wrote = appends_none link.written now.written same;
+    counts = counts;
+    stops = Stops.head_fault open_still refl refl refl;
+  }
 
   pub heard_bad : (all : List ℕ) × IsToldAs link.ahead all × IsBad all → NoneFailed link now → (answer : Option ℕ) → asked (answer ∷ [])
       → HeardRefused link now asked refusals.BadHead answer false
@@ -144,14 +155,12 @@ module _ (link mid now : LinkView) (asked : List (Option ℕ) → Type 0) (head 
     clock = clock;
     wrote = subst (λ z. Appends z now.written (interim_of head.expects)) same wrote;
     counts = none_joined link mid now counts none;
-    asks = λ rest told. (
-      found.0 ++ (body ++ rest),
-      told_back link.ahead mid.ahead found.0 (body ++ rest) found.2 (told_back mid.ahead now.ahead body rest taken told),
-      record { text = found.0; bytes = refl; says = found.1; accepted = accepted; size = size },
-    );
+    taken = found.0 ++ body;
+    took = Consumes-trans link.ahead mid.ahead now.ahead found.0 body found.2 taken;
+    asks = λ rest. record { text = found.0; bytes = append_assoc found.0 body rest; says = found.1; accepted = accepted; size = size };
   }
 
-  heard_behind : (end : LinkEnd) (ending : Ending) → end ≡ end_as ending → head.refused ≡ None → (all out : List ℕ) → IsToldAs mid.ahead all → Appends mid.written now.written out
+  heard_behind : (end : LinkEnd) (ending : Ending) → end ≡ end_as ending → head.refused ≡ None → (all out : List ℕ) → HaveCome ending mid.ahead now.ahead all → Appends mid.written now.written out
       → CountsEnd mid now ending → BodyStops head all out ending → HeardQuiet link now asked end
   heard_behind end ending is_end accepted all out told wrote ends_so stops = record {
     all = found.0 ++ all;
@@ -159,7 +168,7 @@ module _ (link mid now : LinkView) (asked : List (Option ℕ) → Type 0) (head 
     out = out;
     ending = ending;
     is_end = is_end;
-    told = told_back link.ahead mid.ahead found.0 all found.2 told;
+    told = came_behind ending link.ahead mid.ahead now.ahead found.0 all found.2 told;
     clock = clock;
     wrote = subst (λ z. Appends z now.written out) same wrote;
     counts = counts_joined link mid now ending counts ends_so;
@@ -171,19 +180,22 @@ module _ (link mid now : LinkView) (asked : List (Option ℕ) → Type 0) (head 
   heard_cut accepted all told short wrote none = heard_behind ends.Cut Ending.cut refl accepted all (interim_of head.expects) told wrote none (BodyStops.cut_off short refl refl)
 
   -- a call failed, which the counts tell; these bytes that were read are held then
-  pub heard_body_fault : (held : List ℕ) (left : Option (List ℕ)) → now.ahead ≡ prepend_known held left → head.refused ≡ None
-      → BodyCounts mid.ahead now.ahead mid.written now.written held head mid.reads now.reads mid.writes now.writes bodies.LinkFault
+  pub heard_body_fault : (held : List ℕ) → head.refused ≡ None
+      → BodyCounts mid.ahead (prepend_known held now.ahead) mid.written now.written held head mid.reads now.reads mid.writes now.writes bodies.LinkFault
       → HeardQuiet link now asked ends.LinkFault
-  heard_body_fault held left at accepted (inl (reads, writes, (due, kept, (part, rest, is, missing, wrote)))) =
+  heard_body_fault held accepted (inl (reads, writes, (due, kept, (part, rest, is, missing, wrote)))) =
       let all = some_told mid.ahead in
       heard_behind ends.LinkFault Ending.write_fault refl accepted all.0 part all.1 wrote (reads, writes) (BodyStops.interim_fault due (rest, is, missing) refl)
-  heard_body_fault held left at accepted (inr (reads, writes, ((part, taken, short), wrote))) =
-      let behind = told_held held left in
-      let come = part ++ held in
-      let size : length come ≡ length part + length held = length-append part held in
-      heard_behind ends.LinkFault Ending.read_fault refl accepted (part ++ (held ++ behind.0)) (interim_of head.expects)
-      (told_back mid.ahead now.ahead part (held ++ behind.0) taken (subst (λ a. IsToldAs a (held ++ behind.0)) (sym at) behind.1)) wrote (reads, writes)
-      (BodyStops.body_fault come behind.0 (sym (append_assoc part held behind.0)) (subst (λ n. n < head.length) (sym size) short) refl refl)
+  heard_body_fault held accepted (inr (reads, writes, ((part, taken, short), wrote))) =
+      let size : length (part ++ held) ≡ length part + length held = length-append part held in
+      heard_behind ends.LinkFault Ending.read_fault refl accepted (part ++ held) (interim_of head.expects)
+      (Consumes-trans mid.ahead (prepend_known held now.ahead) now.ahead part held taken (came_held held now.ahead)) wrote (reads, writes)
+      (BodyStops.body_fault (subst (λ n. n < head.length) (sym size) short) refl refl)
+
+-- a reply to a head that is refused closes the link
+pub never_closes : (b : Bool) → (b || true) ≡ false → ⊥
+never_closes true is = absurd (cc)
+never_closes false is = absurd (cc)
 
 -- a reply is due to what was heard
 module _ {W : Type 0} (service : Service W) (link now : LinkView) (asked : List (Option ℕ) → Type 0) (stands : W → Type 0) (last : Bool) (w : W) (due : DueView) where
@@ -200,6 +212,7 @@ module _ {W : Type 0} (service : Service W) (link now : LinkView) (asked : List 
     replies = λ rest told.
         let front = heard.refuses rest told in
         (front.0, front.1, Replies.refused refusal bodiless front.2 refl refl is);
+    goes = λ still. absurd (never_closes (service.refuses refusal).memory (sym (ap closes is) ∙ still));
   }
 
   pub due_to_request : (head : Head) (body : List ℕ) (moment : ℕ) (new : W) (said : SaidView) → HeardRequest link now asked head body moment → stands new
@@ -212,7 +225,10 @@ module _ {W : Type 0} (service : Service W) (link now : LinkView) (asked : List 
     wrote = heard.wrote;
     counts = heard.counts;
     serving = st;
-    replies = λ rest told.
-        let front = heard.asks rest told in
-        (front.0, front.1, Replies.answered head body moment said front.2 refl refl responds is);
+    replies = λ rest told. (
+      heard.taken ++ rest,
+      told_back link.ahead now.ahead heard.taken rest heard.took told,
+      Replies.answered head body moment said (heard.asks rest) refl refl responds is,
+    );
+    goes = λ still. (heard.taken, heard.took, λ rest. Replies.answered head body moment said (heard.asks rest) refl refl responds is);
   }

@@ -1,5 +1,5 @@
 -- From the run of a link or a port to its requests.
-use Rattle.std.proofs.Common.{◌≡◌, ◌⊎◌, ℕ, zero, suc, ◌==◌, Bool, true, false, ◌||◌, List, [], ◌∷◌, ◌++◌, Option, Some, refl, sym, ap, ◌∙◌, subst, inl, inr, append_assoc}
+use Rattle.std.proofs.Common.{◌≡◌, ℕ, zero, suc, ◌==◌, Bool, false, List, [], ◌∷◌, ◌++◌, Option, Some, refl, sym, ap, ◌∙◌, subst, inl, inr, append_assoc}
 use Rattle.split_http.specs.declared.head.Head.{Head}
 use Rattle.split_http.specs.Turns.{interim_of}
 use Rattle.serving.specs.declared.refusals.HeadRefusal.{HeadRefusal}
@@ -9,12 +9,9 @@ use Rattle.serving.specs.Exchanges.{Answered, EndsLink, Exchange, IsExchange, Is
 use Rattle.serving.specs.declared.limits.TheConstants.{MAX_REQUESTS}
 use Rattle.serving.specs.Ports.{PortRun}
 use Rattle.serving.specs.Served.{LinkTells}
+use Rattle.serving.proofs.Hearing.{never_closes}
 use Rattle.serving.specs.Runs.{After, Asks, LinkRun, Refuses, Replies, Run, Service, end_of}
 use Rattle.requests.specs.Said.{SaidView}
-
-never_closes : (b : Bool) → (b || true) ≡ false → ⊥
-never_closes true is = absurd (cc)
-never_closes false is = absurd (cc)
 
 module _ {W : Type 0} (service : Service W) where
   -- behind no request

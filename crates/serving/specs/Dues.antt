@@ -7,16 +7,18 @@ use Rattle.requests.specs.Said.{SaidView}
 use Rattle.split_http.specs.declared.replies.HttpReply.{HttpReply}
 use Rattle.split_http.specs.Replies.{IsReply}
 
--- when it is said, whether the body is left out, and whether the connection is closed
+-- how a reply is given: at which moment, whether its body is left out, and whether the connection is closed after it
 pub record Manner : Type 0 where
   pub moment : Option ℕ
   pub bodiless : Bool
   pub closes : Bool
 
+-- a reply that is due: what it says, and how it is given
 pub record DueView : Type 0 where
   pub said : SaidView
   pub manner : Manner
 
+-- the method is HEAD, whose reply has no body
 abbrev pub is_head : Verb → Bool
 is_head verb.Head = true
 is_head verb.Get = false
@@ -31,7 +33,7 @@ manner_of last head moment = record { moment = Some moment; bodiless = is_head h
 abbrev pub closing : Option ℕ → Bool → Manner
 closing moment bodiless = record { moment = moment; bodiless = bodiless; closes = true }
 
--- the connection is closed behind it
+-- the connection is closed after the reply
 abbrev pub closes : DueView → Bool
 closes due = due.said.memory || due.manner.closes
 
@@ -49,6 +51,6 @@ pub record SaysDue (due : DueView) (reply : HttpReply) : Type 0 where
 abbrev pub AreBytes : DueView → List ℕ → Type 0
 AreBytes due bytes = (reply : HttpReply) × SaysDue due reply × IsReply reply bytes
 
--- a first part of the bytes, behind which at least one is missing
+-- a first part of the bytes, of which at least one is missing at the end
 abbrev pub IsPartOf : List ℕ → List ℕ → Type 0
 IsPartOf whole part = (rest : List ℕ) × (whole ≡ part ++ rest) × (0 < length rest)

@@ -1,9 +1,10 @@
--- How the serving of a link ends, told with the side of which a call failed.
+-- How the serving of a link ends, told with the side whose call failed.
 use Rattle.std.specs.Prelude.{ℕ}
 use Rattle.split_base.specs.Faults.{counted}
 use Rattle.serving.specs.declared.ends.LinkEnd.{LinkEnd}
 use Rattle.serving.specs.declared.ends.LinkEnd.TheVariants as ends
 
+-- the link ended in order; within a body; by a failed read; by a failed write; or after a reply that memory ran out
 pub data Ending : Type 0 where
   ended : Ending
   cut : Ending
@@ -27,7 +28,7 @@ reads_after reads Ending.read_fault = counted reads
 reads_after reads Ending.write_fault = reads
 reads_after reads Ending.memory = reads
 
--- the count of failed writes
+-- the count of failed writes afterwards: one more where a write failed, and else the same
 abbrev pub writes_after : ℕ → Ending → ℕ
 writes_after writes Ending.ended = writes
 writes_after writes Ending.cut = writes

@@ -1,4 +1,4 @@
--- The run of a link as a list of the requests that were answered, each with its reply, and what came behind them.
+-- The run of a link as a list of the requests that were answered, each with its reply, and what came after them.
 use Rattle.std.specs.Prelude.{◌≡◌, ◌⊎◌, ℕ, Bool, true, false, List, [], ◌∷◌, ◌++◌, length, Option, Some, None}
 use Rattle.split_http.specs.declared.head.Head.{Head}
 use Rattle.split_http.specs.Turns.{interim_of}
@@ -33,7 +33,7 @@ pub record IsExchange {W : Type 0} (service : Service W) (e : Exchange W) : Type
 abbrev pub IsWhole : {W : Type 0} → Exchange W → Type 0
 IsWhole e = e.got ≡ interim_of e.head.expects ++ e.bytes
 
--- the link got a first part of the reply behind the interim line, and some of it is missing
+-- the link got the interim line and a first part of the reply, and some of the reply is missing
 abbrev pub IsTorn : {W : Type 0} → Exchange W → Type 0
 IsTorn e = (part : List ℕ) × IsPartOf e.bytes part × (e.got ≡ interim_of e.head.expects ++ part)
 
@@ -47,15 +47,17 @@ abbrev pub Answered : {W : Type 0} → Service W → W → List (Exchange W) →
 Answered service w [] new = new ≡ w
 Answered service w (e ∷ later) new = (e.before ≡ w) × IsExchange service e × Answered service e.after later new
 
--- the bytes of the requests, the answers that the clock gave to them, and what the link got of their replies
+-- the bytes of the requests, one after the other
 abbrev pub input_of : {W : Type 0} → List (Exchange W) → List ℕ
 input_of [] = []
 input_of (e ∷ later) = (e.text ++ e.body) ++ input_of later
 
+-- the answers that the clock gave to them
 abbrev pub moments_of : {W : Type 0} → List (Exchange W) → List (Option ℕ)
 moments_of [] = []
 moments_of (e ∷ later) = Some e.moment ∷ moments_of later
 
+-- what the link got of their replies
 abbrev pub written_of : {W : Type 0} → List (Exchange W) → List ℕ
 written_of [] = []
 written_of (e ∷ later) = e.got ++ written_of later
@@ -64,11 +66,11 @@ written_of (e ∷ later) = e.got ++ written_of later
 abbrev pub refused_due : {W : Type 0} → Service W → HeadRefusal → Option ℕ → Bool → DueView
 refused_due service refusal answer bodiless = record { said = service.refuses refusal; manner = closing answer bodiless }
 
--- the bytes were written and the link ended behind them, or a first part of them was and then a write failed
+-- the bytes were written and the link ended after them, or a first part of them was written and then a write failed
 abbrev pub EndsWith : DueView → List ℕ → List ℕ → Ending → Type 0
 EndsWith due bytes out end = ((out ≡ bytes) × (end ≡ end_of due)) ⊎ (IsPartOf bytes out × (end ≡ Ending.write_fault))
 
--- How a link ends behind requests of which the replies were written and closed nothing. The last may be one more request; else nothing is
+-- How a link ends after requests whose replies were written and closed nothing. The last may be one more request; else nothing is
 -- replied to what is left, or its head is refused.
 pub data EndsLink {W : Type 0} (service : Service W) (w : W) (rest : List ℕ) (answers : List (Option ℕ)) (out : List ℕ) (new : W) (end : Ending) : Type 0 where
   replied : (left : List ℕ) (e : Exchange W) → rest ≡ (e.text ++ e.body) ++ left → answers ≡ Some e.moment ∷ [] → e.before ≡ w → IsExchange service e → new ≡ e.after → out ≡ e.got

@@ -2,11 +2,10 @@
 use Rattle.std.specs.Prelude.{◌≡◌, ℕ, ◌<◌, List, [], ◌∷◌, ◌++◌, length, map, take, ⊤, Option, Some, None}
 use Rattle.std.specs.Io.KnownBytes.{Appends}
 use Rattle.split_base.specs.Ports.{TakesBack}
-use Rattle.split_http.specs.Turns.{IsToldAs}
 use Rattle.serving.specs.declared.limits.TheConstants.{MAX_REQUESTS}
 use Rattle.serving.specs.Ends.{Ending}
 use Rattle.serving.specs.Runs.{LinkRun, Service}
-use Rattle.serving.specs.Served.{CountsEnd, LinkTells, link_view}
+use Rattle.serving.specs.Served.{CountsEnd, HaveCome, LinkTells, link_view}
 
 -- these were handed out, the first of those to come
 abbrev pub HandsOut : {L : Type 0} → Option (List L) → List L → Option (List L) → Type 0
@@ -18,13 +17,13 @@ abbrev pub GivesBack : {L : Type 0} → Option (List L) → List L → Option (L
 GivesBack None ended new = ⊤
 GivesBack (Some links) ended new = new ≡ Some (links ++ ended)
 
--- One link, as it was handed out and as it was given back: its run, and on each side its count, which tells the failed call that ended it
--- and no other.
+-- One link, as it was handed out and as it was given back: the run over the bytes that came of it, and on each side its count, which tells the
+-- failed call that ended it and no other.
 pub record LinkServed {L W : Type 0} (service : Service W) (tells : LinkTells L) (begun ended : L) (answers : List (Option ℕ)) (w new : W) : Type 0 where
   pub input : List ℕ
   pub out : List ℕ
   pub ending : Ending
-  pub told : IsToldAs (tells.left begun) input
+  pub told : HaveCome ending (tells.left begun) (tells.left ended) input
   pub wrote : Appends (tells.written begun) (tells.written ended) out
   pub counts : CountsEnd (link_view tells begun) (link_view tells ended) ending
   pub run : LinkRun service MAX_REQUESTS input answers w out new ending

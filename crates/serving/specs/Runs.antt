@@ -45,28 +45,29 @@ pub record Asks (all rest : List ℕ) (head : Head) (body : List ℕ) : Type 0 w
   pub accepted : head.refused ≡ None
   pub size : length body ≡ head.length
 
--- A reply, and the world after it: to a head that is refused, which changes nothing; or to a request, behind the interim line where it is due.
+-- A reply, and the world after it: to a head that is refused, which changes nothing; or to a request, after the interim line where it is due.
 pub data Replies {W : Type 0} (service : Service W) (last : Bool) (all rest : List ℕ) (answer : Option ℕ) (w : W) (interim : List ℕ) (new : W) (due : DueView) : Type 0 where
   refused : (refusal : HeadRefusal) (bodiless : Bool) → Refuses all rest answer refusal bodiless → interim ≡ [] → new ≡ w
       → due ≡ record { said = service.refuses refusal; manner = closing answer bodiless } → Replies service last all rest answer w interim new due
   answered : (head : Head) (body : List ℕ) (moment : ℕ) (said : SaidView) → Asks all rest head body → answer ≡ Some moment → interim ≡ interim_of head.expects
       → service.responds head body moment w new said → due ≡ record { said = said; manner = manner_of last head moment } → Replies service last all rest answer w interim new due
 
--- The bytes behind a head that isn't refused, and no reply to it: they end within its body; a write of the interim line, which is due, failed,
--- and a first part of it was written; or a read failed behind the whole line, while less than the body had come.
+-- The bytes after a head that isn't refused, and no reply to it: they end within its body; a write of the interim line, which is due, failed,
+-- and a first part of it was written; or a read failed after the whole line, and the bytes that had come are less than the body.
 pub data BodyStops (head : Head) (all out : List ℕ) (end : Ending) : Type 0 where
   cut_off : length all < head.length → out ≡ interim_of head.expects → end ≡ Ending.cut → BodyStops head all out end
   interim_fault : head.expects ≡ true → IsPartOf (interim_of head.expects) out → end ≡ Ending.write_fault → BodyStops head all out end
-  body_fault : (come rest : List ℕ) → all ≡ come ++ rest → length come < head.length → out ≡ interim_of head.expects → end ≡ Ending.read_fault → BodyStops head all out end
+  body_fault : length all < head.length → out ≡ interim_of head.expects → end ≡ Ending.read_fault → BodyStops head all out end
 
--- A link that ends with no reply begun: nothing is left; a read failed while no whole head had come; or it ends behind a head.
+-- A link that ends with no reply begun: nothing is left; a read failed while the parser asked for more of the bytes that had come; or it ends
+-- after a head.
 pub data Stops (all : List ℕ) (answers : List (Option ℕ)) (out : List ℕ) (end : Ending) : Type 0 where
   nothing : all ≡ [] → answers ≡ [] → out ≡ [] → end ≡ Ending.ended → Stops all answers out end
-  head_fault : (come rest : List ℕ) → all ≡ come ++ rest → IsOpen come → answers ≡ [] → out ≡ [] → end ≡ Ending.read_fault → Stops all answers out end
+  head_fault : IsOpen all → answers ≡ [] → out ≡ [] → end ≡ Ending.read_fault → Stops all answers out end
   behind_head : (text rest : List ℕ) (head : Head) (moment : ℕ) → all ≡ text ++ rest → SaysHead text head → head.refused ≡ None
       → answers ≡ Some moment ∷ [] → BodyStops head rest out end → Stops all answers out end
 
--- how a link ends behind its last reply
+-- how a link ends after its last reply
 abbrev pub end_of : DueView → Ending
 end_of due = if due.said.memory then Ending.memory else Ending.ended
 
@@ -90,7 +91,7 @@ pub record Heads {W : Type 0} (service : Service W) (more : Run W) (last : Bool)
   pub replies : Replies service last all rest answer w interim mid due
   pub after : After more rest later mid due tail new end
 
--- The run of a link that may still make n requests. The last of them closes it, so that it never goes on behind that one.
+-- The run of a link that may still make n requests. The last of them closes it, so that it never goes on after that one.
 abbrev pub LinkRun : {W : Type 0} → Service W → ℕ → Run W
 LinkRun service zero all answers w out new end = ⊥
 LinkRun service (suc n) all answers w out new end = (Stops all answers out end × (new ≡ w)) ⊎ Heads service (LinkRun service n) (n == 0) all answers w out new end

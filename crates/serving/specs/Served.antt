@@ -1,6 +1,6 @@
 -- What the calls over a link say, where its bytes are told.
 use Rattle.std.specs.Prelude.{◌≡◌, ◌⊎◌, ℕ, Bool, true, false, List, [], ◌∷◌, ◌++◌, Option, Some, None}
-use Rattle.std.specs.Io.KnownBytes.{Appends, prepend_known}
+use Rattle.std.specs.Io.KnownBytes.{Appends, Consumes, prepend_known}
 use Rattle.split_base.specs.declared.streams.Sink.{Ghosts as SinkSide}
 use Rattle.split_base.specs.declared.streams.Source.{Ghosts as SourceSide}
 use Rattle.split_http.specs.declared.head.Head.{Head}
@@ -30,6 +30,7 @@ pub record LinkView : Type 0 where
   pub reads : ℕ
   pub writes : ℕ
 
+-- what a link tells at a moment
 abbrev pub link_view : {L : Type 0} → LinkTells L → L → LinkView
 link_view tells link = record { ahead = tells.left link; written = tells.written link; reads = tells.reads link; writes = tells.writes link }
 
@@ -45,7 +46,15 @@ NoneFailed link now = (now.reads ≡ link.reads) × (now.writes ≡ link.writes)
 abbrev pub CountsEnd : LinkView → LinkView → Ending → Type 0
 CountsEnd link now end = (now.reads ≡ reads_after link.reads end) × (now.writes ≡ writes_after link.writes end)
 
--- A run over the bytes of a link; asked: the answers that the clock gave; stands: the worlds for which what serves may stand.
+-- the bytes that came of a link with these to come, of which these are left: where a read failed, those that were read before it, and else all
+abbrev pub HaveCome : Ending → (ahead left : Option (List ℕ)) → List ℕ → Type 0
+HaveCome Ending.ended ahead left come = IsToldAs ahead come
+HaveCome Ending.cut ahead left come = IsToldAs ahead come
+HaveCome Ending.read_fault ahead left come = Consumes ahead left come
+HaveCome Ending.write_fault ahead left come = IsToldAs ahead come
+HaveCome Ending.memory ahead left come = IsToldAs ahead come
+
+-- A run over the bytes that came of a link; asked: the answers that the clock gave; stands: the worlds for which what serves may stand.
 pub record RanTo {W : Type 0} (run : Run W) (link now : LinkView) (asked : List (Option ℕ) → Type 0) (stands : W → Type 0) (w : W) (end : LinkEnd) : Type 0 where
   pub all : List ℕ
   pub answers : List (Option ℕ)
@@ -53,7 +62,7 @@ pub record RanTo {W : Type 0} (run : Run W) (link now : LinkView) (asked : List 
   pub new : W
   pub ending : Ending
   pub is_end : end ≡ end_as ending
-  pub told : IsToldAs link.ahead all
+  pub told : HaveCome ending link.ahead now.ahead all
   pub clock : asked answers
   pub wrote : Appends link.written now.written out
   pub counts : CountsEnd link now ending
@@ -67,7 +76,7 @@ pub record HeardQuiet (link now : LinkView) (asked : List (Option ℕ) → Type 
   pub out : List ℕ
   pub ending : Ending
   pub is_end : end ≡ end_as ending
-  pub told : IsToldAs link.ahead all
+  pub told : HaveCome ending link.ahead now.ahead all
   pub clock : asked answers
   pub wrote : Appends link.written now.written out
   pub counts : CountsEnd link now ending
@@ -80,14 +89,16 @@ pub record HeardRefused (link now : LinkView) (asked : List (Option ℕ) → Typ
   pub counts : NoneFailed link now
   pub refuses : (rest : List ℕ) → IsToldAs now.ahead rest → (all : List ℕ) × IsToldAs link.ahead all × Refuses all rest answer refusal bodiless
 
--- a request was read whole, and the interim line written where it was due
+-- a request was read whole and taken off the bytes, and the interim line written where it was due
 pub record HeardRequest (link now : LinkView) (asked : List (Option ℕ) → Type 0) (head : Head) (body : List ℕ) (moment : ℕ) : Type 0 where
   pub clock : asked (Some moment ∷ [])
   pub wrote : Appends link.written now.written (interim_of head.expects)
   pub counts : NoneFailed link now
-  pub asks : (rest : List ℕ) → IsToldAs now.ahead rest → (all : List ℕ) × IsToldAs link.ahead all × Asks all rest head body
+  pub taken : List ℕ
+  pub took : Consumes link.ahead now.ahead taken
+  pub asks : (rest : List ℕ) → Asks (taken ++ rest) rest head body
 
--- a reply is due
+-- a reply is due; where it does not close the link, the bytes that it answers were taken off
 pub record Replied {W : Type 0} (service : Service W) (link now : LinkView) (asked : List (Option ℕ) → Type 0) (stands : W → Type 0) (last : Bool) (w : W) (due : DueView) : Type 0 where
   pub answer : Option ℕ
   pub interim : List ℕ
@@ -97,6 +108,7 @@ pub record Replied {W : Type 0} (service : Service W) (link now : LinkView) (ask
   pub counts : NoneFailed link now
   pub serving : stands mid
   pub replies : (rest : List ℕ) → IsToldAs now.ahead rest → (all : List ℕ) × IsToldAs link.ahead all × Replies service last all rest answer w interim mid due
+  pub goes : closes due ≡ false → (taken : List ℕ) × Consumes link.ahead now.ahead taken × ((rest : List ℕ) → Replies service last (taken ++ rest) rest answer w interim mid due)
 
 -- all bytes of a reply that was due were written, and no call failed
 abbrev pub HasWritten : LinkView → LinkView → DueView → Type 0
@@ -106,7 +118,7 @@ HasWritten link now due = ((bytes : List ℕ) × AreBytes due bytes × Appends l
 abbrev pub HasTorn : LinkView → LinkView → DueView → Type 0
 HasTorn link now due = ((bytes part : List ℕ) × AreBytes due bytes × IsPartOf bytes part × Appends link.written now.written part) × CountsEnd link now Ending.write_fault
 
--- the end of a link behind a reply, or none where the link goes on
+-- the end of a link after a reply, or none where the link goes on
 abbrev pub EndsBehind : DueView → Option LinkEnd → Type 0
 EndsBehind due None = closes due ≡ false
 EndsBehind due (Some end) = (closes due ≡ true) × (end ≡ end_as (end_of due))
@@ -121,6 +133,7 @@ abbrev pub CountsServed : LinkView → LinkView → Option LinkEnd → Type 0
 CountsServed link now None = NoneFailed link now
 CountsServed link now (Some end) = (ending : Ending) × (end ≡ end_as ending) × CountsEnd link now ending
 
+-- a request was taken off the bytes and answered, and the link goes on
 pub record WentOn {W : Type 0} (service : Service W) (link now : LinkView) (asked : List (Option ℕ) → Type 0) (stands : W → Type 0) (last : Bool) (w : W) : Type 0 where
   pub answer : Option ℕ
   pub interim : List ℕ
@@ -133,13 +146,17 @@ pub record WentOn {W : Type 0} (service : Service W) (link now : LinkView) (aske
   pub wrote : Appends link.written now.written (interim ++ bytes)
   pub counts : NoneFailed link now
   pub serving : stands mid
-  pub replies : (rest : List ℕ) → IsToldAs now.ahead rest → (all : List ℕ) × IsToldAs link.ahead all × Replies service last all rest answer w interim mid due
+  pub taken : List ℕ
+  pub took : Consumes link.ahead now.ahead taken
+  pub replies : (rest : List ℕ) → Replies service last (taken ++ rest) rest answer w interim mid due
 
-abbrev pub HeadServed : {W : Type 0} → Service W → (link now : LinkView) (asked : List (Option ℕ) → Type 0) (stands : W → Type 0) (last : Bool) (w : W) → Option LinkEnd → Type 0
-HeadServed service link now asked stands last w None = WentOn service link now asked stands last w
-HeadServed service link now asked stands last w (Some end) = RanTo (LastHead service last) link now asked stands w end
+-- a head was served: the link goes on, with these bytes that were read past it, or it has ended
+abbrev pub HeadServed : {W : Type 0} → Service W → (link : LinkView) (held : List ℕ) (now : LinkView) (asked : List (Option ℕ) → Type 0) (stands : W → Type 0) (last : Bool) (w : W) → Option LinkEnd → Type 0
+HeadServed service link held now asked stands last w None = WentOn service link (carried held now) asked stands last w
+HeadServed service link held now asked stands last w (Some end) = RanTo (LastHead service last) link now asked stands w end
 
--- Some heads of at most so many went through, and n more may come: whatever run the rest has completes the run of the link.
+-- Some heads of at most so many were taken off the bytes and went through, and n more may come: whatever run the rest has completes the run of
+-- the link.
 pub record Going {W : Type 0} (service : Service W) (most : ℕ) (link now : LinkView) (asked : List (Option ℕ) → Type 0) (stands : W → Type 0) (n : ℕ) (w : W) : Type 0 where
   pub answers : List (Option ℕ)
   pub out : List ℕ
@@ -148,5 +165,7 @@ pub record Going {W : Type 0} (service : Service W) (most : ℕ) (link now : Lin
   pub wrote : Appends link.written now.written out
   pub counts : NoneFailed link now
   pub serving : stands mid
-  pub goes : (rest : List ℕ) → IsToldAs now.ahead rest → (later : List (Option ℕ)) (tail : List ℕ) (new : W) (end : Ending) → LinkRun service n rest later mid tail new end
-      → (all : List ℕ) × IsToldAs link.ahead all × LinkRun service most all (answers ++ later) w (out ++ tail) new end
+  pub taken : List ℕ
+  pub took : Consumes link.ahead now.ahead taken
+  pub goes : (rest : List ℕ) (later : List (Option ℕ)) (tail : List ℕ) (new : W) (end : Ending) → LinkRun service n rest later mid tail new end
+      → LinkRun service most (taken ++ rest) (answers ++ later) w (out ++ tail) new end

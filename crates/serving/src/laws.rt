@@ -11,8 +11,8 @@ ghost use Rattle.serving.specs.Serving.{host_service};
 use split_base::{Disk, Port};
 
 /// The run of a link is a list of requests, each one step of the machine: with its moment, its command, its reply, the state and the disk
-/// before and after it, and the bytes that the link got of it. Behind them the link ends, by a last reply or none. Requests that were answered
-/// behind others are one list with them.
+/// before and after it, and the bytes that the link got of it. After them the link ends, by a last reply or none. Requests that were answered
+/// after others are one list with them.
 pub fn link_law<D: Disk>()
     ensures exchanges { (n : ℕ) (all : List ℕ) (answers : List (Option ℕ)) (w : D × State) (out : List ℕ) (new : D × State) (end : Ending)
         → LinkRun (host_service D.Disk) n all answers w out new end → LinkExchanges (host_service D.Disk) all answers w out new end }

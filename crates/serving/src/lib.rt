@@ -1,7 +1,11 @@
-//! The host at its links: the heads of each link in order, each with one reply, and the links of a port in
-//! order.
+//! The host at its links: the heads of each link in order, each with one reply.
 //!
 //! What a link and the links of a port are due is defined over any service that answers their heads one after the other.
+//!
+//! `serve_one` and `serve` say of all links one run (`PortServed`), and give each link back.
+//! `link_law` and `port_law` make a list of requests of it, each one step from the state that the
+//! one before it left. Once the routes are made, memory is taken only where a head or a request may
+//! be refused for it.
 #![tactic(auto)]
 
 mod ends;

@@ -19,7 +19,7 @@ use split_solve::KeptSearches;
 use std::alloc::Global;
 use std::thread::Threads;
 
-// Serves the next head. None where the link goes on, which it does not behind the last one.
+// Serves the next head. None where the link goes on, which it does not after the last one.
 #[allow(clippy::too_many_arguments)]
 fn serve_head<D: Disk, L: Link, C: Clock, R: Threads + Sync, G: Gate + Sync>(
     alloc: Global,
@@ -37,7 +37,7 @@ fn serve_head<D: Disk, L: Link, C: Clock, R: Threads + Sync, G: Gate + Sync>(
 ) -> Option<LinkEnd>
     requires { (1 ≤ workers) × (workers ≤ MOST_WORKERS) }
     ensures says { (w : D × State) → StandsAt D.Disk serving.old disk.old w → HeadServed (host_service D.Disk)
-        (carried carry.old (link_view (tells_of L.Source L.Sink) link.old)) (carried carry.new (link_view (tells_of L.Source L.Sink) link.new))
+        (carried carry.old (link_view (tells_of L.Source L.Sink) link.old)) carry.new (link_view (tells_of L.Source L.Sink) link.new)
         (ClockRun C.gives C.faults clock.old clock.new) (StandsAt D.Disk serving.new disk.new) last w result }
     ensures ends { last ≡ true → IsSome result }
     ensures counts { CountsServed (link_view (tells_of L.Source L.Sink) link.old) (link_view (tells_of L.Source L.Sink) link.new) result }
@@ -64,7 +64,7 @@ fn serve_head<D: Disk, L: Link, C: Clock, R: Threads + Sync, G: Gate + Sync>(
     }
 }
 
-// Whether the connection is closed behind the reply to this head.
+// Whether the connection is closed after the reply to this head.
 fn closes(head: &Head, last: bool) -> bool
     ensures { result ≡ (head.now.closes || last) }
 {
@@ -76,7 +76,9 @@ fn closes(head: &Head, last: bool) -> bool
 ///
 /// - `Ended`: no byte was left where a head would begin, or the last reply was written, closed the connection and wasn't a memory reply.
 /// - `Cut`: the input ended within a body. Nothing is replied to its head.
-/// - `LinkFault` comes only where one of the link's two counts of faults has risen, by one. The link got a first part of the bytes due.
+/// - `LinkFault` comes only where one of the link's two counts of faults has risen, by one. The link got a first part of the bytes due. A read
+///   is made only while the bytes that came since the last request may still become a head, as the parser reads them, or hold less than the
+///   body of one: all others are answered first.
 /// - `Memory`: a memory reply was the last, and was written.
 ///
 /// Goods are searched by 1 to `MOST_WORKERS` workers, unless a kept search is of the same case. Neither they nor the kept searches take part

@@ -38,6 +38,7 @@ fn serve_link<D: Disk, P: Port, C: Clock, R: Threads + Sync, G: Gate + Sync>(
     ensures come { P.to_come port.new ≡ P.to_come port.old }
     ensures stays { P.has_ended port.old ↔ P.has_ended port.new }
     ensures places { P.places port.new ≡ P.places port.old - 1 }
+    ensures asked { P.asked port.new ≡ P.asked port.old }
     ensures faults { P.faults port.new ≡ P.faults port.old }
     ensures clock { C.faults clock.old ≤ C.faults clock.new }
     ensures disk { D.faults disk.old ≤ D.faults disk.new }
@@ -68,12 +69,13 @@ pub fn serve<D: Disk, P: Port, C: Clock, R: Threads + Sync, G: Gate + Sync>(
     gate: &G,
 ) -> Result<u64, Failed>
     requires { (1 ≤ workers) × (workers ≤ MOST_WORKERS) }
-    ensures run { (w : D × State) → StandsAt D.Disk serving.old disk.old w → (number : ℕ) × (result ≡ Ok number ⊎ IsErr result)
+    ensures run { (w : D × State) → StandsAt D.Disk serving.old disk.old w → (number : ℕ) × (number ≤ count) × (result ≡ Ok number ⊎ IsErr result)
         × PortServed (host_service D.Disk) (tells_of P.Link.Source P.Link.Sink)
         (P.to_come port.old) (P.to_come port.new) (P.given_back port.old) (P.given_back port.new) (P.places port.old)
         (ClockRun C.gives C.faults clock.old clock.new) (StandsAt D.Disk serving.new disk.new) w number }
     ensures few { IfOk result (λ number. number < count → P.has_ended port.new) }
     ensures most { IfOk result (λ number. number ≤ count) }
+    ensures asked { P.asked port.new ≡ P.asked port.old }
     ensures cause { HasCause (P.faults port.old) (P.faults port.new) result }
     ensures counted { IsCounted (P.faults port.old) (P.faults port.new) result }
 

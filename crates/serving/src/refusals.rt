@@ -1,6 +1,6 @@
 // Why a head is refused.
 
-/// Why a head is refused before its request is answered. Behind each of these the connection is closed.
+/// Why a head is refused before its request is answered. After each of these the connection is closed.
 #[derive(Clone, Copy, Debug, PartialEq, Eq)]
 pub enum HeadRefusal {
     /// The bytes begin with no head.

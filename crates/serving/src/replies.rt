@@ -42,7 +42,7 @@ fn stated_said(row: u8) -> Said
     }
 }
 
-/// Writes what is said, and answers the end of the link behind it, or none where the link goes on.
+/// Writes what is said, and answers the end of the link after it, or none where the link goes on.
 pub(crate) fn write_said<L: Link>(
     link: &mut L,
     said: &Said,

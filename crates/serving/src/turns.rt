@@ -17,7 +17,7 @@ use std::alloc::Global;
 pub enum Heard {
     /// The link has ended, and nothing is replied.
     Quiet(LinkEnd),
-    /// The head is refused, and the connection is closed behind the reply.
+    /// The head is refused, and the connection is closed after the reply.
     Refused {
         /// Why.
         refusal: HeadRefusal,
@@ -51,9 +51,10 @@ pub(crate) fn is_head(verb: Verb) -> bool
 /// and not where nothing is left or a read failed. Before the body the interim line is written where the head asks for it.
 ///
 /// - `Quiet` with `Ended` comes exactly where nothing is left, with `Cut` exactly where the input ends within the body of a head that isn't
-///   refused, and with `LinkFault` for one failed call, which one of the link's two counts of faults tells.
-/// - `Refused` comes exactly where the bytes begin with no head, the clock failed or the head is refused, in this order, or for want of
-///   memory. Nothing is written then.
+///   refused, and with `LinkFault` for one failed call, which one of the link's two counts of faults tells. A read is made only while the parser
+///   asks for more of the bytes that have come, or less than the body has: a head that can never become one is refused at once.
+/// - `Refused` comes exactly where the bytes begin with no head, the clock failed or the head is refused, in this order, or where memory ran
+///   out. Nothing is written then.
 ///
 /// Any other answer than `LinkFault` leaves both counts as they are.
 pub fn hear<L: Link, C: Clock>(
@@ -62,7 +63,7 @@ pub fn hear<L: Link, C: Clock>(
     clock: &mut C,
     carry: &mut Carry,
 ) -> Heard
-    ensures says { HearSays (carried carry.old (link_view (tells_of L.Source L.Sink) link.old)) (carried carry.new (link_view (tells_of L.Source L.Sink) link.new))
+    ensures says { HearSays (carried carry.old (link_view (tells_of L.Source L.Sink) link.old)) carry.new (link_view (tells_of L.Source L.Sink) link.new)
         (ClockRun C.gives C.faults clock.old clock.new) result }
     ensures timed { IsTimed result }
     ensures reads { L.Source.faults link.old ≤ L.Source.faults link.new }

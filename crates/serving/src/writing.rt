@@ -9,7 +9,7 @@ use crate::LinkEnd;
 use split_base::{Failed, Link};
 use split_http::{HttpReply, write_reply};
 
-/// Writes a reply, and answers the end of the link behind it, or none where the link goes on. `memory` tells that the reply says that memory
+/// Writes a reply, and answers the end of the link after it, or none where the link goes on. `memory` tells that the reply says that memory
 /// ran out.
 ///
 /// - `LinkFault` comes only where the link's count of failed writes has risen, by one. A first part of the reply was written then.
@@ -29,7 +29,7 @@ pub fn finish<L: Link>(link: &mut L, reply: &HttpReply<'_>, memory: bool) -> Opt
     }
 }
 
-// The end of a link behind a reply, or none where the link goes on.
+// The end of a link after a reply, or none where the link goes on.
 fn end_behind(close: bool, memory: bool) -> Option<LinkEnd>
     ensures { (due : DueView) → closes due ≡ close → due.said.memory ≡ memory → EndsBehind due result }
 {

@@ -55,7 +55,7 @@ module _ {W : Type 0} (run : List (Exchange W)) (first : State) where
   settles_come : {D : Type 0} (d : Ghosts D) (disk after : D) (s new : State) (result : Option SaidView) → d.is_honest disk → Waits s → Settles d disk after s new result → Comes s new
   settles_come d disk after s new result honest waits (Settles.ready a b is c) = comes_none s new is waits
   settles_come d disk after s new result honest waits (Settles.store_fault e a up torn is c) = comes_none s new is waits
-  settles_come d disk after s new result honest waits (Settles.damaged e place a same never is c) = comes_none s new is waits
+  settles_come d disk after s new result honest waits (Settles.damaged e place a same first never is c) = comes_none s new is waits
   settles_come d disk after s new result honest waits (Settles.opened e secret kept a same told can is c) =
       let settled = told honest in
       let one : new.secret ≡ s.secret = ap (λ (x : State). x.secret) is ∙ settled.secret_stays in

@@ -30,7 +30,7 @@ grows_join a b c p q = record {
 settles_grows : {D : Type 0} (d : Ghosts D) (disk after : D) (s new : State) (result : Option SaidView) → d.is_honest disk → Settles d disk after s new result → Grows s new
 settles_grows d disk after s new result honest (Settles.ready a b is c) = grows_none s new is
 settles_grows d disk after s new result honest (Settles.store_fault e a up torn is c) = grows_none s new is
-settles_grows d disk after s new result honest (Settles.damaged e place a same never is c) = grows_none s new is
+settles_grows d disk after s new result honest (Settles.damaged e place a same first never is c) = grows_none s new is
 settles_grows d disk after s new result honest (Settles.opened e secret kept a same told can is c) =
     let settled = told honest in
     let one : new.secret ≡ s.secret = ap (λ (x : State). x.secret) is ∙ settled.secret_stays in

@@ -1,5 +1,5 @@
 -- From how a link ends to what came last on it.
-use Rattle.std.proofs.Common.{◌≡◌, ◌⊎◌, ◌↔◌, ℕ, Bool, true, false, ◌||◌, List, [], ◌∷◌, ◌++◌, Option, Some, None, refl, sym, ap, ◌∙◌, subst, inl, inr, ⊎_elim, if◌then◌else◌}
+use Rattle.std.proofs.Common.{◌≡◌, ◌⊎◌, ◌↔◌, ℕ, Bool, true, false, ◌||◌, List, [], ◌∷◌, ◌++◌, Option, Some, None, refl, sym, ap, subst, inl, inr, ⊎_elim, if◌then◌else◌}
 use Rattle.split_base.specs.Faults.{HasRisen}
 use Rattle.serving.specs.declared.ends.LinkEnd.TheVariants as ends
 use Rattle.serving.specs.Dues.{AreBytes, DueView}
@@ -8,7 +8,7 @@ use Rattle.serving.specs.Exchanges.{EndsLink, LinkExchanges, refused_due}
 use Rattle.serving.specs.Runs.{BodyStops, SaysHead, Service, Stops, end_of}
 use Rattle.serving.specs.Served.{CountsEnd, LinkView}
 use Rattle.split_http.specs.declared.head.Head.{Head}
-use Rattle.serving_laws.specs.Last.{CameLast, FailsReading, FailsWriting, IsMemoryReply, IsPlainReply, IsWritten, Last, LinkEnds, end_by, ending_by}
+use Rattle.serving_laws.specs.Last.{CameLast, EndsAfter, FailsReading, FailsWriting, IsMemoryReply, IsPlainReply, IsWritten, Last, LinkEnds, end_by, ending_by}
 use Rattle.serving_laws.proofs.Answered.{counted_rises}
 
 or_true : (b : Bool) → (b || true) ≡ true
@@ -24,11 +24,8 @@ module _ {W : Type 0} (service : Service W) (w : W) (rest : List ℕ) (answers :
       (Last.body_cut, (head, left, record { text = text; moment = moment; bytes = bytes; says = says; accepted = accepted; asked = asked }, short, line, still), is)
   body_ends text left head moment bytes says accepted asked still (BodyStops.interim_fault expects part is) =
       (Last.write_failed, FailsWriting.in_interim head left (record { text = text; moment = moment; bytes = bytes; says = says; accepted = accepted; asked = asked }) expects part still, is)
-  body_ends text left head moment bytes says accepted asked still (BodyStops.body_fault come more whole short line is) = (
-    Last.read_failed,
-    (FailsReading.in_body head come more (record { text = text; moment = moment; bytes = bytes ∙ ap (λ (l : List ℕ). text ++ l) whole; says = says; accepted = accepted; asked = asked }) short line, still),
-    is,
-  )
+  body_ends text left head moment bytes says accepted asked still (BodyStops.body_fault short line is) =
+      (Last.read_failed, (FailsReading.in_body head left (record { text = text; moment = moment; bytes = bytes; says = says; accepted = accepted; asked = asked }) short line, still), is)
 
   last_of : EndsLink service w rest answers out new end → EndsBy
   last_of (EndsLink.replied left e bytes asked before is after got (inl (whole, closed, ends))) = (
@@ -63,7 +60,7 @@ module _ {W : Type 0} (service : Service W) (w : W) (rest : List ℕ) (answers :
     ends,
   )
   last_of (EndsLink.quiet (Stops.nothing none unasked unwritten is) still) = (Last.nothing_left, (none, unasked, unwritten, still), is)
-  last_of (EndsLink.quiet (Stops.head_fault come left whole opened unasked unwritten is) still) = (Last.read_failed, (FailsReading.in_head come left whole opened unasked unwritten, still), is)
+  last_of (EndsLink.quiet (Stops.head_fault opened unasked unwritten is) still) = (Last.read_failed, (FailsReading.in_head opened unasked unwritten, still), is)
   last_of (EndsLink.quiet (Stops.behind_head text left head moment bytes says accepted asked stops) still) = body_ends text left head moment bytes says accepted asked still stops
 
 pub link_ends : {W : Type 0} (service : Service W) (all : List ℕ) (answers : List (Option ℕ)) (w : W) (out : List ℕ) (new : W) (end : Ending) → LinkExchanges service all answers w out new end
@@ -85,6 +82,12 @@ link_ends service all answers w out new end x =
       came = came;
       ends = ends;
     }
+
+-- after the same requests
+pub ends_after : {W : Type 0} (service : Service W) (all : List ℕ) (answers : List (Option ℕ)) (w : W) (out : List ℕ) (new : W) (end : Ending) (link : LinkExchanges service all answers w out new end)
+    → EndsAfter link.exchanges service all answers w out new end
+unfolding link_ends
+ends_after service all answers w out new end link = (link_ends service all answers w out new end link, refl)
 
 -- a reply that says that memory ran out, and one that does not
 memory_end : (due : DueView) → due.said.memory ≡ true → end_as (end_of due) ≡ ends.Memory

@@ -8,6 +8,7 @@ mod Quiet
 mod Refused
 mod Lasts
 mod MemoryReplies
+mod Unfailing
 mod Alike
 mod Sealed
 mod HeardRuns

@@ -22,7 +22,7 @@ never_says said other is same plain = absurd (true≢false (sym is ∙ ap (λ (s
 settles_memory : {D : Type 0} (d : Ghosts D) (disk after : D) (s new : State) (said : SaidView) → said.memory ≡ true → Settles d disk after s new (Some said) → said ≡ memory_said
 settles_memory d disk after s new said says (Settles.ready a b is c) = absurd (cc)
 settles_memory d disk after s new said says (Settles.store_fault e a up torn is c) = never_says said _ says (some_same said _ c) refl
-settles_memory d disk after s new said says (Settles.damaged e place a same never is c) = never_says said _ says (some_same said _ c) refl
+settles_memory d disk after s new said says (Settles.damaged e place a same first never is c) = never_says said _ says (some_same said _ c) refl
 settles_memory d disk after s new said says (Settles.opened e secret kept a same told can is c) = absurd (cc)
 settles_memory d disk after s new said says (Settles.memory e a same rests is c) = some_same said _ c
 

@@ -17,6 +17,8 @@ use Rattle.sealed_core.specs.Step.{CommandView, step}
 use Rattle.split_http.specs.declared.routes.Route.{Route}
 use Rattle.split_http.specs.Places.{IsRouted}
 use Rattle.serving_laws.specs.Refusing.{IsSuccess, StaysBut}
+use Rattle.serving_laws.specs.Moving.{IsAnsweredAt}
+use Rattle.serving_laws.proofs.Moved.{answered_at, answered_before}
 use Rattle.serving_laws.proofs.Quiet.{quiet_step}
 use Rattle.requests.specs.Said.{SaidView}
 
@@ -44,32 +46,29 @@ shown_quiet publishes h t command told none (Shows.published id asked i was ther
 at_once_stays : {D : Type 0} (d : Ghosts D) (disk after : D) (s new : State) (said : SaidView) → Settles d disk after s new (Some said) → new ≡ s
 at_once_stays d disk after s new said (Settles.ready a b is c) = is
 at_once_stays d disk after s new said (Settles.store_fault e a up torn is c) = is
-at_once_stays d disk after s new said (Settles.damaged e place a same never is c) = is
+at_once_stays d disk after s new said (Settles.damaged e place a same first never is c) = is
 at_once_stays d disk after s new said (Settles.opened e secret kept a same told can is c) = absurd (cc)
 at_once_stays d disk after s new said (Settles.memory e a same rests is c) = is
 
-module _ {D : Type 0} (d : Ghosts D) (x : Exchange (D × State)) (settles : State → State → Type 0) (same : (s : State) → settles s s) (publishes : PublishesQuietly)
-    (none : IsSuccess x.due.said.status → ⊥)
-  where
-    stays : x.after.1 ≡ x.before.1 → StaysBut settles x
-    stays is = record { settled = x.before.1; from = same x.before.1; stays = inl is }
+module _ {D : Type 0} (d : Ghosts D) (x : Exchange (D × State)) (publishes : PublishesQuietly) (none : IsSuccess x.due.said.status → ⊥) where
+  stays : x.after.1 ≡ x.before.1 → StaysBut d x
+  stays is = record { settled = x.before.1; from = answered_before d x; stays = inl is }
 
-    steps_stay : (route : Route) (between : D) (settled : State) → IsRouted x.head.verb x.head.path (Ok route) → settles x.before.1 settled
-        → Steps d between x.after.0 x.moment (command_of route.place route.id x.head.key x.body) settled x.after.1 x.due.said → StaysBut settles x
-    steps_stay route between settled routed from (Steps.no_event told a b r is c) = record { settled = settled; from = from; stays = inl is }
-    steps_stay route between settled routed from (Steps.kept told e a can count appended r is c) =
-        let command = command_of route.place route.id x.head.key x.body in
-        let failed : IsSuccess told.status → ⊥ = λ success. none (subst IsSuccess (sym (ap (λ (s : SaidView). s.status) c)) success) in
-        let late : IsLateClose (host_in settled) x.moment command (Some e) =
-        subst (λ (o : Option EventView). IsLateClose (host_in settled) x.moment command o) a (shown_quiet publishes (host_in settled) x.moment command told failed r) in
-        record { settled = settled; from = from; stays = inr (e, inl ((route, routed, a, late), is)) }
-    steps_stay route between settled routed from (Steps.failed e a up is c) = record { settled = settled; from = from; stays = inr (e, inr ((route, routed, a), is, c)) }
-    steps_stay route between settled routed from (Steps.memory a is c) = record { settled = settled; from = from; stays = inl is }
+  steps_stay : (route : Route) (between : D) (settled : State) → IsRouted x.head.verb x.head.path (Ok route) → IsAnsweredAt d x settled
+      → Steps d between x.after.0 x.moment (command_of route.place route.id x.head.key x.body) settled x.after.1 x.due.said → StaysBut d x
+  steps_stay route between settled routed from (Steps.no_event told a b r is c) = record { settled = settled; from = from; stays = inl is }
+  steps_stay route between settled routed from (Steps.kept told e a can count appended r is c) =
+      let command = command_of route.place route.id x.head.key x.body in
+      let failed : IsSuccess told.status → ⊥ = λ success. none (subst IsSuccess (sym (ap (λ (s : SaidView). s.status) c)) success) in
+      let late : IsLateClose (host_in settled) x.moment command (Some e) =
+      subst (λ (o : Option EventView). IsLateClose (host_in settled) x.moment command o) a (shown_quiet publishes (host_in settled) x.moment command told failed r) in
+      record { settled = settled; from = from; stays = inr (e, inl ((route, routed, a, late), is)) }
+  steps_stay route between settled routed from (Steps.failed e a up is c) = record { settled = settled; from = from; stays = inr (e, inr ((route, routed, a), is, c)) }
+  steps_stay route between settled routed from (Steps.memory a is c) = record { settled = settled; from = from; stays = inl is }
 
-    pub stays_but : ((between : D) (settled : State) → Settles d x.before.0 between x.before.1 settled None → settles x.before.1 settled)
-        → Responds d x.before.0 x.after.0 x.head x.body x.moment x.before.1 x.after.1 x.due.said → StaysBut settles x
-    stays_but settled_so (Responds.no_route a b is c) = stays is
-    stays_but settled_so (Responds.method allow a b is c) = stays is
-    stays_but settled_so (Responds.at_once route a settled) = stays (at_once_stays d x.before.0 x.after.0 x.before.1 x.after.1 x.due.said settled)
-    stays_but settled_so (Responds.stepped route between settled a settling one steps two) = steps_stay route between settled a (settled_so between settled settling) steps
-    stays_but settled_so (Responds.memory a is c) = stays is
+  pub stays_but : Responds d x.before.0 x.after.0 x.head x.body x.moment x.before.1 x.after.1 x.due.said → StaysBut d x
+  stays_but (Responds.no_route a b is c) = stays is
+  stays_but (Responds.method allow a b is c) = stays is
+  stays_but (Responds.at_once route a settled) = stays (at_once_stays d x.before.0 x.after.0 x.before.1 x.after.1 x.due.said settled)
+  stays_but (Responds.stepped route between settled a settling one steps two) = steps_stay route between settled a (answered_at d x between settled None settling) steps
+  stays_but (Responds.memory a is c) = stays is

@@ -1,6 +1,6 @@
 -- What a caller of an instance gets in a run of requests, before the instance is closed.
-use Rattle.std.specs.Prelude.{◌≡◌, ◌⊎◌, ℕ, ◌==◌, ◌&&◌, Bool, false, List, [], ◌∷◌, ◌++◌, Option, None, Some, Ok, if◌then◌else◌}
-use Rattle.std.specs.Option.{option_to_list}
+use Rattle.std.specs.Prelude.{◌≡◌, ◌⊎◌, ℕ, ◌==◌, ◌&&◌, Bool, false, List, [], ◌∷◌, ◌++◌, map, is_some, Option, None, Some, Ok, if◌then◌else◌}
+use Rattle.std.specs.Option.{option_map, option_to_list}
 use Rattle.host_journal.specs.States.{State, host_in}
 use Rattle.serving.specs.Exchanges.{Exchange}
 use Rattle.host_results.specs.Contents.{ContentView}
@@ -9,39 +9,72 @@ use Rattle.reply_texts.specs.Sealing.{Told}
 use Rattle.requests.specs.Commands.{command_of}
 use Rattle.requests.specs.Replies.{Replies}
 use Rattle.requests.specs.Said.{SaidView, content_said, method_said, refused_said}
-use Rattle.sealed_core.specs.Host.{HostView}
+use Rattle.sealed_core.specs.Host.{EventView, HostView}
 use Rattle.sealed_core.specs.Sealed.{Asked, Caller, caller_number, is_closed, next, same_caller}
 use Rattle.sealed_core.specs.Step.{CommandView, Create, To, step}
 use Rattle.split_http.specs.declared.replies.Allow.{Allow}
 use Rattle.split_http.specs.declared.routes.Route.{Route}
 use Rattle.split_http.specs.Places.{IsRouted}
+use Rattle.serving_laws.specs.Sealing.{TellsNoStep, got}
 
--- the request goes by this step of the machine: it has the step's reply, and the step's event was kept behind those before, if it makes one
-pub record IsStep {D : Type 0} (x : Exchange (D × State)) (a : Asked) : Type 0 where
+-- the request goes by this step of the machine from a state: it has the step's reply, and the step's event, if it makes one, was kept after those before
+pub record IsStepAt {D : Type 0} (x : Exchange (D × State)) (s : State) (a : Asked) : Type 0 where
   pub route : Route
   pub told : ContentView
   pub routed : IsRouted x.head.verb x.head.path (Ok route)
   pub moment : a.moment ≡ x.moment
   pub command : a.command ≡ command_of route.place route.id x.head.key x.body
-  pub replies : Replies (host_in x.before.1) a.moment a.command told
+  pub replies : Replies (host_in s) a.moment a.command told
   pub said : x.due.said ≡ content_said told
-  pub secret : x.after.1.secret ≡ x.before.1.secret
-  pub kept : x.after.1.kept ≡ x.before.1.kept ++ option_to_list (step (host_in x.before.1) a.moment a.command).event
+  pub secret : x.after.1.secret ≡ s.secret
+  pub kept : x.after.1.kept ≡ s.kept ++ option_to_list (step (host_in s) a.moment a.command).event
 
--- each request goes by its step
-abbrev pub AreSteps : {D : Type 0} → List (Exchange (D × State)) → List Asked → Type 0
-AreSteps [] [] = Unit {0}
-AreSteps [] (a ∷ asked) = ⊥
-AreSteps (x ∷ run) [] = ⊥
-AreSteps (x ∷ run) (a ∷ asked) = IsStep x a × AreSteps run asked
+-- the request goes by this step from the state before it
+abbrev pub IsStep : {D : Type 0} → Exchange (D × State) → Asked → Type 0
+IsStep x a = IsStepAt x x.before.1 a
 
 -- the path or the method of the request is refused, and nothing changes
 abbrev pub IsUnrouted : {D : Type 0} → Exchange (D × State) → Type 0
 IsUnrouted x = (x.after.1 ≡ x.before.1) × ((x.due.said ≡ refused_said service.NoRoute) ⊎ ((allow : Allow) × (x.due.said ≡ method_said allow)))
 
--- the HTTP status and the text of what is said
-abbrev pub got : SaidView → Told
-got said = record { status = said.status; text = Some said.text }
+-- a step that the machine took in a run, and what was said in reply to it: nothing where its append failed, which was told, and its event was in the
+-- file when that was opened again
+pub record Taken : Type 0 where
+  pub asked : Asked
+  pub said : Option SaidView
+
+-- the event that waits is that of a step
+abbrev pub WaitsByStep : State → Type 0
+WaitsByStep s = (event : EventView) → s.waiting ≡ Some event → (a : Asked) × ((step (host_in s) a.moment a.command).event ≡ Some event)
+
+-- the same secret, and these events
+abbrev pub HasKept : State → List ℕ → List EventView → Type 0
+HasKept s secret kept = (s.secret ≡ secret) × (s.kept ≡ kept)
+
+-- the steps between the state before a request and the one at which it is answered: none, or that of the event that waited
+pub data Finds (s settled : State) (steps : List Taken) : Type 0 where
+  nothing : HasKept settled s.secret s.kept → steps ≡ [] → Finds s settled steps
+  found : (a : Asked) (event : EventView) → s.waiting ≡ Some event → (step (host_in s) a.moment a.command).event ≡ Some event → HasKept settled s.secret (s.kept ++ event ∷ [])
+      → steps ≡ record { asked = a; said = None } ∷ [] → Finds s settled steps
+
+-- the steps of the request itself: none, where its reply tells nothing of the host, or the one that it goes by
+pub data Takes {D : Type 0} (x : Exchange (D × State)) (settled : State) (steps : List Taken) : Type 0 where
+  nothing : TellsNoStep x.due.said → HasKept x.after.1 settled.secret settled.kept → steps ≡ [] → Takes x settled steps
+  one : (a : Asked) → IsStepAt x settled a → steps ≡ record { asked = a; said = Some x.due.said } ∷ [] → Takes x settled steps
+
+-- in these requests the machine takes these steps, in order, and no others
+abbrev pub TakesSteps : {D : Type 0} → List (Exchange (D × State)) → List Taken → Type 0
+TakesSteps [] steps = steps ≡ []
+TakesSteps (x ∷ run) steps =
+    (settled : State) × (found own later : List Taken) × (steps ≡ found ++ (own ++ later)) × Finds x.before.1 settled found × Takes x settled own × TakesSteps run later
+
+-- what was asked, step by step
+abbrev pub asked_of : List Taken → List Asked
+asked_of steps = map (λ s. s.asked) steps
+
+-- which of the steps have a reply
+abbrev pub replied_of : List Taken → List Bool
+replied_of steps = map (λ s. is_some s.said) steps
 
 -- the command asks something of this instance, and comes from this caller
 abbrev pub is_own : HostView → ℕ → Caller → CommandView → Bool
@@ -50,9 +83,8 @@ is_own h id caller (To other key ask) = (other == id) && same_caller (caller_num
 
 -- what the caller gets, step by step, up to and without the step at which the instance is closed: the reply to their own command on it, else
 -- nothing
-abbrev pub got_all : {D : Type 0} → HostView → ℕ → Caller → List (Exchange (D × State)) → List Asked → List (Option Told)
-got_all h id caller [] asked = []
-got_all h id caller (x ∷ run) [] = []
-got_all h id caller (x ∷ run) (a ∷ asked) =
-    if is_closed (next h a) id then []
-    else (if is_own h id caller a.command then Some (got x.due.said) else None) ∷ got_all (next h a) id caller run asked
+abbrev pub got_all : HostView → ℕ → Caller → List Taken → List (Option Told)
+got_all h id caller [] = []
+got_all h id caller (s ∷ steps) =
+    if is_closed (next h s.asked) id then []
+    else (if is_own h id caller s.asked.command then option_map got s.said else None) ∷ got_all (next h s.asked) id caller steps

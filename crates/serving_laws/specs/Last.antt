@@ -9,8 +9,8 @@ use Rattle.serving.specs.Ends.{Ending, end_as}
 use Rattle.serving.specs.Exchanges.{Answered, AreWhole, Exchange, IsExchange, IsTorn, IsWhole, input_of, moments_of, refused_due, written_of}
 use Rattle.serving.specs.Runs.{Refuses, SaysHead, Service, end_of}
 
--- No byte was left where a head would begin; the input ended within a body; a reply was written and closed the connection; a read failed; or
--- a write did.
+-- What comes last on a link: no byte is left where a head would begin; the input ends within a body; a reply is written and closes the connection; a
+-- read fails; or a write does.
 pub data Last : Type 0 where
   nothing_left : Last
   body_cut : Last
@@ -26,17 +26,19 @@ ending_by (Last.reply due) = end_of due
 ending_by Last.read_failed = Ending.read_fault
 ending_by Last.write_failed = Ending.write_fault
 
+-- how the link ends by that, as it is told
 abbrev pub end_by : Last → LinkEnd
 end_by last = end_as (ending_by last)
 
--- a reply that doesn't say that memory ran out, and one that does
+-- the last thing was a reply that doesn't say that memory ran out
 abbrev pub IsPlainReply : Last → Type 0
 IsPlainReply last = (due : DueView) × (last ≡ Last.reply due) × (due.said.memory ≡ false)
 
+-- the last thing was the reply that memory ran out
 abbrev pub IsMemoryReply : Last → Type 0
 IsMemoryReply last = (due : DueView) × (last ≡ Last.reply due) × (due.said.memory ≡ true)
 
--- the bytes begin with a head that isn't refused, which came at a moment; behind it these are left
+-- the bytes begin with a head that isn't refused, which came at a moment; after it these are left
 pub record BeginsBody (all : List ℕ) (answers : List (Option ℕ)) (head : Head) (left : List ℕ) : Type 0 where
   pub text : List ℕ
   pub moment : ℕ
@@ -67,15 +69,15 @@ pub record IsRefusedFirst {W : Type 0} (service : Service W) (due : DueView) (by
   pub are_bytes : AreBytes due bytes
   pub still : new ≡ w
 
--- the reply that was written whole: to a request, behind its interim line, or to a head that is refused
+-- the reply that was written whole: to a request, after its interim line, or to a head that is refused
 pub data IsWritten {W : Type 0} (service : Service W) (due : DueView) (w : W) (all : List ℕ) (answers : List (Option ℕ)) (out : List ℕ) (new : W) : Type 0 where
   replied : (e : Exchange W) → IsFirst service e w all answers out new → IsWhole e → due ≡ e.due → IsWritten service due w all answers out new
   refused : IsRefusedFirst service due out w all answers new → IsWritten service due w all answers out new
 
--- the read that failed: before a whole head had come, or before the whole body of a head had
+-- the read that failed: while the parser asked for more of the bytes that had come, or before the whole body of a head had come
 pub data FailsReading (all : List ℕ) (answers : List (Option ℕ)) (out : List ℕ) : Type 0 where
-  in_head : (come left : List ℕ) → all ≡ come ++ left → IsOpen come → answers ≡ [] → out ≡ [] → FailsReading all answers out
-  in_body : (head : Head) (come left : List ℕ) → BeginsBody all answers head (come ++ left) → length come < head.length → out ≡ interim_of head.expects → FailsReading all answers out
+  in_head : IsOpen all → answers ≡ [] → out ≡ [] → FailsReading all answers out
+  in_body : (head : Head) (come : List ℕ) → BeginsBody all answers head come → length come < head.length → out ≡ interim_of head.expects → FailsReading all answers out
 
 -- the write that failed, of which a first part was written: that of an interim line, of the reply to a request, or of one to a refused head
 pub data FailsWriting {W : Type 0} (service : Service W) (w : W) (all : List ℕ) (answers : List (Option ℕ)) (out : List ℕ) (new : W) : Type 0 where
@@ -92,7 +94,7 @@ CameLast service (Last.reply due) w all answers out new = (closes due ≡ true) 
 CameLast service Last.read_failed w all answers out new = FailsReading all answers out × (new ≡ w)
 CameLast service Last.write_failed w all answers out new = FailsWriting service w all answers out new
 
--- The run of a link: requests that were answered and behind which it went on, and what came last, by which it ends.
+-- The run of a link: requests that were answered and after which it went on, and what came last, by which it ends.
 pub record LinkEnds {W : Type 0} (service : Service W) (all : List ℕ) (answers : List (Option ℕ)) (w : W) (out : List ℕ) (new : W) (end : Ending) : Type 0 where
   pub exchanges : List (Exchange W)
   pub rest : List ℕ
@@ -107,3 +109,7 @@ pub record LinkEnds {W : Type 0} (service : Service W) (all : List ℕ) (answers
   pub whole : AreWhole exchanges
   pub came : CameLast service last mid rest late behind new
   pub ends : end ≡ ending_by last
+
+-- after these requests, of which the link got the replies, something came last, and the link ended by it
+abbrev pub EndsAfter : {W : Type 0} → List (Exchange W) → Service W → List ℕ → List (Option ℕ) → W → List ℕ → W → Ending → Type 0
+EndsAfter exchanges service all answers w out new end = (ends : LinkEnds service all answers w out new end) × (ends.exchanges ≡ exchanges)

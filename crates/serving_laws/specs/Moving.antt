@@ -1,5 +1,6 @@
 -- How a request changes the state, whatever the disk.
 use Rattle.std.specs.Prelude.{◌≡◌, ◌⊎◌, ℕ, List, [], ◌∷◌, ◌++◌, Some}
+use Rattle.split_base.specs.declared.disk.Disk.{Ghosts}
 use Rattle.host_journal.specs.States.{State, ready_with, waits_with}
 use Rattle.serving.specs.Exchanges.{Exchange}
 use Rattle.reply_texts.specs.declared.refusals.ServiceRefusal.TheVariants as service
@@ -11,10 +12,22 @@ use Rattle.serving_laws.specs.Accepting.{Makes}
 abbrev pub IsReopened : State → State → Type 0
 IsReopened s settled = (settled ≡ s) ⊎ ((event : EventView) × (secret : List ℕ) × (kept : List EventView) × (s.waiting ≡ Some event) × (settled ≡ ready_with secret kept))
 
--- behind that the state stays; or the request's own event was kept; or the disk failed in its append, and the host waits with it
-pub record Moves {D : Type 0} (x : Exchange (D × State)) : Type 0 where
+-- the state is as it was; or it waited, and is ready with the events kept before, with the one that waited or without it
+abbrev pub IsReadyFor : State → State → Type 0
+IsReadyFor s settled =
+    (settled ≡ s)
+    ⊎ ((event : EventView) × (s.waiting ≡ Some event) × ((settled ≡ ready_with s.secret s.kept) ⊎ (settled ≡ ready_with s.secret (s.kept ++ event ∷ []))))
+
+-- A request is answered at this state: the one before it; or where that one waits the one that its file was opened as, which on an honest disk
+-- has the events kept before, with the one that waited or without it.
+abbrev pub IsAnsweredAt : {D : Type 0} → Ghosts D → Exchange (D × State) → State → Type 0
+IsAnsweredAt d x settled = IsReopened x.before.1 settled × (d.is_honest x.before.0 → IsReadyFor x.before.1 settled)
+
+-- A request changes the state at which it is answered by at most one event, which its own step makes. The event is kept after those of that state; or
+-- the disk failed in its append, and the host waits with it and says so.
+pub record Moves {D : Type 0} (d : Ghosts D) (x : Exchange (D × State)) : Type 0 where
   pub settled : State
-  pub reopened : IsReopened x.before.1 settled
+  pub at : IsAnsweredAt d x settled
   pub moved :
       (x.after.1 ≡ settled)
       ⊎ ((event : EventView) × Makes x settled.secret settled.kept event

@@ -1,17 +1,22 @@
 -- What a caller is told of an instance that isn't closed.
-use Rattle.std.specs.Prelude.{◌≡◌, ℕ, List, Option, Ok}
+use Rattle.std.specs.Prelude.{◌≡◌, ℕ, false, List, Option, Some, Ok}
+use Rattle.split_base.specs.declared.disk.Disk.{Ghosts}
 use Rattle.host_journal.specs.States.{State, host_in}
 use Rattle.serving.specs.Exchanges.{Exchange}
 use Rattle.host_results.specs.Contents.{ContentView}
+use Rattle.reply_texts.specs.declared.refusals.ServiceRefusal.TheVariants as service
+use Rattle.reply_texts.specs.Sealing.{Told, sealed_told}
 use Rattle.requests.specs.Commands.{command_of}
 use Rattle.requests.specs.Replies.{Replies}
-use Rattle.requests.specs.Said.{content_said}
+use Rattle.requests.specs.Said.{SaidView, content_said, memory_said, method_said, refused_said}
 use Rattle.sealed_core.specs.declared.commands.Ask.{Ask}
 use Rattle.sealed_core.specs.Host.{HostView}
-use Rattle.sealed_core.specs.Step.{To}
+use Rattle.sealed_core.specs.Sealed.{caller_number, host_after, is_closed, view}
+use Rattle.sealed_core.specs.Step.{CommandView, Create, To}
+use Rattle.split_http.specs.declared.replies.Allow.{Allow}
 use Rattle.split_http.specs.declared.routes.Route.{Route}
 use Rattle.split_http.specs.Places.{IsRouted}
-use Rattle.serving_laws.specs.Answering.{IsReadyFor}
+use Rattle.serving_laws.specs.Moving.{IsAnsweredAt, IsReadyFor}
 
 -- the request asks this of that instance, under this key or none, of a host that is ready, and has the reply of the machine's step
 pub record AsksOf {D : Type 0} (x : Exchange (D × State)) (id : ℕ) (key : Option (List ℕ)) (ask : Ask) (h : HostView) : Type 0 where
@@ -24,3 +29,27 @@ pub record AsksOf {D : Type 0} (x : Exchange (D × State)) (id : ℕ) (key : Opt
   pub host : h ≡ host_in settled
   pub replies : Replies h x.moment (To id key ask) told
   pub said : x.due.said ≡ content_said told
+
+-- the HTTP status and the text of what is said
+abbrev pub got : SaidView → Told
+got said = record { status = said.status; text = Some said.text }
+
+-- the reply tells nothing of the host: a path or a method is refused, the store failed or is damaged, or memory ran out
+pub data TellsNoStep (said : SaidView) : Type 0 where
+  no_route : said ≡ refused_said service.NoRoute → TellsNoStep said
+  method : (allow : Allow) → said ≡ method_said allow → TellsNoStep said
+  store_fault : said ≡ refused_said service.StoreFault → TellsNoStep said
+  store_damaged : (place : ℕ) → said ≡ refused_said (service.StoreDamaged place) → TellsNoStep said
+  memory : said ≡ memory_said → TellsNoStep said
+
+-- where the command asks something of an instance that isn't closed after it, the caller gets the status and the text that follow from what they may
+-- know of it, the command and the moment
+abbrev pub IsSealedTold : HostView → ℕ → CommandView → Told → Type 0
+IsSealedTold h t (Create body) told = Unit {0}
+IsSealedTold h t (To id key ask) told = is_closed (host_after h t (To id key ask)) id ≡ false → told ≡ sealed_told (view h id (caller_number h id key)) t id key ask
+
+-- the reply tells nothing of the host, or of an instance that isn't closed no more than what its caller may know
+pub data IsSealedReply {D : Type 0} (d : Ghosts D) (x : Exchange (D × State)) : Type 0 where
+  nothing : TellsNoStep x.due.said → IsSealedReply d x
+  told : (route : Route) (settled : State) → IsRouted x.head.verb x.head.path (Ok route) → IsAnsweredAt d x settled
+      → IsSealedTold (host_in settled) x.moment (command_of route.place route.id x.head.key x.body) (got x.due.said) → IsSealedReply d x

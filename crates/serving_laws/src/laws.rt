@@ -1,30 +1,31 @@
 // Laws of whole runs.
-ghost use Rattle.std.specs.Prelude.{◌≡◌, ◌↔◌, ◌⊎◌, ℕ, List, [], None, Option, true, false};
+ghost use Rattle.std.specs.Prelude.{◌≡◌, ◌↔◌, ◌⊎◌, ℕ, List, ◌++◌, None, Option, true, false};
 ghost use Rattle.split_base.specs.Disk.{Each};
 ghost use Rattle.split_base.specs.Faults.{HasRisen};
-ghost use Rattle.host_journal.specs.States.{IsFile, State, ready_with};
+ghost use Rattle.host_journal.specs.States.{IsFile, State, host_in};
 ghost use Rattle.serving.specs.declared.limits.TheConstants.{MAX_REQUESTS};
 ghost use Rattle.serving.specs.declared.ends.LinkEnd.TheVariants as ends;
 ghost use Rattle.serving.specs.Dues.{DueView};
 ghost use Rattle.serving.specs.Ends.{Ending, end_as};
-ghost use Rattle.serving.specs.Exchanges.{Answered, Exchange, IsExchange};
+ghost use Rattle.serving.specs.Exchanges.{Answered, Exchange, IsExchange, LinkExchanges};
 ghost use Rattle.serving.specs.Runs.{LinkRun};
 ghost use Rattle.serving.specs.Served.{CountsEnd, LinkView};
 ghost use Rattle.requests.specs.Said.{memory_said};
 ghost use Rattle.serving.specs.Serving.{host_service};
 ghost use Rattle.serving_laws.specs.Accepting.{Accepts};
-ghost use Rattle.serving_laws.specs.Answering.{HasAnswer, IsReadyFor};
+ghost use Rattle.serving_laws.specs.Answering.{HasAnswer};
 ghost use Rattle.serving_laws.specs.Crashes.{Acknowledges, Since};
-ghost use Rattle.serving_laws.specs.Heard.{AreSteps, IsStep, IsUnrouted, got_all};
-ghost use Rattle.serving_laws.specs.Last.{IsMemoryReply, IsPlainReply, IsWritten, Last, LinkEnds, end_by};
-ghost use Rattle.serving_laws.specs.Moving.{IsReopened, Moves};
-ghost use Rattle.serving_laws.specs.Refusing.{IsSuccess, StaysBut};
+ghost use Rattle.serving_laws.specs.Heard.{IsStep, IsUnrouted, Taken, TakesSteps, WaitsByStep, asked_of, got_all, replied_of};
+ghost use Rattle.serving_laws.specs.Last.{EndsAfter, IsMemoryReply, IsPlainReply, IsWritten, Last, LinkEnds, end_by};
+ghost use Rattle.serving_laws.specs.Moving.{Moves};
+ghost use Rattle.serving_laws.specs.Refusing.{RefusesQuietly};
 ghost use Rattle.sealed_core.specs.declared.commands.Ask.{Ask};
 ghost use Rattle.sealed_core.specs.Host.{HostView};
-ghost use Rattle.sealed_core.specs.Sealed.{Asked, Caller, RunAlike, caller_number, empty, host_after, is_closed, view};
+ghost use Rattle.sealed_core.specs.Sealed.{Asked, Caller, RunAlike, caller_number, host_after, is_closed, view};
+ghost use Rattle.sealed_core.specs.Veil.{LookAlike};
 ghost use Rattle.sealed_core.specs.Step.{To};
-ghost use Rattle.serving_laws.specs.Sealing.{AsksOf};
-ghost use Rattle.serving_laws.specs.Writing.{Answering, IsDone, answering_so};
+ghost use Rattle.serving_laws.specs.Sealing.{AsksOf, IsSealedReply};
+ghost use Rattle.serving_laws.specs.Writing.{AnswerAlike, Answering, IsDone, OneState, answering_so};
 
 use reply_texts::text_sealing_law;
 use requests::sent_sealing_law;
@@ -33,13 +34,15 @@ use serving::link_law;
 use split_base::Disk;
 use split_http::{cut_law, reply_law};
 
-/// The run of a link ends by what came last on it. It is `Ended` exactly where no byte was left where a head would begin, or where the last
+/// The run of a link ends by what came last on it, after its requests. It is `Ended` exactly where no byte was left where a head would begin, or where the last
 /// thing was a reply that was written, closed the connection and wasn't the memory reply; `Cut` exactly where the input ended within the body
 /// of a head that isn't refused; `Memory` exactly where the memory reply was the last thing and was written; and `LinkFault` exactly where a
 /// call of the link failed, so only where a count of the link has risen.
 pub fn ends_law<D: Disk>()
     ensures last { (n : ℕ) (all : List ℕ) (answers : List (Option ℕ)) (w : D × State) (out : List ℕ) (new : D × State) (end : Ending)
         → LinkRun (host_service D.Disk) n all answers w out new end → LinkEnds (host_service D.Disk) all answers w out new end }
+    ensures behind { (all : List ℕ) (answers : List (Option ℕ)) (w : D × State) (out : List ℕ) (new : D × State) (end : Ending)
+        (link : LinkExchanges (host_service D.Disk) all answers w out new end) → EndsAfter link.exchanges (host_service D.Disk) all answers w out new end }
     ensures ended { (last : Last) → (end_by last ≡ ends.Ended) ↔ ((last ≡ Last.nothing_left) ⊎ IsPlainReply last) }
     ensures cut { (last : Last) → (end_by last ≡ ends.Cut) ↔ (last ≡ Last.body_cut) }
     ensures memory { (last : Last) → (end_by last ≡ ends.Memory) ↔ IsMemoryReply last }
@@ -71,17 +74,17 @@ pub fn acknowledged_law<D: Disk>()
         → Acknowledges D.Disk new.0 w run }
 {}
 
-/// On an honest disk a request in which no call of the disk failed has its answer: the refusal of its path or method, or the reply of the
-/// machine's one step, or that memory ran out.
+/// A request has its answer, whatever the disk: the refusal of its path or method, or the reply of the machine's one step, or that memory ran
+/// out. Or a call of the disk failed in it, and this is told. Or the file of a host that waited is no journal: then the place of its first fault
+/// is told, wherever the disk tells its bytes. It is never so on an honest disk.
 pub fn answered_law<D: Disk>()
-    ensures { (x : Exchange (D × State)) → IsExchange (host_service D.Disk) x → D.is_honest x.before.0 → (HasRisen (D.faults x.before.0) (D.faults x.after.0) → ⊥)
-        → HasAnswer x }
+    ensures { (x : Exchange (D × State)) → IsExchange (host_service D.Disk) x → HasAnswer D.Disk x }
 {}
 
-/// A request changes the state by the machine's one step alone, or where it opens the file of a host that waits, whatever the disk. A request
-/// that makes no event leaves the state as it is, or as it was opened.
+/// A request changes the state by the machine's one step alone, or where it opens the file of a host that waits. A request that makes no event leaves
+/// the state as it is, or as it was opened: on an honest disk with the events kept before, and the one that waited or without it.
 pub fn moved_law<D: Disk>()
-    ensures { (x : Exchange (D × State)) → IsExchange (host_service D.Disk) x → Moves x }
+    ensures { (x : Exchange (D × State)) → IsExchange (host_service D.Disk) x → Moves D.Disk x }
 {}
 
 /// A request without success changes nothing but, where the deadline of the instance that it asks has passed, by the Close of that: whatever
@@ -89,8 +92,7 @@ pub fn moved_law<D: Disk>()
 /// append, which is told: then the events stay, and the request's own one waits. On an honest disk the file of a host that waits is opened as
 /// the events kept before, with the one that waited or without it.
 pub fn refused_law<D: Disk>()
-    ensures stays { (x : Exchange (D × State)) → IsExchange (host_service D.Disk) x → (IsSuccess x.due.said.status → ⊥) → StaysBut IsReopened x }
-    ensures honest { (x : Exchange (D × State)) → IsExchange (host_service D.Disk) x → D.is_honest x.before.0 → (IsSuccess x.due.said.status → ⊥) → StaysBut IsReadyFor x }
+    ensures { (x : Exchange (D × State)) → IsExchange (host_service D.Disk) x → RefusesQuietly D.Disk x }
 {
     publication_law();
 }
@@ -98,35 +100,53 @@ pub fn refused_law<D: Disk>()
 /// Over the same bytes and answers of the clock, where the machine with its disk and its memory answers each request in one way, a link on which
 /// no call fails gets the same bytes and ends alike. So neither the pieces in which its bytes come nor the number of workers takes part in
 /// what it gets.
+///
+/// Where hosts of one state answer alike: over the same bytes, and answers of the clock that are the same as far as both take some, a link at either
+/// on which no call fails, while no call of the disk fails and memory suffices, gets the same bytes and ends alike; the hosts come to one
+/// state, and have taken as many answers.
 pub fn writing_law<D: Disk>()
-    ensures { (answer : Answering D) (all : List ℕ) (answers : List (Option ℕ)) (w : D × State) (out told : List ℕ) (new after : D × State) (end stop : Ending) → IsDone end → IsDone stop
+    ensures one { (answer : Answering D) (all : List ℕ) (answers : List (Option ℕ)) (w : D × State) (out told : List ℕ) (new after : D × State) (end stop : Ending) → IsDone end → IsDone stop
         → LinkRun (answering_so D.Disk answer) MAX_REQUESTS all answers w out new end → LinkRun (answering_so D.Disk answer) MAX_REQUESTS all answers w told after stop
         → (out ≡ told) × (new ≡ after) × (end ≡ stop) }
+    ensures alike { AnswerAlike D.Disk → (all : List ℕ) (answers others more besides : List (Option ℕ)) (w v : D × State) (out told : List ℕ) (new after : D × State)
+        (end stop : Ending) → OneState w v → answers ++ more ≡ others ++ besides → IsDone end → IsDone stop
+        → (HasRisen (D.faults w.0) (D.faults new.0) → ⊥) → (HasRisen (D.faults v.0) (D.faults after.0) → ⊥)
+        → LinkRun (host_service D.Disk) MAX_REQUESTS all answers w out new end → LinkRun (host_service D.Disk) MAX_REQUESTS all others v told after stop
+        → (out ≡ told) × OneState new after × (end ≡ stop) × (answers ≡ others) }
 {
     cut_law();
     reply_law();
 }
 
-/// Bids are sealed in what a link gets: where an instance isn't closed after a command on it, two requests of this command at one moment, at
-/// hosts of which the caller may know the same, have replies of one status and one text.
+/// Bids are sealed in what a link gets. Each reply tells nothing of the host, or its status and text on an instance that isn't closed after the
+/// command are written from what the caller may know of it, the command and the moment. So where an instance isn't closed after a command on it, two
+/// requests of this command at one moment, at hosts of which the caller may know the same, have replies of one status and one text.
 pub fn sealed_law<D: Disk>()
-    ensures { (x y : Exchange (D × State)) (id : ℕ) (key : Option (List ℕ)) (ask : Ask) (g h : HostView) → AsksOf x id key ask g → AsksOf y id key ask h → x.moment ≡ y.moment
+    ensures alone { (x : Exchange (D × State)) → IsExchange (host_service D.Disk) x → IsSealedReply D.Disk x }
+    ensures pairs { (x y : Exchange (D × State)) (id : ℕ) (key : Option (List ℕ)) (ask : Ask) (g h : HostView) → AsksOf x id key ask g → AsksOf y id key ask h → x.moment ≡ y.moment
         → view g id (caller_number g id key) ≡ view h id (caller_number h id key) → is_closed (host_after g x.moment (To id key ask)) id ≡ false
         → (x.due.said.status ≡ y.due.said.status) × (x.due.said.text ≡ y.due.said.text) }
 {
     sent_sealing_law();
 }
 
-/// Bids are sealed in whole runs of requests. Take two runs of a host with an empty journal whose steps are equal pair by pair, but that some
-/// of them may be two bids on an instance by the same member other than the caller, at the same moment, each of them kept. Then the caller
-/// gets the same status and text in reply to each of their own commands on the instance in both, up to the step at which it is closed. A
-/// request at a host that is ready goes by a step, or its path or method is refused, where no call of the disk failed in it and memory didn't
-/// run out.
+/// Bids are sealed in whole runs of requests, as they happen. On an honest disk each run goes by steps of the machine: a request takes one, or none where
+/// its reply tells nothing of the host, as where its path or method is refused, the store failed or memory ran out; and before it the step of an event
+/// that waited is taken, where the file that is opened again has it.
+///
+/// Take two runs, from hosts that differ in nothing but what others than the caller have bid, as two hosts with empty journals or two that were started
+/// again. Let their steps be equal pair by pair, but that some of them may be two bids on an instance by the same member other than the caller, at
+/// the same moment, each of them kept; and let steps of a pair both have replies or both none. Then the caller gets the same status and text in
+/// reply to each of their own commands on the instance in both, up to the step at which it is closed.
+///
+/// A request at a host that is ready goes by a step, or its path or method is refused, where no call of the disk failed in it and memory didn't run out.
 pub fn sealed_runs_law<D: Disk>()
-    ensures got { (secret : List ℕ) (id : ℕ) (caller : Caller) (run others : List (Exchange (D × State))) (asked besides : List Asked) (w v new after : D × State)
-        → Answered (host_service D.Disk) w run new → Answered (host_service D.Disk) v others after → w.1 ≡ ready_with secret [] → v.1 ≡ ready_with secret []
-        → AreSteps run asked → AreSteps others besides → RunAlike (empty secret) (empty secret) id caller asked besides
-        → got_all (empty secret) id caller run asked ≡ got_all (empty secret) id caller others besides }
+    ensures got { (id : ℕ) (caller : Caller) (run others : List (Exchange (D × State))) (steps besides : List Taken) (w v new after : D × State)
+        → Answered (host_service D.Disk) w run new → Answered (host_service D.Disk) v others after → LookAlike caller (host_in w.1) (host_in v.1)
+        → TakesSteps run steps → TakesSteps others besides → RunAlike (host_in w.1) (host_in v.1) id caller (asked_of steps) (asked_of besides) → replied_of steps ≡ replied_of besides
+        → got_all (host_in w.1) id caller steps ≡ got_all (host_in v.1) id caller besides }
+    ensures takes { (w : D × State) (run : List (Exchange (D × State))) (new : D × State) → Answered (host_service D.Disk) w run new → D.is_honest w.0 → WaitsByStep w.1
+        → (steps : List Taken) × TakesSteps run steps }
     ensures step { (x : Exchange (D × State)) → IsExchange (host_service D.Disk) x → x.before.1.waiting ≡ None → (HasRisen (D.faults x.before.0) (D.faults x.after.0) → ⊥)
         → x.due.said.memory ≡ false → IsUnrouted x ⊎ ((a : Asked) × IsStep x a) }
 {

@@ -1,5 +1,7 @@
-//! What holds of whole runs of the host, over a link and over a port: each law is the contract of a function
-//! that does nothing.
+//! What holds of whole runs of the host, over a link and over a port.
+//!
+//! They hold over a disk of any kind, but where they speak of crashes or of files, over an honest
+//! one.
 #![tactic(auto)]
 
 mod laws;

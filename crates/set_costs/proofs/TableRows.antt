@@ -1,7 +1,7 @@
 -- The rows of the table: what they hold, and how the next one is made.
-use Rattle.std.proofs.Common.{◌≡◌, ℕ, ◌+◌, ◌^◌, ◌<◌, ◌≤◌, List, [], ◌∷◌, ◌++◌, length, map, get_or, arith, refl, sym, ap, ◌∙◌, subst}
+use Rattle.std.proofs.Common.{◌≡◌, ℕ, ◌+◌, ◌<◌, ◌≤◌, List, [], ◌∷◌, ◌++◌, length, map, get_or, arith, sym, ap, ◌∙◌, subst}
 use Rattle.std.specs.List.{range_with_len}
-use Rattle.std.proofs.lemmas.List.{get_or-map, length-append, length-map, map-append}
+use Rattle.std.proofs.lemmas.List.{get_or-map, length-map}
 use Rattle.std.proofs.lemmas.List.FromFn.{length-map-range_with_len, get_or-map-range_with_len, map-range_with_len_more}
 use Rattle.bid_rules.specs.declared.cases.FareCase.{FareCase}
 use Rattle.bid_rules.specs.Coalitions.{riders_in, start_of}
@@ -29,18 +29,3 @@ entry_is case set at row is within =
 -- a list by index grows by the next value
 pub listed_by_index : {X : Type 0} (f : ℕ → X) (old new : List X) (n : ℕ) (x : X) → x ≡ f n → new ≡ old ++ x ∷ [] → old ≡ map f (range_with_len 0 n) → new ≡ map f (range_with_len 0 (n + 1))
 listed_by_index f old new n x value e is = e ∙ ap (λ xs. xs ++ x ∷ []) is ∙ ap (λ y. map f (range_with_len 0 n) ++ y ∷ []) value ∙ sym (map-range_with_len_more f 0 n n (omega arith))
-
--- one more row
-pub rows_more : {X : Type 0} (f : X → List ℕ) (case : FareCase) (old new : List X) (row : X) → f row ≡ route_costs case (riders_in (length old)) → new ≡ old ++ row ∷ [] → length old < 2 ^ length case.at.items
-    → ListsCosts case (map f old) → ListsCosts case (map f new)
-rows_more {X} f case old new row value e more lists =
-    let long : length new ≡ length old + 1 = ap length e ∙ length-append old (row ∷ []) in
-    let items : map f new ≡ map f old ++ f row ∷ [] = ap (map f) e ∙ map-append f old (row ∷ []) in
-    let g : ℕ → List ℕ = λ set. route_costs case (riders_in set) in
-    let count : length (map f old) ≡ length old = length-map old f in
-    record {
-      valid = lists.valid;
-      few = omega (arith, long, more, length-map new f);
-      table = listed_by_index g (map f old) (map f new) (length (map f old)) (f row) (value ∙ ap g (sym count)) items lists.table
-          ∙ ap (λ n. map g (range_with_len 0 n)) (let n : length (map f old) + 1 ≡ length (map f new) = omega (arith, count, long, length-map new f) in n);
-    }

@@ -49,7 +49,7 @@ impl<'a> SetCosts<'a> {
 
 impl SetCosts<'_> {
     /// The least sum of legs in cents that starts at the origin, for `at` 0, or at the place of rider `at`, and ends every rider
-    /// of the set at their place, in some order. The rider `at` isn't in the set.
+    /// of the set at their place, in some order. The rider `at` is not in the set.
     pub fn entry(&self, at: u8, set: u16) -> u32
         requires at { at ≤ length self.now.at.items }
         requires set { set < 2 ^ length self.now.at.items }
@@ -60,7 +60,7 @@ impl SetCosts<'_> {
         entry_in(self.case, self.rows, at, set)
     }
 
-    /// The cost of a set in cents: nothing where it is empty, else the flag fall and the cheapest route of its riders.
+    /// The cost of a set in cents: nothing if it is empty, otherwise the flag fall and the cheapest route of its riders.
     pub fn cost_of(&self, set: u16) -> u32
         requires { set < 2 ^ length self.now.at.items }
         ensures value { result ≡ coalition_cost self.now (riders_in set) }

@@ -1,4 +1,7 @@
 //! What sets of riders cost, by the recursion over sets, in whatever memory the rows of the table lie.
+//!
+//! Whole rows give the least sum of legs over all orders of a set, the first of the cheapest
+//! routes, and a rider's sum of marginal costs over all orders.
 #![tactic(auto)]
 
 mod costs;

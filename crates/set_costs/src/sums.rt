@@ -103,7 +103,7 @@ fn sum_of_set(costs: &SetCosts, sums: &[i128], rider: u8, set: u16, count: u8) -
     sum
 }
 
-/// The sum for the next set: 0 where the rider isn't in it.
+/// The sum for the next set: 0 where the rider is not in it.
 fn next_sum(costs: &SetCosts, sums: &[i128], rider: u8, count: u8) -> i128
     requires valid { IsValidFareCase costs.now }
     requires count { count ≡ length costs.now.at.items }

@@ -10,14 +10,13 @@ use Rattle.split_frac.specs.Frac.{fraction_of}
 use Rattle.split_frac.specs.declared.frac.Frac.{Frac}
 use Rattle.shapley_core.specs.declared.division.FareDivision.{FareDivision}
 
--- a fare among so many riders is in parts of n!, of which there are at most 10! = 3,628,800, and in size at most the flag fall and a leg
--- a rider
+-- a fare is a whole number of n!-ths of a cent, no further from 0 than a flag fall and a leg for each rider cost at most
 pub record IsFareInRange (riders : ℕ) (fare : Frac) : Type 0 where
   pub parts : fare.den ∣ factorial riders
   pub few_parts : fare.den ≤ factorial MOST_RIDERS
   pub size : unsigned_abs fare.num ≤ MOST_FARE_CENTS * (MOST_RIDERS + 1) * fare.den
 
--- the division of the case: the best fares and route, the cost of all riders, to which the fares sum, and the costs of this case
+-- the division of the case: the best fares and route, the cost of all riders, to which the fares sum, and what each set of riders costs
 pub record IsFareDivision (case : FareCase) (division : FareDivision) : Type 0 where
   pub best : FareBest case (map fraction_of division.fares.items) division.route.items
   pub total : division.total ≡ coalition_cost case (riders_of case)

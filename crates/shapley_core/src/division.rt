@@ -65,8 +65,8 @@ fn fares_of(costs: &Costs, count: u8) -> FareList
 /// The best division of a shared fare among 1 to 10 riders: each pays the mean of their marginal costs over all orders of
 /// the riders (Shapley 1953), and the route is the least of the cheapest.
 ///
-/// It takes about `n^2 * 2^n` steps for n riders, and memory once, for the table of costs. `NoMemory` comes for want of memory
-/// alone.
+/// It takes about `n^2 * 2^n` steps for n riders, and memory once, for the table of costs. `NoMemory` comes only if
+/// memory runs out.
 pub fn solve_fares(alloc: Global, case: &FareCase) -> Result<FareDivision, NoMemory>
     requires { IsValidFareCase case.now }
     ensures { IfOk result (λ division. IsFareDivision case.now division) }

@@ -24,8 +24,7 @@ pub fn division_law()
     value_law();
 }
 
-/// How many members there are takes no part in what routes and coalitions cost, in a rider's marginal costs, and so in the best fares and
-/// the route.
+/// The number of members never changes what routes and coalitions cost, a rider's marginal costs, and so the best fares and the route.
 pub fn members_law()
     ensures routes { (case : FareCase) (members from : ℕ) (riders : List ℕ) → route_cost (with_members case members) from riders ≡ route_cost case from riders }
     ensures costs { (case : FareCase) (members : ℕ) (riders : List ℕ) → coalition_cost (with_members case members) riders ≡ coalition_cost case riders }

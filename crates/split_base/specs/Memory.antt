@@ -10,13 +10,14 @@ pub record SourceState : Type 0 where
   pub calls : ℕ
   pub faults : ℕ
 
--- a sink: the bytes that were written, the number of bytes that still fit, the numbers of the calls that fail, and how many calls were made and have failed
+-- a sink: the bytes that were written, the number of bytes that still fit, the numbers of the calls that fail, and how many calls were made, have failed, and were handed no byte
 pub record SinkState : Type 0 where
   pub written : List ℕ
   pub room : ℕ
   pub fails : List ℕ
   pub calls : ℕ
   pub faults : ℕ
+  pub empty_writes : ℕ
 
 -- a link: the source that it reads from and the sink that it writes to
 pub record LinkState : Type 0 where
@@ -56,6 +57,11 @@ after_failed_read source = record {
   faults = counted source.faults;
 }
 
+-- a count of the calls that were handed no byte, after a call with this piece
+abbrev pub with_empty : List ℕ → ℕ → ℕ
+with_empty [] count = counted count
+with_empty (b ∷ bytes) count = count
+
 -- the sink after a call that wrote the piece: it stands at the end, and its room is used up
 abbrev pub after_write : SinkState → List ℕ → SinkState
 after_write sink piece = record {
@@ -64,14 +70,16 @@ after_write sink piece = record {
   fails = sink.fails;
   calls = counted sink.calls;
   faults = sink.faults;
+  empty_writes = with_empty piece sink.empty_writes;
 }
 
 -- the sink after a call that failed: only the counts differ
-abbrev pub after_failed_write : SinkState → SinkState
-after_failed_write sink = record {
+abbrev pub after_failed_write : SinkState → List ℕ → SinkState
+after_failed_write sink piece = record {
   written = sink.written;
   room = sink.room;
   fails = sink.fails;
   calls = counted sink.calls;
   faults = counted sink.faults;
+  empty_writes = with_empty piece sink.empty_writes;
 }

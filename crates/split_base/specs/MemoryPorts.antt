@@ -1,9 +1,11 @@
 -- What hands out links in memory, a port or a dialer.
 use Rattle.std.specs.Prelude.{ℕ, zero, suc, List, [], ◌∷◌, ◌++◌, drop}
+use Rattle.split_base.specs.Asked.{asked_again, never_asked}
 use Rattle.split_base.specs.Links.{link_faults}
 use Rattle.split_base.specs.Memory.{LinkState, counted}
+use Rattle.split_base.specs.declared.asked.Asked.{Asked}
 
--- the links to come, those that were given back, how many more there is a place for, the numbers of the calls that fail, and how many calls were made and have failed
+-- the links to come, those that were given back, how many more there is a place for, the numbers of the calls that fail, how many calls were made and have failed, and for which ports it was asked
 pub record PortState : Type 0 where
   pub to_come : List LinkState
   pub given_back : List LinkState
@@ -11,35 +13,45 @@ pub record PortState : Type 0 where
   pub fails : List ℕ
   pub calls : ℕ
   pub faults : ℕ
+  pub asked : Asked
 
 -- a port that nobody has called, with places for as many links as are to come
 abbrev pub new_port : List LinkState → ℕ → List ℕ → PortState
-new_port links places fails = record { to_come = links; given_back = []; places = places; fails = fails; calls = 0; faults = 0 }
+new_port links places fails = record { to_come = links; given_back = []; places = places; fails = fails; calls = 0; faults = 0; asked = never_asked }
 
--- after a call that listened
-abbrev pub after_listen : PortState → PortState
-after_listen p = record { to_come = p.to_come; given_back = p.given_back; places = p.places; fails = p.fails; calls = counted p.calls; faults = p.faults }
+-- after one call more
+abbrev pub after_call : PortState → PortState
+after_call p = record { to_come = p.to_come; given_back = p.given_back; places = p.places; fails = p.fails; calls = counted p.calls; faults = p.faults; asked = p.asked }
+
+-- the object was asked for the port of this number
+abbrev pub after_asking : ℕ → PortState → PortState
+after_asking port p = record { to_come = p.to_come; given_back = p.given_back; places = p.places; fails = p.fails; calls = p.calls; faults = p.faults; asked = asked_again port p.asked }
+
+-- after a call that listened at the port of this number
+abbrev pub after_listen : ℕ → PortState → PortState
+after_listen port p = after_call (after_asking port p)
 
 -- the first link to come is gone, where there is one
 abbrev pub with_one_less : PortState → PortState
-with_one_less p = record { to_come = drop 1 p.to_come; given_back = p.given_back; places = p.places; fails = p.fails; calls = p.calls; faults = p.faults }
+with_one_less p = record { to_come = drop 1 p.to_come; given_back = p.given_back; places = p.places; fails = p.fails; calls = p.calls; faults = p.faults; asked = p.asked }
 
 -- after a call that handed out the first link to come, where there is one
 abbrev pub after_link : PortState → PortState
-after_link p = with_one_less (after_listen p)
+after_link p = with_one_less (after_call p)
 
 -- one fault more
 abbrev pub with_fault : PortState → PortState
-with_fault p = record { to_come = p.to_come; given_back = p.given_back; places = p.places; fails = p.fails; calls = p.calls; faults = counted p.faults }
+with_fault p = record { to_come = p.to_come; given_back = p.given_back; places = p.places; fails = p.fails; calls = p.calls; faults = counted p.faults; asked = p.asked }
 
 -- after a call that failed: only the counts differ
 abbrev pub after_no_link : PortState → PortState
-after_no_link p = with_fault (after_listen p)
+after_no_link p = with_fault (after_call p)
 
 -- after a link was given back, with so many places: where there is none the link is dropped
 abbrev pub taken_back : PortState → LinkState → ℕ → PortState
 taken_back p link zero = p
-taken_back p link (suc places) = record { to_come = p.to_come; given_back = p.given_back ++ link ∷ []; places = places; fails = p.fails; calls = p.calls; faults = p.faults }
+taken_back p link (suc places) =
+    record { to_come = p.to_come; given_back = p.given_back ++ link ∷ []; places = places; fails = p.fails; calls = p.calls; faults = p.faults; asked = p.asked }
 
 abbrev pub after_done : PortState → LinkState → PortState
 after_done p link = taken_back p link p.places

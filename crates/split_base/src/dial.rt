@@ -2,12 +2,15 @@
 ghost use Rattle.std.specs.Prelude.{◌≡◌, ◌<◌, ◌-◌, ℕ, List, Option, IfOk};
 ghost use Rattle.split_base.specs.Faults.{HasCause, IsCounted, counted};
 ghost use Rattle.split_base.specs.Links.{link_faults};
+ghost use Rattle.split_base.specs.Asked.{asked_again};
 ghost use Rattle.split_base.specs.Ports.{Dials, TakesBack};
 
 use crate::{Failed, Link};
 
 /// Opens links to ports of this machine, and takes them back.
 pub trait Dial {
+    ghost use Rattle.split_base.specs.declared.asked.Asked.{Asked};
+
     /// A connection.
     type Link: Link + Drop;
 
@@ -21,6 +24,9 @@ pub trait Dial {
     /// For how many more links that are given back there is a place.
     ghost places: { Self → ℕ };
 
+    /// How often it was asked to open a link, and to which port last.
+    ghost asked: { Self → Asked };
+
     /// How many of its calls have failed, and how many links were given back with a fault; up to
     /// 2^64 - 1.
     ghost faults: { Self → ℕ };
@@ -32,6 +38,7 @@ pub trait Dial {
     fn dial(&mut self, port: u16) -> Result<Self::Link, Failed>
         ensures cause { HasCause (faults self.old) (faults self.new) result }
         ensures count { IsCounted (faults self.old) (faults self.new) result }
+        ensures asked { asked self.new ≡ asked_again port (asked self.old) }
         ensures next { Dials (to_come self.old) (to_come self.new) result }
         ensures fresh { IfOk result (λ link. link_faults (Self.Link.Source.faults link) (Self.Link.Sink.faults link) ≡ 0) }
         ensures places { places self.new ≡ places self.old }
@@ -42,6 +49,7 @@ pub trait Dial {
     fn done(&mut self, link: Self::Link)
         ensures whole { link_faults (Self.Link.Source.faults link) (Self.Link.Sink.faults link) ≡ 0 → faults self.new ≡ faults self.old }
         ensures fault { 0 < link_faults (Self.Link.Source.faults link) (Self.Link.Sink.faults link) → faults self.new ≡ counted (faults self.old) }
+        ensures asked { asked self.new ≡ asked self.old }
         ensures come { to_come self.new ≡ to_come self.old }
         ensures places { places self.new ≡ places self.old - 1 }
         ensures back { 0 < places self.old → TakesBack (given_back self.old) (given_back self.new) link }

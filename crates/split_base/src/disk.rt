@@ -9,8 +9,13 @@ use crate::Failed;
 ///
 /// Between two successful syncs, each written range and everything past the end that was stable
 /// may hold any bytes after a crash; other bytes stay. After a successful sync a crash leaves what
-/// a read gives. A disk tells this only where it is honest, as the one in memory is.
+/// a read gives. This is said of an honest disk alone, and what a read gives of one that tells its
+/// bytes. The disk in memory is both.
 pub trait Disk {
+    /// The disk tells its bytes: a read gives those that are seen, and no size, read or sync
+    /// changes one.
+    ghost tells: { Self → Type 0 };
+
     /// The disk tells its bytes, and keeps what a sync made stable.
     ghost is_honest: { Self → Type 0 };
 
@@ -38,7 +43,8 @@ pub trait Disk {
         ensures counted { IsCounted (faults self.old) (faults self.new) result }
         ensures least { IfOk result (λ n. n ≤ 2 ^ 63) }
         ensures honest { is_honest self.old ↔ is_honest self.new }
-        ensures told { is_honest self.old → IfOk result (λ n. n ≡ length (seen self.old)) }
+        ensures still { tells self.old → tells self.new × (seen self.new ≡ seen self.old) }
+        ensures told { tells self.old → IfOk result (λ n. n ≡ length (seen self.old)) }
         ensures tick { is_honest self.old → moment self.new ≡ moment self.old }
         ensures rests { is_honest self.old → Rests seen images moment left_since self.old self.new };
 
@@ -52,8 +58,9 @@ pub trait Disk {
         ensures count { IfOk result (λ n. n ≤ length into.old) }
         ensures least { IfOk result (λ n. n ≤ 2 ^ 63 - place) }
         ensures honest { is_honest self.old ↔ is_honest self.new }
-        ensures told { is_honest self.old → IfOk result (λ n. n ≡ min (length into.old) (length (seen self.old) - place)) }
-        ensures bytes { is_honest self.old → IfOk result (λ n. take n into.new ≡ take n (drop place (seen self.old))) }
+        ensures still { tells self.old → tells self.new × (seen self.new ≡ seen self.old) }
+        ensures told { tells self.old → IfOk result (λ n. n ≡ min (length into.old) (length (seen self.old) - place)) }
+        ensures bytes { tells self.old → IfOk result (λ n. take n into.new ≡ take n (drop place (seen self.old))) }
         ensures tick { is_honest self.old → moment self.new ≡ moment self.old }
         ensures rests { is_honest self.old → Rests seen images moment left_since self.old self.new };
 
@@ -80,9 +87,13 @@ pub trait Disk {
         ensures cause { HasCause (faults self.old) (faults self.new) result }
         ensures counted { IsCounted (faults self.old) (faults self.new) result }
         ensures honest { is_honest self.old ↔ is_honest self.new }
+        ensures still { tells self.old → tells self.new × (seen self.new ≡ seen self.old) }
         ensures durable { is_honest self.old → OnOk result (Only (seen self.old) (images self.new)) }
         ensures tick { is_honest self.old → OnOk result (moment self.new ≡ moment self.old + 1) }
         ensures rests { is_honest self.old → Rests seen images moment left_since self.old self.new };
+
+    /// An honest disk tells its bytes.
+    ghost honest_tells: { (disk : Self) → is_honest disk → tells disk };
 
     /// This moment is one of those since an earlier one.
     ghost counts_now: { (disk : Self) (t : ℕ) (c : List ℕ) → is_honest disk → t ≤ moment disk → images disk c → left_since disk t c };

@@ -1,9 +1,14 @@
-//! The outside: sources and sinks of bytes, reading to the end and writing whole, links that are
-//! both, a port that hands links out, a dialer that opens them, a disk with what a crash may leave of
-//! its file, and a clock, each with a count of its faults, and each of these in memory; and the gate
-//! that walks of tasks go through.
+//! The outside of the program, as traits and in memory: sources and sinks of bytes, links, a port,
+//! a dialer, a disk with what a crash may leave, and a clock, each with a count of its faults.
+//!
+//! A call of each object fails only where the object's count of faults rises in it, by one; a
+//! successful call leaves the count. `read_all` and `write_all` end at the first failed call and
+//! try nothing again. Of an honest `Disk` the clauses say what reads give, and what a crash at any
+//! moment of a call may leave. An object in memory fails exactly where it is told to, and no
+//! contract says anything of a `Gate`.
 #![tactic(auto)]
 
+mod asked;
 mod clock;
 mod dial;
 mod disk;
@@ -15,6 +20,7 @@ mod port;
 mod streams;
 mod whole;
 
+pub use asked::Asked;
 pub use clock::{Clock, ask};
 pub use dial::Dial;
 pub use disk::{Disk, write_synced};

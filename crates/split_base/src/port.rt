@@ -1,12 +1,15 @@
 // What hands out links.
 ghost use Rattle.std.specs.Prelude.{◌≡◌, ◌↔◌, ◌<◌, ◌-◌, ℕ, List, Option, IfOk, IsNone};
 ghost use Rattle.split_base.specs.Faults.{HasCause, IsCounted};
+ghost use Rattle.split_base.specs.Asked.{asked_again};
 ghost use Rattle.split_base.specs.Ports.{Accepts, TakesBack};
 
 use crate::{Failed, Link};
 
 /// Hands out links until it has ended, and takes them back.
 pub trait Port {
+    ghost use Rattle.split_base.specs.declared.asked.Asked.{Asked};
+
     /// A connection.
     type Link: Link + Drop;
 
@@ -19,6 +22,9 @@ pub trait Port {
 
     /// For how many more links that are given back there is a place.
     ghost places: { Self → ℕ };
+
+    /// How often it was asked to listen, and at which port last.
+    ghost asked: { Self → Asked };
 
     /// No link comes any more.
     ghost has_ended: { Self → Type 0 };
@@ -33,6 +39,7 @@ pub trait Port {
     fn listen(&mut self, port: u16) -> Result<(), Failed>
         ensures cause { HasCause (faults self.old) (faults self.new) result }
         ensures count { IsCounted (faults self.old) (faults self.new) result }
+        ensures asked { asked self.new ≡ asked_again port (asked self.old) }
         ensures stays { has_ended self.old ↔ has_ended self.new }
         ensures places { places self.new ≡ places self.old }
         ensures come { to_come self.new ≡ to_come self.old }
@@ -45,6 +52,7 @@ pub trait Port {
     fn accept(&mut self) -> Result<Option<Self::Link>, Failed>
         ensures cause { HasCause (faults self.old) (faults self.new) result }
         ensures count { IsCounted (faults self.old) (faults self.new) result }
+        ensures asked { asked self.new ≡ asked self.old }
         ensures next { Accepts (to_come self.old) (to_come self.new) result }
         ensures ended { IfOk result (λ next. IsNone next ↔ has_ended self.old) }
         ensures stays { has_ended self.old → has_ended self.new }
@@ -54,6 +62,7 @@ pub trait Port {
     /// Takes a link back. Where there is no place for it, it is dropped.
     fn done(&mut self, link: Self::Link)
         ensures count { faults self.new ≡ faults self.old }
+        ensures asked { asked self.new ≡ asked self.old }
         ensures stays { has_ended self.old ↔ has_ended self.new }
         ensures come { to_come self.new ≡ to_come self.old }
         ensures places { places self.new ≡ places self.old - 1 }

@@ -1,5 +1,5 @@
 // Sources and sinks of bytes. Each has a count of its faults, which never falls.
-ghost use Rattle.std.specs.Prelude.{◌≡◌, ℕ, List, Option, None};
+ghost use Rattle.std.specs.Prelude.{◌≡◌, ◌<◌, ℕ, List, Option, None, length};
 ghost use Rattle.split_base.specs.Faults.{HasCause, IsCounted};
 ghost use Rattle.split_base.specs.Streams.{Reads, Writes};
 
@@ -40,6 +40,9 @@ pub trait Sink {
     /// How many of its calls have failed, up to 2^64 - 1.
     ghost faults: { Self → ℕ };
 
+    /// How many of its calls were handed no byte, where the object counts them; else always 0.
+    ghost empty_writes: { Self → ℕ } = { λ _. 0 };
+
     /// Where the object is a source too: what that side has left, and its count of faults.
     /// A write leaves both as they are.
     ghost beside: { Self → Option (List ℕ) × ℕ } = { λ _. (None, 0) };
@@ -51,6 +54,7 @@ pub trait Sink {
     /// A call that answers a number leaves the count as it is.
     fn write(&mut self, piece: &[u8]) -> Result<usize, Failed>
         ensures bytes { Writes (written self.old) (written self.new) result piece.now }
+        ensures empty { 0 < length piece.now → empty_writes self.new ≡ empty_writes self.old }
         ensures beside { beside self.new ≡ beside self.old }
         ensures cause { HasCause (faults self.old) (faults self.new) result }
         ensures count { IsCounted (faults self.old) (faults self.new) result };

@@ -63,7 +63,8 @@ pub fn read_all<S: Source>(alloc: Global, source: &mut S, most: usize) -> Result
     }
 }
 
-/// Writes all the bytes. It takes no memory.
+/// Writes all the bytes. It takes no memory. Where there is no byte, it doesn't call the sink, and it
+/// never hands the sink a piece of no bytes.
 ///
 /// `Failed` comes only where the sink's count of faults has risen. A first part of the bytes was
 /// written then, and not all of them: so it never comes where there are none. A failed write is not
@@ -73,6 +74,8 @@ pub fn write_all<S: Sink>(sink: &mut S, bytes: &[u8]) -> Result<(), Failed>
     ensures prefix { OnErr result ((n : ℕ) × (n < length bytes.now) × Appends (S.written sink.old) (S.written sink.new) (take n bytes.now)) }
     ensures cause { HasCause (S.faults sink.old) (S.faults sink.new) result }
     ensures count { IsCounted (S.faults sink.old) (S.faults sink.new) result }
+    ensures untouched { length bytes.now ≡ 0 → sink.new ≡ sink.old }
+    ensures empty { S.empty_writes sink.new ≡ S.empty_writes sink.old }
     ensures beside { S.beside sink.new ≡ S.beside sink.old }
 {
     let mut done = 0;

@@ -12,7 +12,7 @@ remainder a b c d p q =
     subst (λ n. d ∣ n) rest (dvd-sub d p (dvd-mul_left_of_dvd d q (a / b)))
 
 -- Euclid's steps: a common divisor of one multiple of a and b divides that multiple of their greatest common divisor
-common : (steps a b c d : ℕ) → b < steps → d ∣ a * c → d ∣ b * c → (g : ℕ) × IsGcd a b g × (d ∣ g * c)
+pub common : (steps a b c d : ℕ) → b < steps → d ∣ a * c → d ∣ b * c → (g : ℕ) × IsGcd a b g × (d ∣ g * c)
 common zero a b c d low p q = absurd (omega arith)
 common (suc steps) a zero c d low p q = (a, IsGcd-from_zero a 0 refl, p)
 common (suc steps) a (suc b) c d low p q =

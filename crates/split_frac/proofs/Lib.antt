@@ -6,3 +6,4 @@ pub mod Order
 pub mod Scaled
 pub mod Sums
 pub mod Values
+pub mod Existing

@@ -1,4 +1,4 @@
-// What callers may rest on: the statements of these functions, whose bodies do nothing.
+// Laws of fractions: each law is the contract of a function that does nothing.
 ghost use Rattle.std.specs.Prelude.{◌≡◌, ◌↔◌, ℕ, ℤ, pos, ◌+ℤ◌, ◌-ℤ◌, ◌*ℤ◌, ◌<ℤ◌, ◌+◌, ◌*◌, ◌/◌, ◌<◌, ◌≤◌, unsigned_abs};
 ghost use Rattle.std.specs.Int.{◌∣◌};
 ghost use Rattle.std.specs.Ordering.{ordering_reverse};
@@ -14,6 +14,11 @@ pub fn value_law()
     ensures pair { (a b : Frac) → fraction_of a ≡ fraction_of b → a ≡ b }
     ensures divides { (a : Frac) (num : ℤ) (den : ℕ) → HasValue a num den → a.den ∣ den }
     ensures size { (a : Frac) (num : ℤ) (den : ℕ) → 0 < den → HasValue a num den → unsigned_abs a.num ≤ unsigned_abs num }
+{}
+
+/// Every quotient has a fraction: there is one of the value of any whole number divided into any number of parts above 0.
+pub fn quotient_law()
+    ensures { (num : ℤ) (den : ℕ) → 0 < den → (a : Frac) × HasValue a num den }
 {}
 
 /// The order is the order of the values, and a total one: it is turned around with its arguments,

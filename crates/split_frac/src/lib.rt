@@ -1,4 +1,8 @@
 //! Exact fractions in lowest terms: value, sum, difference, order, floor and text; and how lines of numbers and names are written.
+//!
+//! Each result has exactly the value of the sum, the difference or the remainder, within the ranges
+//! of the limits. Fractions of one value are equal (`value_law`), and their order is that of the
+//! values (`order_law`).
 #![tactic(auto)]
 
 mod arithmetic;
@@ -13,7 +17,7 @@ mod text_laws;
 
 pub use arithmetic::{add, compare, floor, gcd, make, rem, sub};
 pub use frac::Frac;
-pub use laws::{floor_law, order_law, parts_law, sum_law, value_law};
+pub use laws::{floor_law, order_law, parts_law, quotient_law, sum_law, value_law};
 pub use line::{push_line, push_numbers};
 pub use named::Named;
 pub use numbers::{Number, Numbers};

@@ -6,7 +6,7 @@ use crate::numbers::{Number, Numbers};
 use split_base::NoMemory;
 use std::fmt;
 
-/// Appends a line that reads as the content is written, and ends with LF. For a line of several parts, the content is
+/// Appends a line: the content as `Display` writes it, and LF. For a line of several parts, the content is
 /// `format_args!("..")`.
 ///
 /// `NoMemory`: the text could not grow.

@@ -4,7 +4,7 @@ ghost use Rattle.split_frac.specs.Texts.{named};
 
 use std::fmt;
 
-/// What has a number and a name, a person or a thing, as people read it: `1 Ann`.
+/// The number and the name of a person or a thing, as people read them: `1 Ann`.
 #[derive(Clone, Copy)]
 pub struct Named<'a> {
     /// The number, from 1.

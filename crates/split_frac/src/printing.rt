@@ -7,8 +7,8 @@ use split_base::NoMemory;
 use std::alloc::Global;
 use std::fmt;
 
-/// In decimal: the numerator, with a `-` where it is below 0, and where the denominator is not 1 a
-/// `/` and the denominator, as `-3/2` and `5`.
+/// In decimal: the numerator, with a `-` if it is below 0, and, unless the denominator is 1, a `/` and
+/// the denominator, as `-3/2` and `5`.
 impl fmt::Display for Frac {
     ghost output = { λ a. Some (frac_text a) };
 

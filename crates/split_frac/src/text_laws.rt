@@ -1,4 +1,4 @@
-// What callers may rest on: the statements of a function whose body does nothing.
+// A law of texts: it is the contract of a function that does nothing.
 ghost use Rattle.std.specs.Prelude.{◌≡◌, ℕ, ℤ, List, map, pos};
 ghost use Rattle.std.specs.Fmt.{decimal, signed_decimal};
 ghost use Rattle.split_frac.specs.declared.frac.Frac.{Frac};

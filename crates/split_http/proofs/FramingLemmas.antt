@@ -1,6 +1,6 @@
 -- What the first bytes say of all of them.
-use Rattle.std.proofs.Common.{◌≡◌, ℕ, ◌+◌, ◌-◌, Bool, List, ◌++◌, length, take, drop, Some, refl, sym, ap, ◌∙◌, arith, subst, append_assoc, length-append}
-use Rattle.std.proofs.lemmas.List.{take-append-drop, take_at}
+use Rattle.std.proofs.Common.{◌≡◌, ℕ, ◌+◌, ◌-◌, ◌<◌, ◌≤◌, Bool, List, ◌++◌, length, take, drop, Some, refl, sym, ap, ◌∙◌, arith, subst, append_assoc, length-append}
+use Rattle.std.proofs.lemmas.List.{take-append-drop, take_all, take_at}
 use Rattle.std.proofs.Math.Seq.{take-append-add}
 use Rattle.httparse.specs.Grammar.{print_request}
 use Rattle.http_heads.specs.declared.limits.TheConstants.{MAX_HEAD}
@@ -10,7 +10,7 @@ use Rattle.split_http.specs.declared.framing.Framing.TheVariants as framings
 use Rattle.split_http.specs.declared.head.Head.{Head}
 use Rattle.split_http.specs.declared.heads.HeadTurn.TheVariants as turns
 use Rattle.split_http.specs.Heads.{IsText, HasNoHead, text_of, length_of, expects_of}
-use Rattle.split_http.specs.Turns.{HeadSays}
+use Rattle.split_http.specs.Turns.{AsksMore, HeadSays, IsOpen}
 use Rattle.split_http.specs.Framings.{IsRequest, FramingSays, NeverHasHead}
 use Rattle.split_http.proofs.LawLemmas.{one_head}
 
@@ -33,6 +33,16 @@ request_of n bytes (framings.Request bound expects) (head, valid, ((rest, is), b
 pub never_of : (n : ℕ) (bytes : List ℕ) → NeverHasOne IsText (take n bytes) → NeverHasHead bytes
 never_of n bytes never more head rest is_head is =
     never (drop n bytes ++ more) (print_request head) rest (head, is_head.valid, is_head.few, refl) (parts n bytes more ∙ is)
+
+-- the first bytes are all, and the parser asks for more of them
+pub open_of : (n : ℕ) (bytes : List ℕ) → length bytes ≤ n → length bytes < MAX_HEAD → HasNone IsText (take n bytes) × AsksMore (take n bytes) → IsOpen bytes
+open_of n bytes all few looked =
+    let same : take n bytes ≡ bytes = take_all n bytes all in
+    record {
+      none = λ h rest head is. looked.0 (print_request h) rest (h, head.valid, head.few, refl) (same ∙ is);
+      asks = subst AsksMore same looked.1;
+      few = few;
+    }
 
 -- nor behind as many bytes as a head may have, which have none
 full : (bytes more : List ℕ) → length bytes ≡ MAX_HEAD → HasNone IsText bytes → HasNoHead (bytes ++ more)

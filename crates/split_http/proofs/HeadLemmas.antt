@@ -1,25 +1,29 @@
 -- Heads are unique, whatever follows, and what is read so far against all the bytes of a link.
-use Rattle.std.proofs.Common.{◌≡◌, ℕ, ◌<◌, ◌≤◌, List, [], ◌∷◌, ◌++◌, length, take, map, Option, Some, None, Result, Ok, Err, IfSome, refl, sym, ap, ◌∙◌, arith, length-append, append_assoc, subst}
+use Rattle.std.proofs.Common.{◌≡◌, ℕ, true, ◌<◌, ◌≤◌, List, [], ◌∷◌, ◌++◌, length, take, map, codes, Option, Some, None, Result, Ok, Err, IfSome, inl, inr, refl, sym, ap, ◌∙◌, arith, length-append, append_assoc, append-nil, subst}
 use Rattle.std.proofs.lemmas.Grind.{common_steps}
+use Rattle.std.proofs.lemmas.List.Elements.{All-nil, All-push}
+use Rattle.std.proofs.lemmas.Str.{IsUtf8-from_ascii}
+use Rattle.std.proofs.lemmas.Str.Ascii.{IsAscii-cons, IsAscii-nil}
 use Rattle.std.specs.Io.KnownBytes.{Keeps, prepend_known}
 use Rattle.std.proofs.KnownBytes.{prepend_known-read}
-use Rattle.httparse.specs.Grammar.{RequestHead, print_request}
-use Rattle.httparse.specs.Spans.{IsRequestAt, IsRequestOf, IsRequestWithin, header_bytes, name_and_value, span_bytes}
-use Rattle.httparse.specs.Outcome.{IfComplete}
+use Rattle.httparse.specs.Grammar.{RequestHead, IsRequestHead, HasNoRequest, MayBecomeRequest, is_token_byte, is_uri_byte, lf, print_request}
+use Rattle.httparse.specs.Spans.{IsRequestAt, IsRequestOf, IsRequestWithin, RequestExceeds, header_bytes, name_and_value, span_bytes}
+use Rattle.httparse.specs.Outcome.{IfComplete, OnPartial, OnTooManyHeaders}
 use Rattle.httparse.specs.declared.Error.{Error}
 use Rattle.httparse.specs.declared.Status.{Status}
 use Rattle.httparse.specs.declared.Status.TheVariants.{Complete, Partial}
 use Rattle.httparse.specs.declared.spans.HeaderSpan.{HeaderSpan}
 use Rattle.httparse.specs.declared.spans.RequestSpans.{RequestSpans}
 use Rattle.httparse.proofs.GrammarLemmas.{request_prefix_free, print_request-append}
-use Rattle.http_heads.specs.declared.limits.TheConstants.{MAX_FIELDS}
+use Rattle.httparse.proofs.OpenLemmas.{letter_is_token}
+use Rattle.http_heads.specs.declared.limits.TheConstants.{MAX_FIELDS, ROOM}
 use Rattle.http_heads.specs.Fields.{fields_at}
-use Rattle.http_heads.specs.Search.{IsBad as IsBadText, IsOpen as IsOpenText, NeverHasOne}
+use Rattle.http_heads.specs.Search.{IsBad as IsBadText, IsOpen as IsOpenText, HasNone, NeverHasOne}
 use Rattle.split_http.specs.Heads.{IsText, text_of}
 use Rattle.split_http.specs.declared.head.Verb.{Verb}
 use Rattle.split_http.specs.declared.heads.HeadTurn.{HeadTurn}
 use Rattle.split_http.specs.declared.heads.HeadTurn.TheVariants as turns
-use Rattle.split_http.specs.Turns.{IsToldAs, IsBad, IsOpen, HasHeadOf, HeadSays, CarrySays, IsTaken}
+use Rattle.split_http.specs.Turns.{AsksMore, IsToldAs, IsBad, IsOpen, HasHeadOf, HeadSays, CarrySays, IsTaken}
 
 -- as many fields as were written
 fields_count : (bytes : List ℕ) (headers : List HeaderSpan) (r : RequestSpans) (h : RequestHead)
@@ -67,10 +71,47 @@ end_told None left bytes same none = tt
 end_told (Some x) None bytes same none = absurd same
 end_told (Some x) (Some y) bytes same none = sym none ∙ same
 
--- no text of a head stands in the bytes, of which there may be none
-open_bytes : (bytes : List ℕ) → IsOpenText IsText bytes → IsOpen bytes
-open_bytes [] may = ((λ h rest head is. omega (arith, ap length is, ap length (print_request-append h rest), head.valid.method.0, length-append {A = ℕ})), may.few)
-open_bytes (b ∷ bytes) may = ((λ h rest head is. may.none (omega arith) (print_request h) rest (h, head.valid, head.few, refl) is), may.few)
+-- a head of the fewest bytes
+abbrev some_head : RequestHead
+some_head = record { blank = []; method = codes "A"; target = codes "/"; minor = 0; line_end = lf; fields = []; last = lf }
+
+some_head_valid : IsRequestHead some_head
+some_head_valid = record {
+  method = (omega arith, All-push (λ v. is_token_byte v ≡ true) [] 65 (All-nil _) letter_is_token);
+  target = (omega arith, All-push (λ v. is_uri_byte v ≡ true) [] 47 (All-nil _) refl);
+  target_text = IsUtf8-from_ascii (codes "/") (IsAscii-cons 47 [] (omega arith) IsAscii-nil);
+  minor = omega arith;
+  fields = All-nil _;
+}
+
+-- no byte is no head of any number of fields, and each head begins with none
+none_in_nothing : HasNoRequest []
+none_in_nothing h rest reads = omega (arith, ap length reads.1, ap length (print_request-append h rest), reads.0.method.0, length-append {A = ℕ})
+
+asks_of_nothing : AsksMore []
+asks_of_nothing = inl (none_in_nothing, inl (print_request some_head, some_head, (some_head_valid, sym (append-nil (print_request some_head)))))
+
+-- the parser asks for more of the bytes, of which there may be none
+open_bytes : (bytes : List ℕ) → IsOpenText IsText AsksMore bytes → IsOpen bytes
+open_bytes [] may = record { none = λ h rest head is. none_in_nothing h rest (head.valid, is); asks = asks_of_nothing; few = may.few }
+open_bytes (b ∷ bytes) may = record {
+  none = λ h rest head is. may.none (omega arith) (print_request h) rest (h, head.valid, head.few, refl) is;
+  asks = may.asks (omega arith);
+  few = may.few;
+}
+
+-- no head of any number of fields, so none with few
+pub none_of_text : (bytes : List ℕ) → HasNoRequest bytes → HasNone IsText bytes
+none_of_text bytes none text rest (h, valid, few, printed) is = none h rest (valid, is ∙ ap (λ z. z ++ rest) printed)
+
+-- the parser answers that it asks for more, or that it has no room
+pub asks_partial : (bytes : List ℕ) (result : Result (Status RequestSpans) Error) → OnPartial result (HasNoRequest bytes) → OnPartial result (MayBecomeRequest bytes) → OnPartial result (AsksMore bytes)
+asks_partial bytes (Ok (Complete spans)) none may = tt
+asks_partial bytes (Ok Partial) none may = inl (none, may)
+asks_partial bytes (Err error) none may = tt
+
+pub asks_room : (bytes : List ℕ) (room : ℕ) (result : Result (Status RequestSpans) Error) → room ≡ ROOM → OnTooManyHeaders result (RequestExceeds room bytes) → OnTooManyHeaders result (AsksMore bytes)
+asks_room bytes room result size many is = inr (subst (λ n. RequestExceeds n bytes) size (many is))
 
 -- the head at the front of the carry is at the front of the link's bytes
 head_ahead : (before left : Option (List ℕ)) (old : List ℕ) (verb : Verb) → Keeps before (prepend_known old left) → HasHeadOf verb old
@@ -99,7 +140,7 @@ carried old bytes new result (read, is) says = (read, subst (λ z. CarrySays z n
 pub bad_carry : (old bytes : List ℕ) → ((read : List ℕ) × (bytes ≡ old ++ read)) → IsBadText IsText bytes → (read : List ℕ) × CarrySays (old ++ read) bytes turns.BadHead
 bad_carry old bytes more bad = carried old bytes bytes turns.BadHead more (refl, bad_bytes bytes bad)
 
-pub open_carry : (old bytes : List ℕ) → ((read : List ℕ) × (bytes ≡ old ++ read)) → IsOpenText IsText bytes → (read : List ℕ) × CarrySays (old ++ read) bytes turns.LinkFault
+pub open_carry : (old bytes : List ℕ) → ((read : List ℕ) × (bytes ≡ old ++ read)) → IsOpenText IsText AsksMore bytes → (read : List ℕ) × CarrySays (old ++ read) bytes turns.LinkFault
 open_carry old bytes more may = carried old bytes bytes turns.LinkFault more (refl, open_bytes bytes may)
 
 pub taken_carry : (bytes new : List ℕ) (result : HeadTurn) → IsTaken bytes new result → CarrySays bytes new result

@@ -65,4 +65,4 @@ number_stands [] (suc n) digits lead is small = absurd (omega arith)
 number_stands (c ∷ cs) (suc n) digits lead is small =
     let spelled : decimal (digits_value 10 (c ∷ cs)) ≡ c ∷ cs =
     decimal-digits_value numerals (c ∷ cs) (λ i l. digits i 0 l) (omega arith) (λ e. absurd (lead e)) (below_word _ (subst (λ m. m < 2 ^ 32) is small)) in
-    inl (omega arith, sym (ap decimal is ∙ spelled))
+    inl (omega arith, small, sym (ap decimal is ∙ spelled))

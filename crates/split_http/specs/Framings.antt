@@ -20,7 +20,7 @@ IsRequest bytes framings.Open = ⊥
 IsRequest bytes framings.NoHead = ⊥
 IsRequest bytes (framings.Request bound expects) = (head : RequestHead) × IsHead head × EndsAt bytes head bound × (expects ≡ expects_of (text_of head))
 
--- what stands at the front: such a head, or none, now or ever
+-- what stands at the front: no head yet, and the parser asks for more; no head ever; or a request
 abbrev pub FramingSays : List ℕ → Framing → Type 0
 FramingSays bytes framings.Open = IsOpen bytes
 FramingSays bytes framings.NoHead = NeverHasHead bytes

@@ -41,7 +41,7 @@ pub record HeadText : Type 0 where
   pub minor : ℕ
   pub fields : List Pair
 
--- those of a head
+-- what a head says in its parts
 abbrev pub text_of : RequestHead → HeadText
 text_of head = record {
   method = head.method;
@@ -69,7 +69,7 @@ key_of fields = option_map key_from (value_of (codes "x-key") fields)
 abbrev pub has_bad_host : ℕ → ℕ → Bool
 has_bad_host minor hosts = if minor == 1 then not (hosts == 1) else nat_lt 1 hosts
 
--- what the length that is told, or is not, refuses
+-- the refusal for the length that a head tells or leaves out
 abbrev pub stated_by : Verb → Stated → Option ℕ
 stated_by verb Bad = Some BAD_LENGTH
 stated_by Post Absent = Some LENGTH_MISSING
@@ -85,6 +85,7 @@ first_refusal verb minor fields =
     else (if nat_lt 0 (count_of (codes "transfer-encoding") fields) then Some FRAMING
     else stated_by verb (stated_of fields))
 
+-- the first refusal of a head
 abbrev pub refusal_of : HeadText → Option ℕ
 refusal_of text = first_refusal (verb_of text.method) text.minor text.fields
 
@@ -95,6 +96,7 @@ length_by None Absent = 0
 length_by None Bad = 0
 length_by (Some refusal) stated = 0
 
+-- the length of the body that a head announces
 abbrev pub length_of : HeadText → ℕ
 length_of text = length_by (refusal_of text) (stated_of text.fields)
 
@@ -103,6 +105,7 @@ abbrev pub expects_by : ℕ → ℕ → List Pair → Bool
 expects_by count minor fields =
     nat_lt 0 count && (minor == 1) && has_value (codes "expect") (codes "100-continue") fields
 
+-- a head asks for an interim reply, which is due before its body
 abbrev pub expects_of : HeadText → Bool
 expects_of text = expects_by (length_of text) text.minor text.fields
 
@@ -110,10 +113,11 @@ expects_of text = expects_by (length_of text) text.minor text.fields
 abbrev pub closes_by : ℕ → List Pair → Bool
 closes_by minor fields = (minor == 0) || has_option (codes "connection") fields
 
+-- a head asks that the connection be closed
 abbrev pub closes_of : HeadText → Bool
 closes_of text = closes_by text.minor text.fields
 
--- what the head says
+-- the host reads this from the head
 pub record IsHeadOf (text : HeadText) (head : HeadValue) : Type 0 where
   pub verb : head.verb ≡ verb_of text.method
   pub path : IsPathOf text.target head.path

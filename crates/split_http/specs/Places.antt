@@ -23,7 +23,7 @@ Endpoint = Place × Allow
 abbrev pub creation : Endpoint
 creation = (Instances, allows.Post)
 
--- the routes below `/instances/{id}`: what stands behind the id, and where that leads. They stand by their bytes, a longer one before what it begins with
+-- the routes below `/instances/{id}`: what follows the id, and where that leads, in the order of their bytes, with a longer text before what it begins with
 abbrev pub tails : List (List ℕ × Endpoint)
 tails =
     (codes "/audit", (Audit, allows.GetHead))
@@ -38,7 +38,7 @@ tails =
     ∷ ([], (Instance, allows.GetHead))
     ∷ []
 
--- where the first of these leads that is this tail
+-- the place of this tail in the list, if it is there
 abbrev pub endpoint_in : List (List ℕ × Endpoint) → List ℕ → Option Endpoint
 endpoint_in [] tail = None
 endpoint_in ((text, endpoint) ∷ rest) tail = if bytes_eq text tail then Some endpoint else endpoint_in rest tail
@@ -62,7 +62,7 @@ id_text path = take (id_len (drop 11 path)) (drop 11 path)
 
 -- the bytes are the id in plain decimal, from 1 to 2^32 - 1, or none such and the id is 0
 abbrev pub IsId : List ℕ → ℕ → Type 0
-IsId text id = (0 < id × (text ≡ decimal id)) ⊎ ((id ≡ 0) × ((n : ℕ) → 0 < n → n < 2 ^ 32 → text ≢ decimal n))
+IsId text id = ((0 < id) × (id < 2 ^ 32) × (text ≡ decimal id)) ⊎ ((id ≡ 0) × ((n : ℕ) → 0 < n → n < 2 ^ 32 → text ≢ decimal n))
 
 -- the method is among them
 abbrev pub has_verb : Allow → Verb → Bool

@@ -1,7 +1,8 @@
 -- The cut of a link's bytes into heads and bodies.
 use Rattle.std.specs.Prelude.{◌≡◌, ℕ, ◌+◌, ◌<◌, ◌≤◌, ◌⊎◌, Bool, true, List, [], ◌++◌, length, codes, Option, Some, None, ⊤, if◌then◌else◌}
 use Rattle.std.specs.Io.KnownBytes.{Appends, Consumes, IsAtEnd, Keeps}
-use Rattle.httparse.specs.Grammar.{RequestHead, print_request}
+use Rattle.httparse.specs.Grammar.{RequestHead, HasNoRequest, MayBecomeRequest, print_request}
+use Rattle.httparse.specs.Spans.{RequestExceeds}
 use Rattle.split_base.specs.Faults.{counted}
 use Rattle.split_http.specs.declared.heads.HeadTurn.{HeadTurn}
 use Rattle.split_http.specs.declared.heads.HeadTurn.TheVariants as turns
@@ -9,11 +10,11 @@ use Rattle.split_http.specs.declared.bodies.BodyTurn.{BodyTurn}
 use Rattle.split_http.specs.declared.bodies.BodyTurn.TheVariants as bodies
 use Rattle.split_http.specs.declared.head.Head.{Head}
 use Rattle.split_http.specs.declared.head.Verb.{Verb}
-use Rattle.http_heads.specs.declared.limits.TheConstants.{MAX_HEAD}
+use Rattle.http_heads.specs.declared.limits.TheConstants.{MAX_HEAD, ROOM}
 use Rattle.split_http.specs.Pieces.{AppendsPart, AppendsProperPart}
 use Rattle.split_http.specs.Heads.{IsHead, HasNoHead, IsHeadOf, text_of, verb_of}
 
--- these are the bytes, where they are told
+-- these are the bytes, where an object tells them
 abbrev pub IsToldAs : Option (List ℕ) → List ℕ → Type 0
 IsToldAs None bytes = ⊤
 IsToldAs (Some known) bytes = bytes ≡ known
@@ -22,15 +23,22 @@ IsToldAs (Some known) bytes = bytes ≡ known
 abbrev pub IsBad : List ℕ → Type 0
 IsBad all = (0 < length all) × HasNoHead all
 
--- the bytes begin with no head, and may yet: they are fewer than a head may have
-abbrev pub IsOpen : List ℕ → Type 0
-IsOpen bytes = HasNoHead bytes × (length bytes < MAX_HEAD)
+-- `httparse` asks for more of the bytes: no head of any number of fields stands at their front, and they become one when the right bytes
+-- follow, or they end within a target, whose text it tests at the target's end; or they have more fields than the 256 for which it has room
+abbrev pub AsksMore : List ℕ → Type 0
+AsksMore bytes = (HasNoRequest bytes × MayBecomeRequest bytes) ⊎ RequestExceeds ROOM bytes
+
+-- the bytes begin with no head, the parser asks for more of them, and they are fewer than a head may have
+pub record IsOpen (bytes : List ℕ) : Type 0 where
+  pub none : HasNoHead bytes
+  pub asks : AsksMore bytes
+  pub few : length bytes < MAX_HEAD
 
 -- a head with this method stands at the front
 abbrev pub HasHeadOf : Verb → List ℕ → Type 0
 HasHeadOf verb bytes = (h : RequestHead) × (rest : List ℕ) × IsHead h × (verb ≡ verb_of h.method) × (bytes ≡ print_request h ++ rest)
 
--- what comes next of the bytes that were left, and what is left then: a head goes, with what it says; nothing goes where no head stands or the link failed
+-- what the next head is and what it leaves of the bytes: a head is taken off, with what it says; nothing is taken where no head stands or the link failed
 abbrev pub HeadSays : Option (List ℕ) → Option (List ℕ) → HeadTurn → Type 0
 HeadSays old new (turns.Head head) = (h : RequestHead) × IsHead h × IsHeadOf (text_of h) head × Consumes old new (print_request h)
 HeadSays old new turns.BadHead = Keeps old new × ((all : List ℕ) × IsToldAs old all × IsBad all)
@@ -46,7 +54,8 @@ IsTaken old new turns.End = ⊥
 IsTaken old new turns.LinkFault = ⊥
 IsTaken old new (turns.NoMemory verb) = (new ≡ old) × HasHeadOf verb old
 
--- what the carry's bytes and those that were read behind them are, whatever the link tells, and what the carry holds then: the head at the front is taken off; else nothing is, and a read fails only where no head stands there and room for one is left
+-- what the bytes that the carry held and those read after them are, and what the carry holds then, whatever the link tells: the head at the front
+-- is taken off, and otherwise nothing is; a read fails only where the parser asks for more of the bytes held
 abbrev pub CarrySays : List ℕ → List ℕ → HeadTurn → Type 0
 CarrySays bytes new (turns.Head head) = (h : RequestHead) × IsHead h × IsHeadOf (text_of h) head × (bytes ≡ print_request h ++ new)
 CarrySays bytes new turns.BadHead = (new ≡ bytes) × IsBad bytes
@@ -54,7 +63,7 @@ CarrySays bytes new turns.End = (new ≡ bytes) × (bytes ≡ [])
 CarrySays bytes new turns.LinkFault = (new ≡ bytes) × IsOpen bytes
 CarrySays bytes new (turns.NoMemory verb) = (new ≡ bytes) × HasHeadOf verb bytes
 
--- the count of faults afterwards: one more where a read failed
+-- the link's count of failed reads after a head: one more where a read failed
 abbrev pub faults_of : ℕ → HeadTurn → ℕ
 faults_of before (turns.Head head) = before
 faults_of before turns.BadHead = before
@@ -66,7 +75,7 @@ faults_of before (turns.NoMemory verb) = before
 abbrev pub interim_of : Bool → List ℕ
 interim_of due = if due then codes "HTTP/1.1 100 Continue\r\n\r\n" else []
 
--- the body, what is left behind it, and what was written before it
+-- what the body is, what it leaves of the bytes, and what was written before it
 abbrev pub BodySays : Option (List ℕ) → Option (List ℕ) → Option (List ℕ) → Option (List ℕ) → Head → BodyTurn → Type 0
 BodySays old new before now head (bodies.Body body) =
     (head.refused ≡ None) × (length body.items ≡ head.length) × Consumes old new body.items × Appends before now (interim_of head.expects)
@@ -77,7 +86,7 @@ BodySays old new before now head bodies.LinkFault =
     (head.refused ≡ None) × ((part : List ℕ) × (length part ≤ head.length) × Consumes old new part) × AppendsPart before now (interim_of head.expects)
 BodySays old new before now head bodies.NoMemory = (head.refused ≡ None) × Keeps old new × (now ≡ before)
 
--- a write of the interim line failed: it is due, some of it is missing behind what was written, and no byte of the link was taken
+-- a write of the interim line failed: the line is due, some of it was not written, and no byte of the link was taken
 abbrev pub IsWriteFault : Option (List ℕ) → Option (List ℕ) → Option (List ℕ) → Option (List ℕ) → Head → Type 0
 IsWriteFault old new before now head = (head.expects ≡ true) × Keeps old new × AppendsProperPart before now (interim_of head.expects)
 
@@ -96,7 +105,7 @@ BodyCounts old new before now held head reads reads_now writes writes_now bodies
     ((reads_now ≡ reads) × (writes_now ≡ counted writes) × IsWriteFault old new before now head)
     ⊎ ((reads_now ≡ counted reads) × (writes_now ≡ writes) × IsReadFault old new before now held head)
 
--- an answer that is no fault and no want of memory
+-- the next head was read or refused, with no fault and memory enough
 abbrev pub IsHeadDone : HeadTurn → Type 0
 IsHeadDone (turns.Head head) = ⊤
 IsHeadDone turns.BadHead = ⊤
@@ -104,6 +113,7 @@ IsHeadDone turns.End = ⊤
 IsHeadDone turns.LinkFault = ⊥
 IsHeadDone (turns.NoMemory verb) = ⊥
 
+-- the body was read, refused or cut off, with no fault and memory enough
 abbrev pub IsBodyDone : BodyTurn → Type 0
 IsBodyDone (bodies.Body body) = ⊤
 IsBodyDone (bodies.Refused row) = ⊤

@@ -1,4 +1,4 @@
-// The body behind a head.
+// The body after a head.
 ghost use Rattle.std.specs.Prelude.{◌≡◌, ◌≤◌, ◌+◌, ◌++◌, ◌⊎◌, take, drop, length, vec_len, vec_capacity, OnOk, OnErr, IsTrue};
 ghost use Rattle.std.specs.Io.KnownBytes.{Appends, prepend_known};
 ghost use Rattle.split_base.specs.Faults.{HasCause, HasRisen, IsCounted};
@@ -28,16 +28,16 @@ pub enum BodyTurn {
     NoMemory,
 }
 
-/// Reads the body behind a head and takes it off the link's bytes. Where the head asks for it the
+/// Reads the body after a head and takes it off the link's bytes. Where the head asks for it the
 /// interim line stands in the link first.
 ///
 /// - `Refused` comes exactly where the head is refused. Nothing is read or written then.
 /// - `Cut` comes exactly where the input ends within the body.
 /// - `LinkFault` comes for one failed call, which one of the link's two counts of faults tells: a
 ///   write of the interim line, where it is due, of which some is missing then, before anything was
-///   read; or a read behind the whole line, while less than the body was read. So nothing is read
+///   read; or a read after the whole line, while less than the body was read. So nothing is read
 ///   where no body is due, and a failed call is not tried again.
-/// - `NoMemory` comes for want of memory alone, and before anything is read or written.
+/// - `NoMemory` comes only where memory ran out, and before anything is read or written.
 ///
 /// Each answer but `LinkFault` leaves both counts as they are.
 /// After anything but a body the connection takes no further request.
@@ -94,7 +94,7 @@ fn interim(due: bool) -> &'static [u8]
     }
 }
 
-// Moves the first bytes of the carry behind the body.
+// Moves the first bytes of the carry to the end of the body.
 fn move_front(carry: &mut Carry, body: &mut Vec<u8>, count: usize)
     requires count { count ≤ length carry.old }
     requires room { vec_len body.old + count ≤ vec_capacity body.old }

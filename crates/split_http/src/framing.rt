@@ -17,7 +17,7 @@ use httparse::spans::{EMPTY_HEADER_SPAN, HeaderSpan, RequestSpans};
 /// What stands at the front of the bytes of a client.
 #[derive(Clone, Copy, Debug, PartialEq, Eq)]
 pub enum Framing {
-    /// No head. One may yet stand there when more bytes have come.
+    /// No head, and the parser asks for more bytes.
     Open,
     /// No head, and none will stand there, whatever follows.
     NoHead,
@@ -30,12 +30,12 @@ pub enum Framing {
     },
 }
 
-/// Where the request at the front of these bytes ends, by the rule by which `next_head` and `next_body` read it. So whoever has the
+/// Where the request at the front of these bytes ends, by the rule by which `next_head` and `next_body` read it. So a caller that has the
 /// bytes of a client can tell when its request is whole, before a link reads any of them. Nothing is kept, and no memory is taken.
 ///
 /// - `Request` comes exactly where a head stands at the front, as `next_head` finds it.
 /// - `NoHead` comes only where none does, whatever follows; so as soon as 8,192 bytes hold none.
-/// - `Open` comes for fewer bytes than these alone.
+/// - `Open` comes only for fewer bytes than these, and only while the parser asks for more of them.
 pub fn framing_of(bytes: &[u8]) -> Framing
     ensures { FramingSays bytes.now result }
 {
@@ -75,7 +75,7 @@ fn request_at(bytes: &[u8], fields: &[HeaderSpan; ROOM], spans: &RequestSpans) -
     }
 }
 
-// The length of the body behind the head at these spans.
+// The length of the body after the head at these spans.
 fn due_length(bytes: &[u8], fields: &[HeaderSpan], spans: &RequestSpans) -> u32
     requires fields { All (IsHeaderWithin (length bytes.now)) fields.now }
     requires method { IsWithin (length bytes.now) spans.now.method }

@@ -43,7 +43,7 @@ pub struct Head {
     pub length: u32,
     /// Whether an interim reply is due before the body.
     pub expects: bool,
-    /// Whether the connection is to be closed behind the reply: HTTP/1.0, or `close` in
+    /// Whether the connection is to be closed after the reply: HTTP/1.0, or `close` in
     /// Connection.
     pub closes: bool,
 }
@@ -156,7 +156,7 @@ fn closes(bytes: &[u8], fields: &[HeaderSpan], minor: u8) -> bool
 }
 
 // What the head at the front of the bytes says, whose parts stand at these spans. `NoMemory` comes
-// for want of the memory for the path alone.
+// only where there was no memory for the path.
 pub(crate) fn head_at(
     alloc: Global,
     bytes: &[u8],

@@ -38,13 +38,14 @@ pub enum HeadTurn {
 ///   request as `httparse` reads it (RFC 9112), of at most 8,192 bytes and with at most 64 fields.
 /// - `End` comes exactly where nothing is left.
 /// - `LinkFault` comes for one failed read, which the link's count of faults tells. Each other answer
-///   leaves that count as it is. A read fails only while no whole head stands at the front of what
-///   the carry holds, and room for one is left: nothing is read while a whole head waits there.
-/// - `NoMemory` comes for want of memory alone, and only where a head stands at the front. That head
+///   leaves that count as it is. A read is made only while the parser asks for more of what the carry
+///   holds: nothing is read while a whole head waits there, and bytes that can never become one are
+///   answered by `BadHead` at once.
+/// - `NoMemory` comes only where memory ran out and a head stands at the front. That head
 ///   stays there. Its method is told, so that a reply to HEAD can leave its body out
 ///   (`HttpReply::bodiless`).
 ///
-/// But for a head that was taken off, the carry holds what it held and behind it what was read. After
+/// But for a head that was taken off, the carry holds what it held and then what was read. After
 /// anything but a head the connection takes no further request.
 pub fn next_head<S: Source>(alloc: Global, link: &mut S, carry: &mut Carry) -> HeadTurn
     ensures says { HeadSays (prepend_known carry.old (S.left link.old)) (prepend_known carry.new (S.left link.new)) result }

@@ -18,7 +18,7 @@ pub fn head_law()
 {}
 
 /// What `next_head` and `next_body` answer and leave depends on the bytes alone: over the same
-/// bytes two answers that are no fault and no want of memory are equal, and so is what is left.
+/// bytes two answers are equal where no call failed and memory sufficed, and so is what is left.
 pub fn cut_law()
     ensures head { (all rest other : List ℕ) (t u : HeadTurn) → HeadSays (Some all) (Some rest) t → HeadSays (Some all) (Some other) u
         → IsHeadDone t → IsHeadDone u → (t ≡ u) × (rest ≡ other) }

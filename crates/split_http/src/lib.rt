@@ -1,5 +1,10 @@
 //! HTTP/1.1 over any link: heads and bodies of requests, however their bytes are cut into pieces;
 //! routes; and replies.
+//!
+//! The cut does not depend on the pieces (`cut_law`), and `framing_of` tells a port where a request
+//! ends by the same rule (`framing_law`). Nothing is read after a head that waits, nor where no
+//! body is due. `write_reply` writes exactly the bytes of the reply, or a first part of them where
+//! a write fails, and takes no memory.
 #![tactic(auto)]
 
 mod bodies;

@@ -11,7 +11,7 @@ use split_base::{Failed, Sink, write_all};
 // How many bytes may wait to be written together, so that a short reply is one write.
 const MOST_HELD: usize = 2048;
 
-// Puts a piece behind the bytes that wait. Where it has no room these are written first, and a
+// Puts a piece after the bytes that wait. Where it has no room these are written first, and a
 // piece that is longer than the room goes with them.
 fn hold<S: Sink>(
     sink: &mut S,

@@ -38,7 +38,7 @@ pub struct HttpReply<'a> {
     pub allow: Option<Allow>,
     /// Whether the body is left out, as in the reply to HEAD. Its length is told all the same.
     pub bodiless: bool,
-    /// Whether the connection is closed behind this reply.
+    /// Whether the connection is closed after this reply.
     pub close: bool,
 }
 

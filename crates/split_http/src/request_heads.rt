@@ -1,5 +1,6 @@
 // Heads of requests, as the search for heads takes them.
 ghost use Rattle.split_http.specs.Heads.{IsFoundAt, IsText};
+ghost use Rattle.split_http.specs.Turns.{AsksMore};
 
 use http_heads::{HeadKind, ROOM};
 use httparse::spans::{HeaderSpan, RequestSpans, parse_request};
@@ -11,6 +12,8 @@ impl HeadKind for RequestHeads {
     type Spans = RequestSpans;
 
     ghost IsText = { IsText };
+
+    ghost AsksMore = { AsksMore };
 
     ghost IsFound = { IsFoundAt };
 

@@ -68,7 +68,7 @@ pub struct Routes {
 impl Routes {
     /// All routes of the host.
     ///
-    /// `NoMemory` comes for want of memory alone.
+    /// `NoMemory` comes only where memory ran out.
     pub fn new(alloc: Global) -> Result<Routes, NoMemory> {
         match make_router(alloc) {
             Ok(router) => Ok(Routes { router }),
@@ -138,7 +138,7 @@ fn admits(allow: Allow, verb: Verb) -> bool
     }
 }
 
-// The number behind the greatest id.
+// The number after the greatest id.
 const PAST_IDS: u64 = 4_294_967_296;
 
 // The bytes between `/instances/` and the next slash or the end.

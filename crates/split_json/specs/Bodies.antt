@@ -15,15 +15,16 @@ use Rattle.split_json.specs.Deadlines.{deadline_of}
 use Rattle.split_json.specs.Reading.{field_text, head_of_object, held, ◌>>=◌}
 use Rattle.split_json.specs.Rules.{json_of, number_in, numbers_in, passing, place_in}
 
--- the second of a text that is a deadline
+-- the second that a JSON value names as a deadline, if it is a text that does
 abbrev pub deadline_in : Data → Option ℕ
 deadline_in d = option_and_then deadline_of (as_str d)
 
--- the text that a value is, where it is a tag
+-- the text that a JSON value is, if it is a tag
 abbrev pub tag_in : Data → Option (List ℕ)
 tag_in d = option_and_then (passing is_tag) (as_str d)
 
--- the fields of a case before the bids, and then the deadline and the tag: the first whose rule is broken is the answer, else the creation
+-- the creation that a JSON object holds, or the first of its fields that is missing or breaks its rule: the fields of a case before the bids, then
+-- the deadline and the tag
 unfoldable pub creation_of_object : Data → Result CreationView FieldName
 creation_of_object body = do
   head ← head_of_object body
@@ -31,20 +32,20 @@ creation_of_object body = do
   tag ← held field.Tag tag_in body
   Ok (record { title = head.title; members = head.members; items = head.items; facts = head.facts; deadline = deadline; tag = tag })
 
--- the answer on a JSON value, and on none
+-- the creation that a JSON value holds, or what is wrong, where no value means that the body is no JSON
 abbrev pub creation_of : Option Data → Result CreationView BodyFault
 creation_of None = Err Json
 creation_of (Some body) = result_map_both (λ creation. creation) Field (creation_of_object body)
 
--- what a body gives: `Json` exactly where it is no JSON, else the first broken field, else the creation
+-- the creation that a body holds, or what is wrong with the body: it is no JSON, or this is its first broken field
 abbrev pub creation_in : List ℕ → Result CreationView BodyFault
 creation_in body = creation_of (json_of body)
 
--- what the body holds in a field, where it is there and of its form
+-- what the body holds in a field, if the field is there and has its form
 abbrev pub found : {A : Type 0} → FieldName → (Data → Option A) → Data → Option A
 found name form body = option_and_then form (get (field_text name) body)
 
--- the turn, and values or points or a place, each where it is there and of its form; a value that is no object has none
+-- the turn, and the values or the place, each if it is there and has its form, while a JSON value that is no object has none of them
 unfoldable pub bid_body_of : Data → BidBody
 bid_body_of body = record {
   turn = found field.Turn number_in body;
@@ -52,11 +53,11 @@ bid_body_of body = record {
   place = found field.Place place_in body;
 }
 
--- the answer on a JSON value, and on none: no field is a fault here
+-- what a JSON value holds of a bid, where no value means that the body is no JSON, and a field is never a fault here
 abbrev pub bid_answer : Option Data → Result BidBody BodyFault
 bid_answer None = Err Json
 bid_answer (Some body) = Ok (bid_body_of body)
 
--- what the body of a bid or of a withdrawal gives: `Json` exactly where it is no JSON
+-- what the body of a bid or of a withdrawal holds, or that it is no JSON
 abbrev pub bid_body_in : List ℕ → Result BidBody BodyFault
 bid_body_in body = bid_answer (json_of body)

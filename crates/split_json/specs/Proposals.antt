@@ -14,55 +14,56 @@ use Rattle.split_json.specs.declared.rules.Kind.TheVariants as kind
 use Rattle.split_json.specs.Reading.{CaseData, IsReady, case_of_object, held, ◌>>=◌}
 use Rattle.split_json.specs.Rules.{json_of, kind_in, list_in, passing, place_in}
 
--- the kind of a case of goods: goods alone
+-- the kind, if it is goods
 abbrev pub goods_alone : Kind → Option Kind
 goods_alone kind.Rent = None
 goods_alone kind.Goods = Some kind.Goods
 goods_alone kind.Fares = None
 
+-- the kind that a JSON value names, if it is goods
 abbrev pub goods_in : Data → Option Kind
 goods_in d = option_and_then goods_alone (kind_in d)
 
--- whether there is a member with this number, and a bid of theirs
+-- a test whether there is a member with this number, and the member has bid
 abbrev pub has_bid : List (Option Bid) → ℕ → Bool
 has_bid bids member = nat_le 1 member && is_some (slice_index_or bids (member - 1) None)
 
--- the owner of a good: the number of a member who has bid
+-- the owner of a good that a JSON value names, if it is the number of a member who has bid
 abbrev pub owner_in : List (Option Bid) → Data → Option ℕ
 owner_in bids d = option_and_then (passing (has_bid bids)) (place_in d)
 
--- the owners: a list with an entry per good
+-- the owners that a JSON value lists, if there is one for each good and each is a member who has bid
 abbrev pub owners_in : ℕ → List (Option Bid) → Data → Option (List ℕ)
 owners_in goods bids = list_in (owner_in bids) goods goods
 
--- a case of goods: another kind is the first broken field
+-- the case of goods that a JSON object holds, or its first broken field, which is the kind for a case of another kind
 unfoldable pub goods_case_of_object : Data → Result CaseData FieldName
 goods_case_of_object body = do
   kind ← held field.Kind goods_in body
   case_of_object body
 
--- the answer on a JSON value, and on none
+-- the case of goods that a JSON value holds, or what is wrong, where no value means that the body is no JSON
 abbrev pub goods_answer : Option Data → Result CaseData BodyFault
 goods_answer None = Err Json
 goods_answer (Some body) = result_map_both (λ case. case) Field (goods_case_of_object body)
 
--- what a body gives: `Json` exactly where it is no JSON, else the first broken field, else the case of goods
+-- the case of goods that a body holds, or what is wrong with the body: it is no JSON, or this is its first broken field
 abbrev pub goods_case_in : List ℕ → Result CaseData BodyFault
 goods_case_in body = goods_answer (json_of body)
 
--- a case of goods, and then the owners
+-- the case of goods and the owners that a JSON object holds, or its first broken field
 unfoldable pub proposal_of_object : Data → Result (CaseData × List ℕ) FieldName
 proposal_of_object body = do
   case ← goods_case_of_object body
   owners ← held field.Owners (owners_in (length case.items) case.bids) body
   Ok (case, owners)
 
--- the answer on a JSON value, and on none
+-- the case of goods and the owners that a JSON value holds, or what is wrong, where no value means that the body is no JSON
 abbrev pub proposal_answer : Option Data → Result (CaseData × List ℕ) BodyFault
 proposal_answer None = Err Json
 proposal_answer (Some body) = result_map_both (λ proposal. proposal) Field (proposal_of_object body)
 
--- what a body gives: `Json` exactly where it is no JSON, else the first broken field, else the case and the owner of each good
+-- the case of goods and the owner of each good that a body holds, or what is wrong with the body: it is no JSON, or this is its first broken field
 abbrev pub proposal_in : List ℕ → Result (CaseData × List ℕ) BodyFault
 proposal_in body = proposal_answer (json_of body)
 
@@ -77,7 +78,7 @@ pub record IsReadyGoods (case : CaseData) : Type 0 where
   pub ready : IsReady case
   pub goods : AreOfGoods case.facts
 
--- a case of goods whose facts and bids have no fault, and an owner for each good, a member who has bid
+-- a case of goods whose facts and bids have no fault, and for each good an owner who has bid
 pub record IsReadyProposal (case : CaseData) (owners : List ℕ) : Type 0 where
   pub ready : IsReady case
   pub goods : AreOfGoods case.facts

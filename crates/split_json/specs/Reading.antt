@@ -23,14 +23,14 @@ use Rattle.split_json.specs.declared.input.Head.{Head}
 pub use Rattle.case_fields.specs.Fields.{field_text}
 pub use Rattle.case_fields.specs.Creations.{item_count}
 
--- what a case is of, with its texts as plain lists of bytes
+-- what a case is about: its title, the names of members and of items, and its facts, with texts as lists of bytes
 pub record HeadData : Type 0 where
   pub title : List ℕ
   pub members : List (List ℕ)
   pub items : List (List ℕ)
   pub facts : Facts
 
--- what a head that was read shows
+-- what a head that was read holds, with texts as lists of bytes
 abbrev pub shown_head : Head → HeadData
 shown_head head = record {
   title = head.title.bytes;
@@ -39,7 +39,7 @@ shown_head head = record {
   facts = head.facts;
 }
 
--- a case with its texts as plain lists of bytes
+-- a case: its title, the names of members and of items, its facts and its bids, with texts as lists of bytes
 pub record CaseData : Type 0 where
   pub title : List ℕ
   pub members : List (List ℕ)
@@ -47,7 +47,7 @@ pub record CaseData : Type 0 where
   pub facts : Facts
   pub bids : List (Option Bid)
 
--- what a case that was read shows
+-- what a case that was read holds, with texts as lists of bytes
 abbrev pub shown : CaseInput → CaseData
 shown input = record {
   title = input.title.bytes;
@@ -57,40 +57,42 @@ shown input = record {
   bids = input.bids.items;
 }
 
--- what the body holds in a field, by the field's rule, or the field's name where it is missing or breaks the rule
+-- what the body holds in a field, or the name of the field if it is missing or breaks its rule
 abbrev pub held : {A : Type 0} → FieldName → (Data → Option A) → Data → Result A FieldName
 held name rule body = ok_or (option_and_then rule (get (field_text name) body)) name
 
--- as `held`, but for a field that may be missing: where it is, the usual value. A null is not missing
+-- what the body holds in a field, or the usual value if the field is missing, which a null is not
 abbrev pub held_or : {A : Type 0} → A → FieldName → (Data → Option A) → Data → Result A FieldName
 held_or usual name rule body = if is_some (get (field_text name) body) then held name rule body else Ok usual
 
--- the next test, of what passed the first; the name of a broken field stays
+-- the next test, of what passed the first, while the name of a broken field stays
 infixl 10 ◌>>=◌
 abbrev pub ◌>>=◌ : {A B : Type 0} → Result A FieldName → (A → Result B FieldName) → Result B FieldName
 Ok x >>= next = next x
 Err name >>= next = Err name
 
--- the facts, where they have no fault; else the fault is that of the field that was read last
+-- the facts, if they have no fault, and otherwise the name of the field that was read last
 unfoldable pub allowed : FieldName → Facts → Result Facts FieldName
 allowed name given = ok_or (if passes_facts given then Some given else None) name
 
--- the facts of a rent, of goods and of fares
+-- the facts of a rent
 abbrev pub rent_facts : ℕ → ℕ → Facts
 rent_facts members rent = facts.Rent (record { members = members; rent = rent })
 
+-- the facts of goods
 abbrev pub goods_facts : ℕ → ℕ → ℕ → Facts
 goods_facts members goods limit = facts.Goods (record { members = members; goods = goods; limit = limit })
 
+-- the facts of a shared fare
 abbrev pub fares_facts : ℕ → ℕ → ℕ → List (ArrayVec ℕ) → Facts
 fares_facts members places flag legs = facts.Fares (record { members = members; places = places; flag = flag; legs = record { items = legs } })
 
--- fares whose legs cost nothing
+-- the facts of a shared fare in which all legs cost nothing
 unfoldable pub free_fares : ℕ → ℕ → ℕ → Facts
 free_fares members places flag = fares_facts members places flag (replicate (places + 1) (record { items = replicate places 0 }))
 
--- the fields of a rent after the title: as many rooms as members, and the rent. Facts are checked as soon as one of their fields is read,
--- here and below, with good values in place of those that are still to come (`field_fault_law`)
+-- the fields of a rent after the title, as many rooms as members and the rent, where facts are tested after each field with good values in place of
+-- the fields to come
 unfoldable pub rent_head : List ℕ → Data → Result HeadData FieldName
 rent_head title body = do
   members ← held field.Members (names_in 0 MEMBER_ROOM) body
@@ -100,7 +102,7 @@ rent_head title body = do
   all ← allowed field.Rent (rent_facts (length members) rent)
   Ok (record { title = title; members = members; items = rooms; facts = all })
 
--- the fields of goods after the title: the goods, and the limit of steps, which may be missing
+-- the fields of goods after the title, which are the goods and the limit of steps, and the limit may be missing
 unfoldable pub goods_head : List ℕ → Data → Result HeadData FieldName
 goods_head title body = do
   members ← held field.Members (names_in 0 MEMBER_ROOM) body
@@ -111,7 +113,7 @@ goods_head title body = do
   all ← allowed field.Limit (goods_facts (length members) (length goods) limit)
   Ok (record { title = title; members = members; items = goods; facts = all })
 
--- the fields of fares after the title: the places, the flag fall and the legs
+-- the fields of a shared fare after the title, which are the places, the flag fall and the legs
 unfoldable pub fares_head : List ℕ → Data → Result HeadData FieldName
 fares_head title body = do
   members ← held field.Members (names_in 0 MEMBER_ROOM) body
@@ -130,36 +132,36 @@ rest_of_head kind.Rent = rent_head
 rest_of_head kind.Goods = goods_head
 rest_of_head kind.Fares = fares_head
 
--- the fields before the bids, in the order in which they are tested: the first whose rule is broken is the answer, else the head
+-- the fields of a case before the bids, in the order in which they are tested, or the first that is missing or breaks its rule
 unfoldable pub head_of_object : Data → Result HeadData FieldName
 head_of_object body = do
   kind ← held field.Kind kind_in body
   title ← held field.Title name_in body
   rest_of_head kind title body
 
--- the head, and then the bids
+-- the case that a JSON object holds, or the first of its fields that is missing or breaks its rule
 unfoldable pub case_of_object : Data → Result CaseData FieldName
 case_of_object body = do
   head ← head_of_object body
   bids ← held field.Bids (bids_in head.facts) body
   Ok (record { title = head.title; members = head.members; items = head.items; facts = head.facts; bids = bids })
 
--- the answer on a JSON value, and on none
+-- the case that a JSON value holds, or what is wrong, where no value means that the body is no JSON
 abbrev pub answer_of : Option Data → Result CaseData BodyFault
 answer_of None = Err Json
 answer_of (Some body) = result_map_both (λ case. case) Field (case_of_object body)
 
--- what a body gives: `Json` exactly where it is no JSON, else the first broken field, else the case
+-- the case that a body holds, or what is wrong with the body: it is no JSON, or this is its first broken field
 abbrev pub case_in : List ℕ → Result CaseData BodyFault
 case_in body = answer_of (json_of body)
 
--- the facts have no fault, and there is a name for each member and item
+-- the facts have no fault, and there is a name for each member and each item
 pub record IsReadyHead (head : HeadData) : Type 0 where
   pub facts : IsCheckedFacts head.facts
   pub members : length head.members ≡ member_count head.facts
   pub items : length head.items ≡ item_count head.facts
 
--- the facts and the bids have no fault, and there is a name for each member and item, and an entry of the bids for each member
+-- facts and bids have no fault, there is a name for each member and each item, and each member has an entry among the bids
 pub record IsReady (case : CaseData) : Type 0 where
   pub facts : IsCheckedFacts case.facts
   pub members : length case.members ≡ member_count case.facts

@@ -16,9 +16,9 @@ use std::alloc::Global;
 
 /// The case that a body of JSON holds, or what is wrong with the body.
 ///
-/// `Json` where the body is no JSON text (RFC 8259) that `serde_json` reads: no UTF-8, deeper than 127 levels, or a number that
+/// `Json` if the body is no JSON text (RFC 8259) that `serde_json` reads: no UTF-8, deeper than 127 levels, or a number that
 /// no `f64` holds. Else `Field` with the first field whose rule is broken, in the order of `FieldName`. Fields of other names are
-/// ignored, and of a repeated key the last stands. `NoMemory` where memory ran out.
+/// ignored, and if a key is repeated, the last one counts. `NoMemory`: memory ran out.
 pub fn read_case(alloc: Global, body: &[u8]) -> Result<Result<CaseInput, BodyFault>, NoMemory>
     ensures case { IfOk result (λ answer. result_map_both shown (λ fault. fault) answer ≡ case_in body.now) }
     ensures json { IfOk result (λ answer. (answer ≡ Err BodyFault.Json) ↔ (json_of body.now ≡ None)) }

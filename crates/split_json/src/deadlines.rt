@@ -5,7 +5,7 @@ ghost use Rattle.split_json.specs.Deadlines.{deadline_of};
 
 use jiff::Timestamp;
 
-/// The second since 1970 at which a timestamp's text stands, a fraction of a second dropped. A text before 1970 is none, even by less
+/// The second since 1970 that a timestamp's text names, without the fraction of a second. A text before 1970 is none, even by less
 /// than a second, so the timestamp is tested before its fraction is dropped.
 pub(crate) fn deadline_of(text: &str) -> Option<u64>
     ensures second { result ≡ deadline_of text.now }

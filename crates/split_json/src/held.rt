@@ -95,7 +95,7 @@ pub(crate) fn bids_of(
         .ok_or(FieldName::Bids)
 }
 
-// The facts, where they have no fault, else the name of the field that was read last.
+// The facts, if they have no fault, and otherwise the name of the field that was read last.
 #[tactic(auto, unfolding(crate::specs::Reading::allowed))]
 pub(crate) fn allowed(name: FieldName, facts: Facts) -> Result<Facts, FieldName>
     ensures value { result ≡ allowed name facts }

@@ -4,7 +4,7 @@ use bid_rules::limits::{ITEM_ROOM, MEMBER_ROOM};
 use bid_rules::{Bid, Facts};
 use case_fields::Name;
 
-/// What a case is of: all that stands in its body before the bids. The head that a body gives has facts without fault.
+/// What a case is about: all that its body has before the bids. The head that a body gives has facts without fault.
 #[derive(Drop)]
 pub struct Head {
     /// What the case is called.
@@ -28,6 +28,6 @@ pub struct CaseInput {
     pub items: ArrayVec<Name, ITEM_ROOM>,
     /// What is divided, without the names: the kind, the counts, and the rent, the limit of steps, or the flag fall and the legs.
     pub facts: Facts,
-    /// One entry per member, in the order of the members: their bid, or `None` where they haven't bid.
+    /// One entry for each member, in their order: the member's bid, or `None` if the member has not bid.
     pub bids: ArrayVec<Option<Bid>, MEMBER_ROOM>,
 }

@@ -22,8 +22,8 @@ pub fn head_law()
     ensures { (body : Data) (head : HeadData) → head_of_object body ≡ Ok head → IsReadyHead head }
 {}
 
-/// The form of a bid refuses none that the rules allow. Under checked facts a whole number is a bid exactly where it is a checked
-/// place, and a list of whole numbers below 2^32 exactly where they are checked values or points. The facts are asked to be checked since
+/// The form of a bid refuses none that the rules allow. Under checked facts a whole number is a bid exactly if it is a checked
+/// place, and a list of whole numbers below 2^32 exactly if they are checked values or points. The facts are asked to be checked since
 /// the form has the room of checked facts alone: a bid of more entries or a greater place is refused before the rule is asked.
 pub fn field_rules_law()
     ensures places { (facts : Facts) (value : Data) (place : ℕ) → IsCheckedFacts facts → whole_number value ≡ Some place
@@ -33,9 +33,8 @@ pub fn field_rules_law()
         → (bid_in facts value ≡ Some (Bid.Values values)) ↔ IsCheckedBid facts (Bid.Values values) }
 {}
 
-/// Why a fault of facts that aren't read whole is that of the field read last: the values that stand in place of those to come are
-/// good. So a rent and goods are refused after the members, and goods after the goods, exactly where their number is out of its
-/// limits, and fares before the legs exactly where a count or the flag fall is.
+/// Why a fault of facts that are not read whole is that of the field read last: the values in place of those to come are good. So a rent and goods are refused after the members, and goods after the goods, exactly if their number is out of its
+/// limits, and fares before the legs exactly if a count or the flag fall is.
 pub fn field_fault_law()
     ensures rent { (members : ℕ) → IsCheckedFacts (rent_facts members MOST_RENT)
         ↔ (FEWEST_MEMBERS ≤ members) × (members ≤ MOST_MEMBERS) }

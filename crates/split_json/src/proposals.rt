@@ -41,9 +41,9 @@ pub fn read_goods(alloc: Global, body: &[u8]) -> Result<Result<CaseInput, BodyFa
 /// The case of goods and the proposed owner of each good, by the number of the member, that a body of JSON holds, or what is wrong with
 /// the body.
 ///
-/// `Json` where the body is no JSON text (RFC 8259) that `serde_json` reads. Else `Field` with the first field whose rule is broken: those
+/// `Json` if the body is no JSON text (RFC 8259) that `serde_json` reads. Otherwise `Field` with the first field whose rule is broken: those
 /// of a case, in the order of `FieldName`, where another kind than goods breaks `kind`, and then the owners: a list with an entry per
-/// good, each the number of a member who has bid. `NoMemory` where memory ran out.
+/// good, each the number of a member who has bid. `NoMemory`: memory ran out.
 pub fn read_proposal(
     alloc: Global,
     body: &[u8],

@@ -173,7 +173,7 @@ fn bid_in(value: &Value, facts: &Facts) -> Option<Bid>
     allowed_bid(facts, written_bid(value, facts)?)
 }
 
-// An entry of the bids: null where the member hasn't bid.
+// An entry of the bids: null where the member has not bid.
 fn entry_in(value: &Value, facts: &Facts) -> Option<Option<Bid>>
     requires { IsCheckedFacts facts.now }
     ensures { result ≡ entry_in facts.now (view value.now) }

@@ -6,7 +6,6 @@ use Rattle.std.specs.List.{list_all, range_with_len}
 use Rattle.std.proofs.lemmas.Bool.Decides.{Decides-and, Decides-by_and, Decides-eqb, Decides-like, nat_tests}
 use Rattle.bid_rules.specs.declared.fares.Fares.{Fares}
 use Rattle.bid_rules.specs.declared.goods.Goods.{Goods}
-use Rattle.bid_rules.specs.declared.rents.Rent.{Rent}
 use Rattle.bid_rules.specs.declared.bids.Facts.{Facts}
 use Rattle.bid_rules.specs.declared.bids.Facts.TheVariants as facts
 use Rattle.bid_rules.specs.declared.bids.Bid.{Bid}

@@ -1,8 +1,8 @@
 -- A natural number of times a signed number, as sums and orders keep it: products with the natural number in front.
-use Rattle.std.proofs.Common.{◌≡◌, ℕ, ℤ, pos, ◌+◌, ◌*◌, ◌≤◌, ◌+ℤ◌, ◌-ℤ◌, ◌*ℤ◌, ◌≤ℤ◌, ◌<ℤ◌, arith, sym, ap, ◌∙◌, subst}
+use Rattle.std.proofs.Common.{◌≡◌, ℕ, ℤ, pos, ◌*◌, ◌≤◌, ◌+ℤ◌, ◌-ℤ◌, ◌*ℤ◌, ◌≤ℤ◌, ◌<ℤ◌, arith, sym, ap, ◌∙◌, subst}
 use Rattle.std.proofs.lemmas.Int.{ints, by_lt_z}
 use Rattle.std.proofs.Math.IntN.{*ℤ_comm}
-use Rattle.split_lemmas.proofs.SignedProducts.{add_times, le_times, less_times, times_add, times_swap, times_times}
+use Rattle.split_lemmas.proofs.SignedProducts.{add_times, le_times, less_times, times_swap, times_times}
 
 -- so many times a sum
 pub multiple_sum : (k : ℕ) (a b : ℤ) → pos k *ℤ (a +ℤ b) ≡ pos k *ℤ a +ℤ pos k *ℤ b
@@ -23,10 +23,6 @@ multiple_le k a b h = omega (arith, ints, le_times a b k h, *ℤ_comm (pos k) a,
 pub multiple_cancel : (k : ℕ) (a b : ℤ) → 1 ≤ k → (pos k *ℤ a) ≤ℤ (pos k *ℤ b) → a ≤ℤ b
 multiple_cancel k a b some h =
     by_lt_z b a (λ (low : b <ℤ a). absurd (omega (arith, ints, h, less_times b a k (omega arith) low, *ℤ_comm (pos k) a, *ℤ_comm (pos k) b))) (λ (up : a ≤ℤ b). up)
-
--- so many times and so many more
-pub multiple_more : (m n : ℕ) (z : ℤ) → pos (m + n) *ℤ z ≡ pos m *ℤ z +ℤ pos n *ℤ z
-multiple_more m n z = omega (arith, ints, times_add z m n, *ℤ_comm (pos (m + n)) z, *ℤ_comm (pos m) z, *ℤ_comm (pos n) z)
 
 -- one number of times after another
 pub multiple_multiple : (m n : ℕ) (z : ℤ) → pos (m * n) *ℤ z ≡ pos m *ℤ (pos n *ℤ z)

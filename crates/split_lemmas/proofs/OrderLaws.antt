@@ -1,10 +1,9 @@
 -- What the list of all orders contains.
-use Rattle.std.proofs.Common.{◌≡◌, ℕ, ◌+◌, ◌<◌, suc, zero, ◌*◌, List, [], ◌∷◌, ◌++◌, length, map, flat_map, insert, All, arith, refl, ap, ◌∙◌}
+use Rattle.std.proofs.Common.{◌≡◌, ℕ, ◌+◌, ◌<◌, suc, zero, ◌*◌, List, [], ◌∷◌, length, map, flat_map, insert, All, arith, refl, ap, ◌∙◌}
 use Rattle.std.specs.List.{range_with_len}
 use Rattle.std.specs.List.Sorted.{IsPermutation}
 use Rattle.std.proofs.lemmas.List.Elements.{All-nil, All-cons, All-head, All-tail, All-append, All-map, All-weaker}
 use Rattle.std.proofs.lemmas.List.Sorted.{IsPermutation-refl, IsPermutation-cons, IsPermutation-insert, IsPermutation-trans, length_permutation}
-use Rattle.std.proofs.lemmas.List.FromFn.{map-range_with_len_more}
 use Rattle.std.proofs.lemmas.List.FromFn.{length-map-range_with_len}
 use Rattle.std.proofs.lemmas.List.Concat.{length-flat_map}
 use Rattle.std.proofs.lemmas.List.Sums.{sum_by-cons}
@@ -33,10 +32,6 @@ orders_permute (x ∷ xs) = All-flat_map (IsPermutation (x ∷ xs)) (insertions 
 -- and has its length
 pub orders_length : {X : Type 0} (xs : List X) → All (λ zs. length zs ≡ length xs) (orders xs)
 orders_length xs = All-weaker (IsPermutation xs) (λ zs. length zs ≡ length xs) (length_permutation xs) (orders xs) (orders_permute xs)
-
--- one more place
-pub insertions_more : {X : Type 0} (x : X) (zs : List X) (n : ℕ) → map (λ place. insert zs place x) (range_with_len 0 (n + 1)) ≡ map (λ place. insert zs place x) (range_with_len 0 n) ++ insert zs n x ∷ []
-insertions_more x zs n = map-range_with_len_more (λ place. insert zs place x) 0 n n (omega arith)
 
 -- what holds of each image
 pub All-from_map : {X Y : Type 0} (P : Y → Type 0) (f : X → Y) (xs : List X) → All P (map f xs) → All (λ x. P (f x)) xs

@@ -1,10 +1,10 @@
--- A writer of rows that stands between two of them: for the contracts of private functions alone.
+-- A writer of rows between two of them: for the contracts of private functions alone.
 use Rattle.std.specs.Prelude.{◌≡◌, ℕ, List, Some, false, Vec}
 use Rattle.csv.specs.Writing.{default_writer, writer_setup, fields_written, has_written, text_written}
 use Rattle.csv.specs.declared.writer.Writer.{Writer}
 use Rattle.std.specs.declared.alloc.Global.{Global}
 
--- the default writer over a vector has written this text, and has begun no row
+-- the writer has written this text, and has begun no row after it
 pub record IsBetweenRows (w : Writer (Vec ℕ Global)) (text : List ℕ) : Type 0 where
   pub setup : writer_setup w ≡ default_writer
   pub fields : fields_written w ≡ 0

@@ -14,24 +14,24 @@ use Rattle.split_reports.specs.Players.{player_line, player_member}
 use Rattle.split_reports.specs.Lines.{count_line, envy_line}
 use Rattle.split_frac.specs.Texts.{line_of}
 
--- the title, and how many of the members are players
+-- the first lines of the report: the title, and how many of the members are players
 abbrev pub goods_head : NamesData → GoodsCase → List ℕ
 goods_head given case = line_of (codes "goods " ∷ given.title ∷ []) ++ count_line (codes "players ") (length case.who.items) (length given.members)
 
--- the line of the pair of the allocation and of the number of steps of the search
+-- the line of the Nash welfare of the allocation and the number of steps of the search
 abbrev pub pair_line : Pair → ℕ → List ℕ
 pair_line pair steps = line_of (codes "positive " ∷ decimal pair.count ∷ codes ", product " ∷ decimal pair.product ∷ codes ", steps " ∷ decimal steps ∷ [])
 
--- the line of a player in the table of points, in the number of the member
+-- the line of a player in the table of envy in points, by the number of the member
 abbrev pub player_envy : GoodsCase → List (List ℤ) → ℕ → List ℕ
 player_envy case table player = envy_line (player_member case player) (map signed_decimal (slice_index_or table (player - 1) []))
 
--- the report
+-- the report of goods
 abbrev pub goods_report : NamesData → GoodsCase → List ℕ → Pair → ℕ → List (List ℤ) → List ℕ
 goods_report given case owners pair steps table =
     goods_head given case ++ lines_to (player_count case) (player_line given case owners) ++ pair_line pair steps ++ lines_to (player_count case) (player_envy case table)
 
--- the text is the report of the division of goods, with the table of points
+-- the text is the report of this division of goods, with the table of envy in points
 abbrev pub IsGoodsReport : NamesData → GoodsCase → GoodsDivision → List ℕ → Type 0
 IsGoodsReport given case division text =
     (table : List (ArrayVec ℤ MEMBER_ROOM (Unit {0}))) × IsPointsTable case division.owners.items table

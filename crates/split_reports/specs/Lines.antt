@@ -7,6 +7,6 @@ use Rattle.split_frac.specs.Texts.{line_of, spaced}
 abbrev pub count_line : List ℕ → ℕ → ℕ → List ℕ
 count_line word part members = line_of (word ∷ decimal part ∷ codes " of " ∷ decimal members ∷ [])
 
--- a line of a table: whose it is, by the number of the member, and the entries
+-- a line of a table of envy: the number of the member, and the entries
 abbrev pub envy_line : ℕ → List (List ℕ) → List ℕ
 envy_line member entries = line_of (codes "envy " ∷ decimal member ∷ codes ":" ∷ spaced entries ∷ [])

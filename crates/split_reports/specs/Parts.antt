@@ -3,11 +3,11 @@ use Rattle.std.specs.Prelude.{ℕ, ◌-◌, List, [], flat_map, slice_index, sli
 use Rattle.std.specs.List.{range_with_len}
 use Rattle.split_frac.specs.Texts.{named}
 
--- the number in a list with a place, counted from 1
+-- the number at a place of a list, where places count from 1
 abbrev pub number_at : List ℕ → ℕ → ℕ
 number_at numbers place = slice_index numbers (place - 1)
 
--- the text in a list with a place, counted from 1
+-- the text at a place of a list, where places count from 1
 abbrev pub text_at : List (List ℕ) → ℕ → List ℕ
 text_at texts place = slice_index_or texts (place - 1) []
 
@@ -15,6 +15,6 @@ text_at texts place = slice_index_or texts (place - 1) []
 abbrev pub named_at : List (List ℕ) → ℕ → List ℕ
 named_at names number = named number (text_at names number)
 
--- the lines of 1 to n, one after another
+-- the lines numbered from 1 to n, one after another
 abbrev pub lines_to : ℕ → (ℕ → List ℕ) → List ℕ
 lines_to n text = flat_map text (range_with_len 1 n)

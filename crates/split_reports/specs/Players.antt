@@ -7,11 +7,11 @@ use Rattle.split_reports.specs.Parts.{named_at, number_at}
 use Rattle.split_reports.specs.Names.{NamesData}
 use Rattle.split_frac.specs.Texts.{line_of, spaced}
 
--- the number of the member that a player is
+-- the number of the member who is this player
 abbrev pub player_member : GoodsCase → ℕ → ℕ
 player_member case player = number_at case.who.items player
 
--- the numbers of some goods, each after a space, or that there is none
+-- the numbers of some goods, with a space before each, or that there are none
 abbrev pub goods_list : List ℕ → List ℕ
 goods_list [] = codes " none"
 goods_list (good ∷ goods) = spaced (map decimal (good ∷ goods))

@@ -15,7 +15,7 @@ use Rattle.split_reports.specs.Lines.{envy_line}
 use Rattle.split_reports.specs.declared.rent.RentFigures.{RentFigures}
 use Rattle.split_frac.specs.Texts.{line_of}
 
--- what the report of a rent tells beside the names and the rent: by member, but for the prices, which are by room
+-- what the report of a rent tells beside the names and the rent: rooms, payments, utilities and envy by member, prices by room, and the least utility
 pub record RentTold : Type 0 where
   pub rooms : List ℕ
   pub prices : List Frac
@@ -24,7 +24,7 @@ pub record RentTold : Type 0 where
   pub least : Frac
   pub envy : List (List Frac)
 
--- what the figures tell
+-- what the figures of a rent tell
 abbrev pub figures_shown : RentFigures → RentTold
 figures_shown figures = record {
   rooms = figures.division.now.best.rooms.items;
@@ -35,7 +35,7 @@ figures_shown figures = record {
   envy = map (λ row. row.items) figures.envy.items;
 }
 
--- there is a room, a name, a price, a payment, a utility and a row of the envy table for each member
+-- there is a room, a name, a price, a payment, a utility and a row of the table of envy for each member
 pub record AreFigures (given : NamesData) (told : RentTold) : Type 0 where
   pub rooms : length told.rooms ≡ length given.members
   pub each : All (λ room. (1 ≤ room) × (room ≤ length given.members)) told.rooms
@@ -45,7 +45,7 @@ pub record AreFigures (given : NamesData) (told : RentTold) : Type 0 where
   pub utilities : length told.utilities ≡ length given.members
   pub envy : length told.envy ≡ length given.members
 
--- the title, the number of members and the rent
+-- the first lines of the report: the title, the number of members and the rent
 abbrev pub rent_head : List ℕ → ℕ → ℕ → List ℕ
 rent_head title members rent = line_of (codes "rent " ∷ title ∷ []) ++ line_of (codes "members " ∷ decimal members ∷ []) ++ line_of (codes "total " ∷ decimal rent ∷ [])
 
@@ -60,23 +60,23 @@ member_line given told member =
 abbrev pub least_line : Frac → List ℕ
 least_line least = line_of (codes "least utility " ∷ frac_text least ∷ [])
 
--- the line of a member in the envy table
+-- the line of a member in the table of envy
 abbrev pub member_envy : RentTold → ℕ → List ℕ
 member_envy told member = envy_line member (map frac_text (slice_index_or told.envy (member - 1) []))
 
--- the report
+-- the report of a rent
 abbrev pub rent_report : NamesData → ℕ → RentTold → List ℕ
 rent_report given rent told =
     let members = length given.members in
     rent_head given.title members rent ++ lines_to members (member_line given told) ++ least_line told.least ++ lines_to members (member_envy told)
 
--- each member's utility with their own room, whatever the parts in which the prices are whole
+-- the utility of each member in the room assigned, in whatever parts of a cent the prices are whole
 pub record AreUtilities (case : RentCase) (rooms : List ℕ) (prices utilities : List Fraction) : Type 0 where
   pub count : length utilities ≡ room_count case
   pub each : (member : ℕ) → member < room_count case → (k : ℕ) (parts : List ℤ) → 1 ≤ k → HasParts prices k parts → IsQuotient (amount_at utilities member) (utility case k rooms parts member) k
 
--- what is told of a division: its rooms, prices and least utility, the cent plan of the members' prices in the order of the members, their utilities and the
--- envy table
+-- what is told of a division: its rooms, prices and least utility, what members pay by the cent plan of their prices, their utilities and the table
+-- of envy
 pub record AreFiguresOf (case : RentCase) (division : RentDivision) (told : RentTold) : Type 0 where
   pub rooms : told.rooms ≡ division.best.rooms.items
   pub prices : told.prices ≡ division.prices.items
@@ -85,6 +85,6 @@ pub record AreFiguresOf (case : RentCase) (division : RentDivision) (told : Rent
   pub utilities : AreUtilities case told.rooms (map fraction_of told.prices) (map fraction_of told.utilities)
   pub envy : IsEnvyTable case told.rooms (map fraction_of told.prices) (map (map fraction_of) told.envy)
 
--- the text is the report of the division of a rent
+-- the text is the report of this division of a rent
 abbrev pub IsRentReport : NamesData → RentCase → RentDivision → List ℕ → Type 0
 IsRentReport given case division text = (told : RentTold) × AreFiguresOf case division told × (text ≡ rent_report given case.facts.rent told)

@@ -10,13 +10,13 @@ use Rattle.split_reports.specs.Goods.{IsGoodsReport}
 use Rattle.split_reports.specs.Names.{NamesData, names_of}
 use Rattle.split_reports.specs.Rent.{IsRentReport}
 
--- the text is the report of the case and its division under these names
+-- the text is the report of this division of the case, with these names
 abbrev pub IsNamedReport : NamesData → Case → Division → List ℕ → Type 0
 IsNamedReport names (case.Rent rent) (Rent division) text = IsRentReport names rent division text
 IsNamedReport names (case.Goods goods) (Goods division) text = IsGoodsReport names goods division text
 IsNamedReport names (case.Fares fares) (Fares division) text = IsFaresReport names fares division text
 IsNamedReport names case division text = ⊥
 
--- the text is the report of the case and its division
+-- the text is the report of this division of the case
 abbrev pub IsReport : CaseData → Case → Division → List ℕ → Type 0
 IsReport given case division text = IsNamedReport (names_of given) case division text

@@ -1,7 +1,7 @@
 -- How many prefixes there are.
 use Rattle.std.specs.Prelude.{ℕ, zero, suc, ◌+◌, ◌*◌}
 
--- how many lists of owners among n players have up to k owners, the empty one among them: 1 and n and so on to the k-th power of n
+-- how many lists of up to k owners there are among n players, the empty list included: 1 and n and so on up to the k-th power of n
 unfoldable pub list_count : ℕ → ℕ → ℕ
 list_count n zero = 1
 list_count n (suc k) = 1 + n * list_count n k

@@ -1,4 +1,8 @@
 //! The texts that people read: reports, lines on players, dumps, and the cases of a trial.
+//!
+//! The numbers of a report are those of the division, its cent plan, exact utilities and tables of
+//! envy, each by its definition. What is given fixes the report (`report_law`). The cases of a
+//! trial are valid, and their goods stay within the limit of steps (`trial_law`).
 #![tactic(auto)]
 
 mod draws;

@@ -1,4 +1,4 @@
-// What a trial draws, and how many of each. Each number of it stands here and nowhere else.
+// What a trial draws, and how many of each. Each number is here and nowhere else.
 
 /// A draw is below this number, which is a prime.
 pub const DRAW_MODULUS: u32 = 2_147_483_647;

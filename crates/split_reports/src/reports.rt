@@ -21,7 +21,7 @@ use std::alloc::Global;
 /// whom. Lines end with LF.
 ///
 /// The lists of the input have the counts of its facts, the facts and bids have no fault, the case is the one that they make,
-/// and the division is the solver's for that case. `NoMemory` comes for want of memory alone.
+/// and the division is the solver's for that case. `NoMemory` comes only if memory runs out.
 pub fn report(
     alloc: Global,
     input: &CaseInput,
@@ -42,7 +42,7 @@ pub fn report(
     named_report(alloc, &names, case, division)
 }
 
-/// The report that people read, of a case whose names stand apart from its facts and bids.
+/// The report that people read, of a case whose names are given apart from its facts and bids.
 ///
 /// There is a name for each member and each item of the case, and the division is the solver's for it. `NoMemory` comes for want of
 /// memory alone.

@@ -1,3 +1,2 @@
 pub mod SameCases
-pub mod SearchedCases
 pub mod SolvedCases

@@ -5,7 +5,7 @@ use Rattle.nash_search.specs.declared.division.GoodsDivision.{GoodsDivision}
 use Rattle.nash_search.specs.declared.division.OverLimit.{OverLimit}
 use Rattle.nash_search.specs.Division.{IsGoodsDivision, IsOverLimit}
 
--- the best division of the case, or that its step count is above its limit
+-- a search of goods ends with the best division of the case, or with its limit if the step count is above it
 abbrev pub IsSearched : GoodsCase → Result GoodsDivision OverLimit → Type 0
 IsSearched case (Ok division) = IsGoodsDivision case division
 IsSearched case (Err over) = IsOverLimit case over

@@ -24,8 +24,8 @@ AreFares (facts.Rent rent) = ⊥
 AreFares (facts.Goods goods) = ⊥
 AreFares (facts.Fares fares) = Unit {0}
 
--- they make a case with this best division; or they make none, for want of bids; or a case of goods above its limit; or one of fares, for
--- which memory ran out
+-- facts and bids make a case with this best division, or no case since these members have not bid, or a case of goods with a step count above this
+-- limit, or a case of fares for which memory ran out
 abbrev pub IsSolved : Facts → List (Option Bid) → Result (Case × Division) SolveFault → Type 0
 IsSolved given bids (Ok answer) = (case_of given bids ≡ Ok answer.0) × IsDivisionOf answer.0 answer.1
 IsSolved given bids (Err (Void missing)) = case_of given bids ≡ Err missing
@@ -46,7 +46,7 @@ IsOver (Err (Void missing)) = ⊥
 IsOver (Err (OverLimit limit)) = Unit {0}
 IsOver (Err NoMemory) = ⊥
 
--- the same of a case at hand: for the contract of a private function alone
+-- the case has this best division, or a step count above this limit, or it is of fares and memory ran out
 abbrev pub IsDivided : Case → Result Division SolveFault → Type 0
 IsDivided one (Ok division) = IsDivisionOf one division
 IsDivided one (Err (Void missing)) = ⊥

@@ -29,7 +29,7 @@ impl Model for KeptSearch {
 }
 
 impl KeptSearch {
-    /// What the search of this case found, where it is the case that is kept.
+    /// What the search of this case found, if it is the case that is kept.
     fn answer(&self, case: &GoodsCase) -> Option<Result<GoodsDivision, OverLimit>>
         ensures { IfSome result (IsSearched case.now) }
     {
@@ -44,7 +44,7 @@ impl KeptSearch {
 /// What the last searches of goods found, `MOST_KEPT_SEARCHES` of them at most.
 ///
 /// The key is the whole case, with its points: so what is found for it is its answer wherever the case comes from, and nothing has to be
-/// forgotten. It takes part in how soon an answer comes, and not in what it is. Where memory is refused, nothing is kept.
+/// forgotten. Keeping changes how soon an answer comes, and never the answer. If memory is refused, nothing is kept.
 #[derive(Drop)]
 pub struct KeptSearches {
     searches: Vec<KeptSearch>,
@@ -58,7 +58,7 @@ impl KeptSearches {
         }
     }
 
-    /// What the search of this case found, where it is kept.
+    /// What the search of this case found, if it is kept.
     pub(crate) fn answer(&self, case: &GoodsCase) -> Option<Result<GoodsDivision, OverLimit>>
         ensures { IfSome result (IsSearched case.now) }
     {
@@ -70,7 +70,7 @@ impl KeptSearches {
         None
     }
 
-    /// Keeps what the search of a case found, in place of the oldest where there are `MOST_KEPT_SEARCHES`.
+    /// Keeps what the search of a case found, in place of the oldest if there are `MOST_KEPT_SEARCHES`.
     pub(crate) fn keep(&mut self, case: &GoodsCase, found: &Result<GoodsDivision, OverLimit>)
         requires { IsSearched case.now found.now }
     {

@@ -13,8 +13,8 @@ use bid_rules::case_law;
 use certificates::division_law;
 use nash_search::limit_law;
 
-/// Facts and bids have one end, but for want of memory: a case with its best division, or one fault. So neither the number of workers nor
-/// their order takes part in it. Checked facts and bids have one division, too (`one_end`).
+/// Unless memory runs out, facts and bids have one end: a case with its best division, or one fault. So neither the number of workers nor
+/// their order changes it. Checked facts and bids have one division, too (`one_end`).
 pub fn solve_law()
     ensures one_case { (facts : Facts) (bids : List (Option Bid)) (a b : Case × Division) → IsSolved facts bids (Ok a) → IsSolved facts bids (Ok b) → a.0 ≡ b.0 }
     ensures one_fault { (facts : Facts) (bids : List (Option Bid)) (fault other : SolveFault) → IsSolved facts bids (Err fault) → IsSolved facts bids (Err other)

@@ -23,7 +23,7 @@ use std::thread::Threads;
 /// Why facts and bids have no division.
 #[derive(Debug, Drop, PartialEq, Eq)]
 pub enum SolveFault {
-    /// They make no case, for want of the bids of these members: on a rent where any is missing, on goods and fares where all are.
+    /// They make no case, since these members have not bid: on a rent if any is missing, on goods and fares if all are.
     Void { missing: Missing },
     /// They make a case of goods whose step count is above its limit, which is this one.
     OverLimit { limit: u32 },
@@ -34,7 +34,7 @@ pub enum SolveFault {
 /// The case that checked facts and checked bids make, and its best division.
 ///
 /// The bids are by member, `None` where one has not bid. Of a rent the division has the maximin prices, of goods the greatest Nash welfare, of
-/// fares the Shapley values, with the tie rules of each. Goods are searched by 1 to `MOST_WORKERS` workers, who take no part in the answer.
+/// fares the Shapley values, with the tie rules of each. Goods are searched by 1 to `MOST_WORKERS` workers, whose number never changes the answer.
 pub fn solve<R: Threads + Sync, G: Gate + Sync>(
     alloc: Global,
     rt: &R,
@@ -51,22 +51,13 @@ pub fn solve<R: Threads + Sync, G: Gate + Sync>(
     ensures void { IsVoid result ↔ AreMissing facts.now bids.now }
     ensures over { (goods : GoodsCase) (steps : ℕ) → case_of facts.now bids.now ≡ Ok (case.Goods goods) → HasSteps goods steps → IsOver result ↔ (goods.facts.limit < steps) }
 {
-    case_law();
-    limit_law();
-    let case = match make_case(facts, bids) {
-        Ok(case) => case,
-        Err(missing) => return Err(SolveFault::Void { missing }),
-    };
-    match best_division(alloc, rt, &case, workers, gate) {
-        Ok(division) => Ok((case, division)),
-        Err(fault) => Err(fault),
-    }
+    let mut searches = KeptSearches::new(alloc);
+    solve_once(alloc, rt, facts, bids, &mut searches, workers, gate)
 }
 
-/// What `solve` gives, by the kept searches: a case of goods that one of them is of is not searched anew, and the search of another is kept.
+/// What `solve` gives, by the kept searches: a case of goods that is among them is not searched anew, and the search of another is kept.
 ///
-/// They take no part in the answer. Memory that is refused for keeping is no fault.
-#[allow(clippy::too_many_arguments)]
+/// They never change the answer. Memory that is refused for keeping is no fault.
 pub fn solve_once<R: Threads + Sync, G: Gate + Sync>(
     alloc: Global,
     rt: &R,
@@ -90,14 +81,14 @@ pub fn solve_once<R: Threads + Sync, G: Gate + Sync>(
         Ok(case) => case,
         Err(missing) => return Err(SolveFault::Void { missing }),
     };
-    match division_once(alloc, rt, &case, searches, workers, gate) {
+    match best_division(alloc, rt, &case, searches, workers, gate) {
         Ok(division) => Ok((case, division)),
         Err(fault) => Err(fault),
     }
 }
 
 /// The best division of a case, by the kept searches.
-fn division_once<R: Threads + Sync, G: Gate + Sync>(
+fn best_division<R: Threads + Sync, G: Gate + Sync>(
     alloc: Global,
     rt: &R,
     case: &Case,
@@ -110,12 +101,16 @@ fn division_once<R: Threads + Sync, G: Gate + Sync>(
     ensures { IsDivided case.now result }
 {
     match case {
+        Case::Rent(case) => Ok(Division::Rent(solve_rent(case))),
         Case::Goods(case) => end_of(search_once(alloc, rt, case, searches, workers, gate)),
-        Case::Rent(_) | Case::Fares(_) => best_division(alloc, rt, case, workers, gate),
+        Case::Fares(case) => match solve_fares(alloc, case) {
+            Ok(division) => Ok(Division::Fares(division)),
+            Err(NoMemory) => Err(SolveFault::NoMemory),
+        },
     }
 }
 
-/// What the search of a case of goods finds, which is made where none is kept.
+/// What the search of a case of goods finds: what is kept of it, and otherwise a new search, which is then kept.
 fn search_once<R: Threads + Sync, G: Gate + Sync>(
     alloc: Global,
     rt: &R,
@@ -145,27 +140,5 @@ fn end_of(found: Result<GoodsDivision, OverLimit>) -> Result<Division, SolveFaul
     match found {
         Ok(division) => Ok(Division::Goods(division)),
         Err(over) => Err(SolveFault::OverLimit { limit: over.limit }),
-    }
-}
-
-/// The best division of a case.
-fn best_division<R: Threads + Sync, G: Gate + Sync>(
-    alloc: Global,
-    rt: &R,
-    case: &Case,
-    workers: u8,
-    gate: &G,
-) -> Result<Division, SolveFault>
-    requires case { IsValidCase case.now }
-    requires workers { (1 ≤ workers) × (workers ≤ MOST_WORKERS) }
-    ensures { IsDivided case.now result }
-{
-    match case {
-        Case::Rent(case) => Ok(Division::Rent(solve_rent(case))),
-        Case::Goods(case) => end_of(search(alloc, rt, case, workers, gate)),
-        Case::Fares(case) => match solve_fares(alloc, case) {
-            Ok(division) => Ok(Division::Fares(division)),
-            Err(NoMemory) => Err(SolveFault::NoMemory),
-        },
     }
 }

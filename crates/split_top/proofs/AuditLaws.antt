@@ -1,5 +1,5 @@
 -- What the dialer counts of a link that is given back.
-use Rattle.std.proofs.Common.{◌≡◌, ◌⊎◌, ◌<◌, ℕ, Result, Ok, Err, inl, inr, ◌∙◌, arith}
+use Rattle.std.proofs.Common.{◌≡◌, ◌⊎◌, ◌<◌, ℕ, Result, Ok, Err, inl, inr, arith}
 use Rattle.remote_check.specs.declared.ends.FetchEnd.{FetchEnd}
 use Rattle.remote_check.specs.declared.ends.FetchEnd.TheVariants as fetch
 use Rattle.remote_check.specs.Requests.{Counts}

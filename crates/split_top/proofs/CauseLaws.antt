@@ -2,7 +2,7 @@
 use Rattle.std.proofs.Common.{◌≡◌, ◌⊎◌, ◌+◌, ◌-◌, ◌^◌, ◌<◌, ◌≤◌, ℕ, List, Result, Ok, Err, inl, inr, refl, sym, ⊎_elim, subst, arith}
 use Rattle.std.proofs.lemmas.Bool.{cases_lt}
 use Rattle.command_results.specs.Endings.{owed}
-use Rattle.command_results.specs.ObjectUse.{Ends, HasNoFault, HasOneFault, HasWritten}
+use Rattle.command_results.specs.ObjectUse.{HasNoFault, HasOneFault, HasWritten}
 use Rattle.command_results.specs.declared.stop.Stop.{Stop}
 use Rattle.command_results.specs.declared.stop.Stop.TheVariants.{Void, OverLimit, NotTwo, BrokenRule, BadWords, TooLong, BadCase, BrokenLine, BadReply, BadStatus, BadJournal, ReadFault, StoreFault, PortFault, NoMemory}
 use Rattle.gate_log.specs.declared.fault.LogFault.{LogFault}
@@ -27,7 +27,7 @@ use Rattle.remote_check.specs.declared.ends.FetchEnd.TheVariants as fetch
 use Rattle.rule_verdicts.specs.declared.verdict.Verdict.{Verdict}
 use Rattle.rule_verdicts.specs.declared.verdict.Verdict.TheVariants.{No, Yes}
 use Rattle.split_top.specs.Audits.{Audits, fetch_ending}
-use Rattle.split_top.specs.Causes.{Ended, HasCauses, TakesMemory, licences}
+use Rattle.split_top.specs.Causes.{HasCauses, TakesMemory}
 use Rattle.split_top.specs.Commands.{AreNoRow, Names}
 use Rattle.split_top.specs.Outside.{Outside, UsesNothing}
 use Rattle.split_top.specs.Runs.{Came, Comes, Ran, OutsideTells}
@@ -57,11 +57,11 @@ dump_store d disk after (Dumps.not_opened why opens is) = open_store d disk afte
 
 run_port : {P L : Type 0} (p : PortTells P L) (port after : P) (count number : ℕ) → RunEnds p port after count number (Err PortFault) → FailedOnce (p.faults port) (p.faults after)
 run_port p port after count number (RunEnds.told is still most few) = cc is
-run_port p port after count number (RunEnds.cut is once) = once
+run_port p port after count number (RunEnds.cut is once most) = once
 
 run_store : {P L : Type 0} (p : PortTells P L) (port after : P) (count number : ℕ) → RunEnds p port after count number (Err StoreFault) → ⊥
 run_store p port after count number (RunEnds.told is still most few) = cc is
-run_store p port after count number (RunEnds.cut is once) = cc is
+run_store p port after count number (RunEnds.cut is once most) = cc is
 
 -- a file that isn't opened is no fault of a port
 not_port : (why : LogFault) → ends PortFault ≡ ends (stop_of why) → ⊥
@@ -69,24 +69,24 @@ not_port fault.Disk is = cc is
 not_port (fault.NotALog place) is = cc is
 not_port fault.NoMemory is = cc is
 
-module _ {D P L C : Type 0} (d : DiskTells D) (p : PortTells P L) (links : LinkTells L) (c : ClockTells C) (disk after : D) (port port_after : P) (clock clock_after : C) (count : ℕ) where
+module _ {D P L C : Type 0} (d : DiskTells D) (p : PortTells P L) (links : LinkTells L) (c : ClockTells C) (disk after : D) (port port_after : P) (clock clock_after : C) (port_number count : ℕ) where
   opened_store : (w : D × State) → ServesOpened d p links c w after port port_after clock clock_after count (Err StoreFault) → ⊥
   opened_store w (ServesOpened.deaf at asked none once is) = cc is
   opened_store w (ServesOpened.ran number runs ends) = run_store p port port_after count number ends
 
-  serve_store : Serves d p links c disk after port port_after clock clock_after count (Err StoreFault) → FailedOnce (d.faults disk) (d.faults after)
+  serve_store : Serves d p links c disk after port port_after clock clock_after port_number count (Err StoreFault) → FailedOnce (d.faults disk) (d.faults after)
   serve_store (Serves.no_routes same still asked is) = cc is
   serve_store (Serves.not_opened why opens still asked is) = open_store d disk after why opens is
-  serve_store (Serves.opened serving between opens served) = absurd (opened_store (between, state_of opens.opened) served)
+  serve_store (Serves.opened serving between opens once served) = absurd (opened_store (between, state_of opens.opened) served)
 
   opened_port : (w : D × State) → ServesOpened d p links c w after port port_after clock clock_after count (Err PortFault) → FailedOnce (p.faults port) (p.faults port_after)
   opened_port w (ServesOpened.deaf at asked none once is) = once
   opened_port w (ServesOpened.ran number runs ends) = run_port p port port_after count number ends
 
-  serve_port : Serves d p links c disk after port port_after clock clock_after count (Err PortFault) → FailedOnce (p.faults port) (p.faults port_after)
+  serve_port : Serves d p links c disk after port port_after clock clock_after port_number count (Err PortFault) → FailedOnce (p.faults port) (p.faults port_after)
   serve_port (Serves.no_routes same still asked is) = cc is
   serve_port (Serves.not_opened why opens still asked is) = absurd (not_port why is)
-  serve_port (Serves.opened serving between opens served) = opened_port (between, state_of opens.opened) served
+  serve_port (Serves.opened serving between opens once served) = opened_port (between, state_of opens.opened) served
 
 -- no answer of a fetch is a fault of the store or of a read, or want of memory
 no_store : (answer : Result Verdict FetchEnd) → ends StoreFault ≡ fetch_ending answer → ⊥
@@ -149,17 +149,17 @@ module _ (stop : Stop) (not_opened : (why : LogFault) → ends stop ≡ ends (st
   module _ (not_port : ends stop ≡ ends PortFault → ⊥) where
     run_never : {P L : Type 0} (p : PortTells P L) (port after : P) (count number : ℕ) → RunEnds p port after count number (Err stop) → ⊥
     run_never p port after count number (RunEnds.told is still most few) = cc is
-    run_never p port after count number (RunEnds.cut is once) = not_port is
+    run_never p port after count number (RunEnds.cut is once most) = not_port is
 
-    module _ {D P L C : Type 0} (d : DiskTells D) (p : PortTells P L) (links : LinkTells L) (c : ClockTells C) (disk after : D) (port port_after : P) (clock clock_after : C) (count : ℕ) where
+    module _ {D P L C : Type 0} (d : DiskTells D) (p : PortTells P L) (links : LinkTells L) (c : ClockTells C) (disk after : D) (port port_after : P) (clock clock_after : C) (port_number count : ℕ) where
       opened_never : (w : D × State) → ServesOpened d p links c w after port port_after clock clock_after count (Err stop) → ⊥
       opened_never w (ServesOpened.deaf at asked none once is) = not_port is
       opened_never w (ServesOpened.ran number runs ends) = run_never p port port_after count number ends
 
-      serve_never : Serves d p links c disk after port port_after clock clock_after count (Err stop) → ⊥
+      serve_never : Serves d p links c disk after port port_after clock clock_after port_number count (Err stop) → ⊥
       serve_never (Serves.no_routes same still asked is) = not_opened fault.NoMemory is
       serve_never (Serves.not_opened why opens still asked is) = not_opened why is
-      serve_never (Serves.opened serving between opens served) = opened_never (between, state_of opens.opened) served
+      serve_never (Serves.opened serving between opens once served) = opened_never (between, state_of opens.opened) served
 
 -- a file that isn't opened is no fault of a read, or of a port
 file_not_read : (why : LogFault) → ends ReadFault ≡ ends (stop_of why) → ⊥
@@ -167,14 +167,14 @@ file_not_read fault.Disk is = cc is
 file_not_read (fault.NotALog place) is = cc is
 file_not_read fault.NoMemory is = cc is
 
-module _ {L X : Type 0} (x : DialTells X L) (tells : LinkTells L) (before after : X) (asked : Words) where
-  audit_port : Audits x tells before after asked (Err PortFault) → FailedOnce (x.faults before) (x.faults after)
-  audit_port (inl none) = once_more (x.faults before) (x.faults after) none.fault
-  audit_port (inr fetched) = once_more (x.faults before) (x.faults after) (link_failed (x.faults before) (x.faults after) fetched.answer fetched.is fetched.fault)
+module _ {L X : Type 0} (x : DialTells X L) (tells : LinkTells L) (before after : X) (port : ℕ) (asked : Words) where
+  audit_port : Audits x tells before after port asked (Err PortFault) → FailedOnce (x.faults before) (x.faults after)
+  audit_port (once, inl none) = once_more (x.faults before) (x.faults after) none.fault
+  audit_port (once, inr fetched) = once_more (x.faults before) (x.faults after) (link_failed (x.faults before) (x.faults after) fetched.answer fetched.is fetched.fault)
 
-  audit_not : (stop : Stop) → (ends stop ≡ ends PortFault → ⊥) → ((answer : Result Verdict FetchEnd) → ends stop ≡ fetch_ending answer → ⊥) → Audits x tells before after asked (Err stop) → ⊥
-  audit_not stop dial fetch (inl none) = dial none.is
-  audit_not stop dial fetch (inr fetched) = fetch fetched.answer fetched.is
+  audit_not : (stop : Stop) → (ends stop ≡ ends PortFault → ⊥) → ((answer : Result Verdict FetchEnd) → ends stop ≡ fetch_ending answer → ⊥) → Audits x tells before after port asked (Err stop) → ⊥
+  audit_not stop dial fetch (once, inl none) = dial none.is
+  audit_not stop dial fetch (once, inr fetched) = fetch fetched.answer fetched.is
 
 -- what reads an input answers no fault of the store or of a port
 no_answer : (command : InputCommand) (bytes : List ℕ) → Answers command bytes (Err StoreFault) ⊎ Answers command bytes (Err PortFault) → ⊥
@@ -224,10 +224,10 @@ module _ {D P L C X M : Type 0} (tells : OutsideTells D P L C X M) (outside : Ou
   store_of : (command : Command) → Came tells outside command (Err StoreFault) → FailedOnce (tells.disk.faults outside.disk) (tells.disk.faults outside.disk_now)
   store_of (Init secret) h = make_store tells.disk outside.disk outside.disk_now secret h.1
   store_of (Serve port workers count) h =
-      serve_store tells.disk tells.port tells.links tells.clock outside.disk outside.disk_now outside.port outside.port_now outside.clock outside.clock_now count h.1
+      serve_store tells.disk tells.port tells.links tells.clock outside.disk outside.disk_now outside.port outside.port_now outside.clock outside.clock_now port count h.1
   store_of Dump h = dump_store tells.disk outside.disk outside.disk_now h.1
   store_of (Trial number workers) h = absurd h.1
-  store_of (Audit port asked) h = absurd (audit_not tells.dialer tells.dialled outside.dialer outside.dialer_now asked StoreFault (λ e. cc e) no_store h.1)
+  store_of (Audit port asked) h = absurd (audit_not tells.dialer tells.dialled outside.dialer outside.dialer_now port asked StoreFault (λ e. cc e) no_store h.1)
   store_of (Read reads) h = absurd (no_answer reads h.1.0 (inl h.1.2))
 
   -- a fault of a port in the port's or the dialer's
@@ -235,19 +235,19 @@ module _ {D P L C X M : Type 0} (tells : OutsideTells D P L C X M) (outside : Ou
       → FailedOnce (tells.port.faults outside.port) (tells.port.faults outside.port_now) ⊎ FailedOnce (tells.dialer.faults outside.dialer) (tells.dialer.faults outside.dialer_now)
   port_of (Init secret) h = absurd (make_never PortFault not_port tells.disk outside.disk outside.disk_now secret h.1)
   port_of (Serve port workers count) h =
-      inl (serve_port tells.disk tells.port tells.links tells.clock outside.disk outside.disk_now outside.port outside.port_now outside.clock outside.clock_now count h.1)
+      inl (serve_port tells.disk tells.port tells.links tells.clock outside.disk outside.disk_now outside.port outside.port_now outside.clock outside.clock_now port count h.1)
   port_of Dump h = absurd (dump_never PortFault not_port tells.disk outside.disk outside.disk_now h.1)
   port_of (Trial number workers) h = absurd h.1
-  port_of (Audit port asked) h = inr (audit_port tells.dialer tells.dialled outside.dialer outside.dialer_now asked h.1)
+  port_of (Audit port asked) h = inr (audit_port tells.dialer tells.dialled outside.dialer outside.dialer_now port asked h.1)
   port_of (Read reads) h = absurd (no_answer reads h.1.0 (inr h.1.2))
 
   -- a fault of a read in the input's
   read_of : (command : Command) → Came tells outside command (Err ReadFault) → HasOneFault outside.input
   read_of (Init secret) h = absurd (make_never ReadFault file_not_read tells.disk outside.disk outside.disk_now secret h.1)
-  read_of (Serve port workers count) h = absurd (serve_never ReadFault file_not_read (λ e. cc e) tells.disk tells.port tells.links tells.clock outside.disk outside.disk_now outside.port outside.port_now outside.clock outside.clock_now count h.1)
+  read_of (Serve port workers count) h = absurd (serve_never ReadFault file_not_read (λ e. cc e) tells.disk tells.port tells.links tells.clock outside.disk outside.disk_now outside.port outside.port_now outside.clock outside.clock_now port count h.1)
   read_of Dump h = absurd (dump_never ReadFault file_not_read tells.disk outside.disk outside.disk_now h.1)
   read_of (Trial number workers) h = absurd h.1
-  read_of (Audit port asked) h = absurd (audit_not tells.dialer tells.dialled outside.dialer outside.dialer_now asked ReadFault (λ e. cc e) no_read h.1)
+  read_of (Audit port asked) h = absurd (audit_not tells.dialer tells.dialled outside.dialer outside.dialer_now port asked ReadFault (λ e. cc e) no_read h.1)
   read_of (Read reads) h = h.1.0
 
   -- and memory lacks of a command that takes some
@@ -256,16 +256,16 @@ module _ {D P L C X M : Type 0} (tells : OutsideTells D P L C X M) (outside : Ou
   memory_of (Serve port workers count) h = tt
   memory_of Dump h = tt
   memory_of (Trial number workers) h = tt
-  memory_of (Audit port asked) h = absurd (audit_not tells.dialer tells.dialled outside.dialer outside.dialer_now asked NoMemory (λ e. cc e) no_memory h.1)
+  memory_of (Audit port asked) h = absurd (audit_not tells.dialer tells.dialled outside.dialer outside.dialer_now port asked NoMemory (λ e. cc e) no_memory h.1)
   memory_of (Read reads) h = h.1.0
 
   never_bad : (command : Command) → Came tells outside command (Err BadWords) → ⊥
   never_bad (Init secret) h = make_never BadWords no_bad_words tells.disk outside.disk outside.disk_now secret h.1
   never_bad (Serve port workers count) h =
-      serve_never BadWords no_bad_words (λ e. cc e) tells.disk tells.port tells.links tells.clock outside.disk outside.disk_now outside.port outside.port_now outside.clock outside.clock_now count h.1
+      serve_never BadWords no_bad_words (λ e. cc e) tells.disk tells.port tells.links tells.clock outside.disk outside.disk_now outside.port outside.port_now outside.clock outside.clock_now port count h.1
   never_bad Dump h = dump_never BadWords no_bad_words tells.disk outside.disk outside.disk_now h.1
   never_bad (Trial number workers) h = h.1
-  never_bad (Audit port asked) h = audit_not tells.dialer tells.dialled outside.dialer outside.dialer_now asked BadWords (λ e. cc e) no_fetch_words h.1
+  never_bad (Audit port asked) h = audit_not tells.dialer tells.dialled outside.dialer outside.dialer_now port asked BadWords (λ e. cc e) no_fetch_words h.1
   never_bad (Read reads) h = no_answer_words reads h.1.0 h.1.2
 
   module _ (words : List (List ℕ)) where

@@ -1,5 +1,5 @@
 -- Where each command ends if no call fails.
-use Rattle.std.proofs.Common.{◌≡◌, ◌≢◌, ◌⊎◌, ◌<◌, ℕ, List, [], ◌∷◌, Contains, IfSome, Result, Ok, Err, length, arith, inl, inr, refl, sym, ◌∙◌, ap, ⊎_elim, subst}
+use Rattle.std.proofs.Common.{◌≡◌, ◌≢◌, ◌⊎◌, ℕ, List, [], ◌∷◌, Contains, IfSome, Result, Ok, Err, length, arith, inl, inr, refl, sym, ◌∙◌, ap, ⊎_elim, subst}
 use Rattle.std.specs.Prelude.{Option, None, Some}
 use Rattle.command_results.specs.Endings.{owed}
 use Rattle.command_results.specs.ObjectUse.{Ends, HasOneFault, IsSound, ObjectUse}
@@ -75,19 +75,19 @@ module _ (no_fault : (version place : ℕ) (secret : List ℕ) (events : List Ev
   run_finishes : {P L : Type 0} (p : PortTells P L) (port after : P) (count number : ℕ) (ending : Result (List ℕ) Stop) → RunEnds p port after count number ending
       → IsStill (p.faults port) (p.faults after) → Contains {X = ℕ} (0 ∷ 9 ∷ []) (owed ending).status
   run_finishes p port after count number ending (RunEnds.told is same most few) still = among ending (Ok _) is zero_of
-  run_finishes p port after count number ending (RunEnds.cut is once) still = absurd (still once.0)
+  run_finishes p port after count number ending (RunEnds.cut is once most) still = absurd (still once.0)
 
-  module _ {D P L C : Type 0} (d : DiskTells D) (p : PortTells P L) (links : LinkTells L) (c : ClockTells C) (disk after : D) (port port_after : P) (clock clock_after : C) (count : ℕ) (ending : Result (List ℕ) Stop) where
+  module _ {D P L C : Type 0} (d : DiskTells D) (p : PortTells P L) (links : LinkTells L) (c : ClockTells C) (disk after : D) (port port_after : P) (clock clock_after : C) (port_number count : ℕ) (ending : Result (List ℕ) Stop) where
     opened_finishes : (w : D × State) → ServesOpened d p links c w after port port_after clock clock_after count ending → IsStill (p.faults port) (p.faults port_after)
         → Contains {X = ℕ} (0 ∷ 9 ∷ []) (owed ending).status
     opened_finishes w (ServesOpened.deaf at asked none once is) still = absurd (still once.0)
     opened_finishes w (ServesOpened.ran number runs ends) still = run_finishes p port port_after count number ending ends still
 
-    serve_finishes : Serves d p links c disk after port port_after clock clock_after count ending
+    serve_finishes : Serves d p links c disk after port port_after clock clock_after port_number count ending
         → d.is_honest disk → IsStill (d.faults disk) (d.faults after) → IsStill (p.faults port) (p.faults port_after) → HoldsSome (d.seen disk) → Contains {X = ℕ} (0 ∷ 9 ∷ []) (owed ending).status
     serve_finishes (Serves.no_routes same port_same asked is) honest still port_still holds = among ending (Err NoMemory) is nine_of
     serve_finishes (Serves.not_opened why opens port_same asked is) honest still port_still holds = opens_finishes d disk after why ending opens is honest still holds
-    serve_finishes (Serves.opened serving between opens served) honest still port_still holds = opened_finishes (between, state_of opens.opened) served port_still
+    serve_finishes (Serves.opened serving between opens once served) honest still port_still holds = opened_finishes (between, state_of opens.opened) served port_still
 
 trial_finishes : (number : ℕ) (ending : Result (List ℕ) Stop) → Tries number ending → Contains {X = ℕ} (0 ∷ 9 ∷ []) (owed ending).status
 trial_finishes number (Ok text) h = zero_of
@@ -117,10 +117,10 @@ fetch_finishes before after (Err (fetch.NotText line)) count still = (2, omega a
 fetch_finishes before after (Err fetch.TooLong) count still = (2, omega arith, refl)
 fetch_finishes before after (Err fetch.LinkFault) count still = absurd (still (once_more before after count).0)
 
-audit_finishes : {L X : Type 0} (x : DialTells X L) (tells : LinkTells L) (before after : X) (asked : Words) (ending : Result (List ℕ) Stop) → Audits x tells before after asked ending
+audit_finishes : {L X : Type 0} (x : DialTells X L) (tells : LinkTells L) (before after : X) (port : ℕ) (asked : Words) (ending : Result (List ℕ) Stop) → Audits x tells before after port asked ending
     → IsStill (x.faults before) (x.faults after) → Contains {X = ℕ} (0 ∷ 1 ∷ 3 ∷ []) (owed ending).status
-audit_finishes x tells before after asked ending (inl none) still = absurd (still (once_more (x.faults before) (x.faults after) none.fault).0)
-audit_finishes x tells before after asked ending (inr fetched) still =
+audit_finishes x tells before after port asked ending (once, inl none) still = absurd (still (once_more (x.faults before) (x.faults after) none.fault).0)
+audit_finishes x tells before after port asked ending (once, inr fetched) still =
     subst (Contains {X = ℕ} (0 ∷ 1 ∷ 3 ∷ [])) (sym (status_is ending (fetch_ending fetched.answer) fetched.is)) (fetch_finishes (x.faults before) (x.faults after) fetched.answer fetched.fault still)
 
 -- an ending is a fault of a read, want of memory, or none of the two
@@ -182,10 +182,10 @@ module _
       finishes : (command : Command) → Came tells outside command ending → Finishes tells outside command (owed ending).status
       finishes (Init secret) came = λ honest still empty. make_finishes tells.disk outside.disk outside.disk_now secret ending came.1 honest still empty
       finishes (Serve port workers count) came = λ honest still port_still holds.
-          serve_finishes no_fault tells.disk tells.port tells.links tells.clock outside.disk outside.disk_now outside.port outside.port_now outside.clock outside.clock_now count ending came.1 honest still port_still holds
+          serve_finishes no_fault tells.disk tells.port tells.links tells.clock outside.disk outside.disk_now outside.port outside.port_now outside.clock outside.clock_now port count ending came.1 honest still port_still holds
       finishes Dump came = λ honest still holds. dump_finishes no_fault tells.disk outside.disk outside.disk_now ending came.1 honest still holds
       finishes (Trial number workers) came = trial_finishes number ending came.1
-      finishes (Audit port asked) came = λ still. audit_finishes tells.dialer tells.dialled outside.dialer outside.dialer_now asked ending came.1 still
+      finishes (Audit port asked) came = λ still. audit_finishes tells.dialer tells.dialled outside.dialer outside.dialer_now port asked ending came.1 still
       finishes (Read reads) came = λ sound. read_finishes reads outside.input ending came.1 sound (sorts reads outside.input ending came.1)
 
       -- where no write failed, the status is the one that goes with the ending

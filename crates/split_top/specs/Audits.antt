@@ -11,6 +11,7 @@ use Rattle.remote_check.specs.declared.ends.FetchEnd.TheVariants as fetch
 use Rattle.remote_check.specs.declared.request.Words.{Words}
 use Rattle.remote_check.specs.Fetched.{FetchSays}
 use Rattle.remote_check.specs.Requests.{Asks, Counts, request_of}
+use Rattle.split_base.specs.Asked.{asked_again}
 use Rattle.split_base.specs.declared.dial.Dial.{Ghosts}
 use Rattle.split_base.specs.declared.streams.Failed.{Failed}
 use Rattle.split_base.specs.Faults.{counted}
@@ -59,6 +60,7 @@ pub record Fetches {L X : Type 0} (dialer : Ghosts X L) (tells : LinkTells L) (b
   pub fault : dialer.faults after ≡ faults_behind (dialer.faults before) answer
   pub is : ending ≡ fetch_ending answer
 
--- one of the two
-abbrev pub Audits : {L X : Type 0} → Ghosts X L → LinkTells L → X → X → Words → Result (List ℕ) Stop → Type 0
-Audits dialer tells before after asked ending = NoLink dialer before after ending ⊎ Fetches dialer tells before after asked ending
+-- one of the two: the dialer was asked once for a link, to the port of this number and to no other
+abbrev pub Audits : {L X : Type 0} → Ghosts X L → LinkTells L → X → X → ℕ → Words → Result (List ℕ) Stop → Type 0
+Audits dialer tells before after port asked ending =
+    (dialer.asked after ≡ asked_again port (dialer.asked before)) × (NoLink dialer before after ending ⊎ Fetches dialer tells before after asked ending)

@@ -1,19 +1,19 @@
 -- What each status shows, and where it must come. All of it follows from the ending and the text that goes with it.
-use Rattle.std.specs.Prelude.{◌≡◌, ◌⊎◌, ℕ, ◌<◌, List, [], ◌∷◌, Contains, Result, Ok, Err, IfSome, length, get_or}
+use Rattle.std.specs.Prelude.{◌≡◌, ◌≢◌, ◌⊎◌, ℕ, ◌≤◌, List, [], ◌∷◌, Contains, Result, Err, IfSome, length, get_or}
 use Rattle.command_results.specs.Endings.{owed}
-use Rattle.command_results.specs.ObjectUse.{HasNoFault, HasOneFault, HasWritten, IsSound}
+use Rattle.command_results.specs.ObjectUse.{Ends, HasNoFault, HasOneFault, HasWritten, IsSound}
 use Rattle.command_results.specs.declared.stop.Stop.{Stop}
 use Rattle.command_results.specs.declared.stop.Stop.TheVariants.{BadJournal}
 use Rattle.host_commands.specs.Files.{FailedOnce}
 use Rattle.host_commands.specs.Headline.{HasHeadline, HasNoRun}
-use Rattle.host_commands.specs.Serves.{served_line}
+use Rattle.host_commands.specs.Serves.{IsOpened, IsUnopened, Serves, served_line}
 use Rattle.host_journal.specs.Journal.{HoldsSome}
 use Rattle.input_commands.specs.Commands.{TakesMemory as ReadingTakesMemory}
 use Rattle.input_commands.specs.Ends.{CallsFor}
 use Rattle.split_base.specs.Faults.{HasRisen}
 use Rattle.split_top.specs.Commands.{AreNoRow, Names}
 use Rattle.split_top.specs.Outside.{Outside, UsesNothing}
-use Rattle.split_top.specs.Runs.{Came, Comes, OutsideTells}
+use Rattle.split_top.specs.Runs.{Came, Comes, OutsideTells, Ran}
 use Rattle.split_top.specs.declared.command.Command.{Command}
 use Rattle.split_top.specs.declared.command.Command.TheVariants.{Init, Serve, Dump, Trial, Audit, Read}
 
@@ -55,7 +55,7 @@ HasCauses tells outside words status = get_or (licences tells outside words) sta
 abbrev pub IsStill : ℕ → ℕ → Type 0
 IsStill before after = HasRisen before after → ⊥
 
--- where no call of an object that the command uses failed, it ends as its input or its file calls for, up to want of memory where it takes some
+-- where no call of an object that the command uses failed, it ends as its input or its file calls for, or because there was no memory where it takes some
 abbrev pub Finishes : {D P L C X M : Type 0} → OutsideTells D P L C X M → Outside D P C X → Command → ℕ → Type 0
 Finishes tells outside (Init secret) status =
     tells.disk.is_honest outside.disk → IsStill (tells.disk.faults outside.disk) (tells.disk.faults outside.disk_now) → length (tells.disk.seen outside.disk) ≡ 0 → status ≡ 0
@@ -75,9 +75,28 @@ abbrev pub IsComplete : {D P L C X M : Type 0} → OutsideTells D P L C X M → 
 IsComplete tells outside words status =
     IsSound outside.output → (AreNoRow words × (status ≡ 2)) ⊎ ((command : Command) × Names words command × Finishes tells outside command status)
 
--- what holds of the words of `serve`: nothing was served, or the headline holds of so many links, and with status 0 their number was written
-abbrev pub IsServed : {D P L C X M : Type 0} → OutsideTells D P L C X M → Outside D P C X → ℕ → Type 0
-IsServed tells outside status =
-    HasNoRun tells.port outside.port outside.port_now outside.clock outside.clock_now
-    ⊎ ((number : ℕ) × HasHeadline tells.disk tells.port tells.links tells.clock outside.disk outside.disk_now outside.port outside.port_now outside.clock outside.clock_now number
-    × (status ≡ 0 → HasWritten outside.output (served_line number)))
+-- What holds of the words of `serve`, by the ending whose line was due. Where the file was not opened, that line has status 4, 7 or 9, and neither
+-- the port nor the clock was called. Else the headline holds of at most COUNT links, none where the port failed to listen; the line has status 0, and
+-- tells their number, or 8, where the port failed.
+pub record IsServed {D P L C X M : Type 0} (tells : OutsideTells D P L C X M) (outside : Outside D P C X) (port count status : ℕ) : Type 0 where
+  pub ending : Result (List ℕ) Stop
+  pub serves : Serves tells.disk tells.port tells.links tells.clock outside.disk outside.disk_now outside.port outside.port_now outside.clock outside.clock_now port count ending
+  pub wrote : Ends outside.output (owed ending).text (owed ending).status status
+  pub holds : (IsUnopened ending × Contains (4 ∷ 7 ∷ 9 ∷ []) (owed ending).status × HasNoRun outside.port outside.port_now outside.clock outside.clock_now)
+      ⊎ ((number : ℕ) × (number ≤ count) × IsOpened number ending
+      × HasHeadline tells.disk tells.port tells.links tells.clock outside.disk outside.disk_now outside.port outside.port_now outside.clock outside.clock_now number
+      × (status ≡ 0 → HasWritten outside.output (served_line number)))
+
+-- What holds of each run of the program.
+pub record Holds {D P L C X M : Type 0} (tells : OutsideTells D P L C X M) (outside : Outside D P C X) (words : List (List ℕ)) (status : ℕ) : Type 0 where
+  -- the command of the words came to one of its endings, and wrote that ending's text with its status
+  pub ran : Ran tells outside words status
+  -- the same, cause by cause: each status only by its cause, and each cause with its status
+  pub causes : HasCauses tells outside words status
+  pub complete : IsComplete tells outside words status
+  -- a command that takes no memory never ends for lack of it
+  pub memory : (command : Command) → Names words command → (TakesMemory command → ⊥) → status ≢ 9
+  -- The headline, of the words of `serve`: for every list of connections, bytes and clock moments the host writes the bytes of one machine of
+  -- accepted commands; each published division is best for its rule among all, least among equals, and the same for every number of workers;
+  -- its printed certificate passes the checker; and a crash at any moment leaves a prefix of the commands that holds each acknowledged one.
+  pub headline : (port workers count : ℕ) → Names words (Serve port workers count) → IsServed tells outside port count status

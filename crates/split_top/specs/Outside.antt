@@ -1,4 +1,4 @@
--- What a command had before it and behind it.
+-- What stood around a command before it and after it.
 use Rattle.std.specs.Prelude.{◌≡◌}
 use Rattle.command_results.specs.ObjectUse.{IsUntouched, ObjectUse}
 
@@ -15,6 +15,7 @@ pub record Outside (D P C X : Type 0) : Type 0 where
   pub input : ObjectUse
   pub output : ObjectUse
 
+-- the objects of the outside before and after a call
 abbrev pub outside_of : {D P C X : Type 0} → D → D → P → P → C → C → X → X → ObjectUse → ObjectUse → Outside D P C X
 outside_of disk disk_now port port_now clock clock_now dialer dialer_now input output = record {
   disk = disk;

@@ -42,10 +42,10 @@ Tries number (Err other) = ⊥
 abbrev pub Came : {D P L C X M : Type 0} → OutsideTells D P L C X M → Outside D P C X → Command → Result (List ℕ) Stop → Type 0
 Came tells outside (Init secret) ending = UsesDisk outside × Makes tells.disk outside.disk outside.disk_now secret ending
 Came tells outside (Serve port workers count) ending =
-    UsesHost outside × Serves tells.disk tells.port tells.links tells.clock outside.disk outside.disk_now outside.port outside.port_now outside.clock outside.clock_now count ending
+    UsesHost outside × Serves tells.disk tells.port tells.links tells.clock outside.disk outside.disk_now outside.port outside.port_now outside.clock outside.clock_now port count ending
 Came tells outside Dump ending = UsesDisk outside × Dumps tells.disk outside.disk outside.disk_now ending
 Came tells outside (Trial number workers) ending = UsesNothing outside × Tries number ending
-Came tells outside (Audit port asked) ending = UsesDialer outside × Audits tells.dialer tells.dialled outside.dialer outside.dialer_now asked ending
+Came tells outside (Audit port asked) ending = UsesDialer outside × Audits tells.dialer tells.dialled outside.dialer outside.dialer_now port asked ending
 Came tells outside (Read command) ending = UsesInput outside × EndsOn command outside.input ending
 
 -- the ending: the words are no row of the command table, and nothing was used; or that of their command
@@ -54,6 +54,6 @@ Comes tells outside words ending =
     (AreNoRow words × UsesNothing outside × (ending ≡ Err BadWords))
     ⊎ ((command : Command) × Names words command × Came tells outside command ending)
 
--- it came to one ending, and wrote that ending's text with its status, or one write failed behind a first part of the text, with status 6
+-- it came to one ending, and wrote that ending's text with its status; or one write failed, with some byte of the text missing, and the status is 6
 abbrev pub Ran : {D P L C X M : Type 0} → OutsideTells D P L C X M → Outside D P C X → List (List ℕ) → ℕ → Type 0
 Ran tells outside words status = (ending : Result (List ℕ) Stop) × Comes tells outside words ending × Ends outside.output (owed ending).text (owed ending).status status

@@ -39,7 +39,7 @@ pub(crate) fn command_of(words: &[String]) -> Option<Command>
     }
 }
 
-/// The command of this name, with the words behind it.
+/// The command of this name, with the words after it.
 fn command_named(name: &str, rest: &[String]) -> Option<Command>
     ensures { MatchOption result (AreNoRow (name.now ∷ map string_bytes rest.now)) (Names (name.now ∷ map string_bytes rest.now)) }
 {

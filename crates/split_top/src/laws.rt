@@ -17,7 +17,7 @@ pub fn command_law()
 {}
 
 /// Two commands that differ in the number of workers alone, over the same bytes, have one status and write one text, `void:`, `step limit` and
-/// the refusals included, where no call of theirs fails and neither ends for want of memory. That is said of inputs that tell their bytes.
+/// the refusals included, where no call of theirs fails and neither ends because there was no memory. That is said of inputs that tell their bytes.
 pub fn output_law()
     ensures { (command other : InputCommand) (bytes : List ℕ) (input output other_input other_output : ObjectUse) (ending another : Result (List ℕ) Stop) (status others : ℕ)
         → AreAlike command other → input.bytes_before ≡ Some bytes → other_input.bytes_before ≡ Some bytes

@@ -1,15 +1,13 @@
 // The top call: from words to a status and what is written.
-ghost use Rattle.std.specs.Prelude.{◌≢◌, ◌≤◌, ℕ, map, string_bytes};
+ghost use Rattle.std.specs.Prelude.{◌≡◌, ◌≤◌, map, string_bytes};
 ghost use Rattle.command_results.specs.Endings.{ending_of, owed};
 ghost use Rattle.command_results.specs.ObjectUse.{Ends, ObjectUse, told};
 ghost use Rattle.serving.specs.Served.{tells_of};
 ghost use Rattle.input_commands.specs.Commands.{AreWorkers};
-ghost use Rattle.split_top.specs.Causes.{HasCauses, IsComplete, IsServed, TakesMemory};
-ghost use Rattle.split_top.specs.Commands.{IsInRange, Names};
-ghost use Rattle.split_top.specs.declared.command.Command.{Command};
-ghost use Rattle.split_top.specs.declared.command.Command.TheVariants.{Serve};
+ghost use Rattle.split_top.specs.Causes.{Holds};
+ghost use Rattle.split_top.specs.Commands.{IsInRange};
 ghost use Rattle.split_top.specs.Outside.{outside_of};
-ghost use Rattle.split_top.specs.Runs.{Came, Comes, Ran, Tries, tells_by};
+ghost use Rattle.split_top.specs.Runs.{Came, Comes, Tries, tells_by};
 
 use crate::auditing::audit;
 use crate::command::{Command, command_of};
@@ -34,7 +32,7 @@ pub struct Status {
 /// | words | does |
 /// |---|---|
 /// | `init SECRET` | makes the journal, with the secret of 64 hexadecimal digits; writes nothing |
-/// | `serve PORT WORKERS COUNT` | opens the journal, listens, and serves COUNT connections, or fewer only where the port has ended; writes `served` and their number |
+/// | `serve PORT WORKERS COUNT` | opens the journal, listens at the port, serves COUNT connections (a connection that comes back after others counts again), then exits; writes `served` and their number, which is smaller than COUNT only where no connection comes any more |
 /// | `dump` | opens the journal, and writes its instances as comma-separated values |
 /// | `trial NUMBER WORKERS` | makes three cases from the number, solves them and checks their certificates, and writes four lines |
 /// | `audit PORT ID KEY` | has a host on this machine give an instance's certificate, judges it, and writes `yes` or `no` and the rule |
@@ -43,7 +41,7 @@ pub struct Status {
 /// | `winner` | reads a case of goods, and writes the division by adjusted winner between its two players |
 /// | `check`, `checkwinner` | reads a certificate, or the text of adjusted winner, and writes `yes` or `no` and the first broken rule |
 ///
-/// WORKERS are 1 to `MOST_WORKERS`, who take no part in what is written. The gate is told when one enters and leaves a task of a search.
+/// WORKERS is the greatest number of threads. It never changes the result. It is from 1 to `MOST_WORKERS`. The gate is told when a worker begins and ends a task of a search.
 ///
 /// | status | comes | line |
 /// |---|---|---|
@@ -53,12 +51,14 @@ pub struct Status {
 /// | 3 | exactly where the input is too long, no JSON, breaks a field's rule, or is no text of its grammar; where what a host replied is no reply that holds a certificate, or has another status than 200 | `refused: too long`, `refused: json`, `refused: field NAME`, `refused: line K` with the first broken line, `refused: reply`, `refused: status N` |
 /// | 4 | exactly where the file is no journal, or not empty where one is made | `refused: journal at PLACE` |
 /// | 5 | only where the input's count of faults rose in this call, by one | `read fault` |
-/// | 6 | only where the output's count rose in this call, by one | a prefix of the text due |
+/// | 6 | only where one write failed and a byte of the text is missing: the output's count rose in this call, by one | a first part of the text, and not all of it |
 /// | 7 | only where the disk's count rose, by one, while the file was made or opened | `store fault` |
 /// | 8 | only where the port's count rose in `listen` or `accept`, or the dialer's, by one | `port fault` |
-/// | 9 | want of memory, which `init`, `check`, `checkwinner` and `audit` have not, nor `serve` once it listens | `no memory` |
+/// | 9 | only where there was no memory; never for `init`, `check`, `checkwinner` and `audit`, nor for `serve` once it listens | `no memory` |
 ///
-/// The tests come in the order of the work: words, reading, file, port, solving or judging, writing. What a command doesn't use is untouched.
+/// The tests come in the order of the work: words, reading, file, port, solving or judging, writing. What a command doesn't use is untouched: it is not
+/// called. `serve` asks the port once to listen, at PORT and at no other. `audit` asks the dialer once for a link, to PORT and to no other. No write of
+/// no bytes reaches the output.
 #[allow(clippy::too_many_arguments)]
 pub fn run<
     R: Threads + Sync,
@@ -81,29 +81,10 @@ pub fn run<
     gate: &G,
     dialer: &mut X,
 ) -> Status
-    // The command of the words came to one of its endings, and wrote that ending's text with its status.
-    ensures ran { Ran (tells_by D.Disk P.Port (tells_of P.Link.Source P.Link.Sink) C.Clock X.Dial (tells_of X.Link.Source X.Link.Sink))
+    ensures holds { Holds (tells_by D.Disk P.Port (tells_of P.Link.Source P.Link.Sink) C.Clock X.Dial (tells_of X.Link.Source X.Link.Sink))
         (outside_of disk.old disk.new port.old port.new clock.old clock.new dialer.old dialer.new (told I.left I.faults input.old input.new) (told O.written O.faults output.old output.new))
         (map string_bytes words.now) result.code }
-
-    // The same, cause by cause: each status only by its cause, and each cause with its status.
-    ensures causes { HasCauses (tells_by D.Disk P.Port (tells_of P.Link.Source P.Link.Sink) C.Clock X.Dial (tells_of X.Link.Source X.Link.Sink))
-        (outside_of disk.old disk.new port.old port.new clock.old clock.new dialer.old dialer.new (told I.left I.faults input.old input.new) (told O.written O.faults output.old output.new))
-        (map string_bytes words.now) result.code }
-    ensures complete { IsComplete (tells_by D.Disk P.Port (tells_of P.Link.Source P.Link.Sink) C.Clock X.Dial (tells_of X.Link.Source X.Link.Sink))
-        (outside_of disk.old disk.new port.old port.new clock.old clock.new dialer.old dialer.new (told I.left I.faults input.old input.new) (told O.written O.faults output.old output.new))
-        (map string_bytes words.now) result.code }
-
-    // Want of memory ends no command that takes none.
-    ensures memory { (command : Command) → Names (map string_bytes words.now) command → (TakesMemory command → ⊥) → result.code ≢ 9 }
-
-    // The headline, of the words of `serve`: for every list of connections, bytes and clock moments the host writes the bytes of one machine of
-    // accepted commands; each published division is best for its rule among all, least among equals, and the same for every number of workers;
-    // its printed certificate passes the checker; and a crash at any moment leaves a prefix of the commands that holds each acknowledged one.
-    ensures headline { (number workers count : ℕ) → Names (map string_bytes words.now) (Serve number workers count)
-        → IsServed (tells_by D.Disk P.Port (tells_of P.Link.Source P.Link.Sink) C.Clock X.Dial (tells_of X.Link.Source X.Link.Sink))
-        (outside_of disk.old disk.new port.old port.new clock.old clock.new dialer.old dialer.new (told I.left I.faults input.old input.new) (told O.written O.faults output.old output.new))
-        result.code }
+    ensures empty { O.empty_writes output.new ≡ O.empty_writes output.old }
     ensures output { O.faults output.old ≤ O.faults output.new }
 {
     events_law();
@@ -116,6 +97,7 @@ pub fn run<
 /// Writes the ending's text, and answers its status, or 6 where a write failed.
 fn write_ending<O: Sink>(output: &mut O, ending: &Result<Text, Stop>) -> Status
     ensures ends { Ends (told O.written O.faults output.old output.new) (owed (ending_of ending.now)).text (owed (ending_of ending.now)).status result.code }
+    ensures empty { O.empty_writes output.new ≡ O.empty_writes output.old }
     ensures count { O.faults output.old ≤ O.faults output.new }
 {
     match ending {
@@ -130,6 +112,7 @@ fn write_ending<O: Sink>(output: &mut O, ending: &Result<Text, Stop>) -> Status
 /// Writes the text, and answers this status, or 6 where a write failed.
 fn write_text<O: Sink>(output: &mut O, text: &[u8], code: u8) -> Status
     ensures ends { Ends (told O.written O.faults output.old output.new) text.now code result.code }
+    ensures empty { O.empty_writes output.new ≡ O.empty_writes output.old }
     ensures count { O.faults output.old ≤ O.faults output.new }
 {
     match write_all(output, text) {

@@ -21,7 +21,7 @@ use Rattle.split_frac.specs.Texts.{line_of}
 use Rattle.split_reports.specs.Trials.{trial_fare, trial_goods, trial_rent}
 use Rattle.rule_verdicts.specs.declared.verdict.Verdict.TheVariants.{Yes}
 
--- the division is the best of the case by the rule of its kind, and the verdict on the canonical certificate of it is yes
+-- the division is the best of the case, and its canonical certificate is judged yes
 pub record IsChecked (given : Case) (division : Division) : Type 0 where
   pub best : IsDivisionOf given division
   pub verdict : IsJudged (canonical_text given division) Yes
@@ -43,7 +43,7 @@ goods_line pair steps =
 abbrev pub fare_line : ℕ → List ℕ
 fare_line total = line_of (codes "fares total " ∷ decimal total ∷ codes " check yes" ∷ [])
 
--- the text of the trial of a number: four lines, of divisions that are the best of its three cases and whose certificates are judged yes
+-- the text of a trial: its number, and a line for each of its three cases, on a best division whose certificate is judged yes
 pub record IsTrialText (number : ℕ) (text : List ℕ) : Type 0 where
   pub rent : RentDivision
   pub goods : GoodsDivision
@@ -53,12 +53,14 @@ pub record IsTrialText (number : ℕ) (text : List ℕ) : Type 0 where
   pub fare_checked : IsChecked (case.Fares (trial_fare number)) (Fares fare)
   pub is : text ≡ number_line number ++ rent_line rent.least ++ goods_line goods.pair goods.steps ++ fare_line fare.total
 
--- a line was appended, that of the checked best division of a rent, of goods, or of a shared fare: for the contracts of private functions alone
+-- the line of a best division of the rent, whose certificate is judged yes, was appended
 abbrev pub IsRentLine : RentCase → List ℕ → List ℕ → Type 0
 IsRentLine given before now = (division : RentDivision) × IsChecked (case.Rent given) (Rent division) × (now ≡ before ++ rent_line division.least)
 
+-- the line of a best division of the goods, whose certificate is judged yes, was appended
 abbrev pub IsGoodsLine : GoodsCase → List ℕ → List ℕ → Type 0
 IsGoodsLine given before now = (division : GoodsDivision) × IsChecked (case.Goods given) (Goods division) × (now ≡ before ++ goods_line division.pair division.steps)
 
+-- the line of a best division of the fare, whose certificate is judged yes, was appended
 abbrev pub IsFareLine : FareCase → List ℕ → List ℕ → Type 0
 IsFareLine given before now = (division : FareDivision) × IsChecked (case.Fares given) (Fares division) × (now ≡ before ++ fare_line division.total)

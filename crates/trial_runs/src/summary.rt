@@ -25,8 +25,8 @@ use std::thread::Threads;
 /// the product of their utilities and the steps of the search; of the fare what all riders cost. The last three end with `check yes`.
 ///
 /// The cases are drawn from the number, each gets its best division, and its certificate is written in memory, read back and judged: the
-/// verdict is yes. Goods are searched by 1 to `MOST_WORKERS` workers, who take no part in the text, and their step count is never above the
-/// limit. `NoMemory` comes for want of memory alone.
+/// verdict is yes. Goods are searched by 1 to `MOST_WORKERS` workers, whose number never changes the text, and their step count is never above the
+/// limit. `NoMemory` comes only if memory runs out.
 pub fn trial_text<R: Threads + Sync, G: Gate + Sync>(
     alloc: Global,
     rt: &R,

@@ -22,23 +22,6 @@ all_of o p k own = grind (arith, nat_tests)
 pub none_of : (o p k : ℕ) → (o ≡ p → ⊥) → cond (o == p) k 0 ≡ 0
 none_of o p k own = grind (arith, nat_tests)
 
--- a player's share of a good is worth what they have of it
-pub share_worth : (case : GoodsCase) (player good : ℕ) → (player ≡ 1) ⊎ (player ≡ 2) → share_at_first case 1 player good * points case player good ≡ kept_points case player 0 good
-share_worth case player good either = ⊎_elim
-    (λ (own : first_owner case good ≡ player).
-    ap (λ s. s * points case player good) (all_of (first_owner case good) player 1 own) ∙ once (points case player good) ∙ sym (greater_is case player good either own)
-    ∙ sym (kept_numbers (first_owner case good) player (greater_points case good) (is_gone case player 0 good) own (none_gone case player good)))
-    (λ (other : first_owner case good ≡ player → ⊥).
-    ap (λ s. s * points case player good) (none_of (first_owner case good) player 1 other) ∙ never (points case player good)
-    ∙ sym (zero_numbers (first_owner case good) player (greater_points case good) (is_gone case player 0 good) other))
-    (cases_eq (first_owner case good) player)
-  where
-    once : (v : ℕ) → 1 * v ≡ v
-    once v = omega arith
-
-    never : (v : ℕ) → 0 * v ≡ 0
-    never v = omega arith
-
 -- player 2 has the rest of each good
 rest_at_first : (case : GoodsCase) (good : ℕ) → 1 - share_at_first case 1 1 good ≡ share_at_first case 1 2 good
 rest_at_first case good = numbers (points case 1 good) (points case 2 good)
@@ -48,15 +31,6 @@ rest_at_first case good = numbers (points case 1 good) (points case 2 good)
         (λ (s : p < q). grind (arith, nat_tests))
         (λ (s : q ≤ p). grind (arith, nat_tests))
         (cases_lt p q)
-
--- what player 1 has at first
-pub first_at_first : (case : GoodsCase) → first_points case (map (share_at_first case 1 1) (range_with_len 1 case.facts.goods)) ≡ sum_by (kept_points case 1 0) (range_with_len 1 case.facts.goods)
-first_at_first case = first_of case (share_at_first case 1 1) ∙ sum_same (λ good. share_at_first case 1 1 good * points case 1 good) (kept_points case 1 0) 1 case.facts.goods (λ i l m. share_worth case 1 i (inl refl))
-
--- and player 2
-pub second_at_first : (case : GoodsCase) → second_points case 1 (map (share_at_first case 1 1) (range_with_len 1 case.facts.goods)) ≡ sum_by (kept_points case 2 0) (range_with_len 1 case.facts.goods)
-second_at_first case = second_of case 1 (share_at_first case 1 1) (share_at_first case 1 2) (rest_at_first case)
-    ∙ sum_same (λ good. share_at_first case 1 2 good * points case 2 good) (kept_points case 2 0) 1 case.facts.goods (λ i l m. share_worth case 2 i (inr refl))
 
 -- the poorer has what is not the richer's
 gained_at_first : (case : GoodsCase) (player good : ℕ) → (player ≡ 1) ⊎ (player ≡ 2) → kept_points case (3 - player) 0 good ≡ gained_points case player 0 good

@@ -10,10 +10,6 @@ use Rattle.winner_laws.proofs.MovingOrder.{may_lesser, through, total}
 differ : {b : Bool} → b ≡ true → b ≡ false → ⊥
 differ h k = cc
 
--- among no goods there is none
-pub next_none : (case : GoodsCase) (player last : ℕ) → IsNextOf case player last 0 0
-next_none case player last = record { within = omega arith; may = λ some. absurd (omega arith); least = λ good low high. absurd (omega arith) }
-
 -- one of some goods and one more is that one, or among them
 cases_next : (other count : ℕ) → other ≤ count + 1 → (other ≡ count + 1) ⊎ (other ≤ count)
 cases_next other count h = ⊎_elim (λ (s : count < other). inl (omega arith)) (λ (s : other ≤ count). inr s) (cases_lt count other)

@@ -1,7 +1,11 @@
-//! Divisions of goods between two players and the rule of adjusted winner: the definitions, and what follows from them for all cases
-//! (Brams and Taylor 1996).
+//! The rule of adjusted winner for two players (Brams and Taylor 1996), and what follows from it
+//! for all cases.
 //!
 //! Each law is the contract of a function that does nothing. Solvers and checkers cite them.
+//!
+//! Weights show a division efficient against divisions into however many parts, whatever rule made
+//! it (`weights_law`). The rule of adjusted winner comes to one division, good by good
+//! (`winner_law`, `procedure_law`, `one_winner_law`).
 #![tactic(auto)]
 
 mod laws;

@@ -51,11 +51,6 @@ split_second by_place shares count are l split before one =
     let same : before.0 ≡ count = (by_place shares are).0 one before.0 count (omega (arith, earlier, l)) l before.2 split in
     omega (arith, same, earlier)
 
--- in all of them one at most
-pub split_one : OneByPlace → (shares : List Fraction) (found : Bool) → All IsShare shares → HasSplitUpTo shares (length shares) found → HasOneSplit shares
-split_one by_place shares false are all = (by_place shares are).1 (λ i j l m s t. absurd (not_both s (all i l)))
-split_one by_place shares true are all = (by_place shares are).1 (λ i j l m s t. all.3 i l s ∙ sym (all.3 j m t))
-
 -- shares as fractions
 pub shares_map : (shares : List Frac) → All (λ share. IsShare (fraction_of share)) shares → All IsShare (map fraction_of shares)
 shares_map [] are k d l = absurd (omega arith)

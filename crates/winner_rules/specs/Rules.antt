@@ -7,7 +7,8 @@ use Rattle.winner_laws.specs.Printed.{AreProperShares, HaveTotal, SupportShares}
 use Rattle.cert_reader.specs.Layout.{PairView}
 use Rattle.rule_verdicts.specs.Verdicts.{rule_at}
 
--- the case with the numbers without a sign. A text counts no members and has no step limit, so they are as many as there may be
+-- the case that the text prints, each number without its sign. The text says neither how many members there are nor a step limit, so both are as great as they
+-- may be
 abbrev pub printed_case : PairView → GoodsCase
 printed_case view = record {
   facts = record { members = MOST_MEMBERS; goods = view.goods; limit = MOST_STEPS };
@@ -15,24 +16,24 @@ printed_case view = record {
   values = record { items = map (λ row. record { items = map unsigned_abs row }) view.values };
 }
 
--- the numbers are 0 or more, and a case of two players: rising members up to 12, and points that sum to 1000 for each
+-- rule 1: the printed numbers are 0 or more, and they are a valid case of two players: members up to 12 in rising order, and points of each that sum to 1000
 pub record HasCase (view : PairView) : Type 0 where
   pub two : length view.who ≡ PAIR
   pub who : All (λ member. pos 0 ≤ℤ member) view.who
   pub values : All (λ row. All (λ points. pos 0 ≤ℤ points) row) view.values
   pub valid : IsValidGoodsCase (printed_case view)
 
--- the two weights support the shares
+-- rule 4: the two printed weights support the shares
 pub record HasWeights (view : PairView) : Type 0 where
   pub first : ℕ
   pub second : ℕ
   pub are : view.weights ≡ pos first ∷ pos second ∷ []
   pub support : SupportShares (printed_case view) view.shares first second
 
--- the four rules, in their order
+-- the four rules of the text of adjusted winner, in order
 abbrev pub rules_of_winner : PairView → List (Type 0)
 rules_of_winner view = HasCase view ∷ AreProperShares (printed_case view) view.shares ∷ HaveTotal (printed_case view) view.shares view.total ∷ HasWeights view ∷ []
 
--- the rule of a number, from 1
+-- the rule with this number, counted from 1
 abbrev pub winner_rule : PairView → ℕ → Type 0
 winner_rule view number = rule_at (rules_of_winner view) number

@@ -1,13 +1,13 @@
--- Shares that were looked through for one that is split.
+-- How many of the shares are those of split goods.
 use Rattle.std.specs.Prelude.{◌≡◌, ℕ, pos, ◌<◌, List, length, slice_index_or, Bool, true, false, ◌⊎◌}
 use Rattle.bid_rules.specs.Fractions.{Fraction}
 use Rattle.winner_laws.specs.Parts.{is_split}
 
--- the share at a place, from 0
+-- whether the share at this place, counted from 0, is that of a split good
 abbrev pub split_at : List Fraction → ℕ → Bool
 split_at shares place = is_split (slice_index_or shares place (pos 0, 1))
 
--- of the first few shares none is split, or one of them is and no other
+-- no share among the first few is that of a split good; or exactly one is
 abbrev pub HasSplitUpTo : List Fraction → ℕ → Bool → Type 0
 HasSplitUpTo shares count false = (place : ℕ) → place < count → split_at shares place ≡ false
 HasSplitUpTo shares count true = (one : ℕ) × (one < count) × (split_at shares one ≡ true) × ((place : ℕ) → place < count → split_at shares place ≡ true → place ≡ one)

@@ -1,4 +1,6 @@
-//! The four rules of the text of adjusted winner for two players: judged in one pass and in fixed memory, and what they show.
+//! The four rules of the text of adjusted winner, judged in one pass and in fixed memory.
+//!
+//! A yes shows a fair division, whatever rule made it (`winner_verdict_law`).
 #![tactic(auto)]
 
 mod case;

@@ -82,7 +82,7 @@ fn second_points(case: &GoodsCase, shares: &[Frac], parts: u64) -> u64
     sum
 }
 
-/// Whether a fraction is a whole number divided into so many parts.
+/// Whether a fraction is this whole number divided by this many.
 fn is_quotient(fraction: &Frac, whole: i128, parts: u64) -> bool
     requires num { IsSmall fraction.now.num }
     requires den { fraction.now.den ≤ MOST_PRINTED_DENOMINATOR }

@@ -2,11 +2,12 @@
 ghost use Rattle.std.specs.Prelude.{◌≡◌, ◌↔◌, ◌⊎◌, ◌<◌, ◌-◌, [], All, Contains, IfOk, IsErr, MatchResult, Some, length};
 ghost use Rattle.split_base.specs.Faults.{HasCause, IsCounted, counted};
 ghost use Rattle.split_base.specs.Ports.{Dials, TakesBack};
-ghost use Rattle.split_base.specs.MemoryPorts.{new_port, after_link, after_no_link, after_done, faults_of_link};
+ghost use Rattle.split_base.specs.Asked.{asked_again};
+ghost use Rattle.split_base.specs.MemoryPorts.{new_port, after_listen, after_done, faults_of_link, with_fault, with_one_less};
 
 use super::links::Links;
 use super::{MemLink, NoMemory};
-use crate::{Dial, Failed};
+use crate::{Asked, Dial, Failed};
 use std::alloc::Global;
 use std::marker::Model;
 
@@ -50,6 +51,13 @@ impl MemDial {
     {
         self.links.given_back()
     }
+
+    /// How often it was asked to open a link, and to which port last.
+    pub fn asked(&self) -> Asked
+        ensures { result ≡ self.now.asked }
+    {
+        self.links.asked()
+    }
 }
 
 impl Dial for MemDial {
@@ -63,11 +71,14 @@ impl Dial for MemDial {
 
     ghost places = { λ d. d.places };
 
+    ghost asked = { λ d. d.asked };
+
     ghost faults = { λ d. d.faults };
 
-    fn dial(&mut self, _port: u16) -> Result<MemLink, Failed>
+    fn dial(&mut self, port: u16) -> Result<MemLink, Failed>
         ensures cause { HasCause self.old.faults self.new.faults result }
         ensures count { IsCounted self.old.faults self.new.faults result }
+        ensures asked { self.new.asked ≡ asked_again port self.old.asked }
         ensures next { Dials (Some self.old.to_come) (Some self.new.to_come) result }
         ensures fresh { IfOk result (λ link. faults_of_link link ≡ 0) }
         ensures places { self.new.places ≡ self.old.places }
@@ -75,8 +86,9 @@ impl Dial for MemDial {
 
         // It fails exactly where its number is listed or no link is left.
         ensures fails { IsErr result ↔ (Contains self.old.fails (counted self.old.calls) ⊎ (self.old.to_come ≡ [])) }
-        ensures after { MatchResult result (λ _. self.new ≡ after_link self.old) (λ _. self.new ≡ after_no_link self.old) }
+        ensures after { MatchResult result (λ _. self.new ≡ with_one_less (after_listen port self.old)) (λ _. self.new ≡ with_fault (after_listen port self.old)) }
     {
+        self.links.ask(port);
         if self.links.begin() {
             return Err(self.links.fail());
         }
@@ -89,6 +101,7 @@ impl Dial for MemDial {
     fn done(&mut self, link: MemLink)
         ensures whole { faults_of_link link ≡ 0 → self.new.faults ≡ self.old.faults }
         ensures fault { 0 < faults_of_link link → self.new.faults ≡ counted self.old.faults }
+        ensures asked { self.new.asked ≡ self.old.asked }
         ensures come { Some self.new.to_come ≡ Some self.old.to_come }
         ensures places { self.new.places ≡ self.old.places - 1 }
         ensures back { 0 < self.old.places → TakesBack (Some self.old.given_back) (Some self.new.given_back) link }

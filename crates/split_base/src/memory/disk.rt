@@ -275,6 +275,8 @@ impl Disk for MemDisk {
     ghost use Rattle.split_base.specs.Past.{seen_of, images_at, moment_of, left_of};
     ghost use Rattle.split_base.specs.PastLaws.{seen_image, now_counts, now_only};
 
+    ghost tells = { λ d. Unit {0} };
+
     ghost is_honest = { λ d. Unit {0} };
 
     ghost seen = { λ d. seen_of d };
@@ -287,6 +289,8 @@ impl Disk for MemDisk {
 
     ghost faults = { λ d. d.faults };
 
+    ghost honest_tells = { λ d honest. tt };
+
     ghost counts_now = { λ d t c honest le now. now_counts d t c le now };
 
     ghost only_now = { λ d c honest left. now_only d c left };
@@ -298,6 +302,7 @@ impl Disk for MemDisk {
         ensures counted { IsCounted self.old.faults self.new.faults result }
         ensures least { IfOk result (λ n. n ≤ 2 ^ 63) }
         ensures honest { Unit {0} }
+        ensures still { Unit {0} × (seen_of self.new ≡ seen_of self.old) }
         ensures told { IfOk result (λ n. n ≡ length (seen_of self.old)) }
         ensures tick { moment_of self.new ≡ moment_of self.old }
         ensures rests { Rests seen_of images_at moment_of left_of self.old self.new }
@@ -318,6 +323,7 @@ impl Disk for MemDisk {
         ensures count { IfOk result (λ n. n ≤ length into.old) }
         ensures least { IfOk result (λ n. n ≤ 2 ^ 63 - place) }
         ensures honest { Unit {0} }
+        ensures still { Unit {0} × (seen_of self.new ≡ seen_of self.old) }
         ensures told { IfOk result (λ n. n ≡ min (length into.old) (length (seen_of self.old) - place)) }
         ensures bytes { IfOk result (λ n. take n into.new ≡ take n (drop place (seen_of self.old))) }
         ensures tick { moment_of self.new ≡ moment_of self.old }
@@ -360,6 +366,7 @@ impl Disk for MemDisk {
         ensures cause { HasCause self.old.faults self.new.faults result }
         ensures counted { IsCounted self.old.faults self.new.faults result }
         ensures honest { Unit {0} }
+        ensures still { Unit {0} × (seen_of self.new ≡ seen_of self.old) }
         ensures durable { OnOk result (Only (seen_of self.old) (images_at self.new)) }
         ensures tick { OnOk result (moment_of self.new ≡ moment_of self.old + 1) }
         ensures rests { Rests seen_of images_at moment_of left_of self.old self.new }

@@ -80,10 +80,13 @@ impl Sink for MemLink {
 
     ghost faults = { λ l. l.output.faults };
 
+    ghost empty_writes = { λ l. l.output.empty_writes };
+
     ghost beside = { source_side };
 
     fn write(&mut self, piece: &[u8]) -> Result<usize, Failed>
         ensures bytes { Writes (Some self.old.output.written) (Some self.new.output.written) result piece.now }
+        ensures empty { 0 < length piece.now → self.new.output.empty_writes ≡ self.old.output.empty_writes }
         ensures beside { source_side self.new ≡ source_side self.old }
         ensures cause { HasCause self.old.output.faults self.new.output.faults result }
         ensures count { IsCounted self.old.output.faults self.new.output.faults result }
@@ -91,7 +94,7 @@ impl Sink for MemLink {
         // It fails exactly where the sink's number is listed or the piece doesn't fit, and leaves the source as it is.
         ensures fails { IsErr result ↔ (Contains self.old.output.fails (counted self.old.output.calls) ⊎ (self.old.output.room < length piece.now)) }
         ensures taken { IfOk result (λ n. n ≡ length piece.now) }
-        ensures after { MatchResult result (λ _. self.new.output ≡ after_write self.old.output piece.now) (λ _. self.new.output ≡ after_failed_write self.old.output) }
+        ensures after { MatchResult result (λ _. self.new.output ≡ after_write self.old.output piece.now) (λ _. self.new.output ≡ after_failed_write self.old.output piece.now) }
         ensures input { self.new.input ≡ self.old.input }
     {
         self.output.write(piece)

@@ -1,11 +1,11 @@
 // Links that are handed out in turn, and the places for those that are given back.
 ghost use Rattle.std.specs.Prelude.{◌≡◌, ◌≤◌, ◌↔◌, [], ◌∷◌, Contains, IfOk, IsTrue, MatchOption, drop, length};
 ghost use Rattle.split_base.specs.Faults.{HasRisen, counted};
-ghost use Rattle.split_base.specs.MemoryPorts.{PortState, new_port, after_listen, after_done, with_fault, with_one_less};
+ghost use Rattle.split_base.specs.MemoryPorts.{PortState, new_port, after_asking, after_call, after_done, with_fault, with_one_less};
 
 use super::calls::Calls;
 use super::{MemLink, NoMemory};
-use crate::Failed;
+use crate::{Asked, Failed};
 use std::alloc::Global;
 use std::marker::Model;
 
@@ -16,6 +16,7 @@ pub(crate) struct Links {
     given_back: Vec<MemLink>,
     places: usize,
     calls: Calls,
+    asked: Asked,
 }
 
 impl Model for Links {
@@ -31,6 +32,7 @@ impl Model for Links {
       fails = l.calls.fails.items;
       calls = l.calls.made;
       faults = l.calls.faults;
+      asked = l.asked;
     } };
 
     ghost invariant = { λ l. vec_len l.given_back + l.places ≤ vec_capacity l.given_back };
@@ -50,15 +52,23 @@ impl Links {
             given_back,
             places,
             calls: Calls::new(fails),
+            asked: Asked::never(),
         })
     }
 
     // Counts a call, and tells whether it is listed.
     pub(crate) fn begin(&mut self) -> bool
         ensures listed { IsTrue result ↔ Contains self.old.fails (counted self.old.calls) }
-        ensures after { self.new ≡ after_listen self.old }
+        ensures after { self.new ≡ after_call self.old }
     {
         self.calls.begin()
+    }
+
+    // Keeps for which port it is asked.
+    pub(crate) fn ask(&mut self, port: u16)
+        ensures { self.new ≡ after_asking port self.old }
+    {
+        self.asked = self.asked.again(port);
     }
 
     // Counts a fault.
@@ -88,6 +98,12 @@ impl Links {
             self.places -= 1;
             self.given_back.push(link).unwrap();
         }
+    }
+
+    pub(crate) fn asked(&self) -> Asked
+        ensures { result ≡ self.now.asked }
+    {
+        self.asked
     }
 
     pub(crate) fn given_back(&self) -> &[MemLink]

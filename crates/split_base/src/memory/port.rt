@@ -2,11 +2,12 @@
 ghost use Rattle.std.specs.Prelude.{◌≡◌, ◌↔◌, ◌<◌, ◌-◌, [], Contains, IfOk, IsErr, IsNone, MatchResult, Some, length};
 ghost use Rattle.split_base.specs.Faults.{HasCause, IsCounted, counted};
 ghost use Rattle.split_base.specs.Ports.{Accepts, TakesBack};
-ghost use Rattle.split_base.specs.MemoryPorts.{new_port, after_listen, after_link, after_no_link, after_done};
+ghost use Rattle.split_base.specs.Asked.{asked_again};
+ghost use Rattle.split_base.specs.MemoryPorts.{new_port, after_listen, after_link, after_no_link, after_done, with_fault};
 
 use super::links::Links;
 use super::{MemLink, NoMemory};
-use crate::{Failed, Port};
+use crate::{Asked, Failed, Port};
 use std::alloc::Global;
 use std::marker::Model;
 
@@ -45,6 +46,13 @@ impl MemPort {
     {
         self.links.given_back()
     }
+
+    /// How often it was asked to listen, and at which port last.
+    pub fn asked(&self) -> Asked
+        ensures { result ≡ self.now.asked }
+    {
+        self.links.asked()
+    }
 }
 
 impl Port for MemPort {
@@ -58,13 +66,16 @@ impl Port for MemPort {
 
     ghost places = { λ p. p.places };
 
+    ghost asked = { λ p. p.asked };
+
     ghost has_ended = { λ p. p.to_come ≡ [] };
 
     ghost faults = { λ p. p.faults };
 
-    fn listen(&mut self, _port: u16) -> Result<(), Failed>
+    fn listen(&mut self, port: u16) -> Result<(), Failed>
         ensures cause { HasCause self.old.faults self.new.faults result }
         ensures count { IsCounted self.old.faults self.new.faults result }
+        ensures asked { self.new.asked ≡ asked_again port self.old.asked }
         ensures stays { (self.old.to_come ≡ []) ↔ (self.new.to_come ≡ []) }
         ensures places { self.new.places ≡ self.old.places }
         ensures come { Some self.new.to_come ≡ Some self.old.to_come }
@@ -72,8 +83,9 @@ impl Port for MemPort {
 
         // It fails exactly where its number is listed.
         ensures fails { IsErr result ↔ Contains self.old.fails (counted self.old.calls) }
-        ensures after { MatchResult result (λ _. self.new ≡ after_listen self.old) (λ _. self.new ≡ after_no_link self.old) }
+        ensures after { MatchResult result (λ _. self.new ≡ after_listen port self.old) (λ _. self.new ≡ with_fault (after_listen port self.old)) }
     {
+        self.links.ask(port);
         if self.links.begin() {
             return Err(self.links.fail());
         }
@@ -83,6 +95,7 @@ impl Port for MemPort {
     fn accept(&mut self) -> Result<Option<MemLink>, Failed>
         ensures cause { HasCause self.old.faults self.new.faults result }
         ensures count { IsCounted self.old.faults self.new.faults result }
+        ensures asked { self.new.asked ≡ self.old.asked }
         ensures next { Accepts (Some self.old.to_come) (Some self.new.to_come) result }
         ensures ended { IfOk result (λ next. IsNone next ↔ (self.old.to_come ≡ [])) }
         ensures stays { self.old.to_come ≡ [] → self.new.to_come ≡ [] }
@@ -101,6 +114,7 @@ impl Port for MemPort {
 
     fn done(&mut self, link: MemLink)
         ensures count { self.new.faults ≡ self.old.faults }
+        ensures asked { self.new.asked ≡ self.old.asked }
         ensures stays { (self.old.to_come ≡ []) ↔ (self.new.to_come ≡ []) }
         ensures come { Some self.new.to_come ≡ Some self.old.to_come }
         ensures places { self.new.places ≡ self.old.places - 1 }

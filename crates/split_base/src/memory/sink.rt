@@ -2,7 +2,7 @@
 ghost use Rattle.std.specs.Prelude.{◌≡◌, ◌<◌, ◌↔◌, ◌⊎◌, ℕ, [], Contains, length, IfOk, MatchResult, IsErr, IsTrue, Some};
 ghost use Rattle.split_base.specs.Faults.{HasCause, IsCounted};
 ghost use Rattle.split_base.specs.Streams.{Writes};
-ghost use Rattle.split_base.specs.Memory.{counted, after_write, after_failed_write};
+ghost use Rattle.split_base.specs.Memory.{counted, after_write, after_failed_write, with_empty};
 
 use super::NoMemory;
 use super::calls::Calls;
@@ -20,6 +20,7 @@ pub struct MemSink {
     bytes: Vec<u8>,
     room: usize,
     calls: Calls,
+    empty_writes: u64,
 }
 
 impl Model for MemSink {
@@ -34,6 +35,7 @@ impl Model for MemSink {
       fails = s.calls.fails.items;
       calls = s.calls.made;
       faults = s.calls.faults;
+      empty_writes = s.empty_writes;
     } };
 
     ghost invariant = { λ s. vec_len s.bytes + s.room ≤ vec_capacity s.bytes };
@@ -45,7 +47,7 @@ impl MemSink {
     ///
     /// `NoMemory` comes for want of that memory.
     pub fn new(alloc: Global, room: usize, fails: Vec<u64>) -> Result<Self, NoMemory>
-        ensures { IfOk result (λ sink. sink ≡ record { written = []; room = room; fails = fails.items; calls = 0; faults = 0 }) }
+        ensures { IfOk result (λ sink. sink ≡ record { written = []; room = room; fails = fails.items; calls = 0; faults = 0; empty_writes = 0 }) }
     {
         let Ok(bytes) = Vec::with_capacity(alloc, room) else {
             return Err(NoMemory);
@@ -54,6 +56,7 @@ impl MemSink {
             bytes,
             room,
             calls: Calls::new(fails),
+            empty_writes: 0,
         })
     }
 
@@ -62,6 +65,13 @@ impl MemSink {
         ensures { result.now ≡ self.now.written }
     {
         &self.bytes
+    }
+
+    /// How many of its calls were handed no byte.
+    pub fn empty_writes(&self) -> u64
+        ensures { result ≡ self.now.empty_writes }
+    {
+        self.empty_writes
     }
 
     pub(crate) fn has_fault(&self) -> bool
@@ -76,8 +86,11 @@ impl Sink for MemSink {
 
     ghost faults = { λ s. s.faults };
 
+    ghost empty_writes = { λ s. s.empty_writes };
+
     fn write(&mut self, piece: &[u8]) -> Result<usize, Failed>
         ensures bytes { Writes (Some self.old.written) (Some self.new.written) result piece.now }
+        ensures empty { 0 < length piece.now → self.new.empty_writes ≡ self.old.empty_writes }
         ensures beside { Unit {0} }
         ensures cause { HasCause self.old.faults self.new.faults result }
         ensures count { IsCounted self.old.faults self.new.faults result }
@@ -85,13 +98,24 @@ impl Sink for MemSink {
         // It fails exactly where its number is listed or the piece doesn't fit, and then has no effect but on the counts.
         ensures fails { IsErr result ↔ (Contains self.old.fails (counted self.old.calls) ⊎ (self.old.room < length piece.now)) }
         ensures taken { IfOk result (λ n. n ≡ length piece.now) }
-        ensures after { MatchResult result (λ _. self.new ≡ after_write self.old piece.now) (λ _. self.new ≡ after_failed_write self.old) }
+        ensures after { MatchResult result (λ _. self.new ≡ after_write self.old piece.now) (λ _. self.new ≡ after_failed_write self.old piece.now) }
     {
+        self.empty_writes = counted_empty(self.empty_writes, piece);
         if self.calls.begin() || self.room < piece.len() {
             return Err(self.calls.fail());
         }
         self.bytes.extend_from_slice(piece).unwrap();
         self.room -= piece.len();
         Ok(piece.len())
+    }
+}
+
+// A count of the calls that were handed no byte, after a call with this piece.
+fn counted_empty(count: u64, piece: &[u8]) -> u64
+    ensures { result ≡ with_empty piece.now count }
+{
+    match piece {
+        [] => count.saturating_add(1),
+        _ => count,
     }
 }

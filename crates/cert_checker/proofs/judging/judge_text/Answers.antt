@@ -1,4 +1,4 @@
-use Rattle.std.proofs.Common.{ℕ, pos, ◌⊎◌, arith, ◌≡◌, ◌∙◌, ◌++◌, ◌∷◌, [], subst, sym, length-append, map}
+use Rattle.std.proofs.Common.{pos, Some, ap, arith, ◌≡◌, ◌∙◌, ◌++◌, ◌∷◌, [], subst, sym, length-append, map}
 use Rattle.std.proofs.KnownBytes.{Consumes-trans}
 use Rattle.split_frac.specs.Frac.{fraction_of}
 use Rattle.cert_reader.specs.Reading.{with_mark}
@@ -6,7 +6,7 @@ use Rattle.cert_reader.specs.Text.{Numbers}
 use Rattle.cert_reader.specs.Views.{says}
 use Rattle.rule_verdicts.specs.declared.verdict.Verdict.TheVariants.{Yes}
 use Rattle.cert_checker.specs.Judged.{IsCertificate, IsJudged}
-use Rattle.cert_checker.proofs.LineSteps.{end_goes, judged_so, kind_stays, kinds, line_goes, some_lines}
+use Rattle.cert_checker.proofs.LineSteps.{end_goes, judged_so, kind_stays, line_goes, some_lines, told_lines}
 use Rattle.cert_checker.proofs.MarkSteps.{next_mark_goes, up_to_mark}
 use Rattle.cert_checker.proofs.judging.judge_text.Goals as goal
 
@@ -51,7 +51,7 @@ lines-preserved-in-Ok-Line-next_piece g c =
       up_to = record {
         said = inv.up_to.said ++ last ∷ [];
         read = told.3;
-        kind = kind_stays c.lines.pieces.lines c.lines.pieces.counts c.next_piece-in-lines.new.self.counts inv.up_to.some told.2 ∙ inv.up_to.kind ∙ sym c.take.ensures.kind;
+        kind = kind_stays c.lines.pieces.lines c.lines.pieces.counts c.next_piece-in-lines.new.self.counts inv.up_to.some told.2 ∙ inv.up_to.kind ∙ ap Some (sym c.take.ensures.kind);
         knows = c.take.ensures.knows inv.up_to.said goes.0 goes.1 goes.2;
         to_come = (next.more (λ e. absurd (cc))).0;
         some = (let one = told.1 in let some = inv.up_to.some in omega arith);
@@ -174,7 +174,7 @@ pub new-lines-requires : goal.new-lines-requires
 new-lines-requires g c =
     let next = rw c.in-Ok-Kind.field-0-is at c.in-Ok-Kind.ensures in
     let told = next.piece.2 [] [] c.new-pieces.ensures.read in
-    subst (λ (k : ℕ). (k ≡ 1) ⊎ (k ≡ 2) ⊎ (k ≡ 3)) (sym told.2) (kinds c.next_piece.new.self.counts told.3.begins.are_counts)
+    (told.2.0, told.2.2)
 
 pub lines-init : goal.lines-init
 lines-init g c =
@@ -187,7 +187,7 @@ lines-init g c =
       up_to = record {
         said = says (pos 1 ∷ []) ∷ says [] ∷ [];
         read = told.3;
-        kind = sym told.2 ∙ sym c.new-lines.ensures.kind;
+        kind = told_lines c.in-Ok-Kind.kind c.next_piece.new.self.counts c.new-lines.result told.2 c.new-lines.ensures.kind;
         knows = c.new-lines.ensures.knows;
         to_come = (next.more (λ e. absurd (cc))).0;
         some = (let two = told.1 in omega (arith, two));

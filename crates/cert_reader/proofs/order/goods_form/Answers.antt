@@ -3,8 +3,8 @@ use Rattle.cert_reader.specs.Forms.{Tree}
 use Rattle.cert_reader.proofs.FormPlaces.{goods_in_head, goods_in_tail, goods_in_values, length_goods}
 use Rattle.cert_reader.proofs.order.goods_form.Goals as goal
 
-pub returns-then-index-lt6-clause-form : goal.returns-then-index-lt6-clause-form
-returns-then-index-lt6-clause-form c = goods_in_head c.args.players c.args.goods c.args.index Tree c.if-index-lt6.true ∙ c.goods_head_form.ensures.form
+pub returns-then-index-lt-GOODS_VALUES-clause-form : goal.returns-then-index-lt-GOODS_VALUES-clause-form
+returns-then-index-lt-GOODS_VALUES-clause-form c = goods_in_head c.args.players c.args.goods c.args.index Tree c.if-index-lt-GOODS_VALUES.true ∙ c.goods_head_form.ensures.form
 
 pub returns-then-index-owners-clause-form : goal.returns-then-index-owners-clause-form
 returns-then-index-owners-clause-form c = goods_in_values c.args.players c.args.goods c.args.index Tree (omega arith) (omega arith) ∙ sym c.numbers.ensures.form

@@ -1,5 +1,6 @@
 use Rattle.std.proofs.Common.{arith, ◌≡◌, ◌+◌, ◌∙◌, ap, sym, subst, length, ◌<◌}
 use Rattle.std.proofs.lemmas.Bool.Decides.{nat_tests}
+use Rattle.cert_reader.specs.declared.places.TheConstants.{GOODS_TREE, GOODS_VALUES}
 use Rattle.cert_reader.specs.Forms.{forms_of}
 use Rattle.cert_reader.specs.Order.{form_in}
 use Rattle.cert_reader.proofs.TreePlaces.{fares_lines_only, goods_place, goods_tree, rent_lines_only}
@@ -14,7 +15,7 @@ returns-in-Rent c = (
 pub returns-in-Goods : goal.returns-in-Goods
 returns-in-Goods c = (
   λ is. ap (λ counts. form_in counts c.args.index) c.in-Goods.is
-      ∙ goods_tree c.in-Goods.players c.in-Goods.goods c.args.index (let at : c.args.index ≡ 8 + c.in-Goods.players = grind (arith, nat_tests) in at),
+      ∙ goods_tree c.in-Goods.players c.in-Goods.goods c.args.index (let at : c.args.index ≡ GOODS_VALUES + c.in-Goods.players + GOODS_TREE = grind (arith, nat_tests) in at),
   λ tree. let at = goods_place c.in-Goods.players c.in-Goods.goods c.args.index (subst (λ counts. c.args.index < length (forms_of counts)) c.in-Goods.is c.requires) (ap (λ counts. form_in counts c.args.index) (sym c.in-Goods.is) ∙ tree) in
       grind (arith, nat_tests),
 )

@@ -3,8 +3,8 @@ use Rattle.cert_reader.specs.Forms.{Tree}
 use Rattle.cert_reader.proofs.FormPlaces.{length_rent, rent_in_head, rent_in_tail, rent_in_values}
 use Rattle.cert_reader.proofs.order.rent_form.Goals as goal
 
-pub returns-then-index-lt4-clause-form : goal.returns-then-index-lt4-clause-form
-returns-then-index-lt4-clause-form c = rent_in_head c.args.members c.args.index Tree c.if-index-lt4.true ∙ c.rent_head_form.ensures.form
+pub returns-then-index-lt-RENT_VALUES-clause-form : goal.returns-then-index-lt-RENT_VALUES-clause-form
+returns-then-index-lt-RENT_VALUES-clause-form c = rent_in_head c.args.members c.args.index Tree c.if-index-lt-RENT_VALUES.true ∙ c.rent_head_form.ensures.form
 
 pub returns-then-index-rooms-clause-form : goal.returns-then-index-rooms-clause-form
 returns-then-index-rooms-clause-form c = rent_in_values c.args.members c.args.index Tree (omega arith) (omega arith) ∙ sym c.numbers.ensures.form

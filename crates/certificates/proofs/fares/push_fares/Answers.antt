@@ -3,7 +3,8 @@ use Rattle.std.specs.List.{enumerate_from}
 use Rattle.std.proofs.lemmas.List.{length-map}
 use Rattle.bid_rules.specs.declared.cases.FareCase.{FareCase}
 use Rattle.cert_reader.specs.declared.forms.Word.TheVariants as word
-use Rattle.cert_reader.specs.Forms.{Form, fares_forms, fares_tail, numbers_of, set_form}
+use Rattle.cert_reader.specs.Forms.{Form, fares_forms, numbers_of, set_form}
+use Rattle.cert_reader.specs.Order.{fares_tail}
 use Rattle.cert_reader.specs.Sets.{sets_of}
 use Rattle.cert_reader.specs.Text.{Numbers, Said, text_of, wholes}
 use Rattle.cert_reader.specs.Views.{says}

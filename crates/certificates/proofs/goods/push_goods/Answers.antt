@@ -2,7 +2,8 @@ use Rattle.std.proofs.Common.{◌≡◌, ◌++◌, ◌∷◌, [], List, ℕ, len
 use Rattle.std.proofs.lemmas.List.{length-map}
 use Rattle.bid_rules.specs.Goods.{player_count}
 use Rattle.cert_reader.specs.declared.forms.Word.TheVariants as word
-use Rattle.cert_reader.specs.Forms.{Tree, goods_forms, goods_tail}
+use Rattle.cert_reader.specs.Forms.{Tree, goods_forms}
+use Rattle.cert_reader.specs.Order.{goods_tail}
 use Rattle.cert_reader.specs.Text.{Marks, Said, said_text, text_of, wholes}
 use Rattle.cert_reader.specs.Views.{says}
 use Rattle.certificates.specs.Lines.{number_line}

@@ -2,7 +2,8 @@ use Rattle.std.proofs.Common.{◌≡◌, ◌++◌, ◌∷◌, [], List, ℕ, len
 use Rattle.std.proofs.lemmas.List.{length-map}
 use Rattle.bid_rules.specs.Rent.{room_count}
 use Rattle.cert_reader.specs.declared.forms.Word.TheVariants as word
-use Rattle.cert_reader.specs.Forms.{rent_forms, rent_tail}
+use Rattle.cert_reader.specs.Forms.{rent_forms}
+use Rattle.cert_reader.specs.Order.{rent_tail}
 use Rattle.cert_reader.specs.Text.{Numbers, Said, text_of, wholes}
 use Rattle.cert_reader.specs.Views.{says}
 use Rattle.certificates.specs.Lines.{number_line}

@@ -9,4 +9,4 @@ returns-in-Err-open_file-clause-serves g c = Serves.not_opened c.in-Err-open_fil
 pub returns-clause-serves : goal.returns-clause-serves
 returns-clause-serves g c =
     let opens = c.in-Ok-open_file.ensures {u = tt} in
-    Serves.opened c.in-Ok-open_file.serving c.open_file.new.disk opens (c.serve_opened.ensures.serves (c.open_file.new.disk, state_of opens.opened) (refl, opens.opened.stands))
+    Serves.opened c.in-Ok-open_file.serving c.open_file.new.disk opens c.serve_opened.ensures.asked (c.serve_opened.ensures.serves (c.open_file.new.disk, state_of opens.opened) (refl, opens.opened.stands))

@@ -8,7 +8,7 @@ use Rattle.host_journal.proofs.opening.open_host.Goals as goal
 
 pub returns-in_err-to_version_two-clause-any_moment : goal.returns-in_err-to_version_two-clause-any_moment
 returns-in_err-to_version_two-clause-any_moment g c honest secret lists each =
-    let (sec, events, r) = c.in_ok-host.ensures.whole honest in
+    let (sec, events, r) = c.in_ok-host.ensures.whole (g.met.D.Disk.honest_tells c.args.disk.now honest) in
     let old = c.args.disk.now in
     let mid = c.read_host.new.disk in
     let file = g.D.Disk.seen mid in
@@ -25,7 +25,7 @@ returns-in_err-to_version_two-clause-any_moment g c honest secret lists each =
 
 pub returns-in_err-to_version_two-clause-after : goal.returns-in_err-to_version_two-clause-after
 returns-in_err-to_version_two-clause-after g c honest secret lists each f now =
-    let (sec, events, r) = c.in_ok-host.ensures.whole honest in
+    let (sec, events, r) = c.in_ok-host.ensures.whole (g.met.D.Disk.honest_tells c.args.disk.now honest) in
     let old = c.args.disk.now in
     let mid = c.read_host.new.disk in
     let file = g.D.Disk.seen mid in
@@ -40,7 +40,7 @@ returns-in_err-to_version_two-clause-after g c honest secret lists each f now =
 
 pub returns-clause-any_moment : goal.returns-clause-any_moment
 returns-clause-any_moment g c honest secret lists each =
-    let (sec, events, r) = c.in_ok-host.ensures.whole honest in
+    let (sec, events, r) = c.in_ok-host.ensures.whole (g.met.D.Disk.honest_tells c.args.disk.now honest) in
     let old = c.args.disk.now in
     let mid = c.read_host.new.disk in
     let file = g.D.Disk.seen mid in
@@ -57,7 +57,7 @@ returns-clause-any_moment g c honest secret lists each =
 
 pub returns-clause-after : goal.returns-clause-after
 returns-clause-after g c honest secret lists each f now =
-    let (sec, events, r) = c.in_ok-host.ensures.whole honest in
+    let (sec, events, r) = c.in_ok-host.ensures.whole (g.met.D.Disk.honest_tells c.args.disk.now honest) in
     let old = c.args.disk.now in
     let mid = c.read_host.new.disk in
     let file = g.D.Disk.seen mid in
@@ -72,7 +72,7 @@ returns-clause-after g c honest secret lists each f now =
 
 pub returns-clause-opened : goal.returns-clause-opened
 returns-clause-opened g c honest =
-    let (sec, events, r) = c.in_ok-host.ensures.whole honest in
+    let (sec, events, r) = c.in_ok-host.ensures.whole (g.met.D.Disk.honest_tells c.args.disk.now honest) in
     let mid = c.read_host.new.disk in
     let new = c.to_version_two.new.disk in
     let file = g.D.Disk.seen mid in
@@ -100,7 +100,7 @@ returns-clause-made g c =
             let h = c.in_ok-host.host.content in
             let raised = c.to_version_two.new.log in
             let still = c.read_host.ensures.honest.0 honest in
-            let r : IsReplayed file log h sec events = with.of_file honest in
+            let r : IsReplayed file log h sec events = with.of_file (g.met.D.Disk.honest_tells c.args.disk.now honest) in
             let is_log = log_of_read file (g.D.Disk.images mid) log h sec events (c.in_ok-host.ensures.one honest) r in
             let now = g.met.D.Disk.seen_is_image new (c.to_version_two.ensures.honest.0 still) in
             let opened = has_opened file (g.D.Disk.seen new) (g.D.Disk.images new) log raised h sec events r c.in_ok-to_version_two.ensures.version now (c.in_ok-to_version_two.ensures.raised still sec (map spelling events) is_log) in
@@ -140,6 +140,6 @@ returns-clause-torn g c honest =
 
 pub returns-clause-done : goal.returns-clause-done
 returns-clause-done g c honest =
-    let (sec, events, r) = c.in_ok-host.ensures.whole honest in
+    let (sec, events, r) = c.in_ok-host.ensures.whole (g.met.D.Disk.honest_tells c.args.disk.now honest) in
     opened_done g.D.Disk.seen g.D.Disk.moment c.args.disk.now c.read_host.new.disk c.to_version_two.new.disk c.in_ok-host.log c.in_ok-host.host.content sec events (c.read_host.ensures.rests honest).same (c.in_ok-host.ensures.tick honest) r
     (c.in_ok-to_version_two.ensures.done (c.read_host.ensures.honest.0 honest))

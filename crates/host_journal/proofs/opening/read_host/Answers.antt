@@ -5,16 +5,16 @@ use Rattle.host_journal.proofs.Replay.{starts_empty}
 use Rattle.host_journal.proofs.opening.read_host.Goals as goal
 
 pub returns-in_err-replay-clause-not_a_log : goal.returns-in_err-replay-clause-not_a_log
-returns-in_err-replay-clause-not_a_log g c honest place is =
+returns-in_err-replay-clause-not_a_log g c tells place is =
     let file = g.D.Disk.seen c.start.new.disk in
-    let r : IsReplaying file c.in_ok-log.log c.new-host.result.content c.in_ok-log.secret [] = starts_empty file c.in_ok-log.log c.new-host.result.content c.in_ok-log.secret (c.in_ok-log.ensures.reading honest) c.new-host.ensures in
-    inr (c.in_err-replay.ensures.not_a_log (c.in_ok-log.ensures.honest.0 honest) c.in_ok-log.secret [] r place (search rules))
+    let r : IsReplaying file c.in_ok-log.log c.new-host.result.content c.in_ok-log.secret [] = starts_empty file c.in_ok-log.log c.new-host.result.content c.in_ok-log.secret (c.in_ok-log.ensures.reading tells) c.new-host.ensures in
+    inr (c.in_err-replay.ensures.not_a_log (c.in_ok-log.ensures.still tells).0 c.in_ok-log.secret [] r place (search rules))
 
 pub returns-clause-whole : goal.returns-clause-whole
-returns-clause-whole g c honest =
+returns-clause-whole g c tells =
     let file = g.D.Disk.seen c.start.new.disk in
-    let r : IsReplaying file c.in_ok-log.log c.new-host.result.content c.in_ok-log.secret [] = starts_empty file c.in_ok-log.log c.new-host.result.content c.in_ok-log.secret (c.in_ok-log.ensures.reading honest) c.new-host.ensures in
-    let (all, read) = c.in_ok-replay.ensures.whole (c.in_ok-log.ensures.honest.0 honest) c.in_ok-log.secret [] r in
+    let r : IsReplaying file c.in_ok-log.log c.new-host.result.content c.in_ok-log.secret [] = starts_empty file c.in_ok-log.log c.new-host.result.content c.in_ok-log.secret (c.in_ok-log.ensures.reading tells) c.new-host.ensures in
+    let (all, read) = c.in_ok-replay.ensures.whole (c.in_ok-log.ensures.still tells).0 c.in_ok-log.secret [] r in
     (c.in_ok-log.secret, all, read)
 
 pub returns-clause-made : goal.returns-clause-made
@@ -25,8 +25,8 @@ returns-clause-made g c =
       all,
       record {
         of_events = made.of_events;
-        of_file = λ honest.
-            let r : IsReplaying file c.in_ok-log.log c.new-host.result.content c.in_ok-log.secret [] = starts_empty file c.in_ok-log.log c.new-host.result.content c.in_ok-log.secret (c.in_ok-log.ensures.reading honest) c.new-host.ensures in
-            made.of_file (c.in_ok-log.ensures.honest.0 honest) r;
+        of_file = λ tells.
+            let r : IsReplaying file c.in_ok-log.log c.new-host.result.content c.in_ok-log.secret [] = starts_empty file c.in_ok-log.log c.new-host.result.content c.in_ok-log.secret (c.in_ok-log.ensures.reading tells) c.new-host.ensures in
+            made.of_file (c.in_ok-log.ensures.still tells).0 r;
       },
     )

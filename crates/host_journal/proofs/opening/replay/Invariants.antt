@@ -12,10 +12,11 @@ invariant-loop-body g l = record {
   tick : g.D.Disk.is_honest l.initial.disk → g.D.Disk.moment l.disk ≡ g.D.Disk.moment l.initial.disk;
   honest : g.D.Disk.is_honest l.initial.disk ↔ g.D.Disk.is_honest l.disk;
   rests : g.D.Disk.is_honest l.initial.disk → Rests g.D.Disk.seen g.D.Disk.images g.D.Disk.moment g.D.Disk.left_since l.initial.disk l.disk;
-  replaying : g.D.Disk.is_honest l.initial.disk → (secret : List ℕ) (events : List EventView) → IsReplaying (g.D.Disk.seen l.initial.disk) l.initial.log l.initial.host.content secret events
+  still : g.D.Disk.tells l.initial.disk → g.D.Disk.tells l.disk × (g.D.Disk.seen l.disk ≡ g.D.Disk.seen l.initial.disk);
+  replaying : g.D.Disk.tells l.initial.disk → (secret : List ℕ) (events : List EventView) → IsReplaying (g.D.Disk.seen l.initial.disk) l.initial.log l.initial.host.content secret events
       → (all : List EventView) × IsReplaying (g.D.Disk.seen l.disk) l.log l.host.content secret all;
   made : (secret : List ℕ) (events : List EventView) → IsHostOf l.initial.host.content secret events → (all : List EventView) × IsHostOfFile l.host.content secret all
-      (g.D.Disk.is_honest l.initial.disk → IsReplaying (g.D.Disk.seen l.initial.disk) l.initial.log l.initial.host.content secret events → IsReplaying (g.D.Disk.seen l.disk) l.log l.host.content secret all);
+      (g.D.Disk.tells l.initial.disk → IsReplaying (g.D.Disk.seen l.initial.disk) l.initial.log l.initial.host.content secret events → IsReplaying (g.D.Disk.seen l.disk) l.log l.host.content secret all);
 }
 
 abbrev pub decreases-loop-body : goal.decreases-loop-body

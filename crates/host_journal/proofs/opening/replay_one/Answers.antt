@@ -7,14 +7,14 @@ use Rattle.host_journal.proofs.Replay.{one_more}
 use Rattle.host_journal.proofs.opening.replay_one.Goals as goal
 
 pub returns-clause-goes_on : goal.returns-clause-goes_on
-returns-clause-goes_on g c honest secret events r more =
+returns-clause-goes_on g c tells secret events r more =
     let (e, spells, of, can, applied) = c.in_ok-take_up.ensures.applied in
     let file = g.D.Disk.seen c.args.disk.now in
     let new = g.D.Disk.seen c.next.new.disk in
-    let same : new ≡ file = (c.next.ensures.rests honest).same in
+    let same : new ≡ file = (c.next.ensures.still tells).1 in
     let body = c.next.new.body.items in
     let opened : IsTrue c.in_ok-next.field-0 = search rules in
-    let reading : IsReading new c.next.new.self secret (map spelling events ++ body ∷ []) = c.in_ok-next.ensures.record honest secret (map spelling events) r.reading opened in
+    let reading : IsReading new c.next.new.self secret (map spelling events ++ body ∷ []) = c.in_ok-next.ensures.record tells secret (map spelling events) r.reading opened in
     let spelled : Spells e body = subst (Spells e) c.deref.ensures.value spells in
     let version : IsOfVersion c.next.new.self.version e = subst (λ (v : ℕ). IsOfVersion v e) c.version.ensures.version of in
     let old : IsReplaying new c.args.log.now c.args.host.now.content secret events = subst (λ (f : List ℕ). IsReplaying f c.args.log.now c.args.host.now.content secret events) (sym same) r in
@@ -30,10 +30,10 @@ returns-clause-made g c secret events made =
       events ++ e ∷ [],
       record {
         of_events = made_push c.args.host.now.content c.take_up.new.host.content secret events e made can applied;
-        of_file = λ honest r. (
+        of_file = λ tells r. (
           (λ more.
-              let same : new ≡ file = (c.next.ensures.rests honest).same in
-              let reading : IsReading new c.next.new.self secret (map spelling events ++ body ∷ []) = c.in_ok-next.ensures.record honest secret (map spelling events) r.reading opened in
+              let same : new ≡ file = (c.next.ensures.still tells).1 in
+              let reading : IsReading new c.next.new.self secret (map spelling events ++ body ∷ []) = c.in_ok-next.ensures.record tells secret (map spelling events) r.reading opened in
               let spelled : Spells e body = subst (Spells e) c.deref.ensures.value spells in
               let version : IsOfVersion c.next.new.self.version e = subst (λ (v : ℕ). IsOfVersion v e) c.version.ensures.version of in
               let old : IsReplaying new c.args.log.now c.args.host.now.content secret events = subst (λ (f : List ℕ). IsReplaying f c.args.log.now c.args.host.now.content secret events) (sym same) r in

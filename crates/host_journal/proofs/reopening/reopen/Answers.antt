@@ -1,6 +1,5 @@
-use Rattle.std.proofs.Common.{◌≡◌, refl, sym, ap, ◌∙◌, Ok, Err, subst}
+use Rattle.std.proofs.Common.{◌≡◌, refl, ap, ◌∙◌, Ok, Err}
 use Rattle.gate_log.specs.declared.fault.LogFault.TheVariants as fault
-use Rattle.host_journal.specs.Journal.{IsFirstFault}
 use Rattle.host_journal.proofs.OpenedFiles.{waiting_event, was_faulty, was_opened}
 use Rattle.host_journal.proofs.reopening.reopen.Goals as goal
 
@@ -14,12 +13,10 @@ pub returns-in-Err-clause-reopened : goal.returns-in-Err-clause-reopened
 returns-in-Err-clause-reopened g c s stands =
     let (e, waits) = waiting_event c.args.serving.now.waiting s.waiting c.requires stands.waiting in
     was_faulty g.D.Disk c.args.serving.now c.args.disk.now c.open_host.new.disk s stands e waits _ c.open_host.ensures.honest c.open_host.ensures.count c.open_host.ensures.any_moment
-    c.open_host.ensures.after (g.met.D.Disk.seen_is_image c.args.disk.now) c.events_law.ensures.no_fault c.in-Err.fault refl c.in-Err.ensures.faults c.open_host.ensures.torn
-    (λ h place is. c.open_host.ensures.not_a_log h place (c.in-Err.is ∙ ap Err is))
+    c.open_host.ensures.after (g.met.D.Disk.seen_is_image c.args.disk.now) c.events_law.ensures.no_fault (g.met.D.Disk.honest_tells c.args.disk.now) c.in-Err.fault refl c.in-Err.ensures.faults c.open_host.ensures.torn
+    (λ t place is. c.open_host.ensures.not_a_log t place (c.in-Err.is ∙ ap Err is))
     (λ h. c.in-Err.ensures.kept h)
 
 pub returns-in-Err-clause-place : goal.returns-in-Err-clause-place
-returns-in-Err-clause-place g c h place is =
-    let same : c.in-Err.fault ≡ fault.NotALog place = cc is in
-    let rests = c.in-Err.ensures.kept h (λ e. let bad : fault.Disk ≡ fault.NotALog place = sym e ∙ same in cc bad) in
-    subst (IsFirstFault place) rests.same (c.open_host.ensures.not_a_log h place (c.in-Err.is ∙ ap Err same))
+returns-in-Err-clause-place g c tells place is =
+    let same : c.in-Err.fault ≡ fault.NotALog place = cc is in c.open_host.ensures.not_a_log tells place (c.in-Err.is ∙ ap Err same)

@@ -1,4 +1,4 @@
--- The carry and the source hold what they held, and no head stands in the carry.
+-- The carry and the source hold what they held, no head stands in the carry, and the parser asks for more of it.
 use Rattle.std.proofs.Common.{◌≡◌, ◌+◌, ◌++◌, ◌<◌, ℕ, List, length}
 use Rattle.std.specs.Io.KnownBytes.{Keeps, prepend_known}
 use Rattle.http_heads.specs.declared.limits.TheConstants.{MAX_HEAD}
@@ -10,6 +10,7 @@ invariant-loop-room g l = record {
   room : l.room + length l.carry ≡ MAX_HEAD;
   more : (read : List ℕ) × (l.carry ≡ l.initial.carry ++ read);
   none : 0 < length l.carry → HasNone g.K.HeadKind.IsText l.carry;
+  asks : 0 < length l.carry → g.K.HeadKind.AsksMore l.carry;
   same : Keeps (prepend_known l.initial.carry (g.S.Source.left l.initial.source)) (prepend_known l.carry (g.S.Source.left l.source));
   count : g.S.Source.faults l.source ≡ g.S.Source.faults l.initial.source;
   beside : g.S.Source.beside l.source ≡ g.S.Source.beside l.initial.source;

@@ -1,13 +1,10 @@
-use Rattle.std.proofs.Common.{arith, ◌≡◌, ℕ, ◌≤◌, List, length, sum, All, ap, inl, inr}
-use Rattle.std.specs.List.{AllZip}
-use Rattle.bid_rules.specs.declared.limits.TheConstants.{WHOLE_POINTS}
+use Rattle.std.proofs.Common.{arith, ◌≡◌, sum, ap, inl, inr}
 use Rattle.std.proofs.lemmas.Bool.{cases_lt}
 use Rattle.nash_bounds.specs.Reach.{entries_at}
 use Rattle.nash_bounds.proofs.FarOwners.{entries_total}
 use Rattle.nash_bounds.proofs.LaneVectors.{level_total}
 use Rattle.nash_bounds.proofs.RaisedEntries.{level_start}
 use Rattle.nash_bounds.proofs.fitting.fit.Goals as goal
-use Rattle.nash_bounds.specs.declared.limits.TheConstants.{LANES, MOST_LANES_SUM}
 
 pub total-sum-requires : goal.total-sum-requires
 total-sum-requires c = let e = ap sum c.entries_of-entries.ensures in let s = entries_total c.down.level c.args.lanes.now c.requires in omega arith

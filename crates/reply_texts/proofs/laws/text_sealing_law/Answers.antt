@@ -1,5 +1,5 @@
 use Rattle.std.proofs.Common.{sym, ap, ◌∙◌}
-use Rattle.sealed_core.specs.Sealed.{caller_number, empty, view}
+use Rattle.sealed_core.specs.Sealed.{caller_number, view}
 use Rattle.reply_texts.specs.Sealing.{told_in}
 use Rattle.reply_texts.proofs.Sealed.{tells, told_is, told_run}
 use Rattle.reply_texts.proofs.laws.text_sealing_law.Goals as goal
@@ -17,7 +17,7 @@ returns-clause-one_step c g h t id key ask same open_ =
     ∙ sym (told_is h t id key ask (sym both ∙ open_))
 
 pub returns-clause-runs : goal.returns-clause-runs
-returns-clause-runs c secret id caller run others alike =
-    told_run (empty secret) id caller run
-    ∙ (λ i. tells (c.sealing_law.ensures.views secret id caller run others alike i) (c.sealing_law.ensures.heard secret id caller run others alike i))
-    ∙ sym (told_run (empty secret) id caller others)
+returns-clause-runs c g h id caller run others same alike =
+    told_run g id caller run
+    ∙ (λ i. tells (c.sealing_law.ensures.views g h id caller run others same alike i) (c.sealing_law.ensures.heard g h id caller run others same alike i))
+    ∙ sym (told_run h id caller others)

@@ -27,7 +27,7 @@ returns-in-Some-clause-run g c w stands =
     let going = c.loop-end.invariant.going w stands in
     going_ends (host_service g.D.Disk) MAX_REQUESTS g.C.Clock.gives g.C.Clock.faults c.args.clock.now c.loop-end.clock c.serve_head.new.clock
     (link_view tells c.args.link.now) (carried c.loop-end.carry (link_view tells c.loop-end.link)) (link_view tells c.serve_head.new.link)
-    (StandsAt g.D.Disk c.loop-end.serving c.loop-end.disk) (StandsAt g.D.Disk c.serve_head.new.serving c.serve_head.new.disk) n w c.serve_head.new.carry c.in-Some.end (rw more at going) c.in-Some.ensures.says
+    (StandsAt g.D.Disk c.loop-end.serving c.loop-end.disk) (StandsAt g.D.Disk c.serve_head.new.serving c.serve_head.new.disk) n w c.in-Some.end (rw more at going) c.in-Some.ensures.says
 
 pub returns-in-Some-clause-counts : goal.returns-in-Some-clause-counts
 returns-in-Some-clause-counts g c =

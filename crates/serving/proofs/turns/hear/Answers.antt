@@ -10,7 +10,7 @@ pub returns-in-End-clause-says : goal.returns-in-End-clause-says
 returns-in-End-clause-says g c =
     let tells = tells_of g.L.Source g.L.Sink in
     let link = carried c.args.carry.now (link_view tells c.args.link.now) in
-    let mid = carried c.turn.new.carry (link_view tells c.turn.new.link) in
+    let mid = link_view tells c.turn.new.link in
     let asked = ClockRun g.C.Clock.gives g.C.Clock.faults c.args.clock.now c.args.clock.now in
     heard_end link mid asked c.in-End.ensures.written c.in-End.ensures.says.1 (c.in-End.ensures.count, c.in-End.ensures.writes) refl
 
@@ -18,9 +18,9 @@ pub returns-in-LinkFault-clause-says : goal.returns-in-LinkFault-clause-says
 returns-in-LinkFault-clause-says g c =
     let tells = tells_of g.L.Source g.L.Sink in
     let link = carried c.args.carry.now (link_view tells c.args.link.now) in
-    let mid = carried c.turn.new.carry (link_view tells c.turn.new.link) in
+    let mid = link_view tells c.turn.new.link in
     let asked = ClockRun g.C.Clock.gives g.C.Clock.faults c.args.clock.now c.args.clock.now in
-    heard_fault link mid asked c.in-LinkFault.ensures.written c.turn.new.carry (g.L.Source.left c.turn.new.link) refl c.in-LinkFault.ensures.says (c.in-LinkFault.ensures.held refl)
+    heard_fault link mid asked c.in-LinkFault.ensures.written c.turn.new.carry c.in-LinkFault.ensures.says (c.in-LinkFault.ensures.held refl)
     (c.in-LinkFault.ensures.count, c.in-LinkFault.ensures.writes) refl
 
 pub returns-in-BadHead-clause-says : goal.returns-in-BadHead-clause-says
@@ -29,7 +29,7 @@ returns-in-BadHead-clause-says g c =
     let link = carried c.args.carry.now (link_view tells c.args.link.now) in
     let mid = carried c.turn.new.carry (link_view tells c.turn.new.link) in
     let asked = ClockRun g.C.Clock.gives g.C.Clock.faults c.args.clock.now c.ask.new.clock in
-    says_refused link mid asked c.refused.result refusals.BadHead c.ask.result false c.refused.ensures
+    says_refused link c.turn.new.carry (link_view tells c.turn.new.link) asked c.refused.result refusals.BadHead c.ask.result false c.refused.ensures
     (heard_bad link mid asked c.in-BadHead.ensures.written c.in-BadHead.ensures.says.1 (c.in-BadHead.ensures.count, c.in-BadHead.ensures.writes) c.ask.result c.ask.ensures.asked)
 
 pub returns-in-NoMemory-clause-says : goal.returns-in-NoMemory-clause-says
@@ -38,7 +38,7 @@ returns-in-NoMemory-clause-says g c =
     let link = carried c.args.carry.now (link_view tells c.args.link.now) in
     let mid = carried c.turn.new.carry (link_view tells c.turn.new.link) in
     let asked = ClockRun g.C.Clock.gives g.C.Clock.faults c.args.clock.now c.ask-in-NoMemory.new.clock in
-    says_refused link mid asked c.refused-in-NoMemory.result refusals.Memory c.ask-in-NoMemory.result c.is_head.result c.refused-in-NoMemory.ensures
+    says_refused link c.turn.new.carry (link_view tells c.turn.new.link) asked c.refused-in-NoMemory.result refusals.Memory c.ask-in-NoMemory.result c.is_head.result c.refused-in-NoMemory.ensures
     (heard_memory link mid asked c.in-NoMemory.ensures.written c.in-NoMemory.verb c.in-NoMemory.ensures.says.1 (c.in-NoMemory.ensures.count, c.in-NoMemory.ensures.writes) c.ask-in-NoMemory.result c.ask-in-NoMemory.ensures.asked
     c.is_head.result c.is_head.ensures)
 
@@ -48,7 +48,7 @@ returns-in-None-clause-says g c =
     let link = carried c.args.carry.now (link_view tells c.args.link.now) in
     let mid = carried c.turn.new.carry (link_view tells c.turn.new.link) in
     let asked = ClockRun g.C.Clock.gives g.C.Clock.faults c.args.clock.now c.ask-in-Head.new.clock in
-    says_refused link mid asked c.refused-in-None.result refusals.ClockFault None c.is_head-in-None.result c.refused-in-None.ensures
+    says_refused link c.turn.new.carry (link_view tells c.turn.new.link) asked c.refused-in-None.result refusals.ClockFault None c.is_head-in-None.result c.refused-in-None.ensures
     (heard_late link mid asked c.in-Head.ensures.written c.in-Head.head (head_text _ _ c.in-Head.head c.in-Head.ensures.says) (c.in-Head.ensures.count, c.in-Head.ensures.writes) c.in-None.ensures.asked
     c.is_head-in-None.result c.is_head-in-None.ensures)
 
@@ -60,7 +60,7 @@ returns-in-Refused-clause-says g c =
     let now = carried c.next_body.new.carry (link_view tells c.next_body.new.link) in
     let asked = ClockRun g.C.Clock.gives g.C.Clock.faults c.args.clock.now c.ask-in-Head.new.clock in
     let says = c.in-Refused.ensures.says in
-    says_refused link now asked c.refused-in-Refused.result (refusals.Stated c.in-Refused.row) (Some c.in-Some.moment) c.is_head-in-Refused.result c.refused-in-Refused.ensures
+    says_refused link c.next_body.new.carry (link_view tells c.next_body.new.link) asked c.refused-in-Refused.result (refusals.Stated c.in-Refused.row) (Some c.in-Some.moment) c.is_head-in-Refused.result c.refused-in-Refused.ensures
     (heard_stated link mid now asked c.in-Head.head c.in-Some.moment (head_text _ _ c.in-Head.head c.in-Head.ensures.says) c.in-Head.ensures.written
     (c.in-Head.ensures.count, c.in-Head.ensures.writes) c.in-Some.ensures.asked
     c.in-Refused.row says.0 says.1 says.2 c.in-Refused.ensures.counts c.is_head-in-Refused.result c.is_head-in-Refused.ensures)
@@ -73,7 +73,7 @@ returns-in-NoMemory-next_body-clause-says g c =
     let now = carried c.next_body.new.carry (link_view tells c.next_body.new.link) in
     let asked = ClockRun g.C.Clock.gives g.C.Clock.faults c.args.clock.now c.ask-in-Head.new.clock in
     let says = c.in-NoMemory-next_body.ensures.says in
-    says_refused link now asked c.refused-in-NoMemory-next_body.result refusals.Memory (Some c.in-Some.moment) c.is_head-in-NoMemory-next_body.result c.refused-in-NoMemory-next_body.ensures
+    says_refused link c.next_body.new.carry (link_view tells c.next_body.new.link) asked c.refused-in-NoMemory-next_body.result refusals.Memory (Some c.in-Some.moment) c.is_head-in-NoMemory-next_body.result c.refused-in-NoMemory-next_body.ensures
     (heard_no_room link mid now asked c.in-Head.head c.in-Some.moment (head_text _ _ c.in-Head.head c.in-Head.ensures.says) c.in-Head.ensures.written
     (c.in-Head.ensures.count, c.in-Head.ensures.writes) c.in-Some.ensures.asked
     says.0 says.1 says.2 c.in-NoMemory-next_body.ensures.counts c.is_head-in-NoMemory-next_body.result c.is_head-in-NoMemory-next_body.ensures)
@@ -83,7 +83,7 @@ returns-in-Cut-clause-says g c =
     let tells = tells_of g.L.Source g.L.Sink in
     let link = carried c.args.carry.now (link_view tells c.args.link.now) in
     let mid = carried c.turn.new.carry (link_view tells c.turn.new.link) in
-    let now = carried c.next_body.new.carry (link_view tells c.next_body.new.link) in
+    let now = link_view tells c.next_body.new.link in
     let asked = ClockRun g.C.Clock.gives g.C.Clock.faults c.args.clock.now c.ask-in-Head.new.clock in
     let says = c.in-Cut.ensures.says in
     heard_cut link mid now asked c.in-Head.head c.in-Some.moment (head_text _ _ c.in-Head.head c.in-Head.ensures.says) c.in-Head.ensures.written
@@ -95,12 +95,12 @@ returns-in-LinkFault-next_body-clause-says g c =
     let tells = tells_of g.L.Source g.L.Sink in
     let link = carried c.args.carry.now (link_view tells c.args.link.now) in
     let mid = carried c.turn.new.carry (link_view tells c.turn.new.link) in
-    let now = carried c.next_body.new.carry (link_view tells c.next_body.new.link) in
+    let now = link_view tells c.next_body.new.link in
     let asked = ClockRun g.C.Clock.gives g.C.Clock.faults c.args.clock.now c.ask-in-Head.new.clock in
     let says = c.in-LinkFault-next_body.ensures.says in
     heard_body_fault link mid now asked c.in-Head.head c.in-Some.moment (head_text _ _ c.in-Head.head c.in-Head.ensures.says) c.in-Head.ensures.written
     (c.in-Head.ensures.count, c.in-Head.ensures.writes) c.in-Some.ensures.asked
-    c.next_body.new.carry (g.L.Source.left c.next_body.new.link) refl says.0 c.in-LinkFault-next_body.ensures.counts
+    c.next_body.new.carry says.0 c.in-LinkFault-next_body.ensures.counts
 
 pub returns-in-Body-clause-says : goal.returns-in-Body-clause-says
 returns-in-Body-clause-says g c =

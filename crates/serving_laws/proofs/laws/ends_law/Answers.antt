@@ -1,11 +1,14 @@
 use Rattle.serving.specs.Serving.{host_service}
-use Rattle.serving_laws.proofs.Lasts.{cut_where, ended_where, fault_counted, fault_where, link_ends, memory_where}
+use Rattle.serving_laws.proofs.Lasts.{cut_where, ended_where, ends_after, fault_counted, fault_where, link_ends, memory_where}
 use Rattle.serving_laws.proofs.MemoryReplies.{memory_written}
 use Rattle.serving_laws.proofs.laws.ends_law.Goals as goal
 
 pub returns-clause-last : goal.returns-clause-last
 returns-clause-last g c n all answers w out new end run =
     link_ends (host_service g.D.Disk) all answers w out new end (c.link_law.ensures.exchanges n all answers w out new end run)
+
+pub returns-clause-behind : goal.returns-clause-behind
+returns-clause-behind g c all answers w out new end link = ends_after (host_service g.D.Disk) all answers w out new end link
 
 pub returns-clause-ended : goal.returns-clause-ended
 returns-clause-ended g c last = ended_where last

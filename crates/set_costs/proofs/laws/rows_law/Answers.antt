@@ -1,9 +1,9 @@
-use Rattle.std.proofs.Common.{◌≡◌, ◌+◌, ◌^◌, arith, length, refl, [], ◌∷◌, ◌++◌, List, ℕ, ap, map, ◌∙◌, sym}
+use Rattle.std.proofs.Common.{◌≡◌, ◌+◌, arith, length, refl, [], ◌∷◌, ◌++◌, ap, map, ◌∙◌, sym}
 use Rattle.std.specs.List.{range_with_len}
 use Rattle.std.proofs.lemmas.List.{length-append}
 use Rattle.std.proofs.lemmas.Nat.{pow_pos}
 use Rattle.bid_rules.specs.Coalitions.{riders_in}
-use Rattle.set_costs.specs.Table.{ListsCosts, route_costs}
+use Rattle.set_costs.specs.Table.{route_costs}
 use Rattle.set_costs.proofs.TableRows.{listed_by_index}
 use Rattle.set_costs.proofs.laws.rows_law.Goals as goal
 

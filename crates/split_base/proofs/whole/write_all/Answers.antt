@@ -9,5 +9,7 @@ loop-done-preserved g c = record {
   within = (let fits = rw take_rest at c.in_ok-done.ensures.bytes.0 in omega (arith, fits, length-drop {A = ℕ}));
   so_far = Appends-take _ _ _ _ _ _ c.loop-done.invariant.so_far (rw take_rest at c.in_ok-done.ensures.bytes.1);
   count = search rules;
+  untouched = λ none. absurd (omega (arith, none, c.loop-done.invariant.within, c.loop-done-test.true));
+  empty = search rules;
   beside = search rules;
 }

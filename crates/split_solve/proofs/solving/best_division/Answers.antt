@@ -1,8 +1,7 @@
 use Rattle.std.proofs.Common.{sym, subst}
 use Rattle.bid_rules.specs.declared.cases.Case.{Case}
 use Rattle.split_solve.specs.Solving.{IsDivided}
-use Rattle.split_solve.proofs.SearchedCases.{searched_of}
 use Rattle.split_solve.proofs.solving.best_division.Goals as goal
 
 pub returns-in-Goods : goal.returns-in-Goods
-returns-in-Goods g c = subst (λ (one : Case). IsDivided one c.end_of.result) (sym c.in-Goods.is) (c.end_of.ensures c.in-Goods.case (searched_of _ _ c.search.ensures.division c.search.ensures.over))
+returns-in-Goods g c = subst (λ (one : Case). IsDivided one c.end_of.result) (sym c.in-Goods.is) (c.end_of.ensures c.in-Goods.case c.search_once.ensures)

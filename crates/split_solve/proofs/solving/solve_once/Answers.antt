@@ -4,16 +4,16 @@ use Rattle.split_solve.specs.Solving.{IsDivided}
 use Rattle.split_solve.proofs.SolvedCases.{over_exact, solved_case, solved_fault}
 use Rattle.split_solve.proofs.solving.solve_once.Goals as goal
 
-pub returns-in-Ok-division_once-clause-over : goal.returns-in-Ok-division_once-clause-over
-returns-in-Ok-division_once-clause-over g c = λ goods steps made has.
+pub returns-in-Ok-best_division-clause-over : goal.returns-in-Ok-best_division-clause-over
+returns-in-Ok-best_division-clause-over g c = λ goods steps made has.
     let this : case_of c.args.facts.now c.args.bids.now ≡ Ok c.in-Ok.case = sym c.make_case.ensures.case ∙ c.in-Ok.is in
-    let is = subst (IsDivided c.in-Ok.case) c.in-Ok-division_once.is c.division_once.ensures in
-    over_exact c.limit_law.ensures.within c.limit_law.ensures.above c.case_law.ensures.facts c.args.facts.now c.args.bids.now goods steps (Ok (c.in-Ok.case, c.in-Ok-division_once.division))
-    (solved_case c.args.facts.now c.args.bids.now c.in-Ok.case c.in-Ok-division_once.division this is) made has
+    let is = subst (IsDivided c.in-Ok.case) c.in-Ok-best_division.is c.best_division.ensures in
+    over_exact c.limit_law.ensures.within c.limit_law.ensures.above c.case_law.ensures.facts c.args.facts.now c.args.bids.now goods steps (Ok (c.in-Ok.case, c.in-Ok-best_division.division))
+    (solved_case c.args.facts.now c.args.bids.now c.in-Ok.case c.in-Ok-best_division.division this is) made has
 
-pub returns-in-Err-division_once-clause-over : goal.returns-in-Err-division_once-clause-over
-returns-in-Err-division_once-clause-over g c = λ goods steps made has.
+pub returns-in-Err-best_division-clause-over : goal.returns-in-Err-best_division-clause-over
+returns-in-Err-best_division-clause-over g c = λ goods steps made has.
     let this : case_of c.args.facts.now c.args.bids.now ≡ Ok c.in-Ok.case = sym c.make_case.ensures.case ∙ c.in-Ok.is in
-    let is = subst (IsDivided c.in-Ok.case) c.in-Err-division_once.is c.division_once.ensures in
-    over_exact c.limit_law.ensures.within c.limit_law.ensures.above c.case_law.ensures.facts c.args.facts.now c.args.bids.now goods steps (Err c.in-Err-division_once.fault)
-    (solved_fault c.case_law.ensures.facts c.args.facts.now c.args.bids.now c.in-Ok.case c.in-Err-division_once.fault this is) made has
+    let is = subst (IsDivided c.in-Ok.case) c.in-Err-best_division.is c.best_division.ensures in
+    over_exact c.limit_law.ensures.within c.limit_law.ensures.above c.case_law.ensures.facts c.args.facts.now c.args.bids.now goods steps (Err c.in-Err-best_division.fault)
+    (solved_fault c.case_law.ensures.facts c.args.facts.now c.args.bids.now c.in-Ok.case c.in-Err-best_division.fault this is) made has

@@ -1,11 +1,10 @@
-use Rattle.std.proofs.Common.{◌≡◌, ◌<◌, ℕ, None, Some, Ok, Err, refl, sym, ap, ◌∙◌, arith, subst, List, true, true≢false, nat_eq}
+use Rattle.std.proofs.Common.{◌≡◌, ℕ, None, Some, sym, ap, ◌∙◌, arith, subst, List, true, true≢false, nat_eq}
 use Rattle.std.specs.Prelude.{not}
 use Rattle.std.specs.Cmp.Lexicographic.{pointwise}
 use Rattle.std.specs.Fmt.{decimal}
 use Rattle.std.specs.Result.{result_ok}
 use Rattle.std.proofs.lemmas.Cmp.{nat_list_eq_equiv}
 use Rattle.std.proofs.lemmas.Fmt.{parse-decimal}
-use Rattle.split_top.specs.Words.{IsNoNumber, IsNumber}
 use Rattle.split_top.proofs.words.number_in.Goals as goal
 use Rattle.split_top.proofs.words.number_in.Goals.{then-number-least-via-then-number-least, then-number-least-via-else-number-least+then-most-number, then-number-least-via-else-number-least+else-most-number+then-ne}
 

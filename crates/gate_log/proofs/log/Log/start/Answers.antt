@@ -7,15 +7,15 @@ use Rattle.gate_log.proofs.Reading.{header_read, header_fault}
 use Rattle.gate_log.proofs.log.Log.start.Goals as goal
 
 pub returns-in-Ok-clause-reading : goal.returns-in-Ok-clause-reading
-returns-in-Ok-clause-reading g c honest =
+returns-in-Ok-clause-reading g c tells =
     let bytes = c.bytes.result.now in
     let file = g.D.Disk.seen c.read_on.new.disk in
-    let synced = c.in_ok-sync.ensures.honest.0 honest in
-    let sized = c.in_ok-size.ensures.honest.0 synced in
-    let same = (c.read_on.ensures.rests sized).same in
+    let synced = (c.in_ok-sync.ensures.still tells).0 in
+    let sized = (c.in_ok-size.ensures.still synced).0 in
+    let same = (c.read_on.ensures.still sized).1 in
     let front : bytes ≡ take 16384 file =
     first_piece file (g.D.Disk.seen c.size.new.self) bytes (bytes_of c.new-ahead.result) (bytes_of c.read_on.new.self) c.new-ahead.ensures (c.in_ok-read_on.ensures.told sized) same c.bytes.ensures in
-    let size : c.in_ok-size.size ≡ length file = c.in_ok-size.ensures.told synced ∙ sym (ap length (same ∙ (c.in_ok-size.ensures.rests synced).same)) in
+    let size : c.in_ok-size.size ≡ length file = c.in_ok-size.ensures.told synced ∙ sym (ap length (same ∙ (c.in_ok-size.ensures.still synced).1)) in
     let unknown : IsFalse false = search rules in
     let log : LogView = record { place = 49; version = c.in-Ok.version; at_end = false; size = c.in_ok-size.size; ahead = bytes_of c.pass.new.self } in
     let ahead : bytes_of c.pass.new.self ≡ drop 49 bytes = c.pass.ensures ∙ ap (λ (l : List ℕ). drop 49 l) (sym c.bytes.ensures) in
@@ -24,11 +24,11 @@ returns-in-Ok-clause-reading g c honest =
     subst (λ (s : List ℕ). IsReading file log s []) secret result
 
 pub returns-in-Err-clause-not_a_log : goal.returns-in-Err-clause-not_a_log
-returns-in-Err-clause-not_a_log g c honest place is =
+returns-in-Err-clause-not_a_log g c tells place is =
     let bytes = c.bytes.result.now in
     let file = g.D.Disk.seen c.read_on.new.disk in
-    let sized = c.in_ok-size.ensures.honest.0 (c.in_ok-sync.ensures.honest.0 honest) in
-    let same = (c.read_on.ensures.rests sized).same in
+    let sized = (c.in_ok-size.ensures.still (c.in_ok-sync.ensures.still tells).0).0 in
+    let same = (c.read_on.ensures.still sized).1 in
     let front : bytes ≡ take 16384 file =
     first_piece file (g.D.Disk.seen c.size.new.self) bytes (bytes_of c.new-ahead.result) (bytes_of c.read_on.new.self) c.new-ahead.ensures (c.in_ok-read_on.ensures.told sized) same c.bytes.ensures in
     let at : c.in-Err.place ≡ place = cc is in

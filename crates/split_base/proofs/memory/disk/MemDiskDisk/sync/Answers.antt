@@ -18,3 +18,6 @@ returns-clause-rests c =
     let P : DiskState → Type 0 = λ e. Rests seen_of images_at moment_of left_of d e in
     let Q : DiskState → Type 0 = λ m. P (after_act m Synced 32) in
     subst P (sym c.settle.ensures) (subst Q (sym c.begin.ensures.after) (sync_rests d 32))
+
+pub returns-clause-still : goal.returns-clause-still
+returns-clause-still c = (tt, (returns-clause-rests c).same)

@@ -1,0 +1,100 @@
+-- Two runs over the same links write the same.
+use Rattle.std.proofs.Common.{◌≡◌, ℕ, ◌<◌, ◌≤◌, List, [], ◌∷◌, ◌++◌, Option, None, Some, sym, ap, ◌∙◌, subst, inl, ⊎_elim, append_assoc, arith, le_refl, le_trans}
+use Rattle.std.proofs.lemmas.Bool.{cases_lt}
+use Rattle.std.specs.Io.KnownBytes.{Appends}
+use Rattle.split_base.specs.declared.disk.Disk.{Ghosts}
+use Rattle.split_base.specs.Faults.{HasRisen}
+use Rattle.split_http.specs.Turns.{IsToldAs}
+use Rattle.host_journal.specs.States.{State}
+use Rattle.serving.specs.declared.limits.TheConstants.{MAX_REQUESTS}
+use Rattle.serving.specs.Ends.{Ending}
+use Rattle.serving.specs.Exchanges.{Answered, Exchange}
+use Rattle.serving.specs.Runs.{LinkRun}
+use Rattle.serving.specs.Served.{HaveCome, LinkTells}
+use Rattle.serving.specs.Serving.{host_service}
+use Rattle.serving_laws.specs.Writing.{IsDone, OneState}
+use Rattle.host_commands.specs.Links.{LinksAnswered, requests_of}
+use Rattle.host_commands.specs.SameRuns.{AllDone, AllGotAlike, AllStartAlike}
+use Rattle.host_commands.proofs.Links.{Afterwards, Exchanges, Joined, link_answered, one_machine}
+
+-- a count that has not risen over two calls has risen in neither
+still_both : (a b c : ℕ) → a ≤ b → b ≤ c → (HasRisen a c → ⊥) → (HasRisen a b → ⊥) × (HasRisen b c → ⊥)
+still_both a b c one two still = ⊎_elim (λ (less : a < c). absurd (still (inl less))) (λ (most : c ≤ a).
+    let first : b ≡ c = omega (arith, one, two, most) in
+    let second : b ≡ a = omega (arith, one, two, most) in
+    (λ up. still (subst (λ n. HasRisen a n) first up), λ up. still (subst (λ n. HasRisen n c) second up))) (cases_lt a c)
+
+-- known bytes that grow are those before, and the new ones
+grown : (old new : Option (List ℕ)) (known bytes : List ℕ) → old ≡ Some known → Appends old new bytes → new ≡ Some (known ++ bytes)
+grown old new known bytes is appends = known_grown new known bytes (subst (λ (o : Option (List ℕ)). Appends o new bytes) is appends)
+  where
+    known_grown : (new : Option (List ℕ)) (known bytes : List ℕ) → Appends (Some known) new bytes → new ≡ Some (known ++ bytes)
+    known_grown None known bytes appends = absurd appends
+    known_grown (Some more) known bytes appends = ap Some appends
+
+-- bytes that are told are these
+told_is : (told : Option (List ℕ)) (input known : List ℕ) → told ≡ Some known → IsToldAs told input → input ≡ known
+told_is told input known is so = subst (λ (o : Option (List ℕ)). IsToldAs o input) is so
+
+-- all bytes came of a link that ended with no failed call
+all_came : (end : Ending) (ahead left : Option (List ℕ)) (come : List ℕ) → IsDone end → HaveCome end ahead left come → IsToldAs ahead come
+all_came Ending.ended ahead left come done so = so
+all_came Ending.cut ahead left come done so = so
+all_came Ending.read_fault ahead left come done so = absurd done
+all_came Ending.write_fault ahead left come done so = absurd done
+all_came Ending.memory ahead left come done so = absurd done
+
+module _ {D : Type 0} (d : Ghosts D) where
+  -- the count of the disk never falls
+  faults_grow : (w : D × State) (run : List (Exchange (D × State))) (new : D × State) → Answered (host_service d) w run new → d.faults w.0 ≤ d.faults new.0
+  faults_grow w [] new same = subst (λ (x : D × State). d.faults w.0 ≤ d.faults x.0) (sym same) (le_refl (d.faults w.0))
+  faults_grow w (x ∷ run) new (at, is, rest) =
+      le_trans (subst (λ (y : D × State). d.faults y.0 ≤ d.faults x.after.0) at is.responds.1.count) (faults_grow x.after run new rest)
+
+  -- a link at two hosts of one state gets the same
+  abbrev pub LinksAlike : Type 0
+  LinksAlike = (all : List ℕ) (answers others more besides : List (Option ℕ)) (w v : D × State) (out told : List ℕ) (new after : D × State) (end stop : Ending) → OneState w v
+      → answers ++ more ≡ others ++ besides → IsDone end → IsDone stop → (HasRisen (d.faults w.0) (d.faults new.0) → ⊥) → (HasRisen (d.faults v.0) (d.faults after.0) → ⊥)
+      → LinkRun (host_service d) MAX_REQUESTS all answers w out new end → LinkRun (host_service d) MAX_REQUESTS all others v told after stop
+      → (out ≡ told) × OneState new after × (end ≡ stop) × (answers ≡ others)
+
+  module _ {L : Type 0} (tells : LinkTells L) (exchanges : Exchanges (host_service d)) (joined : Joined (host_service d)) (afterwards : Afterwards (host_service d)) (alike : LinksAlike) where
+    pub all_alike : (links others : List (L × L)) (answers answers' more more' : List (Option ℕ)) (w v : D × State) (requests requests' : List (Exchange (D × State))) (new after : D × State)
+        → (one : LinksAnswered (host_service d) tells links answers w requests new) → (two : LinksAnswered (host_service d) tells others answers' v requests' after)
+        → AllStartAlike tells links others → OneState w v → answers ++ more ≡ answers' ++ more' → (HasRisen (d.faults w.0) (d.faults new.0) → ⊥) → (HasRisen (d.faults v.0) (d.faults after.0) → ⊥)
+        → AllDone (host_service d) tells links answers w requests new one → AllDone (host_service d) tells others answers' v requests' after two
+        → AllGotAlike tells links others × OneState new after × (answers ≡ answers')
+    all_alike [] [] answers answers' more more' w v requests requests' new after (none, empty, same) (none', empty', same') starts state clock still still' done done' =
+        (tt, subst (λ (x : D × State). OneState x after) (sym same) (subst (λ (y : D × State). OneState w y) (sym same') state), none ∙ sym none')
+    all_alike [] (m ∷ others) answers answers' more more' w v requests requests' new after one two starts state clock still still' done done' = absurd starts
+    all_alike (l ∷ links) [] answers answers' more more' w v requests requests' new after one two starts state clock still still' done done' = absurd starts
+    all_alike (l ∷ links) (m ∷ others) answers answers' more more' w v requests requests' new after (now, later, here, behind, mid, is, all, first, rest) (now', later', here', behind', mid', is', all', first', rest')
+        (start, starts) state clock still still' (done, dones) (done', dones') =
+        let ahead : first.input ≡ start.ahead = told_is (tells.left l.0) first.input start.ahead start.left (all_came first.ending (tells.left l.0) (tells.left l.1) first.input done first.told) in
+        let ahead' : first'.input ≡ start.ahead = told_is (tells.left m.0) first'.input start.ahead start.left_other (all_came first'.ending (tells.left m.0) (tells.left m.1) first'.input done' first'.told) in
+        let run = subst (λ (input : List ℕ). LinkRun (host_service d) MAX_REQUESTS input now w first.out mid first.ending) ahead first.run in
+        let run' = subst (λ (input : List ℕ). LinkRun (host_service d) MAX_REQUESTS input now' v first'.out mid' first'.ending) ahead' first'.run in
+        let parts = still_both (d.faults w.0) (d.faults mid.0) (d.faults new.0)
+        (faults_grow w (requests_of first.link) mid (link_answered (host_service d) exchanges joined afterwards first.input now w first.out mid first.ending first.link))
+        (faults_grow mid behind new (one_machine (host_service d) exchanges joined afterwards tells links later mid behind new rest)) still in
+        let parts' = still_both (d.faults v.0) (d.faults mid'.0) (d.faults after.0)
+        (faults_grow v (requests_of first'.link) mid' (link_answered (host_service d) exchanges joined afterwards first'.input now' v first'.out mid' first'.ending first'.link))
+        (faults_grow mid' behind' after (one_machine (host_service d) exchanges joined afterwards tells others later' mid' behind' after rest')) still' in
+        let clocks : now ++ (later ++ more) ≡ now' ++ (later' ++ more') =
+        sym (append_assoc now later more) ∙ ap (λ (a : List (Option ℕ)). a ++ more) (sym is) ∙ clock ∙ ap (λ (a : List (Option ℕ)). a ++ more') is' ∙ append_assoc now' later' more' in
+        let so = alike start.ahead now now' (later ++ more) (later' ++ more') w v first.out first'.out mid mid' first.ending first'.ending state clocks done done' parts.0 parts'.0 run run' in
+        let now_is : now ≡ now' = so.3 in
+        let behind_clocks : later ++ more ≡ later' ++ more' = cancel now (later ++ more) (later' ++ more') (clocks ∙ ap (λ (a : List (Option ℕ)). a ++ (later' ++ more')) (sym now_is)) in
+        let goes = all_alike links others later later' more more' mid mid' behind behind' new after rest rest' starts so.1 behind_clocks parts.1 parts'.1 dones dones' in
+        let wrote : tells.written l.1 ≡ tells.written m.1 =
+        grown (tells.written l.0) (tells.written l.1) start.behind first.out start.written first.wrote ∙ ap (λ (b : List ℕ). Some (start.behind ++ b)) so.0
+        ∙ sym (grown (tells.written m.0) (tells.written m.1) start.behind first'.out start.written_other first'.wrote) in
+        ((wrote, goes.0), goes.1, is ∙ (λ i. now_is i ++ goes.2 i) ∙ sym is')
+      where
+        cancel : {A : Type 0} (front xs ys : List A) → front ++ xs ≡ front ++ ys → xs ≡ ys
+        cancel [] xs ys same = same
+        cancel (x ∷ front) xs ys same = cancel front xs ys (cc)
+
+-- the states of two files with one content
+pub one_state : (s t : State) → s.waiting ≡ None → t.waiting ≡ None → s.secret ≡ t.secret → s.kept ≡ t.kept → s ≡ t
+one_state s t ready ready' secret kept = λ i. record { secret = secret i; kept = kept i; waiting = (ready ∙ sym ready') i }

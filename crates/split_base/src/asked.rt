@@ -1,0 +1,34 @@
+// For which ports an object was asked.
+ghost use Rattle.std.specs.Prelude.{◌≡◌};
+ghost use Rattle.split_base.specs.Asked.{asked_again, never_asked};
+
+/// How often an object was asked for a port, up to 2^64 - 1, and for which one last.
+#[derive(Clone, Copy, Debug, PartialEq, Eq)]
+pub struct Asked {
+    /// How often.
+    pub times: u64,
+    /// The number of the last port that it was asked for; `None` where there was none.
+    pub last: Option<u16>,
+}
+
+impl Asked {
+    /// It was not asked yet.
+    pub fn never() -> Asked
+        ensures { result ≡ never_asked }
+    {
+        Asked {
+            times: 0,
+            last: None,
+        }
+    }
+
+    /// It is asked once more, for the port of this number.
+    pub fn again(self, port: u16) -> Asked
+        ensures { result ≡ asked_again port self }
+    {
+        Asked {
+            times: self.times.saturating_add(1),
+            last: Some(port),
+        }
+    }
+}

@@ -1,7 +1,0 @@
-use Rattle.std.proofs.Common.{sym, subst}
-use Rattle.bid_rules.specs.declared.cases.Case.{Case}
-use Rattle.split_solve.specs.Solving.{IsDivided}
-use Rattle.split_solve.proofs.solving.division_once.Goals as goal
-
-pub returns-in-Goods : goal.returns-in-Goods
-returns-in-Goods g c = subst (λ (one : Case). IsDivided one c.end_of.result) (sym c.in-Goods.is) (c.end_of.ensures c.in-Goods.case c.search_once.ensures)
