@@ -17,7 +17,7 @@ all_utf8 {Z} words = All-map IsUtf8 string_bytes words (All-every words)
     All-every [] = All-nil (λ word. IsUtf8 (string_bytes word))
     All-every (word ∷ rest) = All-cons (λ word. IsUtf8 (string_bytes word)) word rest (IsUtf8-string_bytes word) (All-every rest)
 
--- what stands behind the program's own path
+-- what comes after the program's own path
 behind : (all : List (List ℕ)) (place : ℕ) → 1 ≤ place → place < length all
     → (place - 1 < length (drop 1 all)) × (get_or (drop 1 all) (place - 1) [] ≡ get_or all place [])
 behind [] place begun within = absurd (omega (arith, within))
@@ -26,7 +26,7 @@ behind (own ∷ all) (suc place) begun within =
     let before : suc place - 1 ≡ place = omega arith in
     (omega (arith, within), ap (λ n. get_or all n []) before)
 
--- behind the last argument the words are whole
+-- after the last argument the words are whole
 pub ended : {Z : Type 0} (known : Option (List (List ℕ))) (words : List (String Z)) (place : ℕ) → 1 ≤ place
     → IfSome known (λ all. map string_bytes words ≡ take (place - 1) (drop 1 all)) → IfSome known (λ all. length all ≤ place)
     → IfSome known (λ all. IsWords all (map string_bytes words))

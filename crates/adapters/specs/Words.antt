@@ -2,7 +2,7 @@
 use Rattle.std.specs.Prelude.{◌≡◌, ◌<◌, ◌≤◌, ◌⊎◌, ℕ, List, [], All, drop, get_or, length, Option, Some, None}
 use Rattle.std.specs.Str.{IsUtf8}
 
--- the argument at a place, or none behind the last
+-- the argument at a place, or none after the last
 abbrev pub IsArgument : List (List ℕ) → ℕ → Option (List ℕ) → Type 0
 IsArgument all place (Some bytes) = (place < length all) × (bytes ≡ get_or all place [])
 IsArgument all place None = length all ≤ place

@@ -7,12 +7,12 @@ use std::alloc::Global;
 use std::env::FillError;
 use std::rt::Env;
 
-/// The arguments of a program by place, from 0: its own path stands first.
+/// The arguments of a program by place, from 0: its own path comes first.
 pub trait Arguments {
     /// All of them; `None` where the object doesn't tell them.
     ghost told: { Self → Option (List (List ℕ)) };
 
-    /// The bytes of the argument at a place, or none behind the last.
+    /// The bytes of the argument at a place, or none after the last.
     ///
     /// `NoMemory` comes where there was no memory for the bytes.
     fn argument(&self, alloc: Global, place: usize) -> Result<Option<Vec<u8>>, NoMemory>

@@ -254,7 +254,7 @@ impl Client {
         }
     }
 
-    /// Gives bytes of the request at hand, as many as are there and fit.
+    /// Gives bytes of the current request, as many as are there and fit.
     pub(crate) fn give(&mut self, into: &mut [u8]) -> usize
         ensures { result ≤ length into.new }
     {
@@ -271,12 +271,12 @@ impl Client {
         count
     }
 
-    /// Whether bytes of the request at hand are left.
+    /// Whether bytes of the current request are left.
     pub(crate) fn has_more(&self) -> bool {
         self.given < self.stop()
     }
 
-    /// Whether the whole request at hand was given, so that another may follow.
+    /// Whether the whole current request was given, so that another may follow.
     pub(crate) fn is_given(&self) -> bool {
         match self.end {
             End::Behind(end) => self.given >= end,
@@ -379,7 +379,7 @@ impl Client {
         false
     }
 
-    /// Tells the client that no more comes behind what is kept, and drops what it still sends.
+    /// Tells the client that no more comes after what is kept, and drops what it still sends.
     ///
     /// A connection that is closed while bytes of the client are unread may be reset, and the client may lose the last reply (RFC
     /// 9112, section 9.6).

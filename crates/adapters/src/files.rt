@@ -30,7 +30,7 @@ enum FolderSync {
 /// locked for as long as the adapter lives. A file that it creates is for its owner alone.
 ///
 /// Another program may delete, move, replace or cut the file all the same. So a sync fails where the path does not lead to the
-/// file that is open, and so does a write behind a good sync, also where the file has not the length that it had when it was last
+/// file that is open, and so does a write after a good sync, also where the file has not the length that it had when it was last
 /// measured or written here. No other file is opened for it: the calls succeed again where the path leads to it again.
 ///
 /// A sync makes the whole file stable, and the first one the folder too. The system may take bytes for stored that a failed sync
@@ -50,7 +50,7 @@ pub struct JournalFile<'r, R> {
 }
 
 impl<'r, R: Files<File = File>> JournalFile<'r, R> {
-    /// The file at a path, which stands in this folder. Nothing is opened yet, and no fault has come.
+    /// The file at a path, which is in this folder. Nothing is opened yet, and no fault has come.
     pub fn new(files: &'r R, path: &'r str, folder: &'r str) -> Self
         ensures { result.faults ≡ 0 }
     {

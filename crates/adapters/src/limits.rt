@@ -1,7 +1,7 @@
 // Limits of the adapters over the real outside.
 use std::time::Duration;
 
-/// The most bytes of a file, and the greatest place behind its last byte.
+/// The most bytes of a file, and the greatest place after its last byte.
 pub const MOST_FILE_BYTES: u64 = 1 << 63;
 
 /// The most bytes of one piece that is kept until the next good sync. No write of a journal is longer.

@@ -14,7 +14,7 @@ use std::time::{Clock, Duration};
 /// How many events one wait takes.
 const MOST_EVENTS: usize = 256;
 
-/// How many looks the end takes at most, where the clock stands still.
+/// How many looks the end takes at most, where the clock has stopped.
 const MOST_LOOKS: usize = 100_000;
 
 /// For how long a look at all clients is good, in microseconds.

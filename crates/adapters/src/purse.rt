@@ -1,7 +1,7 @@
 // The time for which clients may hold others.
 use std::time::Duration;
 
-/// Of the time that passes, one part in so many comes back.
+/// One part in so many of the time that passes comes back.
 const REFILL: u32 = 100;
 
 /// The least that is waited for, in milliseconds.

@@ -12,7 +12,7 @@ use std::time::{Clock, Duration};
 /// What a read comes to.
 #[derive(Clone, Copy, Debug, PartialEq, Eq)]
 enum Step {
-    /// Bytes of the request at hand are there.
+    /// Bytes of the current request are there.
     Gives,
     /// The input of the link ends.
     Ends,
@@ -83,7 +83,7 @@ impl<'r, C: Clock> TurnLink<'r, C> {
         None
     }
 
-    // Gives bytes of the request at hand.
+    // Gives bytes of the current request.
     fn gives(&mut self, at: usize, into: &mut [u8]) -> Option<usize>
         ensures size { IfSome result (λ n. n ≤ length into.new) }
         ensures reads { self.new.read_faults ≡ self.old.read_faults }

@@ -21,7 +21,7 @@ use Rattle.split_frac.specs.Frac.{fraction_of}
 use Rattle.split_lemmas.proofs.ListPlaces.{get_le_sum}
 use Rattle.adjusted_winner.specs.Lines.{winner_view}
 
--- the lines behind the case
+-- the lines after the case
 abbrev pub answer_forms : ℕ → List Form
 answer_forms goods = fractions_of word.Shares goods ∷ numbers_of word.Weights 2 ∷ fractions_of word.Total 1 ∷ numbers_of word.End 0 ∷ []
 
@@ -81,7 +81,7 @@ points_fit : (goods : ℕ) (row : ArrayVec ℕ ITEM_ROOM (Unit {0})) → length 
 points_fit goods row long whole =
     naturals_fit word.Values goods row.items long (All-from_get_or (λ x. x < 10 ^ 25) row.items 0 (λ k l. let most = get_le_sum row.items k in omega (arith, most, whole)))
 
--- those of two players, and lines behind them
+-- those of two players, and lines after them
 rows_fit : (goods : ℕ) (rows : List (ArrayVec ℕ ITEM_ROOM (Unit {0}))) (forms : List Form) (tail : List Said) → length rows ≡ 2
     → All (λ row. length row.items ≡ goods) rows → All (λ row. sum row.items ≡ 1000) rows → CanSayAll forms tail
     → CanSayAll (numbers_of word.Values goods ∷ numbers_of word.Values goods ∷ forms) (map says (map (λ row. map pos row.items) rows) ++ tail)

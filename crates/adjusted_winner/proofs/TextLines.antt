@@ -37,11 +37,11 @@ natural_line facts word numbers = ap (λ text. line (word ++ text)) (sym (facts.
 fraction_line : NumberFacts → (word : List ℕ) (numbers : List Frac) → line (word ++ numbers_text (map fraction_of numbers)) ≡ word_line word (map frac_text numbers)
 fraction_line facts word numbers = ap (λ text. line (word ++ text)) (sym (facts.fractions numbers))
 
--- two texts, one behind the other
+-- two texts, one after the other
 behind : (a b c d : List ℕ) → a ≡ c → b ≡ d → a ++ b ≡ c ++ d
 behind a b c d e f = ap (λ x. x ++ b) e ∙ ap (λ x. c ++ x) f
 
--- the points of two players, and lines behind them
+-- the points of two players, and lines after them
 rows_text : NumberFacts → (goods : ℕ) (rows : List (ArrayVec ℕ ITEM_ROOM (Unit {0}))) (forms : List Form) (tail : List Said) → length rows ≡ 2
     → text_of (numbers_of word.Values goods ∷ numbers_of word.Values goods ∷ forms) (map says (map (λ row. map pos row.items) rows) ++ tail)
     ≡ flat_map (λ row. word_line (codes "values") (map decimal row.items)) rows ++ text_of forms tail

@@ -6,7 +6,7 @@ use std::io::ErrorKind;
 use std::time::Duration;
 use std::{io, time};
 
-/// A clock that stands at some second, or that can't be read.
+/// A clock that stays at some second, or that can't be read.
 #[derive(Drop)]
 struct Standing {
     second: Option<u64>,

@@ -25,7 +25,7 @@ fn given(disk: &mut impl Disk, place: u64) -> (Result<usize, Failed>, [u8; 4]) {
 #[test]
 fn two_pieces_wait_for_a_sync(rt: HostRuntime) {
     let mut disk = JournalFile::new(&rt, "waiting.journal", ".");
-    // There is no place for a third, and no file goes on behind the greatest place.
+    // There is no place for a third, and no file goes on after the greatest place.
     assert!(rt; taken(&mut disk, &[(0, b"a"), (1, b"b"), (2, b"c")]) == 2);
     assert!(rt; disk.sync().is_ok());
     assert!(rt; taken(&mut disk, &[(2, b"c"), (1 << 63, b"d")]) == 1);
@@ -69,7 +69,7 @@ fn a_full_device_takes_no_byte(rt: HostRuntime) {
     assert!(rt; taken(&mut full, &[(0, b"a")]) == 0);
 }
 
-/// How many of these pieces a disk takes, with a sync behind each, and how many of the syncs it does.
+/// How many of these pieces a disk takes, with a sync after each, and how many of the syncs it does.
 fn synced(disk: &mut impl Disk, pieces: &[(u64, &[u8])]) -> (usize, usize) {
     let mut taken = 0usize;
     let mut done = 0usize;

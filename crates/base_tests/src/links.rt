@@ -22,7 +22,7 @@ fn a_source_is_read_to_its_end(rt: HostRuntime) {
     }
 }
 
-// Reads once and writes what was read; tells whether the end stands.
+// Reads once and writes what was read; tells whether the end has come.
 fn echo_piece<L: Link>(link: &mut L) -> Result<bool, Failed> {
     let mut piece = [0u8; 8];
     let count = link.read(&mut piece)?;

@@ -8,7 +8,7 @@ use std::process::Abort;
 
 const SECRET: [u8; 32] = [7; 32];
 
-// A journal with this version gate, and these bytes behind its header.
+// A journal with this version gate, and these bytes after its header.
 fn journal(rt: &impl Abort, alloc: Global, version_gate: u8, rest: &[u8]) -> Vec<u8> {
     let mut bytes = b"FAIRSPLIT LOG 1\n".to_vec(alloc).expect(rt, "no memory");
     bytes.extend_from_slice(&SECRET).expect(rt, "no memory");
@@ -17,7 +17,7 @@ fn journal(rt: &impl Abort, alloc: Global, version_gate: u8, rest: &[u8]) -> Vec
     bytes
 }
 
-// A log at the end of a journal of at most twenty records, and their bodies with a `|` behind each.
+// A log at the end of a journal of at most twenty records, and their bodies with a `|` after each.
 fn read(rt: &impl Abort, alloc: Global, disk: &mut MemDisk) -> Result<(Log, Vec<u8>), LogFault>
     ensures { IfOk result (λ end. IsTrue end.0.at_end) }
 {
@@ -47,7 +47,7 @@ fn assert_read(rt: &impl Abort, alloc: Global, bytes: &[u8], due: Result<(u8, &[
 #[test]
 fn files_are_read_or_have_a_first_fault(rt: HostRuntime) {
     let alloc = rt.alloc();
-    // The version gate, the bytes behind the header, and what they are read as.
+    // The version gate, the bytes after the header, and what they are read as.
     let cases: [(u8, &[u8], Result<(u8, &[u8]), u64>); 6] = [
         (0, b"\0\xff\xff", Ok((1, b""))),
         (0, b"\x01\x03\0\0\0one\0\x01\0\0\0x\0", Ok((1, b"one|"))),

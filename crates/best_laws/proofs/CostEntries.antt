@@ -69,7 +69,7 @@ first_is case from set rider there low =
     ∙ sym (least_is costs (cost_by case from set rider) here (All-map (λ cents. cost_by case from set rider ≤ cents) (cost_by case from set) riders
     (λ k d l. low (get_or riders k d) (Contains-get_or riders k d l))))
 
--- the entry behind a rider, where the smaller sets are known
+-- the entry after a rider, where the smaller sets are known
 behind : (case : FareCase) (n : ℕ) (entry : ℕ → ℕ → ℕ) → AreEntries case n entry → (set rider : ℕ) → 0 < set → set < 2 ^ n → IsRider n set rider
     → ((at smaller : ℕ) → smaller < set → IsDeparture n at smaller → entry at smaller ≡ route_cost case (start_of case at) (riders_in smaller))
     → entry rider (set - 2 ^ (rider - 1)) ≡ route_cost case (place_of case rider) (riders_in (set - 2 ^ (rider - 1)))
@@ -99,7 +99,7 @@ upto case n entry h (suc k) at set l start =
 pub entries_are : (case : FareCase) (n : ℕ) (entry : ℕ → ℕ → ℕ) → AreEntries case n entry → (at set : ℕ) → IsDeparture n at set → entry at set ≡ route_cost case (start_of case at) (riders_in set)
 entries_are case n entry h at set start = upto case n entry h (suc set) at set (omega arith) start
 
--- the entry behind a rider
+-- the entry after a rider
 pub entry_behind : (case : FareCase) (n : ℕ) (entry : ℕ → ℕ → ℕ) → AreEntries case n entry → (set rider : ℕ) → 0 < set → set < 2 ^ n → IsRider n set rider
     → entry rider (set - 2 ^ (rider - 1)) ≡ route_cost case (place_of case rider) (riders_in (set - 2 ^ (rider - 1)))
 entry_behind case n entry h set rider some within is = behind case n entry h set rider some within is (λ at smaller below start. entries_are case n entry h at smaller start)

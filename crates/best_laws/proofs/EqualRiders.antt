@@ -60,7 +60,7 @@ is_second a b rider = ⊎_elim
     grind (arith, nat_tests))
     (cases_eq rider a)
 
--- a number stands among the exchanged as often as the one that it names stands among the riders
+-- a number comes among the exchanged as often as the one that it names comes among the riders
 mark-exchanged : (a b c rider : ℕ) → mark c (exchanged a b rider) ≡ mark (exchanged a b c) rider
 mark-exchanged a b c rider = ⊎_elim
     (λ (e : exchanged a b rider ≡ c).
@@ -81,7 +81,7 @@ counts-exchanged a b c (rider ∷ riders) =
     one ∙ ap (λ n. n + sum_by (mark c) (map (exchanged a b) riders)) (mark-exchanged a b c rider)
     ∙ ap (λ n. mark (exchanged a b c) rider + n) (counts-exchanged a b c riders) ∙ sym other
 
--- where both stand as often, the exchanged riders are the same riders
+-- where both come as often, the exchanged riders are the same riders
 exchanged-permutation : (a b : ℕ) (riders : List ℕ) → sum_by (mark a) riders ≡ sum_by (mark b) riders → IsPermutation riders (map (exchanged a b) riders)
 exchanged-permutation a b riders same = (listed_iff riders (map (exchanged a b) riders)).0 (complete riders (map (exchanged a b) riders)
     (λ c. sym (counts-exchanged a b c riders ∙ by_name (λ n. sum_by (mark (exchanged a b n)) riders ≡ sum_by (mark n) riders) a b c

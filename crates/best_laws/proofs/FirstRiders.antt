@@ -54,7 +54,7 @@ shift f (suc n) a b e =
     let one : b ≡ suc a = omega arith in
     ap (λ x. f x ∷ map f (range_with_len (b + 1) n)) one ∙ ap (λ xs. f (suc a) ∷ xs) (shift f n (a + 1) (b + 1) (omega arith))
 
--- an element is put into a longer list in front, or behind the first
+-- an element is put into a longer list in front, or after the first
 insertions_next : {X : Type 0} (x y : X) (zs : List X) → insertions x (y ∷ zs) ≡ (x ∷ y ∷ zs) ∷ map (λ p. y ∷ p) (insertions x zs)
 insertions_next {X} x y zs =
     let n : ℕ = length zs + 1 in
@@ -67,7 +67,7 @@ later : {M X : Type 0} → Sums M → (List X → M) → X → List X → M
 later s f x [] = s.unit
 later s f x (y ∷ zs) = combined s (λ p. f (y ∷ p)) (insertions x zs)
 
--- what putting an element in gives: first of all, and at the places behind
+-- what putting an element in gives: first of all, and at the places after
 placed : {M X : Type 0} (s : Sums M) (f : List X → M) (x : X) (ys : List X) → combined s f (insertions x ys) ≡ s.op (f (x ∷ ys)) (later s f x ys)
 unfolding later
 placed s f x [] = refl

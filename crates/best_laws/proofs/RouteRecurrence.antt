@@ -10,7 +10,7 @@ use Rattle.split_lemmas.proofs.OrderLaws.{length-orders, factorial_pos}
 use Rattle.best_laws.proofs.Parts.{parts}
 use Rattle.best_laws.proofs.FirstRiders.{Sums, combined, firsts, combined_same, combined_map}
 
--- the lesser of two numbers, where none stands for no number at all
+-- the lesser of two numbers, where none means no number at all
 abbrev pub lesser : Option ℕ → Option ℕ → Option ℕ
 lesser None b = b
 lesser (Some a) None = Some a

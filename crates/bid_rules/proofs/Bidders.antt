@@ -10,7 +10,7 @@ use Rattle.bid_rules.specs.declared.bids.Bid.{Bid}
 use Rattle.bid_rules.specs.declared.bids.Bid.TheVariants as bid
 use Rattle.bid_rules.specs.Facts.{IsCheckedFares, IsPlaceOf, IsValidFareCase, fare_case, members_where, place_named}
 
--- what stands at the number of a bid that passes the test
+-- the number of a bid, if the bid passes the test
 abbrev numbered : {X : Type 0} → (X → Bool) → ℕ × X → Option ℕ
 numbered test entry = if test entry.1 then Some entry.0 else None
 

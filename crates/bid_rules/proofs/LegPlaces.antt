@@ -1,4 +1,4 @@
--- Where a leg stands among all legs, row by row.
+-- Where a leg is among all legs, row by row.
 use Rattle.std.proofs.Common.{◌≡◌, ℕ, zero, suc, ◌+◌, ◌-◌, ◌*◌, ◌<◌, ◌≤◌, List, [], ◌∷◌, length, take, get_or, slice_index, All, flat_map, arith, sym, ap, ◌∙◌}
 use Rattle.std.proofs.Math.Seq.{take-length}
 use Rattle.std.proofs.lemmas.List.{length-append}
@@ -27,7 +27,7 @@ number_at f xs none i j columns l m h =
     let full : length (f (get_or xs i none)) ≡ columns = h i none l in
     ap (λ n. get_or (flat_map f xs) (n + j) 0) before ∙ get_or-flat_map f xs i j none 0 l (omega (arith, full))
 
--- the leg in a row and a column stands after the flag fall and the legs before it
+-- the leg in a row and a column comes after the flag fall and the legs before it
 pub leg_at : (facts : Fares) (row column : ℕ) → HasTable facts → row ≤ facts.places → column < facts.places
     → slice_index (facts.flag ∷ legs_in_order facts) (1 + row * facts.places + column) ≡ leg facts row (column + 1)
 leg_at facts row column table l m =

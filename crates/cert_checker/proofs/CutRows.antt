@@ -39,7 +39,7 @@ cut_bound n set from size table low high e f long =
     let bound = sum_by_more_le (λ k. k) (set_sizes n) (set - 1) 0 (omega (arith, many, low, high)) in
     omega (arith, here, bound, e, f, long)
 
--- behind the numbers of a set begin those of the next set
+-- after the numbers of a set begin those of the next set
 pub cut_from : (n set from size : ℕ) → 1 ≤ set → set < 2 ^ n → from ≡ sum (take (set - 1) (set_sizes n)) → size ≡ length (starts n set) → from + size ≡ sum (take (set + 1 - 1) (set_sizes n))
 cut_from n set from size low high e f =
     let here = size_of_set n set (set - 1) (omega arith) high in

@@ -12,11 +12,11 @@ use Rattle.cert_reader.specs.Views.{fares_said, says}
 use Rattle.cert_checker.specs.FaresLines.{AreWritten, IsWhole, front_said, head_said, sets_said}
 use Rattle.cert_checker.proofs.SaidLists.{can_cut, can_first, can_rows, can_sets, empty_said, fractions_in, no_line_said, one_said, only, row_of}
 
--- what the lines behind the sets say
+-- what the lines after the sets say
 abbrev pub last_said : FaresView → List Said
 last_said view = says view.route ∷ Numbers view.fares ∷ says [] ∷ []
 
--- the head, the sets, and the lines behind them
+-- the head, the sets, and the lines after them
 pub fares_cut : (view : FaresView) → fares_said view ≡ front_said (head_said view ++ (sets_said 1 view.sets ++ last_said view))
 fares_cut view =
     ap (λ xs. says (pos 1 ∷ []) ∷ says [] ∷ says (pos (length view.who) ∷ []) ∷ says (pos view.places ∷ []) ∷ says (view.flag ∷ []) ∷ xs)

@@ -27,7 +27,7 @@ pub record IsFrontOf {A : Type 0} (front whole : List A) : Type 0 where
   pub rest : List A
   pub is : whole ≡ front ++ rest
 
--- of two fronts of the same lines, the one that is no longer is the front of the other
+-- where one of two fronts of the same lines is no longer, it is the front of the other
 pub front_of : (xs ys zs ws : List Said) → xs ++ ys ≡ zs ++ ws → length zs ≤ length xs → IsFrontOf zs xs
 front_of xs ys [] ws e low = record { rest = xs; is = refl }
 front_of [] ys (z ∷ zs) ws e low = absurd (omega arith)
@@ -48,7 +48,7 @@ pub record HasMore (view : FaresView) (lines : List Gathered) : Type 0 where
   pub rest : List Said
   pub is : head_said view ≡ map line_said lines ++ rest
 
--- a line that comes next, behind lines of the head that are not all, is a line of the head too
+-- a line that comes next, after lines of the head that are not all, is a line of the head too
 pub head_more : (view : FaresView) (said : List Said) (lines : List Gathered) (numbers : Gathered) → IsNext view said (map fraction_of numbers.items) → IsInHead view said lines → HasMore view (lines ++ numbers ∷ [])
 head_more view said lines numbers next head =
     let all : head_said view ++ (sets_said 1 view.sets ++ last_said view) ≡ map line_said lines ++ (line_said numbers ∷ next.next ∷ next.rest) =
@@ -74,13 +74,13 @@ number_in_head view lines rest k row e low is =
     ap (λ s. get_or s k (Marks [])) e ∙ get_or-append (map line_said lines) rest (Marks []) k (omega arith) ∙ get_or-map line_said lines k no_line (Marks []) low in
     ap numbers_in (sym here ∙ is)
 
--- the line of the riders stands behind the legs
+-- the line of the riders comes after the legs
 pub who_in_head : (view : FaresView) (k : ℕ) → length view.legs + 3 ≡ k → get_or (head_said view) k (Marks []) ≡ says view.who
 who_in_head view k e =
     let at : k ≡ suc (suc (suc (length (map says view.legs)))) = (let each = length-map view.legs says in omega arith) in
     ap (λ i. get_or (head_said view) i (Marks [])) at ∙ get_or-append_seam (map says view.legs) (says view.who) (says view.at ∷ []) (Marks [])
 
--- the line of the places where riders get off stands behind that of the riders
+-- the line of the places where riders get off comes after that of the riders
 pub at_in_head : (view : FaresView) (k : ℕ) → length view.legs + 4 ≡ k → get_or (head_said view) k (Marks []) ≡ says view.at
 at_in_head view k e =
     let at : k ≡ suc (suc (suc (length (map says view.legs) + 1))) = (let each = length-map view.legs says in omega arith) in
@@ -135,13 +135,13 @@ case_of_head view h = record { flag = h.flag; legs = h.legs; who = h.who; at = h
 head_of_case : (view : FaresView) → HasCase view → HasCase (head_of view.places view.flag view.legs view.who view.at)
 head_of_case view h = record { flag = h.flag; legs = h.legs; who = h.who; at = h.at; valid = h.valid }
 
--- a judge that stands for a head alone, with no set yet, stands for the text
+-- a judge in the state of a head alone, with no set yet, is in the state of the text
 pub stands_behind_head : (view : FaresView) (state : FaresState) → StandsFor (head_of view.places view.flag view.legs view.who view.at) [] state → StandsFor view [] state
 stands_behind_head view (Broken rule) (inl h) = inl (h.0, λ case. h.1 (head_of_case view case))
 stands_behind_head view (Broken rule) (inr h) = inr (h.0, case_of_head view h.1, h.2)
 stands_behind_head view (Filling case rows) h = (case_of_head view h.0, h.1, h.2, h.3, h.4)
 
--- the judge behind the numbers of a head stands for the text
+-- the judge after the numbers of a head is in the state of the text
 pub stands_so : (view : FaresView) (state : FaresState) (places : ℕ) (flag : ℤ) (legs : List (List ℤ)) (who at : List ℤ) → places ≡ view.places → flag ≡ view.flag → legs ≡ view.legs → who ≡ view.who → at ≡ view.at
     → StandsFor (head_of places flag legs who at) [] state → StandsFor view [] state
 stands_so view state places flag legs who at a b c d e h =
@@ -155,7 +155,7 @@ stands_so view state places flag legs who at a b c d e h =
 pub head_all : (view : FaresView) (lines : List Gathered) → IsWhole view → map line_said lines ≡ head_said view → length lines ≡ view.places + 6
 head_all view lines whole e = sym (length-map lines line_said) ∙ ap length e ∙ head_long view whole
 
--- lines of the head, of which there are as many as it has
+-- as many lines of the head as it has
 pub head_full : (view : FaresView) (lines : List Gathered) (rest : List Said) → IsWhole view → head_said view ≡ map line_said lines ++ rest → length lines ≡ view.places + 6 → map line_said lines ≡ head_said view
 head_full view lines rest whole e full =
     let long = head_long view whole in

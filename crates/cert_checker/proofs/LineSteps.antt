@@ -166,7 +166,7 @@ kinds_once kind.Fares kind.Goods same = absurd (omega arith)
 pub told_lines : (number : ℕ) (counts : Counts) (lines : Lines) → TellsKind number counts → number ≡ kind_number (kind_of_lines lines) → kind_of counts ≡ Some (kind_of_lines lines)
 told_lines number counts lines tells is = tells.1 ∙ ap Some (kinds_once tells.0 (kind_of_lines lines) (sym tells.2 ∙ is))
 
--- a line was read: the text goes on behind it
+-- a line was read: the text goes on after it
 pub line_goes : (lines : Lines) (a b : Reading) (said rest : List Said) (last : Said) (taken : List ℕ) → KnowsLines said lines → kind_of a.counts ≡ Some (kind_of_lines lines) → 2 ≤ a.lines → length said ≡ a.lines
     → b.lines ≡ a.lines + 1 → AgreeUpTo a.lines a.counts b.counts → IsRead b taken (said ++ last ∷ []) → IsOpen b → CanSayAll (forms_of b.counts) ((said ++ last ∷ []) ++ rest)
     → (next : Said) × (more : List Said) × GoesOn lines said (last ∷ next ∷ more)
@@ -232,7 +232,7 @@ judged_so taken counts said verdict text gives =
     let is_text = subst (λ c. IsText taken c (said_of gives.view)) (sym gives.counted) (subst (IsText taken counts) (sym gives.is_said) text) in
     judged taken gives.view verdict (record { is_text = is_text; rows = gives.rows }) gives.gives
 
--- a rent of which all lines were gathered
+-- a rent whose lines were all gathered
 pub rent_so : (counts : Counts) (said : List Said) (lines : List Gathered) → AreCounts counts → kind_of counts ≡ Some kind.Rent → CanSayAll (forms_of counts) (said ++ says [] ∷ []) → said ≡ front_said (map line_said lines)
     → (counts ≡ count.Rent (length lines - 8)) × (said ++ says [] ∷ [] ≡ text_said lines) × CanSayAll (rent_forms (length lines - 8)) (text_said lines)
 rent_so counts said lines are kind fits is =

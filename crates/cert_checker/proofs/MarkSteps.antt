@@ -13,7 +13,7 @@ pub next_mark_goes : (lines : Lines) (a b : Reading) (taken more : List ℕ) (re
     → CanSayAll (forms_of b.counts) (with_mark up_to.said mark ++ rest) → MarkGoesOn lines up_to.said mark
 next_mark_goes lines a b taken more rest mark up_to same read fits = mark_goes lines a b up_to.said rest mark (taken ++ more) up_to.knows up_to.kind same read fits
 
--- and the state behind it is that of all bytes taken
+-- and the state after it is that of all bytes taken
 pub up_to_mark : (before after : Lines) (a b : Reading) (taken more : List ℕ) (mark : ℕ) (up_to : IsUpTo a before taken) → b.counts ≡ a.counts → IsRead b (taken ++ more) (with_mark up_to.said mark) → IsOpen b
     → kind_of_lines after ≡ kind_of_lines before → KnowsLines (with_mark up_to.said mark) after → IsUpTo b after (taken ++ more)
 up_to_mark before after a b taken more mark up_to same read to_come kind knows = record {

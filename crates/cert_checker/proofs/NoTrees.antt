@@ -15,7 +15,7 @@ HaveNoTree [] = Unit {0}
 HaveNoTree (Line form ∷ forms) = HaveNoTree forms
 HaveNoTree (Tree ∷ forms) = ⊥
 
--- such forms, and others behind them
+-- such forms, and others after them
 no_tree_append : (forms others : List Form) → HaveNoTree forms → HaveNoTree others → HaveNoTree (forms ++ others)
 no_tree_append [] others h k = k
 no_tree_append (Line form ∷ forms) others h k = no_tree_append forms others h k

@@ -69,7 +69,7 @@ pub fractions_in : (word : Word) (count : ℕ) (said : Said) → CanSay (fractio
 fractions_in word count (Numbers numbers) h = record { row = numbers; is = refl; long = h.each; written = h.written }
 fractions_in word count (Marks marks) h = absurd h
 
--- a line of whole numbers, of which the first is set
+-- a line of whole numbers whose first is set
 pub record IsLedRow (lead count : ℕ) (said : Said) : Type 0 where
   pub row : List ℤ
   pub is : said ≡ says (pos lead ∷ row)
@@ -141,7 +141,7 @@ pub record IsCutAt (forms others : List Form) (said : List Said) : Type 0 where
   pub can : CanSayAll forms front
   pub fits : CanSayAll others more
 
--- lines of forms one after another are lines of the first forms and, behind them, lines of the others
+-- lines of forms one after another are lines of the first forms and, after them, lines of the others
 pub can_cut : (forms others : List Form) (said : List Said) → CanSayAll (forms ++ others) said → IsCutAt forms others said
 can_cut [] others said h = record { front = []; more = said; is = refl; can = tt; fits = h }
 can_cut (f ∷ forms) others [] h = absurd h

@@ -1,4 +1,4 @@
--- Trees of whose leaves the same is asked are the same trees.
+-- Trees are the same trees where the same is asked of their leaves.
 use Rattle.std.proofs.Common.{ℕ, zero, suc, List, [], ◌∷◌, ◌++◌, inl, inr}
 use Rattle.std.specs.List.{range_with_len}
 use Rattle.goods_rules.specs.Tree.{Children, IsTree, Subtree}

@@ -1,4 +1,4 @@
--- The lines behind the head of fares: those of the sets, and the last.
+-- The lines after the head of fares: those of the sets, and the last.
 use Rattle.std.proofs.Common.{◌≡◌, ℕ, ℤ, pos, ⊎_elim, zero, suc, ◌+◌, ◌-◌, ◌^◌, ◌<◌, ◌≤◌, List, [], ◌∷◌, ◌++◌, length, map, get_or, take, drop, All, false, arith, refl, sym, ap, ◌∙◌, subst, append_assoc, length-append}
 use Rattle.std.specs.List.{enumerate_from}
 use Rattle.std.proofs.lemmas.List.{append-nil, append_cancel_left, drop-map, get_or-map, get_or_default, length-map, map-append, take_rest}
@@ -20,7 +20,7 @@ use Rattle.cert_checker.proofs.FaresViews.{fares_cut, last_said}
 use Rattle.cert_checker.proofs.HeadParts.{no_line}
 use Rattle.cert_checker.proofs.SaidLists.{numbers_in}
 
--- lines of sets, and of those behind them
+-- lines of sets, and of those after them
 pub sets_behind : (from : ℕ) (xs ys : List (List ℤ)) → sets_said from (xs ++ ys) ≡ sets_said from xs ++ sets_said (from + length xs) ys
 sets_behind from [] ys = (let same : from ≡ from + 0 = omega arith in ap (λ k. sets_said k ys) same)
 sets_behind from (x ∷ xs) ys =
@@ -31,7 +31,7 @@ sets_behind from (x ∷ xs) ys =
 pub sets_long : (from : ℕ) (rows : List (List ℤ)) → length (sets_said from rows) ≡ length rows
 sets_long from rows = length-map (enumerate_from from rows) (λ row. says (pos row.0 ∷ row.1)) ∙ length-enumerate_from from rows
 
--- what is still to be said behind the head, some sets and other lines
+-- what is still to be said after the head, some sets and other lines
 pub left_said : (view : FaresView) (said rest : List Said) (table : TableLines) (h : IsBehindHead view said table) → fares_said view ≡ said ++ rest
     → sets_said (1 + length h.taken) h.more ++ last_said view ≡ map line_said table.last.items ++ rest
 left_said view said rest table h e =
@@ -48,14 +48,14 @@ nothing : {A : Type 0} (xs : List A) → length xs ≡ 0 → xs ≡ []
 nothing [] e = refl
 nothing (x ∷ xs) e = absurd (omega arith)
 
--- the lines behind the sets, where `end` alone is still to come
+-- the lines after the sets, where `end` alone is still to come
 pub record HasLast (view : FaresView) (table : TableLines) : Type 0 where
   pub stands : StandsFor view view.sets table.state
   pub two : length table.last.items ≡ 2
   pub route : numbers_at table.last.items 0 ≡ wholes view.route
   pub fares : numbers_at table.last.items 1 ≡ view.fares
 
--- where `end` alone is still to come, all sets were judged and the two lines behind them are the route and the fares
+-- where `end` alone is still to come, all sets were judged and the two lines after them are the route and the fares
 pub last_lines : (view : FaresView) (said : List Said) (table : TableLines) → fares_said view ≡ said ++ says [] ∷ [] → IsBehindHead view said table → HasLast view table
 last_lines view said table e h =
     let last = table.last.items in
@@ -111,7 +111,7 @@ set_here view numbers taken (row ∷ others) rest sets some written e = record {
       (written (length taken) [] (let long = ap length sets in let both = length-append taken (row ∷ others) in omega arith));
 }
 
--- no line behind the sets was read while sets are still to come
+-- no line after the sets was read while sets are still to come
 pub none_last : (view : FaresView) (said : List Said) (table : TableLines) → IsBehindHead view said table → 0 < table.left → table.last.items ≡ []
 none_last view said table h some = nothing table.last.items (⊎_elim
     (λ (l : 0 < length table.last.items). absurd (let left = h.left in let order = h.order in let gone = order (omega arith) in omega (arith, gone)))
@@ -149,7 +149,7 @@ behind_set view said line old new h some s state stands left last =
           ∙ ap (λ l. head ++ (sets_said 1 (h.taken ++ s.row ∷ []) ++ map line_said l)) (sym (last ∙ none)));
     }
 
--- the numbers of the line of a set but for its own
+-- the numbers of the line of a set except for its own
 pub row_of_set : (line : Gathered) (taken more : List (List ℤ)) (s : HasSet (map fraction_of line.items) taken more) → map fraction_of (take (length line.items - 1) (drop 1 line.items)) ≡ wholes s.row
 row_of_set line taken more s = ap (map fraction_of) (take_rest line.items 1) ∙ sym (drop-map fraction_of 1 line.items) ∙ ap (drop 1) s.numbers_are
 
@@ -170,7 +170,7 @@ set_within view taken more whole sets some =
 pub line_at_place : (lines seen : List Gathered) (line : Gathered) (k : ℕ) → seen ≡ lines → k < length lines → line ≡ get_or seen k line → map fraction_of line.items ≡ numbers_at lines k
 line_at_place lines seen line k same low is = ap (λ (l : Gathered). map fraction_of l.items) (is ∙ ap (λ (ls : List Gathered). get_or ls k line) same ∙ get_or_default lines k line no_line low)
 
--- behind all sets there is room for the next line, since `end` is still to come
+-- after all sets there is room for the next line, since `end` is still to come
 pub last_room : (view : FaresView) (said : List Said) (numbers : List Fraction) (table : TableLines) → IsNext view said numbers → IsBehindHead view said table → table.left ≡ 0 → length table.last.items < 2
 last_room view said numbers table next h none =
     let lines = map line_said table.last.items in

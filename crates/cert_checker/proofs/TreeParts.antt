@@ -1,4 +1,4 @@
--- The lines of goods: those before the tree, its marks, and the line behind it.
+-- The lines of goods: those before the tree, its marks, and the line after it.
 use Rattle.std.proofs.Common.{◌≡◌, ℕ, ℤ, pos, suc, ◌+◌, ◌<◌, ◌≤◌, List, [], ◌∷◌, ◌++◌, length, map, get_or, take, drop, All, true, arith, refl, sym, ap, ◌∙◌, subst, append_assoc, length-append}
 use Rattle.std.proofs.lemmas.List.{drop-map, get_or-map, length-map, take-map}
 use Rattle.std.proofs.Math.Seq.{get_or-append_seam, take-append_seam}
@@ -49,7 +49,7 @@ pub record AreCutAlike (xs ys : List Said) (m n : List ℕ) (r s : List Said) : 
   pub marks : m ≡ n
   pub behind : r ≡ s
 
--- lines of numbers, a tree and what is behind it that are the same as others have the same lines, marks and rest
+-- lines of numbers, a tree and what is after it that are the same as others have the same lines, marks and rest
 pub cut_alike : (xs ys : List Said) (m n : List ℕ) (r s : List Said) → AreLines xs → AreLines ys → xs ++ Marks m ∷ r ≡ ys ++ Marks n ∷ s → AreCutAlike xs ys m n r s
 cut_alike [] [] m n r s h k e = record { before = refl; marks = ap (λ l. marks_in (get_or l 0 (Marks []))) e; behind = ap (drop 1) e }
 cut_alike [] (Numbers y ∷ ys) m n r s h k e = absurd (let first : Marks m ≡ Numbers y = ap (λ l. get_or l 0 (Marks [])) e in cc)
@@ -62,7 +62,7 @@ cut_alike (Numbers x ∷ xs) (Numbers y ∷ ys) m n r s h k e =
     let first : Numbers x ≡ Numbers y = ap (λ l. get_or l 0 (Marks [])) e in
     record { before = ap (λ l. l ∷ xs) first ∙ ap (λ ls. Numbers y ∷ ls) more.before; marks = more.marks; behind = more.behind }
 
--- a line of numbers behind others stands before the tree
+-- a line of numbers after others comes before the tree
 pub before_marks : (ls hs : List Said) (marks : List ℕ) (numbers : List Fraction) (r s : List Said) → AreLines ls → hs ++ Marks marks ∷ r ≡ ls ++ Numbers numbers ∷ s → length ls < length hs
 before_marks [] [] marks numbers r s h e = absurd (let first : Marks marks ≡ Numbers numbers = ap (λ l. get_or l 0 (Marks [])) e in cc)
 before_marks (Numbers x ∷ ls) [] marks numbers r s h e = absurd (let first : Marks marks ≡ Numbers x = ap (λ l. get_or l 0 (Marks [])) e in cc)
@@ -77,7 +77,7 @@ before_long view =
     let both = length-append (map says view.values) (says view.owners ∷ says (view.steps ∷ []) ∷ []) in
     omega (arith, each, both)
 
--- what a text goes on with, behind its two first lines
+-- what a text goes on with, after its two first lines
 behind_kind : (said rest more : List Said) (goes : GoodsGoOn said rest) → said ≡ front_said more → before_tree goes.view ++ Marks goes.view.marks ∷ says [] ∷ [] ≡ more ++ rest
 behind_kind said rest more goes is = ap (drop 2) (sym (goods_cut goes.view) ∙ goes.is ∙ ap (λ s. s ++ rest) is)
 
@@ -92,7 +92,7 @@ head_room said next rest numbers lines goes is =
     let each = length-map lines line_said in
     omega (arith, low, long, rows, few, each)
 
--- no line of numbers but the last comes behind a tree
+-- no line of numbers except the last comes after a tree
 pub no_more_lines : (said : List Said) (next : Said) (rest : List Said) (numbers : List Fraction) (state : GoodsState) → GoodsGoOn said (Numbers numbers ∷ next ∷ rest) → IsInTree said state → ⊥
 no_more_lines said next rest numbers state goes tree =
     let all = behind_kind said _ (map line_said tree.lines ++ Marks tree.taken ∷ []) goes tree.is ∙ append_assoc (map line_said tree.lines) (Marks tree.taken ∷ []) (Numbers numbers ∷ next ∷ rest) in
@@ -111,7 +111,7 @@ no_tree_yet said lines goes is =
     let right = length-append (map line_said lines) (says [] ∷ []) in
     omega (arith, low, long, left, right)
 
--- the first mark comes behind the lines
+-- the first mark comes after the lines
 pub mark_first : (lines : List Gathered) (mark : ℕ) → with_mark (front_said (map line_said lines)) mark ≡ front_said (map line_said lines ++ Marks (mark ∷ []) ∷ [])
 mark_first lines mark = ap front_said (behind lines)
   where
@@ -119,7 +119,7 @@ mark_first lines mark = ap front_said (behind lines)
     behind [] = refl
     behind (line ∷ lines) = ap (λ xs. line_said line ∷ xs) (behind lines)
 
--- and each further one behind the marks so far
+-- and each further one after the marks so far
 pub mark_more : (lines : List Gathered) (taken : List ℕ) (mark : ℕ) → with_mark (front_said (map line_said lines ++ Marks taken ∷ [])) mark ≡ front_said (map line_said lines ++ Marks (taken ++ mark ∷ []) ∷ [])
 mark_more lines taken mark = ap front_said (behind lines)
   where
@@ -127,7 +127,7 @@ mark_more lines taken mark = ap front_said (behind lines)
     behind [] = refl
     behind (line ∷ lines) = ap (λ xs. line_said line ∷ xs) (behind lines)
 
--- the lines gathered before a tree are all lines before it, and the marks behind them its first
+-- the lines gathered before a tree are all lines before it, and the marks after them are its first
 pub tree_begins : (said : List Said) (lines : List Gathered) (taken : List ℕ) (rest : List Said) (goes : GoodsGoOn said rest) → said ≡ front_said (map line_said lines ++ Marks taken ∷ [])
     → AreCutAlike (before_tree goes.view) (map line_said lines) goes.view.marks taken (says [] ∷ []) rest
 tree_begins said lines taken rest goes is =
@@ -146,7 +146,7 @@ row_fits lines all k row room e low is fit written =
     let same = said_at lines all k row e low is in
     (omega (arith, ap length same, length-map {B = Fraction} row (λ number. (number, 1)), fit), subst (All (IsNumber true)) (sym same) written)
 
--- the owners' line stands behind those of points
+-- the owners' line comes after those of points
 pub owners_at : (view : GoodsView) (k : ℕ) → length view.values + 4 ≡ k → get_or (before_tree view) k (Marks []) ≡ says view.owners
 owners_at view k e =
     let at : k ≡ suc (suc (suc (suc (length (map says view.values))))) = (let each = length-map view.values says in omega (arith, each, e)) in

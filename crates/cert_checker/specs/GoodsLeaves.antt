@@ -20,18 +20,18 @@ abbrev pub IsBeyond : GoodsCase → List ℕ → List ℕ → Pair → Type 0
 IsBeyond case answer owners pair =
     IsLess pair (pair_of case answer) ⊎ ((pair ≡ pair_of case answer) × (slice_cmp nat_cmp owners (take (length owners) answer) ≡ Greater))
 
--- a `-` may stand at the node of these owners: no division that begins with them comes before the answer, by the greatest pair of any list between what each
--- player has and what each may have, with a sum of at most the top
+-- a `-` is allowed at the node of these owners: a division that begins with them cannot come before the answer, even with the greatest pair of any
+-- list between what each player has and what each may have, with a sum of at most the top
 pub record MayStand (case : GoodsCase) (answer owners : List ℕ) : Type 0 where
   pub bound : Pair
   pub is_bound : IsBound (utilities case owners) (highest case owners) (top_of case owners) bound
   pub beyond : IsBeyond case answer owners bound
 
--- each `-` at a node with goods still to give may stand
+-- each `-` at a node with goods still to give is allowed
 abbrev pub StandsAbove : GoodsCase → List ℕ → List ℕ → ℕ → Type 0
 StandsAbove case answer owners mark = mark ≡ LEFT_OUT → length owners < case.facts.goods → MayStand case answer owners
 
--- each `-` at a node where all goods are given may stand
+-- each `-` at a node where all goods are given is allowed
 abbrev pub StandsAtLeaf : GoodsCase → List ℕ → List ℕ → ℕ → Type 0
 StandsAtLeaf case answer owners mark = mark ≡ LEFT_OUT → case.facts.goods ≤ length owners → MayStand case answer owners
 

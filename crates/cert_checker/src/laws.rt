@@ -43,8 +43,8 @@ pub fn certificate_verdict_law()
 
 /// What the fourth and the fifth rule of goods ask, with the bound by its definition. The rules say it by a function: a node may be left out exactly if the
 /// greatest pair of any list that the node allows is less than the answer's pair, or is the same and the node's owners come later than the answer's first
-/// ones. So the rules hold exactly if the marks are one tree whose `-` may all stand by that definition, where goods are still to give or where all are
-/// given. Where all are given, the greatest pair is that of the allocation itself.
+/// ones. So the rules hold exactly if the marks are one tree whose `-` are all allowed by that definition, where goods are still to give or where
+/// all are given. Where all are given, the greatest pair is that of the allocation itself.
 pub fn goods_leaves_law()
     ensures stands { (case : GoodsCase) (answer owners : List ℕ) → IsValidGoodsCase case → may_be_left case answer owners ≡ true ↔ MayStand case answer owners }
     ensures above { (view : GoodsView) → IsValidGoodsCase (printed_case view) → goods_rule view 4 ↔ HasLeaves StandsAbove view }

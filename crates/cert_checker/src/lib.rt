@@ -1,7 +1,7 @@
 //! The judge of certificates: one pass, in fixed memory. Its yes alone shows the printed division best.
 //!
 //! Bytes have one verdict at most, and none where they have a broken line
-//! (`certificate_verdict_law`). No allocator is handed in. The cuts of a tree are judged by what a
+//! (`certificate_verdict_law`). It takes no allocator. The cuts of a tree are judged by what a
 //! bound means (`goods_leaves_law`).
 #![tactic(auto)]
 

@@ -16,7 +16,7 @@ use Rattle.cert_reader.proofs.UsualForms.{some_said, usual_drop, usual_forms}
 length_take : (k : ℕ) (forms : List Form) → k ≤ length forms → length (take k forms) ≡ k
 length_take k forms h = omega (arith, length-take {A = Form} k forms)
 
--- more bytes behind
+-- more bytes after the others
 pub begins_grown : {series : Series} → (bytes more rest : List ℕ) (k : ℕ) (counts : Counts) (said : List Said) → Begins series bytes k counts said rest → Begins series (bytes ++ more) k counts said (rest ++ more)
 begins_grown bytes more rest k counts said h = record {
   are_counts = h.are_counts;
@@ -166,7 +166,7 @@ broken_behind {series} bytes rest k counts said h more none = record {
         more (all ∙ sym long) whole.rest)
         (cases_lt k (length (forms_of other)))
 
--- nothing of a text can stand behind its last line
+-- nothing of a text can come after its last line
 pub none_behind : (k : ℕ) (counts : Counts) (bytes : List ℕ) → k ≡ length (forms_of counts) → HasNoLine k counts bytes
 none_behind k counts bytes all other said more are agree within can e =
     let many = lines_some counts in

@@ -17,7 +17,7 @@ agree_same k (Goods n goods) = (λ _. refl, λ _. refl)
 agree_same k (Fares n places) = (λ _. refl, λ _. refl)
 agree_same k (Pair goods) = λ _. refl
 
--- each way stands for counts that a text can have, that agree with those known, and that have the line
+-- each way gives counts that a text can have, that agree with those known, and that have the line
 pub record IsChoice (index : ℕ) (known counts : Counts) : Type 0 where
   pub are : AreInRange counts
   pub agree : AgreeUpTo index known counts
@@ -27,7 +27,7 @@ pub record IsChoice (index : ℕ) (known counts : Counts) : Type 0 where
 not_there : (index place : ℕ) → place < index → (index == place) ≡ false
 not_there index place h = grind (arith, nat_tests)
 
--- after the lines of counts nothing is open: there is one way, and it stands for the known counts
+-- after the lines of counts nothing is open: there is one way, and it gives the known counts
 choice_after : (index : ℕ) (known : Counts) (choice : ℕ) → 3 < index → choice_of index known choice ≡ known
 choice_after index (Pair goods) choice h = rw (not_there index PAIR_GOODS (omega arith))
 choice_after index (Rent n) choice h = rw (not_there index KIND_LINE (omega arith), not_there index RENT_MEMBERS (omega arith))
@@ -40,7 +40,7 @@ count_after index (Rent n) h = rw (not_there index KIND_LINE (omega arith), not_
 count_after index (Goods n goods) h = rw (not_there index KIND_LINE (omega arith), not_there index GOODS_PLAYERS (omega arith), not_there index GOODS_COUNT (omega arith))
 count_after index (Fares n places) h = rw (not_there index KIND_LINE (omega arith), not_there index FARES_RIDERS (omega arith), not_there index FARES_PLACES (omega arith))
 
--- each way that is tried stands for such counts
+-- each way that is tried gives such counts
 pub choice_valid : (index : ℕ) (known : Counts) (choice : ℕ) → AreInRange known → index < length (forms_of known) → choice < choice_count index known → IsChoice index known (choice_of index known choice)
 choice_valid zero (Rent n) choice are within low = record { are = are; agree = agree_same zero (Rent n); within = within }
 choice_valid zero (Goods n goods) choice are within low = record { are = are; agree = agree_same zero (Goods n goods); within = within }

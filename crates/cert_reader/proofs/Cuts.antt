@@ -26,7 +26,7 @@ pub record Avoids (c : ℕ) (xs : List ℕ) : Type 0 where
 pub record Stops (c : ℕ) (ys : List ℕ) : Type 0 where
   pub first : 0 < length ys → get_or ys 0 0 ≡ c
 
--- the first such byte stands behind what has none
+-- the first such byte comes after what has none
 front_is : (c r : ℕ) (xs ys : List ℕ) → Avoids c xs → Stops c ys → IsFront c (xs ++ ys) r → length xs ≡ r
 front_is c r xs ys out stop h =
     let long : length (xs ++ ys) ≡ length xs + length ys = length-append xs ys in
@@ -55,7 +55,7 @@ cut c r xs ys bytes e out stop h =
 pub decimal_apart : (m n : ℕ) → m < 10 ^ 25 → n < 10 ^ 25 → decimal m ≡ decimal n → m ≡ n
 decimal_apart m n a b e = sym (decimal_is_IsNumeral_wide m (omega arith)).1 ∙ ap (digits_value 10) e ∙ (decimal_is_IsNumeral_wide n (omega arith)).1
 
--- a text that begins with a minus sign and has no number behind it
+-- a text that begins with a minus sign and has no number after it
 pub minus_none : (token digits : List ℕ) → get_or token 0 0 ≡ 45 → digits ≡ drop 1 token → ((n : ℕ) → 0 < n → n < 10 ^ 25 → digits ≡ decimal n → ⊥)
     → (z : ℤ) → unsigned_abs z < 10 ^ 25 → token ≡ signed_decimal z → ⊥
 minus_none token digits first rest none (pos n) small e =
@@ -147,7 +147,7 @@ text_parts number low = let no : eqb number.1 1 ≡ false = grind (arith, nat_te
 pub den_cases : (den : ℕ) → 1 ≤ den → (den ≡ 1) ⊎ (2 ≤ den)
 den_cases den some = ⊎_elim (λ (l : den < 2). inl (omega arith)) (λ (h : 2 ≤ den). inr h) (cases_lt den 2)
 
--- no slash stands in the token
+-- the token has no slash
 pub number_plain : (r : Option Frac) (token : List ℕ) → IsFront 47 token (length token)
     → MatchOption r ((z : ℤ) → unsigned_abs z < 10 ^ 25 → token ≡ signed_decimal z → ⊥) (λ f. IsNumber false (fraction_of f) × (f.den ≡ 1) × (token ≡ signed_decimal f.num))
     → MatchOption r ((number : Fraction) → IsNumber false number → token ≡ pair_text number → ⊥) (λ f. IsNumber false (fraction_of f) × (token ≡ pair_text (fraction_of f)))
@@ -162,7 +162,7 @@ number_plain None token front h = λ n number e.
     (den_cases n.1 number.positive)
 number_plain (Some f) token front h = (h.0, h.2 ∙ sym (text_whole (fraction_of f) h.1))
 
--- a slash stands in the token
+-- the token has a slash
 pub number_fraction : (r : Option Frac) (token front back : List ℕ) (slash : ℕ) → IsFront 47 token slash → slash < length token → front ≡ take slash token → back ≡ drop (slash + 1) token
     → MatchOption r ((number : Fraction) → IsNumber false number → 2 ≤ number.1 → front ≡ signed_decimal number.0 → back ≡ decimal number.1 → ⊥)
     (λ f. IsNumber false (fraction_of f) × (2 ≤ f.den) × (front ≡ signed_decimal f.num) × (back ≡ decimal f.den))
@@ -190,7 +190,7 @@ number_fraction (Some f) token front back slash at within e d h = (
       ∙ sym (text_parts (fraction_of f) h.1),
 )
 
--- what stands behind a minus sign
+-- what comes after a minus sign
 pub below_zero : (r : Option ℤ) (token digits : List ℕ) → 0 < length token → get_or token 0 0 ≡ 45 → digits ≡ drop 1 token
     → MatchOption r ((n : ℕ) → n + 1 < 10 ^ 25 → digits ≡ decimal (n + 1) → ⊥) (λ z. (n : ℕ) × (z ≡ negsuc n) × (n + 1 < 10 ^ 25) × (digits ≡ decimal (n + 1)))
     → MatchOption r ((z : ℤ) → unsigned_abs z < 10 ^ 25 → token ≡ signed_decimal z → ⊥) (λ z. (unsigned_abs z < 10 ^ 25) × (token ≡ signed_decimal z))

@@ -29,7 +29,7 @@ one n low = record {
     first zero h = (omega arith, omega arith)
     first (suc k) h = absurd (omega arith)
 
--- and so do digits with one more behind them
+-- and so do digits with one more after them
 more : (n : ℕ) (ds : List ℕ) → 10 ≤ n → LooksDecimal (n / 10) ds → LooksDecimal n (ds ++ ((48 + n % 10) ∷ []))
 more n ds high h = record {
   some = omega (arith, length-append {A = ℕ}, h.some);

@@ -23,7 +23,7 @@ use Rattle.cert_reader.specs.Words.{word_text}
 use Rattle.cert_reader.proofs.Cuts.{Avoids, Stops, den_cases, text_parts, text_whole}
 use Rattle.cert_reader.proofs.Numbers.{avoids_append, avoids_one, cut_once, number_avoids, numbers_apart}
 
--- lists with one byte behind them
+-- lists with one byte after them
 pub append_one_cancel : (xs ys : List ℕ) (c : ℕ) → xs ++ c ∷ [] ≡ ys ++ c ∷ [] → xs ≡ ys
 append_one_cancel [] [] c e = refl
 append_one_cancel [] (y ∷ ys) c e = let same = ap length e in absurd (omega (arith, same, length-append ys (c ∷ [])))
@@ -67,13 +67,13 @@ misses_both : (b r : Bool) → cond b false r ≡ true → (b ≡ false) × (r �
 misses_both true r e = absurd (cc)
 misses_both false r e = (refl, e)
 
--- a byte that is found in no place of a list stands at none, where that holds of all but the first
+-- a byte that is found in no place of a list is at none, where that holds of all except the first
 misses_at : (c x : ℕ) (xs : List ℕ) (k : ℕ) → misses c (x ∷ xs) ≡ true → (misses c xs ≡ true → (i : ℕ) → i < length xs → get_or xs i 0 ≡ c → ⊥) → k < suc (length xs) → get_or (x ∷ xs) k 0 ≡ c → ⊥
 unfolding misses
 misses_at c x xs zero e more h f = let no : eqb x c ≡ false = (misses_both (eqb x c) (misses c xs) e).0 in let yes : eqb x c ≡ true = eq-eqb x c f in cc
 misses_at c x xs (suc k) e more h f = more (misses_both (eqb x c) (misses c xs) e).1 k (omega arith) f
 
--- a list in no place of which a byte is found is without that byte
+-- a list is without a byte that is found in no place of it
 avoids_misses : (c : ℕ) (xs : List ℕ) → misses c xs ≡ true → Avoids c xs
 unfolding misses
 avoids_misses c [] e = record { none = λ k h f. omega arith }
@@ -204,7 +204,7 @@ line_short form (Numbers numbers) text few is =
     omega (arith, length-append (word_text form.word) (numbers_text numbers))
 line_short form (Marks marks) text few is = absurd is.0
 
--- what stands behind a cut begins with the LF
+-- what comes after a cut begins with the LF
 pub ends : (rest : List ℕ) → Stops 10 (10 ∷ rest)
 ends rest = record { first = λ h. refl }
 

@@ -1,4 +1,4 @@
--- Which form stands at which place.
+-- Which form is at which place.
 use Rattle.std.proofs.Common.{◌≡◌, ℕ, zero, suc, ◌+◌, ◌-◌, ◌^◌, ◌<◌, ◌≤◌, List, ◌++◌, length, map, get_or, arith, refl, ap, ◌∙◌, length-append, replicate}
 use Rattle.std.proofs.Math.Nat.{pow-le-pow_right}
 use Rattle.std.proofs.lemmas.List.{get_or-append_right, length-map, get_or-map, length-replicate}
@@ -19,7 +19,7 @@ get_or-replicate zero form i d h = absurd (omega arith)
 get_or-replicate (suc n) form zero d h = refl
 get_or-replicate (suc n) form (suc i) d h = get_or-replicate n form i d (omega arith)
 
--- in the block behind others
+-- in the block after others
 skip : (xs ys : List Form) (i j : ℕ) (d : Form) → length xs + j ≡ i → get_or (xs ++ ys) i d ≡ get_or ys j d
 skip xs ys i j d e = get_or-append_right xs ys (length xs) i d refl (omega arith) ∙ ap (λ k. get_or ys k d) (let f : i - length xs ≡ j = omega arith in f)
 
@@ -33,19 +33,19 @@ pub rent_in_head : (n i : ℕ) (d : Form) → i < 4 → get_or (rent_forms n) i 
 unfolding rent_forms
 rent_in_head n i d h = get_or-append (rent_head n) (replicate n (numbers_of word.Values n) ++ rent_tail n) d i h
 
--- behind the four lines of the head of a rent stand the lines of values and the rest
+-- after the four lines of the head of a rent come the lines of values and the rest
 behind_rent_head : (n i j : ℕ) (d : Form) → 4 + j ≡ i → get_or (rent_forms n) i d ≡ get_or (replicate n (numbers_of word.Values n) ++ rent_tail n) j d
 unfolding rent_forms
 behind_rent_head n i j d e = skip (rent_head n) (replicate n (numbers_of word.Values n) ++ rent_tail n) i j d e
 
--- from the fifth on stands a line of values for each of the n members
+-- from the fifth on there is a line of values for each of the n members
 pub rent_in_values : (n i : ℕ) (d : Form) → 4 ≤ i → i < 4 + n → get_or (rent_forms n) i d ≡ numbers_of word.Values n
 rent_in_values n i d low high =
     let j : ℕ = i - 4 in
     let many : length (replicate n (numbers_of word.Values n)) ≡ n = length-replicate n (numbers_of word.Values n) in
     behind_rent_head n i j d (omega arith) ∙ get_or-append (replicate n (numbers_of word.Values n)) (rent_tail n) d j (omega (arith, many)) ∙ get_or-replicate n (numbers_of word.Values n) j d (omega arith)
 
--- behind the lines of values of a rent stands the rest
+-- after the lines of values of a rent comes the rest
 pub rent_in_tail : (n i j : ℕ) (d : Form) → 4 + n + j ≡ i → get_or (rent_forms n) i d ≡ get_or (rent_tail n) j d
 rent_in_tail n i j d e =
     let many : length (replicate n (numbers_of word.Values n)) ≡ n = length-replicate n (numbers_of word.Values n) in
@@ -65,12 +65,12 @@ pub goods_in_head : (n goods i : ℕ) (d : Form) → i < 6 → get_or (goods_for
 unfolding goods_forms
 goods_in_head n goods i d h = get_or-append (goods_head n goods) (replicate n (numbers_of word.Values goods) ++ goods_tail goods) d i h
 
--- behind the six lines of the head of goods stand the lines of values and the rest
+-- after the six lines of the head of goods come the lines of values and the rest
 behind_goods_head : (n goods i j : ℕ) (d : Form) → 6 + j ≡ i → get_or (goods_forms n goods) i d ≡ get_or (replicate n (numbers_of word.Values goods) ++ goods_tail goods) j d
 unfolding goods_forms
 behind_goods_head n goods i j d e = skip (goods_head n goods) (replicate n (numbers_of word.Values goods) ++ goods_tail goods) i j d e
 
--- from the seventh on stands a line of values for each of the n players
+-- from the seventh on there is a line of values for each of the n players
 pub goods_in_values : (n goods i : ℕ) (d : Form) → 6 ≤ i → i < 6 + n → get_or (goods_forms n goods) i d ≡ numbers_of word.Values goods
 goods_in_values n goods i d low high =
     let j : ℕ = i - 6 in
@@ -78,7 +78,7 @@ goods_in_values n goods i d low high =
     behind_goods_head n goods i j d (omega arith) ∙ get_or-append (replicate n (numbers_of word.Values goods)) (goods_tail goods) d j (omega arith)
     ∙ get_or-replicate n (numbers_of word.Values goods) j d (omega arith)
 
--- behind the lines of values of goods stands the rest
+-- after the lines of values of goods comes the rest
 pub goods_in_tail : (n goods i j : ℕ) (d : Form) → 6 + n + j ≡ i → get_or (goods_forms n goods) i d ≡ get_or (goods_tail goods) j d
 goods_in_tail n goods i j d e =
     behind_goods_head n goods i (n + j) d (omega arith) ∙ skip (replicate n (numbers_of word.Values goods)) (goods_tail goods) (n + j) j d (omega (arith, values_many n goods))
@@ -109,12 +109,12 @@ pub fares_in_head : (n places i : ℕ) (d : Form) → i < 5 → get_or (fares_fo
 unfolding fares_forms
 fares_in_head n places i d h = get_or-append (fares_head n places) (replicate (places + 1) (numbers_of word.Legs places) ++ (rider_forms n ++ (map (set_form n) (sets_of n) ++ fares_tail n))) d i h
 
--- behind the five lines of the head of fares stand the legs, the riders, the sets and the rest
+-- after the five lines of the head of fares come the legs, the riders, the sets and the rest
 in_behind_head : (n places i j : ℕ) (d : Form) → 5 + j ≡ i → get_or (fares_forms n places) i d ≡ get_or (replicate (places + 1) (numbers_of word.Legs places) ++ (rider_forms n ++ (map (set_form n) (sets_of n) ++ fares_tail n))) j d
 unfolding fares_forms
 in_behind_head n places i j d e = skip (fares_head n places) (replicate (places + 1) (numbers_of word.Legs places) ++ (rider_forms n ++ (map (set_form n) (sets_of n) ++ fares_tail n))) i j d e
 
--- from the sixth on stand the lines of legs, one more than the places
+-- from the sixth on come the lines of legs, one more than the places
 pub fares_in_legs : (n places i : ℕ) (d : Form) → 5 ≤ i → i < 6 + places → get_or (fares_forms n places) i d ≡ numbers_of word.Legs places
 fares_in_legs n places i d low high =
     let j : ℕ = i - 5 in
@@ -122,25 +122,25 @@ fares_in_legs n places i d low high =
     in_behind_head n places i j d (omega arith) ∙ get_or-append (replicate (places + 1) (numbers_of word.Legs places)) (rider_forms n ++ (map (set_form n) (sets_of n) ++ fares_tail n)) d j (omega (arith, many))
     ∙ get_or-replicate (places + 1) (numbers_of word.Legs places) j d (omega arith)
 
--- behind the lines of legs stand those of riders, of sets and the rest
+-- after the lines of legs come those of riders, of sets and the rest
 in_behind_legs : (n places i j : ℕ) (d : Form) → 6 + places + j ≡ i → get_or (fares_forms n places) i d ≡ get_or (rider_forms n ++ (map (set_form n) (sets_of n) ++ fares_tail n)) j d
 in_behind_legs n places i j d e =
     in_behind_head n places i (places + 1 + j) d (omega arith)
     ∙ skip (replicate (places + 1) (numbers_of word.Legs places)) (rider_forms n ++ (map (set_form n) (sets_of n) ++ fares_tail n)) (places + 1 + j) j d (omega (arith, length_legs places))
 
--- right behind the legs stands the line of the riders
+-- right after the legs comes the line of the riders
 pub fares_at_who : (n places i : ℕ) (d : Form) → i ≡ 6 + places → get_or (fares_forms n places) i d ≡ numbers_of word.Who n
 fares_at_who n places i d e = in_behind_legs n places i 0 d (omega arith)
 
--- behind the riders stands the line of the places where they get off
+-- after the riders comes the line of the places where they get off
 pub fares_at_at : (n places i : ℕ) (d : Form) → i ≡ 7 + places → get_or (fares_forms n places) i d ≡ numbers_of word.At n
 fares_at_at n places i d e = in_behind_legs n places i 1 d (omega arith)
 
--- behind the two lines of riders stand those of sets and the rest
+-- after the two lines of riders come those of sets and the rest
 in_behind_who : (n places i j : ℕ) (d : Form) → 8 + places + j ≡ i → get_or (fares_forms n places) i d ≡ get_or (map (set_form n) (sets_of n) ++ fares_tail n) j d
 in_behind_who n places i j d e = in_behind_legs n places i (2 + j) d (omega arith) ∙ skip (rider_forms n) (map (set_form n) (sets_of n) ++ fares_tail n) (2 + j) j d (omega arith)
 
--- the line of each set stands at its number behind the lines of riders
+-- the lines of sets come after the lines of riders, each at its number
 pub fares_in_sets : (n places i set : ℕ) (d : Form) → 7 + places + set ≡ i → 1 ≤ set → set ≤ 2 ^ n - 1 → get_or (fares_forms n places) i d ≡ set_form n set
 fares_in_sets n places i set d e low high =
     let j : ℕ = set - 1 in
@@ -149,7 +149,7 @@ fares_in_sets n places i set d e low high =
     ∙ get_or-map (set_form n) (sets_of n) j 0 d (omega (arith, length-range_with_len 1 (2 ^ n - 1)))
     ∙ ap (set_form n) (get_or-range_with_len 1 (2 ^ n - 1) j 0 (omega arith) ∙ (let back : 1 + j ≡ set = omega arith in back))
 
--- behind the lines of sets stands the rest
+-- after the lines of sets comes the rest
 pub fares_in_tail : (n places i j : ℕ) (d : Form) → 8 + places + (2 ^ n - 1) + j ≡ i → get_or (fares_forms n places) i d ≡ get_or (fares_tail n) j d
 fares_in_tail n places i j d e = in_behind_who n places i (2 ^ n - 1 + j) d (omega arith) ∙ skip (map (set_form n) (sets_of n)) (fares_tail n) (2 ^ n - 1 + j) j d (omega (arith, length_sets n))
 

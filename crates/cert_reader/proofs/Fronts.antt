@@ -11,14 +11,14 @@ can_many [] (x ∷ said) h = absurd h
 can_many (f ∷ forms) [] h = absurd h
 can_many (f ∷ forms) (x ∷ said) h = ap suc (can_many forms said h.1)
 
--- lines behind others
+-- lines after others
 pub can-append : (forms others : List Form) (said more : List Said) → CanSayAll forms said → CanSayAll others more → CanSayAll (forms ++ others) (said ++ more)
 can-append [] others [] more h k = k
 can-append [] others (x ∷ said) more h k = absurd h
 can-append (f ∷ forms) others [] more h k = absurd h
 can-append (f ∷ forms) others (x ∷ said) more h k = (h.0, can-append forms others said more h.1 k)
 
--- the text of lines behind others is theirs behind the others'
+-- the text of lines after others is theirs after the others'
 pub text-append : (forms others : List Form) (said more : List Said) → CanSayAll forms said → text_of (forms ++ others) (said ++ more) ≡ text_of forms said ++ text_of others more
 text-append [] others [] more h = refl
 text-append [] others (x ∷ said) more h = absurd h

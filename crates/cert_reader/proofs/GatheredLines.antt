@@ -19,7 +19,7 @@ use Rattle.cert_reader.proofs.Fronts.{can_at, can_many}
 abbrev pub no_line : Gathered
 no_line = record { items = [] }
 
--- there are two lines more than were gathered, and those behind them
+-- there are two lines more than were gathered, and those after them
 pub lines_before_many : (counts : Counts) (lines : List Gathered) (behind : List Said) → CanSayAll (forms_of counts) (says (pos 1 ∷ []) ∷ says [] ∷ (map line_said lines ++ behind)) → length lines + 2 + length behind ≡ length (forms_of counts)
 lines_before_many counts lines behind h =
     let many = can_many (forms_of counts) (says (pos 1 ∷ []) ∷ says [] ∷ (map line_said lines ++ behind)) h in
@@ -40,11 +40,11 @@ line_before_can counts lines behind i place h is low =
     get_or-append (map line_said lines) behind (Marks []) i (omega arith) ∙ get_or-map line_said lines i no_line (Marks []) low in
     subst (λ p. CanSay (form_in counts p) (Numbers (numbers_at lines i))) (sym next) (subst (CanSay (form_in counts (suc (suc i)))) same can)
 
--- the same where `end` alone stands behind them
+-- the same where `end` alone comes after them
 pub lines_many : (counts : Counts) (lines : List Gathered) → CanSayAll (forms_of counts) (text_said lines) → length lines + 3 ≡ length (forms_of counts)
 lines_many counts lines h = let many = lines_before_many counts lines (says [] ∷ []) h in omega arith
 
--- a gathered line says what its form allows, where `end` alone stands behind the lines
+-- a gathered line says what its form allows, where `end` alone comes after the lines
 pub line_can : (counts : Counts) (lines : List Gathered) (i place : ℕ) → CanSayAll (forms_of counts) (text_said lines) → place ≡ 2 + i → i < length lines → CanSay (form_in counts place) (Numbers (numbers_at lines i))
 line_can counts lines i place h is low = line_before_can counts lines (says [] ∷ []) i place h is low
 
@@ -91,11 +91,11 @@ short_said fractions numbers e h k d l =
     let two = subst (IsNumber false) is one in
     (two.size, two.small)
 
--- the line at a place, and those behind it
+-- the line at a place, and those after it
 pub line_then : (lines : List Gathered) (i j : ℕ) → j ≡ suc i → i < length lines → drop i lines ≡ get_or lines i no_line ∷ drop j lines
 line_then lines i j e low = drop-cons lines i no_line low ∙ ap (λ k. get_or lines i no_line ∷ drop k lines) (sym e)
 
--- some lines, and those behind them
+-- some lines, and those after them
 pub lines_then : (lines : List Gathered) (i many j : ℕ) → j ≡ i + many → drop i lines ≡ take many (drop i lines) ++ drop j lines
 lines_then lines i many j e = sym (take-append-drop many (drop i lines)) ∙ ap (λ xs. take many (drop i lines) ++ xs) (drop-drop many i lines ∙ ap (λ k. drop k lines) (sym e))
 

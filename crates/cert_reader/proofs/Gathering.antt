@@ -50,7 +50,7 @@ gathering_kind a b f x y taken lines marks kind before h answer =
     ))
     (λ all some p. absurd (let none = p.0 in omega (arith, none, some)))
 
--- no line of numbers but `end` stands behind a tree
+-- no line of numbers except `end` comes after a tree
 none_behind_tree : (b : Reading) (all : List ℕ) (lines : List Gathered) (mark : ℕ) (marks : List ℕ) (line : Gathered) → IsOpen b → IsRead b all (gathered_said lines (mark ∷ marks) ++ line_said line ∷ []) → ⊥
 none_behind_tree b all lines mark marks line more read =
     let forms = take b.lines (forms_of b.counts) in
@@ -82,13 +82,13 @@ gathering_line a b f x y taken lines marks line more before h answer =
         (ap (λ xs. xs ++ line_said line ∷ []) (append-nil (map line_said lines)) ∙ sym (map-append line_said lines (line ∷ [])) ∙ sym (append-nil (map line_said (lines ++ line ∷ [])))) read
     behind (mark ∷ marks) all read = absurd (none_behind_tree b all lines mark marks line more read)
 
--- a mark comes behind those gathered so far
+-- a mark comes after those gathered so far
 with_gathered : (lines : List Gathered) (marks : List ℕ) (mark : ℕ) → with_mark (map line_said lines ++ marks_said marks) mark ≡ map line_said lines ++ marks_said (marks ++ mark ∷ [])
 with_gathered [] [] mark = refl
 with_gathered (line ∷ lines) [] mark = ap (λ xs. line_said line ∷ xs) (with_gathered lines [] mark)
 with_gathered lines (m ∷ marks) mark = with_more (map line_said lines) (m ∷ marks) mark
 
--- a mark was read: the same lines are gathered, and that mark behind the others
+-- a mark was read: the same lines are gathered, and that mark after the others
 pub gathering_mark : (a b : Reading) (f x y : Option (List ℕ)) (taken : List ℕ) (lines : List Gathered) (marks : List ℕ) (mark : ℕ) → IsOpen b → Consumes f x taken → IsGathering a taken lines marks
     → Goes a x y (λ taken said. IsAnswer a b y taken said (Ok (Mark mark))) → Took f y (λ all. IsGathering b all lines (marks ++ mark ∷ []))
 gathering_mark a b f x y taken lines marks mark more before h answer =

@@ -30,7 +30,7 @@ pub record GoodsLines (n goods : ℕ) (lines : List Gathered) (marks : List ℕ)
   pub some : 1 ≤ length marks
   pub are_marks : All IsMark marks
 
--- the tree stands behind the lines
+-- the tree comes after the lines
 tree_can : (n goods : ℕ) (lines : List Gathered) (marks : List ℕ) → CanSayAll (goods_forms n goods) (tree_said lines marks) → length lines ≡ n + 6 → CanSay Tree (Marks marks)
 tree_can n goods lines marks h many =
     let each : length (map line_said lines) ≡ length lines = length-map lines line_said in

@@ -1,4 +1,4 @@
--- Bytes handed out one after another.
+-- Bytes given out one after another.
 use Rattle.std.proofs.Common.{◌≡◌, ◌≢◌, ℕ, ◌+◌, ◌<◌, ◌≤◌, List, [], ◌∷◌, ◌++◌, length, get_or, arith, refl, sym, ap, ◌∙◌, subst, length-append, append_assoc, append-nil, ⊎_elim, Bool, true, false}
 use Rattle.std.specs.Prelude.{Option}
 use Rattle.std.proofs.KnownBytes.{Consumes-nil, Consumes-trans}
@@ -9,11 +9,11 @@ use Rattle.cert_reader.specs.declared.ends.TextEnd.{TextEnd}
 use Rattle.cert_reader.specs.declared.limits.TheConstants.{LONGEST_LINE}
 use Rattle.cert_reader.specs.Stream.{Hands, Held, IsPlain, IsStopAt, IsStopped, taken_count}
 
--- nothing was handed out
+-- nothing was given out
 pub hands_none : (a b : Held) (left : Option (List ℕ)) → b.ahead ≡ a.ahead → b.given ≡ a.given → Hands a b left left []
 hands_none a b left ahead given = record { more = []; took = Consumes-nil left; seam = append-nil a.ahead ∙ sym ahead; given = given ∙ (let e : a.given ≡ a.given + 0 = omega arith in e) }
 
--- bytes behind others
+-- bytes after others
 pub hands_trans : (a b c : Held) (x y z : Option (List ℕ)) (first second : List ℕ) → Hands a b x y first → Hands b c y z second → Hands a c x z (first ++ second)
 hands_trans a b c x y z first second p q = record {
   more = p.more ++ q.more;
@@ -22,7 +22,7 @@ hands_trans a b c x y z first second p q = record {
   given = (let e = p.given in let f = q.given in omega (arith, e, f, length-append first second));
 }
 
--- the reading stops behind bytes that were handed out
+-- the reading stops after bytes that were given out
 pub stops_after : (a b : Held) (x y z : Option (List ℕ)) (handed : List ℕ) (stop : TextEnd) → Hands a b x y handed → IsStopped b y z stop → IsStopped a x z stop
 stops_after a b x y z handed stop p (more, took, at) = (p.more ++ more, Consumes-trans x y z p.more more p.took took, subst (IsStopAt stop) same at)
   where
@@ -53,7 +53,7 @@ over_more false line text b kept over full = let same = ap length (kept refl) in
 pub hands_same : (a b c : Held) (x y : Option (List ℕ)) (handed : List ℕ) → Hands a b x y handed → c.ahead ≡ b.ahead → c.given ≡ b.given → Hands a c x y handed
 hands_same a b c x y handed p ahead given = record { more = p.more; took = p.took; seam = p.seam ∙ ap (λ xs. handed ++ xs) (sym ahead); given = given ∙ p.given }
 
--- a byte handed out and kept behind the line
+-- a byte given out and kept after the line
 pub kept_more : (a b c d : Held) (x y z : Option (List ℕ)) (text : List ℕ) (byte : ℕ) → Hands a b x y text → Hands b c y z (byte ∷ []) → d.ahead ≡ c.ahead → d.given ≡ c.given → Hands a d x z (text ++ byte ∷ [])
 kept_more a b c d x y z text byte p q ahead given = hands_same a c d x z (text ++ byte ∷ []) (hands_trans a b c x y z text (byte ∷ []) p q) ahead given
 
@@ -66,6 +66,6 @@ hands_from a b c x y handed e p = record {
   given = p.given ∙ ap (λ held. held.given + length handed) e;
 }
 
--- a line behind which its LF was handed out
+-- a line after which its LF was given out
 pub line_handed : (a b c : Held) (x y z : Option (List ℕ)) (text : List ℕ) → IsPlain text → Hands a b x y text → Hands b c y z (10 ∷ []) → c.line ≡ text → IsPlain c.line × Hands a c x z (c.line ++ 10 ∷ [])
 line_handed a b c x y z text plain p q is = (subst IsPlain (sym is) plain, subst (λ line. Hands a c x z (line ++ 10 ∷ [])) (sym is) (hands_trans a b c x y z text (10 ∷ []) p q))

@@ -1,4 +1,4 @@
--- Numbers behind one another, and how the first is cut off.
+-- Numbers one after another, and how the first is cut off.
 use Rattle.std.proofs.Common.{◌≡◌, ◌≢◌, ℕ, zero, suc, ◌+◌, ◌-◌, ◌<◌, ◌≤◌, List, [], ◌∷◌, ◌++◌, length, get_or, take, drop, arith, refl, sym, ap, ◌∙◌, subst, length-append, append_assoc, ⊎_elim, ◌⊎◌, Bool, true, false, IsTrue, All, take-append-drop, rules}
 use Rattle.std.proofs.Math.Seq.{get_or-append_seam}
 use Rattle.std.specs.Bool.{MatchBool}
@@ -15,7 +15,7 @@ use Rattle.cert_reader.specs.Numbers.{IsNumber}
 use Rattle.cert_reader.proofs.Cuts.{Avoids, Stops, cut, den_cases, text_whole, text_parts, signed_avoids, signed_apart, decimal_apart}
 use Rattle.cert_reader.proofs.Digits.{each_digit}
 
--- no such byte stands in two lists, or in both together
+-- where no such byte is in two lists, none is in both together
 pub avoids_append : (c : ℕ) (xs ys : List ℕ) → Avoids c xs → Avoids c ys → Avoids c (xs ++ ys)
 avoids_append c xs ys a b = record {
   none = λ k h e. ⊎_elim
@@ -45,7 +45,7 @@ number_avoids c whole n number low =
     (record { none = λ k h e. let d = each_digit n.1 (decimal n.1) k (omega arith) refl h in omega arith }))))
     (den_cases n.1 number.positive)
 
--- what behind one number comes begins with a space
+-- what comes after one number begins with a space
 pub numbers_stop : (ns : List Fraction) → Stops 32 (numbers_text ns)
 numbers_stop [] = record { first = λ h. absurd (omega arith) }
 numbers_stop (n ∷ ns) = record { first = λ h. refl }
@@ -80,7 +80,7 @@ heads whole rest count end (n ∷ ns) some long each e =
       tail = λ front. (cut 32 end (pair_text n) (numbers_text ns) (drop 1 rest) behind (number_avoids 32 whole n number (omega arith)) (numbers_stop ns) front).1;
     }
 
--- a number of a line of any kind is one that stands where fractions may stand
+-- a number of a line of any kind may come where fractions may come
 pub any_number : (whole : Bool) (n : Fraction) → IsNumber whole n → IsNumber false n
 any_number whole n h = record { size = h.size; positive = h.positive; small = h.small; lowest = h.lowest; is_whole = λ t. absurd (cc) }
 

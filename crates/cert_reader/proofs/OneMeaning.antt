@@ -68,7 +68,7 @@ wholes_once (x ∷ xs) (y ∷ ys) e =
     let more : wholes xs ≡ wholes ys = ap (drop 1) e in
     ap (λ z. z ∷ xs) first ∙ ap (λ zs. y ∷ zs) (wholes_once xs ys more)
 
--- the numbers that a line says, of which a tree has none
+-- the numbers that a line says; a tree has none
 numbers_of_said : Said → List Fraction
 numbers_of_said (Numbers numbers) = numbers
 numbers_of_said said = []
@@ -133,7 +133,7 @@ first_of xs = get_or xs 0 (pos 0)
 line_at : List Said → ℕ → List Fraction
 line_at said k = numbers_of_said (get_or said k (Numbers []))
 
--- the marks of the line at a place, of which a line of numbers has none
+-- the marks of the line at a place; a line of numbers has none
 marks_at : List Said → ℕ → List ℕ
 marks_at said k = marks_in (get_or said k (Marks []))
   where

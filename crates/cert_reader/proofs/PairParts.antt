@@ -21,11 +21,11 @@ use Rattle.cert_reader.proofs.Fronts.{can_at, can_many}
 use Rattle.cert_reader.proofs.GatheredLines.{fractions_said, line_then, lines_end, lines_then, no_line, part_rows, whole_said}
 use Rattle.cert_reader.proofs.HeadAndEnd.{one_said}
 
--- lines of a pair, and `end` behind them
+-- lines of a pair, and `end` after them
 abbrev pub ended : List Gathered → List Said
 ended lines = map line_said lines ++ says [] ∷ []
 
--- eight lines stand before `end`
+-- eight lines come before `end`
 pub pair_many : (goods : ℕ) (lines : List Gathered) → CanSayAll (pair_forms goods) (ended lines) → length lines ≡ 8
 pair_many goods lines h =
     let many = can_many (pair_forms goods) (ended lines) h in

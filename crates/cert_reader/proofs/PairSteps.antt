@@ -30,7 +30,7 @@ pub pair_end : (a b : Reading) (f x y : Option (List ℕ)) (taken : List ℕ) (l
     → GoesOf Pairs a x y (λ taken said. IsLineRead Pairs a b y taken said (Err end)) → Took f y (λ all. IsReadPair y all (Err end))
 pair_end a b f x y taken lines end before h (more, took, then) = (taken ++ more, Consumes-trans f x y taken more before took, then taken (map line_said lines) h)
 
--- something stands behind the last line
+-- something comes after the last line
 pub pair_behind : (b c : Reading) (f y z : Option (List ℕ)) (lines : List Gathered) (end : TextEnd) → Took f y (λ all. IsReadOf Pairs b all (map line_said lines))
     → GoesOf Pairs b y z (λ taken said. IsFinished Pairs c z taken said (Err end)) → Took f z (λ all. IsReadPair z all (Err end))
 pair_behind b c f y z lines end (all, before, h) (more, took, then) = (all ++ more, Consumes-trans f y z all more before took, then all (map line_said lines) h)

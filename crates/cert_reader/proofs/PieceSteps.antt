@@ -20,11 +20,11 @@ use Rattle.cert_reader.proofs.Beginnings.{begins_grown, begins_more, begins_othe
 use Rattle.cert_reader.proofs.FormLines.{said_line}
 use Rattle.cert_reader.proofs.Handed.{hands_trans, stops_after}
 
--- the reading of held bytes, behind whole lines or within a tree
+-- the reading of held bytes, after whole lines or within a tree
 abbrev pub reading_at : Held → ℕ → Counts → Bool → Reading
 reading_at held lines counts in_tree = record { ahead = held.ahead; given = held.given; lines = lines; counts = counts; in_tree = in_tree }
 
--- the reading of held bytes behind whole lines
+-- the reading of held bytes after whole lines
 abbrev pub reading_of : Held → ℕ → Counts → Reading
 reading_of held lines counts = reading_at held lines counts false
 
@@ -54,7 +54,7 @@ total_of a b x y handed taken p e =
     let all : length (taken ++ p.more) ≡ length taken + length p.more = length-append taken p.more in
     omega (arith, given, both, all, e)
 
--- a line was handed out
+-- a line was given out
 line_read : {series : Series} → (a b : Held) (x y : Option (List ℕ)) (lines : ℕ) (known counts : Counts) (last : Said) (taken : List ℕ) (said : List Said) → AreInRange counts → AgreeUpTo lines known counts → lines < length (forms_of counts)
     → CanSay (form_in counts lines) last → (p : Hands a b x y (said_text (form_in counts lines) last)) → IsReadOf series (reading_of a lines known) taken said → IsReadOf series (reading_of b (lines + 1) counts) (taken ++ p.more) (said ++ last ∷ [])
 line_read {series} a b x y lines known counts last taken said are agree within can p h = begins_whole b (lines + 1) counts (taken ++ p.more) (said ++ last ∷ [])
@@ -98,7 +98,7 @@ pub settled_end : {series : Series} → (a b : Held) (x y : Option (List ℕ)) (
     → GoesOf series (reading_of a lines known) x y (λ taken said. IsEndOf series end y taken)
 settled_end {series} a b x y lines known end few within stop = refused_end a b x y lines known (HasNoLine lines known) end few (λ text no_line. (no_line, λ all none. omega arith)) stop
 
--- what goes on behind what was read
+-- what goes on after what was read
 pub goes_after : {series : Series} → (a b : Reading) (x y z : Option (List ℕ)) (next : List Said → List Said) (P : List ℕ → List Said → Type 0) → GoesOf series a x y (λ taken said. IsReadOf series b taken (next said)) → GoesOf series b y z P → GoesOf series a x z (λ taken said. P taken (next said))
 goes_after {series} a b x y z next P (more, took, read) (others, took_others, then) =
     (more ++ others, Consumes-trans x y z more others took took_others, λ taken said h. subst (λ bytes. P bytes (next said)) (append_assoc taken more others) (then (taken ++ more) (next said) (read taken said h)))
@@ -115,7 +115,7 @@ line_given a b x y lines known counts numbers (are, agree, within, can, p) =
     let long = ap length line.ended in
     omega (arith, given, long, length-append line.front (10 ∷ []))
 
--- a byte behind the last line breaks the text
+-- a byte after the last line breaks the text
 pub refused_behind_all : {series : Series} → (a b c : Held) (x y z : Option (List ℕ)) (lines : ℕ) (known : Counts) (byte : ℕ) (end : TextEnd) → taken_count c ≤ MOST_BYTES → lines ≡ length (forms_of known) → Hands a b x y (byte ∷ [])
     → IsRefused b c y z (lines + 1) (λ _. Unit {0}) end → GoesOf series (reading_of a lines known) x z (λ taken said. IsEndOf series end z taken)
 refused_behind_all {series} a b c x y z lines known byte (NotText line) few all p (is, (text, q, ahead, at, _)) =
@@ -137,7 +137,7 @@ pub settled_end_at : {series : Series} → (r : Reading) (a b : Held) (x y : Opt
 settled_end_at {series} r a b x y lines known in_tree end e whole few within stop =
     subst (λ s. GoesOf series s x y (λ taken said. IsEndOf series end y taken)) (reading_is r a lines known in_tree false e whole) (settled_end a b x y lines known end few within stop)
 
--- a byte behind the last line ends a reading that is given by its fields
+-- a byte after the last line ends a reading that is given by its fields
 pub refused_behind_all_at : {series : Series} → (r : Reading) (a b c : Held) (x y z : Option (List ℕ)) (lines : ℕ) (known : Counts) (in_tree : Bool) (byte : ℕ) (end : TextEnd) → reading_at a lines known in_tree ≡ r → r.in_tree ≡ false
     → taken_count c ≤ MOST_BYTES → lines ≡ length (forms_of known) → Hands a b x y (byte ∷ []) → IsRefused b c y z (lines + 1) (λ _. Unit {0}) end → GoesOf series r x z (λ taken said. IsEndOf series end z taken)
 refused_behind_all_at {series} r a b c x y z lines known in_tree byte end e whole few all p stop =

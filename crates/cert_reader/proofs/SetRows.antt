@@ -14,7 +14,7 @@ use Rattle.cert_reader.specs.Sets.{set_sizes, starts}
 use Rattle.cert_reader.specs.Text.{CanSay, Leads, Numbers, wholes}
 use Rattle.cert_reader.specs.Views.{cut_into, says}
 
--- whole numbers, of which the first is set, and so many behind it
+-- whole numbers: the first is the number of the set, and so many come after it
 pub record SetRow (set size : ℕ) (numbers : List Fraction) : Type 0 where
   pub long : length numbers ≡ size + 1
   pub whole : All (IsNumber true) numbers
@@ -56,18 +56,18 @@ rows_of_wholes set [] (line ∷ lines) h = absurd h
 rows_of_wholes set (size ∷ sizes) [] h = absurd h
 rows_of_wholes set (size ∷ sizes) (line ∷ lines) h = All-cons (λ (line : Gathered). All (IsNumber true) (map fraction_of line.items)) line lines h.0.whole (rows_of_wholes (set + 1) sizes lines h.1)
 
--- the numbers behind the first
+-- the numbers after the first
 behind_first : Gathered → List Fraction
 behind_first line = map fraction_of (drop 1 line.items)
 
--- the line of a set has as many numbers behind its first as the set's size
+-- the line of a set has as many numbers after its first as the set's size
 behind_long : (line : Gathered) (set size : ℕ) → SetRow set size (map fraction_of line.items) → length (behind_first line) ≡ size
 unfolding behind_first
 behind_long line set size h =
     let long = h.long in
     omega (arith, long, length-map line.items fraction_of, length-map (drop 1 line.items) fraction_of, length-drop 1 line.items)
 
--- so many numbers all lines have behind their first
+-- all lines together have so many numbers after their first
 pub table_long : (set : ℕ) (sizes : List ℕ) (lines : List Gathered) → SetRows set sizes lines → length (flat_map (λ line. map fraction_of (drop 1 line.items)) lines) ≡ sum sizes
 unfolding behind_first
 table_long set [] [] h = refl
@@ -82,7 +82,7 @@ lead_first : (set : ℕ) (numbers : List Fraction) → Leads set numbers → num
 lead_first set [] h = absurd h
 lead_first set ((a, b) ∷ numbers) h = ap (λ x. (x, b) ∷ numbers) h.0 ∙ ap (λ y. (pos set, y) ∷ numbers) h.1
 
--- a table of the numbers behind the first, cut at the sizes, says what the lines do
+-- a table of the numbers after the first, cut at the sizes, says what the lines do
 pub rows_said : (set : ℕ) (sizes : List ℕ) (lines : List Gathered) (table : List ℤ) → SetRows set sizes lines → wholes table ≡ flat_map (λ line. map fraction_of (drop 1 line.items)) lines
     → map (λ row. says (pos row.0 ∷ row.1)) (enumerate_from set (cut_into sizes table)) ≡ map line_said lines
 unfolding behind_first

@@ -1,4 +1,4 @@
--- The next line may follow, or no line that may follow stands there.
+-- The next line may follow, or no line that may follow is there.
 use Rattle.std.proofs.Common.{◌≡◌, ℕ, ◌<◌, List, [], ◌∷◌, ◌++◌, length, arith, refl, sym, ap, ◌∙◌, subst, append_assoc}
 use Rattle.std.specs.Prelude.{Option}
 use Rattle.cert_reader.specs.declared.limits.TheConstants.{LONGEST_LINE}
@@ -49,7 +49,7 @@ no_line_unended index known text plain counts said more are agree within can e =
     unended [] = refl
     unended (x ∷ xs) = ap (λ ys. x ∷ ys) (unended xs)
 
--- bytes that were handed out, and a refusal of those behind them
+-- bytes that were given out, and a refusal of those after them
 pub refused_after : (a b c : Held) (x y z : Option (List ℕ)) (line : ℕ) (text : List ℕ) (before none : List ℕ → Type 0) (end : TextEnd) → Hands a b x y text
     → ((rest : List ℕ) → before rest → none (text ++ rest)) → IsRefused b c y z line before end → IsRefused a c x z line none end
 refused_after a b c x y z line text before none (NotText broken) p never (is, (rest, q, ahead, at, so)) =
@@ -57,7 +57,7 @@ refused_after a b c x y z line text before none (NotText broken) p never (is, (r
 refused_after a b c x y z line text before none TooLong p never stop = stops_after a b x y z text TooLong p stop
 refused_after a b c x y z line text before none ReadFault p never stop = stops_after a b x y z text ReadFault p stop
 
--- a broken line, and what was read behind it
+-- a broken line, and what was read after it
 pub refused_behind : (a b c : Held) (x y z : Option (List ℕ)) (line : ℕ) (text : List ℕ) (none : List ℕ → Type 0) (end : TextEnd) → Hands a b x y (text ++ 10 ∷ [])
     → ((rest : List ℕ) → none (text ++ 10 ∷ rest)) → IsRefused b c y z line (λ _. Unit {0}) end → IsRefused a c x z line none end
 refused_behind a b c x y z line text none end p never =

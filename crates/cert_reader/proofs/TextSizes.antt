@@ -86,7 +86,7 @@ in_range (OfRent view) h = h
 in_range (OfGoods view) h = h
 in_range (OfFares view) h = h
 
--- a text is short but for its marks
+-- a text is short except for its marks
 pub text_size : (bytes : List ℕ) (view : CertificateView) → IsText bytes (counts_of view) (said_of view) → length bytes ≤ MOST_BESIDE_MARKS + length (marks_of view)
 text_size bytes view text =
     let are = in_range view text.are_counts in

@@ -17,7 +17,7 @@ use Rattle.cert_reader.specs.TreeLines.{GoesNotOn, HasNoTree, tree_front}
 use Rattle.cert_reader.proofs.FormLines.{mark_plain}
 use Rattle.cert_reader.proofs.TreePlaces.{AreLines, agree_tree, fares_lines_only, goods_place, lines-append, lines-replicate, pair_lines_only, rent_lines_only}
 
--- where no line of a tree stands, no line of any text does that may stand there
+-- where there is no line of a tree, there is no line of any text that may come there
 pub no_tree : (index : ℕ) (known : Counts) (text : List ℕ) → form_in known index ≡ Tree → HasNoTree text → HasNoLine index known text
 unfolding line
 no_tree index known text tree none counts said more are agree within can e = at_tree said (subst (λ f. CanSay f said) is can) (e ∙ ap (λ f. said_text f said ++ more) is)
@@ -29,26 +29,26 @@ no_tree index known text tree none counts said more are agree within can e = at_
     at_tree (Marks marks) can e = none marks more can.0 can.1 (e ∙ ap (λ xs. tree_front ++ xs) (append_assoc marks (10 ∷ []) more))
     at_tree (Numbers numbers) can e = can
 
--- another byte stands where one of those before the marks is due
+-- another byte comes where one of those before the marks is due
 pub other_front : (count byte : ℕ) (rest : List ℕ) → count < length tree_front → byte ≢ get_or tree_front count 0 → HasNoTree ((take count tree_front ++ byte ∷ []) ++ rest)
 other_front count byte rest low other marks more some all e =
     let long : length (take count tree_front) ≡ count = (let cut = length-take {A = ℕ} count tree_front in omega arith) in
     other (sym (get_or-append_seam (take count tree_front) byte rest 0) ∙ ap (λ i. get_or (take count tree_front ++ byte ∷ rest) i 0) long
     ∙ ap (λ xs. get_or xs count 0) (sym (append_assoc (take count tree_front) (byte ∷ []) rest) ∙ e) ∙ get_or-append tree_front (marks ++ 10 ∷ more) 0 count low)
 
--- the end stands there
+-- the end comes there
 pub short_front : (count : ℕ) → HasNoTree (take count tree_front)
 short_front count marks more some all e =
     let cut = length-take {A = ℕ} count tree_front in
     let long = ap length e in
     omega (arith, cut, long, length-append marks (10 ∷ more))
 
--- the LF stands before any mark
+-- the LF comes before any mark
 pub no_first : (rest : List ℕ) → HasNoTree ((tree_front ++ 10 ∷ []) ++ rest)
 no_first rest [] more some all e = omega arith
 no_first rest (m ∷ marks) more some all e = mark_plain m (All-head IsMark m marks all) (sym (ap (λ xs. get_or xs 5 0) e))
 
--- behind marks stands neither a mark nor LF
+-- after marks comes neither a mark nor LF
 marks_end : (ms marks rest more : List ℕ) → All IsMark ms → All IsMark marks → GoesNotOn rest → ms ++ rest ≡ marks ++ 10 ∷ more → ⊥
 marks_end [] [] [] more a b none e = cc (e)
 marks_end [] [] (byte ∷ rest) more a b none e = none.1 (ap (λ xs. get_or xs 0 0) e)
@@ -69,7 +69,7 @@ no_more ms rest a none marks more some all e = marks_end ms marks rest more a al
     tail [] = []
     tail (z ∷ zs) = zs
 
--- only lines of numbers stand before a tree
+-- only lines of numbers come before a tree
 pub lines_before : (counts : Counts) (k : ℕ) → k < length (forms_of counts) → form_in counts k ≡ Tree → AreLines (take k (forms_of counts))
 unfolding goods_forms AreLines
 lines_before (Rent n) k low tree = absurd (rent_lines_only n k low tree)
@@ -91,7 +91,7 @@ lines_before (Goods n goods) k low tree =
         let many : length (replicate n (numbers_of word.Values goods)) ≡ n = length-replicate n (numbers_of word.Values goods) in
         omega (arith, at, many, length-append (replicate n (numbers_of word.Values goods)) (numbers_of word.Owners goods ∷ numbers_of word.Steps 1 ∷ []))
 
--- the first mark behind such lines
+-- the first mark after such lines
 pub with_first : (forms : List Form) (said : List Said) (mark : ℕ) → AreLines forms → CanSayAll forms said → with_mark said mark ≡ said ++ Marks (mark ∷ []) ∷ []
 unfolding AreLines
 with_first [] [] mark h can = refl

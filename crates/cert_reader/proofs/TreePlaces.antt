@@ -1,4 +1,4 @@
--- Where the line of a tree stands: in goods, behind the lines of values, owners and steps, and nowhere else.
+-- Where the line of a tree comes: in goods, after the lines of values, owners and steps, and nowhere else.
 use Rattle.std.proofs.Common.{◌≡◌, ℕ, zero, suc, ◌+◌, ◌-◌, ◌<◌, ◌≤◌, List, [], ◌∷◌, ◌++◌, length, map, get_or, replicate, arith, refl, sym, ap, ◌∙◌, ⊎_elim}
 use Rattle.std.proofs.lemmas.Bool.{cases_lt}
 use Rattle.cert_reader.specs.declared.forms.Counts.{Counts}
@@ -18,7 +18,7 @@ AreLines [] = Unit {0}
 AreLines (Line form ∷ forms) = AreLines forms
 AreLines (Tree ∷ forms) = ⊥
 
--- lines of numbers behind lines of numbers are lines of numbers
+-- lines of numbers after lines of numbers are lines of numbers
 pub lines-append : (fs gs : List Form) → AreLines fs → AreLines gs → AreLines (fs ++ gs)
 unfolding AreLines
 lines-append [] gs h k = k
@@ -102,7 +102,7 @@ goods_place n goods i low e = ⊎_elim
     (cases_lt i (6 + n)))
     (cases_lt i 6)
 
--- one line stands behind it
+-- one line comes after it
 pub behind_tree : (counts : Counts) (i : ℕ) → i < length (forms_of counts) → form_in counts i ≡ Tree → i + 2 ≡ length (forms_of counts)
 behind_tree (Rent n) i low tree = absurd (rent_lines_only n i low tree)
 behind_tree (Goods n goods) i low tree = (let at = goods_place n goods i low tree in let long = length_goods n goods in omega arith)

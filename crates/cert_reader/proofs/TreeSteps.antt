@@ -41,7 +41,7 @@ tree_line : (counts : Counts) (k : ℕ) (marks rest : List ℕ) → form_in coun
 unfolding line
 tree_line counts k marks rest tree = sym (append_assoc (tree_front ++ marks) (10 ∷ []) rest) ∙ ap (λ f. said_text f (Marks marks) ++ rest) (sym tree)
 
--- with its LF behind them, such marks are one line more
+-- with its LF after them, such marks are one line more
 part_whole : (held : Held) (k : ℕ) (counts : Counts) (taken : List ℕ) (before : List Said) (marks rest : List ℕ) → TreePart held k counts taken before marks
     → Begins Certificates (text_of (take k (forms_of counts)) before ++ ((tree_front ++ marks) ++ 10 ∷ rest)) (k + 1) counts (before ++ Marks marks ∷ []) rest
 part_whole held k counts taken before marks rest h =
@@ -97,7 +97,7 @@ read_part held k counts taken said tree h =
     }
     from before (Numbers numbers) can whole text fits = absurd can
 
--- the first mark was handed out
+-- the first mark was given out
 pub first_read : (a b : Held) (x y : Option (List ℕ)) (lines : ℕ) (known : Counts) (mark : ℕ) → lines < length (forms_of known) → form_in known lines ≡ Tree → IsFirstMark a b x y (lines + 1) (Ok mark)
     → Goes (reading_of a lines known) x y (λ taken said. IsMarkRead (reading_of a lines known) (reading_at b (lines + 1) known true) y taken said (Ok mark))
 first_read a b x y lines known mark within tree (is, p) = (p.more, p.took, λ taken said h. (refl, read taken said h))
@@ -118,12 +118,12 @@ first_read a b x y lines known mark within tree (is, p) = (p.more, p.took, λ ta
           total = total_of a b x y (tree_front ++ mark ∷ []) taken p h.total;
         }))
 
--- no line of a tree stands where one is due
+-- no line of a tree comes where one is due
 pub first_unread : (a b : Held) (x y : Option (List ℕ)) (lines : ℕ) (known : Counts) (end : TextEnd) → taken_count b ≤ MOST_BYTES → lines < length (forms_of known) → form_in known lines ≡ Tree
     → IsFirstMark a b x y (lines + 1) (Err end) → Goes (reading_of a lines known) x y (λ taken said. IsEnd end y taken)
 first_unread a b x y lines known end few within tree stop = refused_end a b x y lines known HasNoTree end few (λ text none. (no_tree lines known text tree none, λ all rest. omega arith)) stop
 
--- one mark more was handed out
+-- one mark more was given out
 pub mark_read : (a b : Held) (x y : Option (List ℕ)) (k : ℕ) (known : Counts) (mark : ℕ) → form_in known k ≡ Tree → IsNextMark a b x y (k + 1) (Ok (Some mark))
     → Goes (reading_at a (k + 1) known true) x y (λ taken said. IsTreeRead (reading_at a (k + 1) known true) (reading_at b (k + 1) known true) y taken said (Ok (Some mark)))
 mark_read a b x y k known mark tree (is, p) = (p.more, p.took, λ taken said h. (refl, read taken said (read_part a k known taken said tree h)))
@@ -189,14 +189,14 @@ tree_unread a b x y k known (NotText line) few tree (is, (text, p, ahead, at, ne
 tree_unread a b x y k known TooLong few tree stop = stop_end a x y (k + 1) known true TooLong stop
 tree_unread a b x y k known ReadFault few tree stop = stop_end a x y (k + 1) known true ReadFault stop
 
--- the first mark was handed out: a reading that is given by its fields has read it
+-- the first mark was given out: a reading that is given by its fields has read it
 pub first_read_at : (r : Reading) (a b : Held) (x y : Option (List ℕ)) (lines : ℕ) (known : Counts) (in_tree : Bool) (mark : ℕ) → reading_at a lines known in_tree ≡ r → r.in_tree ≡ false → lines < length (forms_of known)
     → form_in known lines ≡ Tree → IsFirstMark a b x y (lines + 1) (Ok mark) → Goes r x y (λ taken said. IsMarkRead r (reading_at b (lines + 1) known true) y taken said (Ok mark))
 first_read_at r a b x y lines known in_tree mark e whole within tree first =
     subst (λ s. Goes s x y (λ taken said. IsMarkRead s (reading_at b (lines + 1) known true) y taken said (Ok mark))) (reading_is r a lines known in_tree false e whole)
     (first_read a b x y lines known mark within tree first)
 
--- where no first mark was handed out, a reading that is given by its fields ends so
+-- where no first mark was given out, a reading that is given by its fields ends so
 pub first_unread_at : (r : Reading) (a b : Held) (x y : Option (List ℕ)) (lines : ℕ) (known : Counts) (in_tree : Bool) (end : TextEnd) → reading_at a lines known in_tree ≡ r → r.in_tree ≡ false → taken_count b ≤ MOST_BYTES
     → lines < length (forms_of known) → form_in known lines ≡ Tree → IsFirstMark a b x y (lines + 1) (Err end) → Goes r x y (λ taken said. IsEnd end y taken)
 first_unread_at r a b x y lines known in_tree end e whole few within tree stop =
@@ -215,7 +215,7 @@ mark_read_at r a b x y lines known in_tree mark e within (some, tree) next =
     (subst (λ n. Goes (reading_at a n known true) x y (λ taken said. IsTreeRead (reading_at a n known true) (reading_at b n known true) y taken said (Ok (Some mark)))) (lines_back lines some)
     (mark_read a b x y (lines - 1) known mark tree (subst (λ n. IsNextMark a b x y n (Ok (Some mark))) (sym (lines_back lines some)) next))))
 
--- a reading within a tree that is given by its fields read the LF behind its marks
+-- a reading within a tree that is given by its fields read the LF after its marks
 pub tree_closed_at : (r : Reading) (a b : Held) (x y : Option (List ℕ)) (lines : ℕ) (known : Counts) (in_tree : Bool) → reading_at a lines known in_tree ≡ r → r.in_tree ≡ true → EndsInTree lines known
     → IsNextMark a b x y lines (Ok None) → Goes r x y (λ taken said. IsTreeRead r (reading_of b lines known) y taken said (Ok None))
 tree_closed_at r a b x y lines known in_tree e within (some, tree) next =

@@ -26,7 +26,7 @@ abbrev pub count_in : Form → ℕ
 count_in (Line form) = form.count
 count_in Tree = 0
 
--- a form of at most 24 numbers, of which some line exists
+-- a form of at most 24 numbers that some line has
 pub record Usual (form : Form) : Type 0 where
   pub short : count_in form ≤ MOST_NUMBERS
   pub said : Said
@@ -37,7 +37,7 @@ unfoldable pub AreUsual : List Form → Type 0
 AreUsual [] = Unit {0}
 AreUsual (form ∷ forms) = Usual form × AreUsual forms
 
--- usual forms behind usual forms are usual
+-- usual forms after usual forms are usual
 usual-append : (fs gs : List Form) → AreUsual fs → AreUsual gs → AreUsual (fs ++ gs)
 unfolding AreUsual
 usual-append [] gs h k = k
@@ -49,11 +49,11 @@ unfolding AreUsual
 usual-replicate zero form h = tt
 usual-replicate (suc n) form h = (h, usual-replicate n form h)
 
--- a whole number of at most 25 digits stands anywhere
+-- a whole number of at most 25 digits may come anywhere
 number_written : (whole : Bool) (n : ℕ) → n < 10 ^ 25 → IsNumber whole (pos n, 1)
 number_written whole n small = record { size = omega (arith, ints, small); positive = omega arith; small = omega arith; lowest = (one-dvd _, one-dvd _, λ d a b. b); is_whole = λ h. refl }
 
--- zeros are numbers that stand anywhere
+-- zeros are numbers that may come anywhere
 zeros : (whole : Bool) (n : ℕ) → All (IsNumber whole) (replicate n (pos 0, 1))
 zeros whole n = All-replicate (IsNumber whole) n (pos 0, 1) (number_written whole 0 (omega arith))
 
@@ -65,7 +65,7 @@ usual_numbers w n few = record { short = few; said = Numbers (replicate n (pos 0
 usual_fractions : (w : Word) (n : ℕ) → n ≤ MOST_NUMBERS → Usual (fractions_of w n)
 usual_fractions w n few = record { short = few; said = Numbers (replicate n (pos 0, 1)); can = record { each = length-replicate n (pos 0, 1); written = zeros false n; first = tt } }
 
--- a form of at most 24 whole numbers, of which the first is set to one of at most 25 digits, is usual
+-- a form of at most 24 whole numbers is usual where the first is set to one of at most 25 digits
 usual_led : (w : Word) (lead n : ℕ) → lead < 10 ^ 25 → n < MOST_NUMBERS → Usual (led_by w lead (n + 1))
 usual_led w lead n small few = record {
   short = omega arith;
@@ -204,7 +204,7 @@ usual_at [] i h l = absurd (omega arith)
 usual_at (f ∷ forms) zero h l = h.0
 usual_at (f ∷ forms) (suc i) h l = usual_at forms i h.1 (omega arith)
 
--- usual forms but for the first ones are usual
+-- usual forms without the first ones are usual
 pub usual_drop : (k : ℕ) (forms : List Form) → AreUsual forms → AreUsual (drop k forms)
 unfolding AreUsual
 usual_drop zero forms h = h

@@ -48,12 +48,12 @@ one_number (x ∷ []) n whole one is =
     ap (λ (den : ℕ). (n.num, den) ∷ []) (sym (whole_n.is_whole refl)) ∙ ap (λ f. fraction_of f ∷ []) is
 one_number (x ∷ y ∷ ys) n whole one is = absurd (omega arith)
 
--- whichever number stands in for one that is absent
+-- whichever number replaces one that is absent
 pub first_is : (numbers : List Frac) (d : Frac) → length numbers ≡ 1 → get_or numbers 0 d ≡ get_or numbers 0 (get_or numbers 0 d)
 first_is [] d one = absurd (omega arith)
 first_is (x ∷ xs) d one = refl
 
--- the numbers but for the first
+-- the numbers except for the first
 pub whole_rest : (numbers : List Frac) → All (IsNumber true) (map fraction_of numbers) → All (IsNumber true) (map fraction_of (drop 1 numbers))
 whole_rest [] h = h
 whole_rest (x ∷ xs) h = All-tail (IsNumber true) (fraction_of x) (map fraction_of xs) h

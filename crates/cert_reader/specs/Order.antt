@@ -1,4 +1,4 @@
--- Which line stands where, and what of it the lines before it leave open.
+-- Which line comes where, and what the lines before it leave open about it.
 use Rattle.std.specs.Prelude.{◌≡◌, ℕ, zero, suc, ◌+◌, ◌<◌, ◌≤◌, List, [], ◌∷◌, ◌++◌, length, take, drop, if◌then◌else◌, ◌==◌, slice_index_or}
 use Rattle.bid_rules.specs.declared.limits.TheConstants.{MOST_GOODS, MOST_MEMBERS, MOST_PLACES, MOST_RIDERS}
 use Rattle.cert_reader.specs.declared.forms.Counts.{Counts}
@@ -69,7 +69,7 @@ least_of zero = Rent 1
 least_of (suc zero) = Goods 1 1
 least_of (suc (suc choice)) = Fares 1 1
 
--- the counts for which each of these ways stands; a count that no line has fixed yet is the least
+-- the counts that each of these ways gives; a count that no line has fixed yet is the least
 abbrev pub choice_of : ℕ → Counts → ℕ → Counts
 choice_of index (Pair goods) choice = if index == PAIR_GOODS then Pair (choice + 1) else Pair goods
 choice_of index (Rent n) choice = if index == KIND_LINE then least_of choice else if index == RENT_MEMBERS then Rent (choice + 1) else Rent n
@@ -78,7 +78,7 @@ choice_of index (Goods n goods) choice =
 choice_of index (Fares n places) choice =
     if index == KIND_LINE then least_of choice else if index == FARES_RIDERS then Fares (choice + 1) 1 else if index == FARES_PLACES then Fares n (choice + 1) else Fares n places
 
--- the bytes begin with no line that may stand at this place after the lines that fixed what is known
+-- the bytes begin with no line that may come at this place after the lines that fixed what is known
 abbrev pub HasNoLine : ℕ → Counts → List ℕ → Type 0
 HasNoLine index known bytes = (counts : Counts) (said : Said) (more : List ℕ) → AreInRange counts → AgreeUpTo index known counts → index < length (forms_of counts)
     → CanSay (form_in counts index) said → bytes ≡ said_text (form_in counts index) said ++ more → ⊥

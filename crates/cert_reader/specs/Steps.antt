@@ -11,13 +11,13 @@ use Rattle.cert_reader.specs.Order.{AgreeUpTo, HasNoLine, form_in}
 use Rattle.cert_reader.specs.Stream.{Hands, Held, IsStopped}
 use Rattle.cert_reader.specs.Text.{CanSay, Numbers, said_text}
 
--- all bytes were handed out to the end, and this is so of them, which makes the line the first broken one; or the reading stopped before the end
+-- all bytes were given out to the end, and this is so of them, which makes the line the first broken one; or the reading stopped before the end
 abbrev pub IsRefused : Held → Held → Option (List ℕ) → Option (List ℕ) → ℕ → (List ℕ → Type 0) → TextEnd → Type 0
 IsRefused before after left left_after line none (NotText broken) = (broken ≡ line) × ((text : List ℕ) × Hands before after left left_after text × (after.ahead ≡ []) × IsAtEnd left_after × none text)
 IsRefused before after left left_after line none TooLong = IsStopped before left left_after TooLong
 IsRefused before after left left_after line none ReadFault = IsStopped before left left_after ReadFault
 
--- a line was handed out that may follow for these counts, and it says these numbers; or no line that may follow was there
+-- a line was given out that may follow for these counts, and it says these numbers; or no line that may follow was there
 abbrev pub IsSettled : Held → Held → Option (List ℕ) → Option (List ℕ) → ℕ → Counts → Result (Counts × Gathered) TextEnd → Type 0
 IsSettled before after left left_after index known (Ok found) =
     AreInRange found.0 × AgreeUpTo index known found.0 × (index < length (forms_of found.0)) × CanSay (form_in found.0 index) (Numbers (map fraction_of found.1.items))

@@ -1,4 +1,4 @@
--- What stands between a source and the lines read from it.
+-- What comes between a source and the lines read from it.
 use Rattle.std.specs.Prelude.{◌≡◌, ◌≢◌, ℕ, ◌+◌, ◌<◌, ◌≤◌, List, [], ◌∷◌, ◌++◌, length, take, slice_index, Option, Result, Ok, Err}
 use Rattle.std.specs.Io.KnownBytes.{Consumes, IsAtEnd}
 use Rattle.split_base.specs.Faults.{counted}
@@ -10,7 +10,7 @@ use Rattle.cert_reader.specs.declared.stream.Cut.TheVariants.{Line, Long, Unende
 use Rattle.cert_reader.specs.declared.stream.Front.{Front}
 use Rattle.cert_reader.specs.declared.stream.Front.TheVariants.{Ended, Other, Whole}
 
--- the bytes taken from the source and not handed out yet, how many bytes were handed out, and the line that was read last
+-- the bytes taken from the source and not given out yet, how many bytes were given out, and the line that was read last
 pub record Held : Type 0 where
   pub ahead : List ℕ
   pub given : ℕ
@@ -20,7 +20,7 @@ pub record Held : Type 0 where
 abbrev pub taken_count : Held → ℕ
 taken_count held = held.given + length held.ahead
 
--- these bytes were handed out: what was held before and what was taken since are these bytes and what is held now
+-- these bytes were given out: what was held before and what was taken since are these bytes and what is held now
 pub record Hands (before after : Held) (left_before left_after : Option (List ℕ)) (handed : List ℕ) : Type 0 where
   pub more : List ℕ
   pub took : Consumes left_before left_after more
@@ -48,13 +48,13 @@ faults_after before (Err (NotText line)) = before
 pub record IsPlain (text : List ℕ) : Type 0 where
   pub none : (k : ℕ) → k < length text → slice_index text k ≢ 10
 
--- what was handed out is a line; or a line that is longer than any line of a text; or what stands at the end without an LF
+-- what was given out is a line; or a line that is longer than any line of a text; or what is at the end without an LF
 abbrev pub IsCut : Held → Held → Option (List ℕ) → Option (List ℕ) → Cut → Type 0
 IsCut before after left left_after Line = IsPlain after.line × Hands before after left left_after (after.line ++ 10 ∷ [])
 IsCut before after left left_after Long = (text : List ℕ) × (LONGEST_LINE < length text) × IsPlain text × Hands before after left left_after (text ++ 10 ∷ [])
 IsCut before after left left_after Unended = (text : List ℕ) × IsPlain text × Hands before after left left_after text × (after.ahead ≡ []) × IsAtEnd left_after
 
--- how much of these bytes was handed out: all of them; some of them and then a different byte; or some of them and then the end
+-- how much of these bytes was given out: all of them; some of them and then a different byte; or some of them and then the end
 abbrev pub IsFrontTaken : Held → Held → Option (List ℕ) → Option (List ℕ) → List ℕ → Front → Type 0
 IsFrontTaken before after left left_after front Whole = Hands before after left left_after front
 IsFrontTaken before after left left_after front Other =

@@ -7,7 +7,7 @@ use Rattle.cert_reader.specs.Stream.{Hands, Held}
 use Rattle.cert_reader.specs.Text.{IsMark}
 use Rattle.cert_reader.specs.Words.{word_text}
 
--- what stands before the marks of a tree
+-- what comes before the marks of a tree
 abbrev pub tree_front : List ℕ
 tree_front = word_text word.Tree ++ 32 ∷ []
 
@@ -20,12 +20,12 @@ abbrev pub GoesNotOn : List ℕ → Type 0
 GoesNotOn [] = Unit {0}
 GoesNotOn (byte ∷ bytes) = (IsMark byte → ⊥) × (byte ≢ 10)
 
--- the word of a tree and its first mark were handed out; or no line of a tree was there
+-- the word of a tree and its first mark were given out; or no line of a tree was there
 abbrev pub IsFirstMark : Held → Held → Option (List ℕ) → Option (List ℕ) → ℕ → Result ℕ TextEnd → Type 0
 IsFirstMark before after left left_after line (Ok mark) = IsMark mark × Hands before after left left_after (tree_front ++ mark ∷ [])
 IsFirstMark before after left left_after line (Err end) = IsRefused before after left left_after line HasNoTree end
 
--- one more mark was handed out, or the LF after the last mark; or the line does not go on like a tree
+-- one more mark was given out, or the LF after the last mark; or the line does not go on like a tree
 abbrev pub IsNextMark : Held → Held → Option (List ℕ) → Option (List ℕ) → ℕ → Result (Option ℕ) TextEnd → Type 0
 IsNextMark before after left left_after line (Ok (Some mark)) = IsMark mark × Hands before after left left_after (mark ∷ [])
 IsNextMark before after left left_after line (Ok None) = Hands before after left left_after (10 ∷ [])

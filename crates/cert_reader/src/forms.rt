@@ -41,7 +41,7 @@ pub enum Word {
 }
 
 impl Word {
-    /// The word as it stands in a text.
+    /// The word as a text has it.
     pub fn as_str(self) -> &'static str
         ensures { result.now ≡ word_text self }
     {

@@ -86,7 +86,7 @@ fn negative(size: u128) -> i128
     -(size as i128)
 }
 
-/// Where the byte stands first, or the length where it doesn't.
+/// The first place of the byte, or the length where it has none.
 pub(crate) fn front_len(bytes: &[u8], stop: u8) -> usize
     ensures { IsFront stop bytes.now result }
 {

@@ -259,7 +259,7 @@ fn pair_form(goods: u8, index: usize) -> LineForm
     }
 }
 
-/// Whether the line of a tree stands at a place, counted from 0.
+/// Whether the line of a tree is at a place, counted from 0.
 pub(crate) fn is_tree(counts: Counts, index: usize) -> bool
     requires { index < length (forms_of counts) }
     ensures { IsTrue result ↔ form_in counts index ≡ Tree }
@@ -341,7 +341,7 @@ fn chosen_kind(choice: u8) -> Counts
     }
 }
 
-/// The counts for which one of the ways stands.
+/// The counts that one of the ways gives.
 fn chosen(index: usize, known: Counts, choice: u8) -> Counts
     requires { choice < MOST_CHOICES }
     ensures { result ≡ choice_of index known choice }

@@ -200,7 +200,7 @@ impl Pieces {
         }
     }
 
-    /// Takes the first character of a tree, with what stands before it.
+    /// Takes the first character of a tree, with what comes before it.
     fn begin_tree<S: Source>(&mut self, source: &mut S) -> Result<u8, TextEnd>
         requires open { IsOpen self.old }
         requires whole { self.old.in_tree ≡ false }

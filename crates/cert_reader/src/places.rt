@@ -1,5 +1,5 @@
-// Where lines stand in a text, counted from 0. Lines whose place the counts move are counted from the first line of their part: in a rent and in goods the part
-// after the values, in fares the part after the legs and the part after the sets.
+// The places of lines in a text, counted from 0. Lines whose place the counts move are counted from the first line of their part: in a rent and in
+// goods the part after the values, in fares the part after the legs and the part after the sets.
 
 /// The line that says the kind of a certificate.
 pub const KIND_LINE: usize = 1;

@@ -29,7 +29,7 @@ pub(crate) fn refuse<S: Source>(bytes: &mut Bytes, source: &mut S, line: u32) ->
     }
 }
 
-/// Takes the next line of numbers if it may stand at its place, and gives counts with which it may and its numbers. If it may not, reads on to the end.
+/// Takes the next line of numbers if it may come at its place. Gives counts with which it may, and its numbers. If it may not, reads on to the end.
 pub(crate) fn next_settled<S: Source>(
     bytes: &mut Bytes,
     source: &mut S,

@@ -12,14 +12,14 @@ use arrayvec::ArrayVec;
 use split_base::Source;
 use std::marker::Model;
 
-/// What was handed out as the next line.
+/// What was given out as the next line.
 #[derive(Clone, Copy, Debug, PartialEq, Eq)]
 pub(crate) enum Cut {
     /// A line, which is kept.
     Line,
     /// A line that is longer than any line of a certificate text.
     Long,
-    /// What stands at the end without an LF, perhaps nothing.
+    /// What is at the end without an LF, perhaps nothing.
     Unended,
 }
 

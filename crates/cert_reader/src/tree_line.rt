@@ -19,7 +19,7 @@ fn is_mark(byte: u8) -> bool
     byte == INNER_NODE || byte == LEFT_OUT || byte == ANSWER_LEAF
 }
 
-/// What stands before the characters of a tree.
+/// What comes before the characters of a tree.
 fn before_marks() -> &'static [u8]
     ensures { result.now ≡ tree_front }
 {
@@ -54,7 +54,7 @@ pub(crate) fn next_mark<S: Source>(
     }
 }
 
-/// Takes the first character of a tree, with what stands before it. Else reads on to the end.
+/// Takes the first character of a tree, with what comes before it. Else reads on to the end.
 pub(crate) fn first_mark<S: Source>(
     bytes: &mut Bytes,
     source: &mut S,

@@ -43,7 +43,7 @@ entry_is facts case at (suc before) start =
     let own : get_or (cost_line case set) k (pos 0) ≡ f (get_or (starts n set) k 0) = get_or-map f (starts n set) k 0 (pos 0) there.0 in
     ap (λ (row : List ℤ). unsigned_abs (get_or row k (pos 0))) line ∙ ap unsigned_abs (own ∙ ap f there.1)
 
--- the entry behind a rider of a set
+-- the entry after a rider of a set
 entry_next : SetFacts → (case : FareCase) (set rider : ℕ) → set < 2 ^ length case.at.items → Contains (riders_in set) rider
     → entry_of (length case.at.items) (cost_lines case) rider (without set rider) ≡ route_cost case (place_of case rider) (riders_in (without set rider))
 entry_next facts case set rider within here = by_set (without set rider) refl

@@ -30,7 +30,7 @@ still_valid case valid =
       places = valid.places;
     }
 
--- that the number of members takes no part in what a route costs, as the law has it
+-- that the number of members does not change what a route costs, as the law has it
 abbrev pub SameRoutes : Type 0
 SameRoutes = (case : FareCase) (members from : ℕ) (riders : List ℕ) → route_cost (with_members case members) from riders ≡ route_cost case from riders
 

@@ -13,7 +13,7 @@ use Rattle.cert_reader.specs.Views.{says}
 use Rattle.split_frac.specs.declared.frac.Frac.{Frac}
 use Rattle.split_frac.specs.Frac.{fraction_of}
 
--- lines and lines behind them
+-- lines, and lines after them
 pub can-append : (forms others : List Form) (said more : List Said) → CanSayAll forms said → CanSayAll others more → CanSayAll (forms ++ others) (said ++ more)
 can-append [] others [] more h k = k
 can-append [] others (x ∷ said) more h k = absurd h

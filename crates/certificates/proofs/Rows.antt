@@ -22,7 +22,7 @@ AreNaturalTexts = (numbers : List ℕ) → spaced (map decimal numbers) ≡ numb
 pub whole_texts : AreNaturalTexts → (numbers : List ℕ) → spaced (map decimal numbers) ≡ numbers_text (wholes (map pos numbers))
 whole_texts naturals numbers = naturals numbers ∙ ap numbers_text (wholes_are numbers)
 
--- the text of lines behind lines
+-- the text of lines, and of lines after them
 pub text-append : (forms others : List Form) (said more : List Said) → length forms ≡ length said → text_of (forms ++ others) (said ++ more) ≡ text_of forms said ++ text_of others more
 text-append [] others [] more e = refl
 text-append [] others (x ∷ said) more e = absurd (omega arith)
@@ -36,7 +36,7 @@ rows_text : (word : Word) (count : ℕ) {X : Type 0} (row : X → List ℤ) (row
 rows_text word count row [] = refl
 rows_text word count row (x ∷ rows) = ap (λ text. number_line word (wholes (row x)) ++ text) (rows_text word count row rows)
 
--- rows with one word, and lines behind them
+-- rows with one word, and lines after them
 pub rows_then : (word : Word) (count n : ℕ) {X : Type 0} (row : X → List ℤ) (rows : List X) (forms : List Form) (tail : List Said) → length rows ≡ n
     → flat_map (λ x. number_line word (wholes (row x))) rows ++ text_of forms tail ≡ text_of (replicate n (numbers_of word count) ++ forms) (map says (map row rows) ++ tail)
 rows_then word count n row rows forms tail long =

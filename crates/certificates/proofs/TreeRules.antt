@@ -19,7 +19,7 @@ use Rattle.nash_bounds.specs.Prefixes.{prefix_bound}
 use Rattle.certificates.specs.Marks.{canonical_marks}
 use Rattle.certificates.proofs.TreeMarks.{by_test}
 
--- what may be left out, and what the number of members takes no part in
+-- what may be left out, and what the number of members does not change
 pub record LeftFacts : Type 0 where
   pub left : (case : GoodsCase) (answer owners : List ℕ) → may_be_left case answer owners ≡ true
       ↔ IsLess (prefix_bound case owners) (pair_of case answer)
@@ -31,7 +31,7 @@ pub record LeftFacts : Type 0 where
 abbrev pub AreWhole : GoodsCase → Type 0
 AreWhole case = (owners : List ℕ) → length owners ≡ case.facts.goods → prefix_bound case owners ≡ pair_of case owners
 
--- the number of members takes no part in what may be left out
+-- the number of members does not change what may be left out
 left_same : LeftFacts → (case : GoodsCase) (members : ℕ) (answer owners : List ℕ) → may_be_left (with_members case members) answer owners ≡ may_be_left case answer owners
 unfolding may_be_left
 left_same facts case members answer owners =

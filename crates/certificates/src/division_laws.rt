@@ -9,7 +9,8 @@ use nash_search::step_count_law;
 use rent_maximin::one_rent_division_law;
 use shapley_core::division_law as fare_division_law;
 
-/// A valid case has one division: two are equal in all that contracts see of them, of fares the costs by the case that they are of.
+/// A valid case has one division: two are equal in all that contracts see of them. Contracts see the costs of fares by the
+/// case that these costs are of.
 pub fn division_law()
     ensures { (case : Case) (division other : Division) → IsValidCase case → IsDivisionOf case division → IsDivisionOf case other → division ≡ other }
 {

@@ -14,7 +14,7 @@ pub record ObjectUse : Type 0 where
 abbrev pub told : {S : Type 0} → (S → Option (List ℕ)) → (S → ℕ) → S → S → ObjectUse
 told bytes faults before after = record { bytes_before = bytes before; bytes_after = bytes after; faults_before = faults before; faults_after = faults after }
 
--- the object's count of faults rose, or stands at its greatest value
+-- the object's count of faults rose, or is at its greatest value
 abbrev pub HasFault : ObjectUse → Type 0
 HasFault object = HasRisen object.faults_before object.faults_after
 
@@ -26,7 +26,7 @@ IsSound object = HasFault object → ⊥
 abbrev pub HasNoFault : ObjectUse → Type 0
 HasNoFault object = object.faults_after ≡ object.faults_before
 
--- one call of the object failed, and no other: its count of faults goes up by one, or stands at its greatest value
+-- one call of the object failed, and no other: its count of faults goes up by one, or is at its greatest value
 abbrev pub HasOneFault : ObjectUse → Type 0
 HasOneFault object = HasFault object × (object.faults_after ≡ counted object.faults_before)
 

@@ -5,5 +5,5 @@ use bid_rules::limits::MEMBER_ROOM;
 /// number of 64 bits nor a field's name takes more than the members do.
 pub const LINE_ROOM: usize = WORD_ROOM + 4 * MEMBER_ROOM + 1;
 
-/// The most bytes that stand before the numbers of such a line.
+/// The most bytes that come before the numbers of such a line.
 pub const WORD_ROOM: usize = 20;

@@ -6,7 +6,7 @@ use crate::line::{Line, append, line_of, number_line, void_line};
 use bid_rules::Missing;
 use case_fields::BodyFault;
 
-/// Why a command ends without its text, but for a failure to write.
+/// Why a command ends without its text, except for a failure to write.
 #[derive(Debug, Drop, PartialEq, Eq)]
 pub enum Stop {
     /// The case lacks the bids of these members.

@@ -37,7 +37,7 @@ take_least m xs = ⊎_elim few many (cases_lt m (length xs))
     many : length xs ≤ m → take (min m (length xs)) xs ≡ take m xs
     many le = let n : min m (length xs) ≡ length xs = omega (arith, le) in ap (λ (k : ℕ). take k xs) n ∙ take_all (length xs) xs (omega arith) ∙ sym (take_all m xs le)
 
--- what goes on behind the bytes read ahead is read ahead too
+-- what goes on after the bytes read ahead is read ahead too
 pub ahead_grows : (file old new : List ℕ) (place k : ℕ) → IsAhead file place old → new ≡ old ++ take k (drop (place + length old) file) → IsAhead file place new
 ahead_grows file old new place k is grows =
     let rest = drop place file in

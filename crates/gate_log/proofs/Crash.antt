@@ -29,7 +29,7 @@ run_push [] run body gate is opened fits = (gate, [], opened, fits, ap (λ (l : 
 run_push (first ∷ bodies) run body gate (g, more, o, f, is, rest) opened fits =
     (g, more ++ entry gate body, o, f, ap (λ (l : List ℕ). l ++ entry gate body) is ∙ append_assoc (entry g first) more (entry gate body), run_push bodies more body gate rest opened fits)
 
--- the place behind one record more
+-- the place after one record more
 pub place_push : (bodies : List (List ℕ)) (body : List ℕ) → place_after (bodies ++ body ∷ []) ≡ place_after bodies + 5 + length body
 place_push bodies body = omega (arith, sum_by-append (λ (b : List ℕ). 5 + length b) bodies (body ∷ []))
 
@@ -37,7 +37,7 @@ place_push bodies body = omega (arith, sum_by-append (λ (b : List ℕ). 5 + len
 pub length-header : (gate : ℕ) (secret : List ℕ) → length secret ≡ 32 → length (header gate secret) ≡ 49
 length-header gate secret size = omega (arith, length-append (start_line ++ secret) (gate ∷ []), length-append start_line secret)
 
--- the file with a record behind the closed gate
+-- the file with a record after the closed gate
 pub record Staged (version : ℕ) (secret : List ℕ) (bodies : List (List ℕ)) (body file : List ℕ) : Type 0 where
   pub gate : ℕ
   pub run : List ℕ
@@ -48,19 +48,19 @@ pub record Staged (version : ℕ) (secret : List ℕ) (bodies : List (List ℕ))
   pub is : file ≡ header gate secret ++ run ++ 0 ∷ (to_le_bytes w32 (length body) ++ body ++ 0 ∷ tail)
 
 module _ (version : ℕ) (secret : List ℕ) (bodies : List (List ℕ)) (p : ℕ) (at : p ≡ place_after bodies) where
-  -- a header and the records of the bodies end at the place behind them
+  -- a header and the records of the bodies end at the place after them
   pub size : (gate : ℕ) (run : List ℕ) → length secret ≡ 32 → IsRun bodies run → length (header gate secret ++ run) ≡ p
   size gate run secret_size is_run = omega (arith, length-append (header gate secret) run, length-header gate secret secret_size, length-run bodies run is_run, at)
 
-  -- what stands behind the closed gate can be cut off
+  -- what comes after the closed gate can be cut off
   gate_split : (gate : ℕ) (run tail : List ℕ) → header gate secret ++ run ++ 0 ∷ tail ≡ (header gate secret ++ run ++ 0 ∷ []) ++ tail
   gate_split gate run tail = sym (append_assoc (header gate secret ++ run) (0 ∷ []) tail)
 
-  -- one byte more goes up to behind the closed gate
+  -- with one byte more the bytes end after the closed gate
   behind_gate : (gate : ℕ) (run : List ℕ) → length secret ≡ 32 → IsRun bodies run → length (header gate secret ++ run ++ 0 ∷ []) ≡ p + 1
   behind_gate gate run secret_size is_run = omega (arith, length-append (header gate secret ++ run) (0 ∷ []), size gate run secret_size is_run)
 
-  -- the closed gate stands in each outcome of the first write
+  -- the closed gate is in each outcome of the first write
   pub torn_behind : (n : ℕ) (d c : List ℕ) → Stands version secret bodies d → IsTorn (p + 1) n d c → Stands version secret bodies c
   torn_behind n d c s torn = record {
     run = s.run;
@@ -74,7 +74,7 @@ module _ (version : ℕ) (secret : List ℕ) (bodies : List (List ℕ)) (p : ℕ
         ∙ append_assoc (header s.gate secret ++ s.run) (0 ∷ []) (drop (p + 1) c);
   }
 
-  -- a record that was written behind the closed gate stands there, with the gate still closed
+  -- a record that was written after the closed gate is there, with the gate still closed
   pub written_behind : (body d new : List ℕ) → Stands version secret bodies d → IsWritten d (p + 1) (to_le_bytes w32 (length body) ++ body ++ 0 ∷ []) new → Staged version secret bodies body new
   written_behind body d new s w =
       let piece = to_le_bytes w32 (length body) ++ body ++ 0 ∷ [] in
@@ -92,7 +92,7 @@ module _ (version : ℕ) (secret : List ℕ) (bodies : List (List ℕ)) (p : ℕ
             ∙ ap (λ (l : List ℕ). header s.gate secret ++ s.run ++ 0 ∷ l) (append_assoc (to_le_bytes w32 (length body) ++ body) (0 ∷ []) left);
       }
 
-  -- a whole record behind any gate counts or it doesn't
+  -- a whole record after any gate counts or it doesn't
   any_gate : (body run tail : List ℕ) (first gate : ℕ) (c : List ℕ) → IsVersion first version → length secret ≡ 32 → IsRun bodies run → IsBody body
       → c ≡ header first secret ++ run ++ gate ∷ (to_le_bytes w32 (length body) ++ body ++ 0 ∷ tail) → IsBeforeOrAfter version secret bodies body c
   any_gate body run tail first gate c is_version secret_size is_run fits is = elim (cases_eq gate 0) [
@@ -122,7 +122,7 @@ module _ (version : ℕ) (secret : List ℕ) (bodies : List (List ℕ)) (p : ℕ
             ∙ ap (λ (l : List ℕ). l ++ 0 ∷ tail) (append_assoc (header first secret) run (entry gate body));
       }
 
-  -- bytes behind those of a record are bytes behind its closed gate
+  -- bytes after those of a record are bytes after its closed gate
   regroup : (body tail more : List ℕ) → (to_le_bytes w32 (length body) ++ body ++ 0 ∷ tail) ++ more ≡ to_le_bytes w32 (length body) ++ body ++ 0 ∷ (tail ++ more)
   regroup body tail more = append_assoc (to_le_bytes w32 (length body) ++ body) (0 ∷ tail) more
 
@@ -134,7 +134,7 @@ module _ (version : ℕ) (secret : List ℕ) (bodies : List (List ℕ)) (p : ℕ
       any_gate body s.run (s.tail ++ one.more) s.gate one.byte c s.is_version s.secret_size s.is_run fits
       (one.is ∙ ap (λ (l : List ℕ). header s.gate secret ++ s.run ++ one.byte ∷ l) (regroup body s.tail one.more))
 
-  -- with its gate open the record is one of those that the file stands for
+  -- with its gate open the record is one of those that the file has
   pub written_gate : (body d new : List ℕ) → IsBody body → Staged version secret bodies body d → IsWritten d p (1 ∷ []) new → Stands version secret (bodies ++ body ∷ []) new
   written_gate body d new fits s w =
       let rest = to_le_bytes w32 (length body) ++ body ++ 0 ∷ s.tail in
@@ -153,22 +153,22 @@ module _ (version : ℕ) (secret : List ℕ) (bodies : List (List ℕ)) (p : ℕ
 
 -- the two stretches of an append, each a write and a sync
 module _ (images mid : List ℕ → Type 0) (version : ℕ) (secret : List ℕ) (bodies : List (List ℕ)) (body : List ℕ) (p : ℕ) (at : p ≡ place_after bodies) where
-  -- whatever the first write leaves stands for the bodies of before
+  -- whatever the first write leaves has the bodies of before
   pub first_leaves : (n : ℕ) → Each images (Stands version secret bodies) → (c : List ℕ) → Tears images (p + 1) n c → Stands version secret bodies c
   first_leaves n each c (d, was, torn) = torn_behind version secret bodies p at n d c (each d was) torn
 
-  -- behind the first write and sync each image has the record behind the closed gate
+  -- after the first write and sync each image has the record after the closed gate
   pub first_done : (seen next piece : List ℕ) → Each images (Stands version secret bodies) → images seen → piece ≡ to_le_bytes w32 (length body) ++ body ++ 0 ∷ []
       → IsWritten seen (p + 1) piece next → Only next mid → Each mid (Staged version secret bodies body)
   first_done seen next piece each now is written only c left =
       let staged : Staged version secret bodies body next = written_behind version secret bodies p at body seen next (each seen now) (subst (λ (l : List ℕ). IsWritten seen (p + 1) l next) is written) in
       subst (Staged version secret bodies body) (sym (only c left)) staged
 
-  -- whatever the second write leaves stands for the bodies of before or those with one more
+  -- whatever the second write leaves has the bodies of before or those with one more
   pub second_leaves : IsBody body → Each mid (Staged version secret bodies body) → (c : List ℕ) → Tears mid p 1 c → IsBeforeOrAfter version secret bodies body c
   second_leaves fits each c (d, was, torn) = torn_gate version secret bodies p at body d c fits (each d was) torn
 
-  -- behind the second write and sync each image stands for the bodies with one more
+  -- after the second write and sync each image has the bodies with one more
   pub second_done : (seen next : List ℕ) (last : List ℕ → Type 0) → IsBody body → Each mid (Staged version secret bodies body) → mid seen → IsWritten seen p (1 ∷ []) next → Only next last
       → Each last (Stands version secret (bodies ++ body ∷ []))
   second_done seen next last fits each now written only c left =
@@ -176,7 +176,7 @@ module _ (images mid : List ℕ → Type 0) (version : ℕ) (secret : List ℕ) 
 
 -- the version gate of a journal
 module _ (secret : List ℕ) (bodies : List (List ℕ)) where
-  -- the version gate stands behind the first line and the secret
+  -- the version gate comes after the first line and the secret
   at_gate : (gate : ℕ) (run rest : List ℕ) → header gate secret ++ run ++ rest ≡ (start_line ++ secret) ++ gate ∷ (run ++ rest)
   at_gate gate run rest = append_assoc (header gate secret) run rest ∙ append_assoc (start_line ++ secret) (gate ∷ []) (run ++ rest)
 
@@ -221,7 +221,7 @@ fresh_bytes secret file piece new none is written =
     let empty : drop (length piece) file ≡ [] = nil_from_length (drop (length piece) file) (omega (arith, length-drop (length piece) file, none)) in
     written_at [] file piece new 0 refl written ∙ ap (λ (l : List ℕ). piece ++ l) empty ∙ append-nil piece ∙ is
 
--- an empty journal stands for no bodies
+-- an empty journal has no bodies
 pub fresh_stands : (secret new : List ℕ) → length secret ≡ 32 → new ≡ header 1 secret ++ 0 ∷ [] → Stands 2 secret [] new
 fresh_stands secret new size is = record {
   gate = 1;

@@ -8,14 +8,14 @@ empty : (xs : List ℕ) → length xs ≡ 0 → xs ≡ []
 empty [] none = refl
 empty (x ∷ xs) none = absurd (omega arith)
 
--- what stands before the range stays
+-- what is before the range stays
 pub kept_front : (front rest c : List ℕ) (p n : ℕ) → length front ≡ p → IsTorn p n (front ++ rest) c → c ≡ front ++ drop p c
 kept_front front rest c p n size torn =
     let long : p ≤ length (front ++ rest) = omega (arith, length-append front rest) in
     let same : take p c ≡ front = sym (take-take p (length (front ++ rest)) c long) ∙ torn.before ∙ take_at front rest p size in
     sym (take-append-drop p c) ∙ ap (λ (l : List ℕ). l ++ drop p c) same
 
--- a write that fits behind a front
+-- a write that fits after a front
 pub written_at : (front rest bytes new : List ℕ) (p : ℕ) → length front ≡ p → IsWritten (front ++ rest) p bytes new → new ≡ front ++ (bytes ++ drop (length bytes) rest)
 written_at front rest [] new p size w = w
 written_at front rest (b ∷ bs) new p size w =

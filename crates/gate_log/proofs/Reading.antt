@@ -14,7 +14,7 @@ module _ (file : List ℕ) (log : LogView) (secret : List ℕ) (bodies : List (L
   front_size : length (header r.begins.gate secret ++ r.begins.run) ≡ log.place
   front_size = size 0 secret bodies log.place r.place r.begins.gate r.begins.run r.begins.secret_size r.begins.is_run
 
-  -- from that place on stands what is still unread
+  -- what comes from that place on is still unread
   pub behind : drop log.place file ≡ r.begins.rest
   behind = ap (λ (l : List ℕ). drop log.place l) r.begins.is ∙ drop_at (header r.begins.gate secret ++ r.begins.run) r.begins.rest log.place front_size
 
@@ -133,7 +133,7 @@ module _ (file : List ℕ) (log : LogView) (secret : List ℕ) (bodies : List (L
           fault = inl (is_short, r.size);
         }
 
--- what is left of the bytes read ahead behind a record
+-- what is left of the bytes read ahead after a record
 pub drop_ahead : (piece : List ℕ) (from to n : ℕ) → from + 5 + n ≤ to → take (to - (from + 5 + n)) (drop (from + 5 + n) piece) ≡ drop (5 + n) (take (to - from) (drop from piece))
 drop_ahead piece from to n le =
     let left = to - (from + 5 + n) in
@@ -144,7 +144,7 @@ drop_ahead piece from to n le =
     ∙ sym (drop-take (5 + n) left (drop from piece))
     ∙ ap (λ (k : ℕ). drop (5 + n) (take k (drop from piece))) count
 
--- what was read ahead behind a header
+-- what was read ahead after a header
 pub ahead_of_header : (piece : List ℕ) (count : ℕ) → 49 ≤ count → take (count - 49) (drop 49 piece) ≡ drop 49 (take count piece)
 ahead_of_header piece count le =
     let whole : 49 + (count - 49) ≡ count = omega (arith, le) in

@@ -12,7 +12,7 @@ use Rattle.gate_log.specs.Gate.{EndsEarly, BeginsRecord}
 use Rattle.gate_log.proofs.Crash.{place_push}
 use Rattle.gate_log.proofs.Reading.{file_size, record_read, end_read, range_read, short_read, header_read}
 
--- the start line, as far as it stands, or the first place where it doesn't
+-- the start line, as far as it is there, or the first place where it isn't
 line_upto : (file : List ℕ) (k : ℕ) → k ≤ 16 → ((k ≤ length file) × (take k file ≡ take k start_line)) ⊎ ((place : ℕ) × IsLineFault place file)
 line_upto file zero le = inl (omega arith, refl)
 line_upto file (suc k) le = ⊎_elim (λ (long, same). next long same (cases_lt k (length file))) (λ fault. inr fault) (line_upto file k (omega (arith, le)))
@@ -58,13 +58,13 @@ reading_of version secret bodies file begins = record {
   ahead = sym (take_all (length (drop (place_after bodies) file)) (drop (place_after bodies) file) (omega arith));
 }
 
--- the place behind the bodies lies within the file
+-- the place after the bodies lies within the file
 pub place_within : (version : ℕ) (secret : List ℕ) (bodies : List (List ℕ)) (file : List ℕ) → Begins version secret bodies file → place_after bodies < length file
 place_within version secret bodies file begins =
     let r = reading_of version secret bodies file begins in
     omega (arith, file_size file _ secret bodies r, begins.has_gate)
 
--- what stands at a gate
+-- what is at a gate
 data AtGate (bytes : List ℕ) : Type 0 where
   shut : (more : List ℕ) → bytes ≡ 0 ∷ more → AtGate bytes
   whole : (n : ℕ) → BeginsRecord bytes n → AtGate bytes
@@ -102,7 +102,7 @@ at_gate (gate ∷ more) small = elim (cases_eq gate 0) [
     by_length opened (inl few) = early (inr (gate, more, opened, refl, inl few))
     by_length opened (inr enough) = by_range opened enough (cases_lt n 1) (cases_lt 4096 n)
 
--- behind the records that were read
+-- after the records that were read
 pub goes_on : (version : ℕ) (secret : List ℕ) (bodies : List (List ℕ)) (file : List ℕ) → All (λ b. b < 2 ^ 8) file → Begins version secret bodies file → GoesOn version secret bodies file
 goes_on version secret bodies file small begins = by_gate (at_gate ahead small_ahead)
   where
@@ -124,7 +124,7 @@ goes_on version secret bodies file small begins = by_gate (at_gate ahead small_a
     by_gate (wrong gate more opened is range) = inr (inl (place_after bodies + 1, range_read file log secret bodies r ahead r.ahead gate more opened is range))
     by_gate (early ends) = inr (inl (length file, short_read file log secret bodies r ahead r.ahead ends (inr (omega (arith, length-drop (place_after bodies) file)))))
 
--- from some records on, with no more bytes behind them than this
+-- from some records on, with no more bytes after them than this
 meaning_from : (file : List ℕ) → All (λ b. b < 2 ^ 8) file → (left version : ℕ) (secret : List ℕ) (bodies : List (List ℕ)) → Begins version secret bodies file → length file ≤ place_after bodies + left → HasMeaning file
 meaning_from file small zero version secret bodies begins le = absurd (omega (arith, le, place_within version secret bodies file begins))
 meaning_from file small (suc left) version secret bodies begins le =

@@ -31,7 +31,7 @@ read_entry gate bytes body rest fits is =
       rest_is = sym (ap (λ (n : ℕ). drop (5 + n) bytes) size ∙ sym (drop-drop (length body) 5 bytes) ∙ ap (λ (l : List ℕ). drop (length body) l) five ∙ drop_at body rest (length body) refl);
     }
 
--- two records at the front of the same bytes have one body, and the same behind them
+-- two records at the front of the same bytes have one body, and the same after them
 two_entries : (gate door : ℕ) (run walk body other further beyond rest left : List ℕ) → IsBody body → IsBody other → run ≡ entry gate body ++ further → walk ≡ entry door other ++ beyond → run ++ rest ≡ walk ++ left
     → (body ≡ other) × (further ++ rest ≡ beyond ++ left)
 two_entries gate door run walk body other further beyond rest left fits suits is also same =
@@ -40,7 +40,7 @@ two_entries gate door run walk body other further beyond rest left fits suits is
     let second = read_entry door bytes other (beyond ++ left) suits (same ∙ ap (λ (l : List ℕ). l ++ left) also ∙ append_assoc (entry door other) beyond left) in
     (first.body_is ∙ sym second.body_is, first.rest_is ∙ sym second.rest_is)
 
--- no whole record with a gate behind it begins here
+-- no whole record with a gate after it begins here
 Stops : List ℕ → Type 0
 Stops rest = (gate : ℕ) (body after : List ℕ) → gate ≢ 0 → IsBody body → rest ≡ entry gate body ++ after → 1 ≤ length after → ⊥
 
@@ -63,7 +63,7 @@ fault_stops gate more fault g body after opened fits is some =
     by_cases size long (inl (inr (enough, range, few))) = absurd (omega (arith, few, long, size, some))
     by_cases size long (inr (enough, wrong)) = wrong (subst IsLength (sym size) fits)
 
--- the same bodies, and the same bytes behind them
+-- the same bodies, and the same bytes after them
 record Same (bodies others : List (List ℕ)) (rest left : List ℕ) : Type 0 where
   bodies_are : bodies ≡ others
   rest_is : rest ≡ left
@@ -117,7 +117,7 @@ read_header gate file secret rest size is =
       long = omega (arith, ap length is, length-append (header gate secret) rest, length-header gate secret size);
     }
 
--- a file with this header and these records, and behind them what is no whole record
+-- a file with this header and these records, and after them what is no whole record
 record Parted (gate : ℕ) (secret : List ℕ) (bodies : List (List ℕ)) (run rest file : List ℕ) : Type 0 where
   secret_size : length secret ≡ 32
   is_run : IsRun bodies run
@@ -154,7 +154,7 @@ same_parts gate door secret word bodies others run walk rest left file p q =
 stands_parted : (version : ℕ) (secret : List ℕ) (bodies : List (List ℕ)) (file : List ℕ) (s : Stands version secret bodies file) → Parted s.gate secret bodies s.run (0 ∷ s.tail) file
 stands_parted version secret bodies file s = record { secret_size = s.secret_size; is_run = s.is_run; is = s.is; some = omega arith; stops = closed_stops s.tail }
 
--- the parts of a file with a fault behind its records
+-- the parts of a file with a fault after its records
 fault_parted : (v : ℕ) (secret : List ℕ) (bodies : List (List ℕ)) (place : ℕ) (file : List ℕ) (f : IsFaultAfter v secret bodies place file) → Parted f.version_gate secret bodies f.run (f.gate ∷ f.more) file
 fault_parted v secret bodies place file f = record {
   secret_size = f.secret_size;
@@ -171,7 +171,7 @@ one_version gate v w (inl (shut, v_is)) (inr (opened, w_is)) = absurd (opened sh
 one_version gate v w (inr (opened, v_is)) (inl (shut, w_is)) = absurd (opened shut)
 one_version gate v w (inr (opened, v_is)) (inr (also, w_is)) = v_is ∙ sym w_is
 
--- a file stands for one list of bodies
+-- a file has one list of bodies
 pub one_meaning : (v w : ℕ) (secret word : List ℕ) (bodies others : List (List ℕ)) (file : List ℕ) → Stands v secret bodies file → Stands w word others file
     → (v ≡ w) × (secret ≡ word) × (bodies ≡ others)
 one_meaning v w secret word bodies others file s t =
@@ -205,7 +205,7 @@ one_line p q file less first second =
     at : slice_index file p ≡ slice_index start_line p
     at = sym (get_or-take q file p 0 less) ∙ ap (λ (l : List ℕ). slice_index l p) second.before ∙ get_or-take q start_line p 0 less
 
--- a file that is cut behind the start line has no fault in that line
+-- a file that is cut after the start line has no fault in that line
 line_or_cut : (p q : ℕ) (file : List ℕ) → IsLineFault p file → IsCutHeader q file → ⊥
 line_or_cut p q file line cut = ⊎_elim (λ few. absurd (omega (arith, few, line.within, ap length cut.line, length-take 16 file))) (λ other. other at) line.differs
   where
@@ -305,6 +305,6 @@ fault_begin v w place secret word bodies others file f b =
 pub begins_stands : (v : ℕ) (secret : List ℕ) (bodies : List (List ℕ)) (file : List ℕ) → Stands v secret bodies file → Begins v secret bodies file
 begins_stands v secret bodies file s = record { gate = s.gate; run = s.run; rest = 0 ∷ s.tail; is_version = s.is_version; secret_size = s.secret_size; is_run = s.is_run; is = s.is; has_gate = omega arith }
 
--- and so does a file with a fault behind them
+-- and so does a file with a fault after them
 pub begins_fault : (v place : ℕ) (secret : List ℕ) (bodies : List (List ℕ)) (file : List ℕ) → IsFaultAfter v secret bodies place file → Begins v secret bodies file
 begins_fault v place secret bodies file f = record { gate = f.version_gate; run = f.run; rest = f.gate ∷ f.more; is_version = f.is_version; secret_size = f.secret_size; is_run = f.is_run; is = f.is; has_gate = omega arith }

@@ -50,7 +50,7 @@ pub record IsFaultAfter (version : ℕ) (secret : List ℕ) (bodies : List (List
   pub is : file ≡ header version_gate secret ++ run ++ gate ∷ more
   pub fault : IsRecordFault (place_after bodies) more (length file) place
 
--- such a record stands after some records
+-- such a record comes after some records
 abbrev pub IsFaultBehind : ℕ → List ℕ → Type 0
 IsFaultBehind place file = (version : ℕ) × (secret : List ℕ) × (bodies : List (List ℕ)) × IsFaultAfter version secret bodies place file
 

@@ -1,4 +1,4 @@
--- What stands at a gate.
+-- What is at a gate.
 use Rattle.std.specs.Prelude.{◌≡◌, ◌≢◌, ◌⊎◌, ℕ, ◌+◌, ◌≤◌, List, [], ◌∷◌, length, take}
 use Rattle.std.specs.Int.{to_le_bytes, w32}
 use Rattle.gate_log.specs.Records.{IsLength}

@@ -13,7 +13,7 @@ pub record LogView : Type 0 where
   pub size : ℕ
   pub ahead : List ℕ
 
--- each image stands for these bodies in the log's version, and the log is at the closed gate after them
+-- each image has these bodies in the log's version, and the log is at the closed gate after them
 pub record IsLogOf (images : List ℕ → Type 0) (log : LogView) (secret : List ℕ) (bodies : List (List ℕ)) : Type 0 where
   pub each : Each images (Stands log.version secret bodies)
   pub place : log.place ≡ place_after bodies

@@ -1,4 +1,4 @@
--- What the bytes of a journal stand for: a version, a secret and a list of bodies.
+-- What the bytes of a journal mean: a version, a secret and a list of bodies.
 use Rattle.std.specs.Prelude.{◌≡◌, ◌≢◌, ◌⊎◌, ℕ, ◌+◌, ◌≤◌, List, [], ◌∷◌, ◌++◌, length, codes}
 use Rattle.std.specs.List.{sum_by}
 use Rattle.std.specs.Int.{to_le_bytes, w32}
@@ -35,7 +35,7 @@ IsRun [] bytes = bytes ≡ []
 IsRun (body ∷ bodies) bytes = (gate : ℕ) × (more : List ℕ) × (gate ≢ 0) × IsBody body × (bytes ≡ entry gate body ++ more) × IsRun bodies more
 
 -- The file has this version, this secret and these bodies: the header, their records, and a closed gate after them.
--- What stands after that gate takes no part.
+-- What comes after that gate plays no role.
 pub record Stands (version : ℕ) (secret : List ℕ) (bodies : List (List ℕ)) (file : List ℕ) : Type 0 where
   pub gate : ℕ
   pub run : List ℕ
@@ -65,7 +65,7 @@ pub record Begins (version : ℕ) (secret : List ℕ) (bodies : List (List ℕ))
 abbrev pub place_after : List (List ℕ) → ℕ
 place_after bodies = FIRST_GATE + sum_by (λ body. FRONT_SIZE + length body) bodies
 
--- the file stands for the bodies, with one more or without it
+-- the file has the bodies, with one more or without it
 abbrev pub IsBeforeOrAfter : ℕ → List ℕ → List (List ℕ) → List ℕ → List ℕ → Type 0
 IsBeforeOrAfter version secret bodies body file = Stands version secret bodies file ⊎ Stands version secret (bodies ++ body ∷ []) file
 

@@ -16,7 +16,7 @@ use split_base::{Disk, write_synced};
 /// - `Disk` comes only where the disk's count of faults has risen, by one.
 /// - `NotALog` comes exactly where the file isn't empty, with place 0.
 ///
-/// No byte of a file that isn't empty changes, whatever the answer. Of an empty file, what a crash leaves before it has answered Ok isn't promised.
+/// No byte of a file that isn't empty changes, whatever the answer. What a crash leaves of an empty file before it has answered Ok isn't promised.
 pub fn create_log<D: Disk>(disk: &mut D, secret: &[u8; SECRET_SIZE]) -> Result<(), LogFault>
     ensures count { D.faults disk.old ≤ D.faults disk.new }
     ensures disk { result ≡ Err LogFault.Disk → HasRisen (D.faults disk.old) (D.faults disk.new) }

@@ -1,4 +1,4 @@
-// What stands at a gate, as far as it was read ahead.
+// What is at a gate, as far as it was read ahead.
 ghost use Rattle.std.specs.Prelude.{◌≡◌};
 ghost use Rattle.gate_log.specs.Gate.{Shows};
 

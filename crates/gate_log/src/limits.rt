@@ -12,7 +12,7 @@ pub const GATE_SIZE: usize = 1;
 /// The size of the number that tells the length of a body.
 pub const LENGTH_SIZE: usize = 4;
 
-/// The size of what stands in front of a body: the gate of its record, and its length.
+/// The size of what comes before a body: the gate of its record, and its length.
 pub const FRONT_SIZE: usize = GATE_SIZE + LENGTH_SIZE;
 
 /// The place of the version gate, after the start line and the secret.

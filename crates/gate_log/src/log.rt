@@ -18,7 +18,7 @@ use arrayvec::ArrayVec;
 use split_base::{Disk, Failed, NoMemory, write_synced};
 use std::marker::Model;
 
-/// A log of a journal: it stands at a gate of the file. `next` reads the record at that gate and
+/// A log of a journal: it is at a gate of the file. `next` reads the record at that gate and
 /// moves on; once the gate is known to be closed, `append` writes a record there.
 ///
 /// After a `Disk` fault a log isn't used again.
@@ -182,7 +182,7 @@ impl Log {
         ensures one { D.is_honest disk.old → OnOk result (Only (D.seen disk.new) (D.images disk.new)) }
         ensures writes { D.is_honest disk.old → LeavesOnly D.moment D.left_since disk.old disk.new (MayBeAppending (D.images disk.old) self.old.place body.now (D.seen disk.old)) }
 
-        // At any moment of it each image stands for the bodies from before it, with the new one or without.
+        // At any moment of it each image has the bodies from before it, with the new one or without it.
         ensures any_moment { D.is_honest disk.old → (secret : List ℕ) (bodies : List (List ℕ)) → IsLogOf (D.images disk.old) self.old secret bodies
             → LeavesOnly D.moment D.left_since disk.old disk.new (IsBeforeOrAfter self.old.version secret bodies body.now) }
         ensures after { D.is_honest disk.old → (secret : List ℕ) (bodies : List (List ℕ)) → IsLogOf (D.images disk.old) self.old secret bodies

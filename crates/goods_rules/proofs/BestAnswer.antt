@@ -48,7 +48,7 @@ MayBeLeft case answer owners =
     IsLess (prefix_bound case owners) (pair_of case answer)
     ⊎ ((prefix_bound case owners ≡ pair_of case answer) × (slice_cmp nat_cmp owners (take (length owners) answer) ≡ Greater))
 
--- an allocation that begins with such a prefix is behind the answer
+-- an allocation that begins with such a prefix is no better than the answer
 below_behind : (case : GoodsCase) (answer front rest : List ℕ) → IsAtMost (pair_of case (front ++ rest)) (prefix_bound case front) → MayBeLeft case answer front → IsBehind case (front ++ rest) answer
 below_behind case answer front rest most h = ⊎_elim
     (λ (less : IsLess (prefix_bound case front) (pair_of case answer)). inl (at_most_less (pair_of case (front ++ rest)) (prefix_bound case front) (pair_of case answer) most less))

@@ -8,7 +8,7 @@ use Rattle.goods_rules.specs.Ahead.{FinishesBehind, CanStand, FinishesTree}
 use Rattle.goods_rules.specs.Rules.{leaf_rule}
 use Rattle.goods_rules.proofs.PathSteps.{leaf_back, leaf_up, no_mark}
 
--- a mark that does not fit stands in no tree
+-- a mark that does not fit is in no tree
 pub no_tree : (leaf : List ℕ → ℕ → Type 0) (n g : ℕ) (whole : Bool) (path : List ℕ) (mark : ℕ) (marks : List ℕ) → (CanStand g whole path mark → ⊥) → FinishesTree leaf n g whole path (mark ∷ marks) → ⊥
 no_tree leaf n g true path mark marks never h = cc
 no_tree leaf n g false path mark marks never h =

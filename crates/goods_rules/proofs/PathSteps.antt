@@ -1,4 +1,4 @@
--- How a path walks a tree: one mark at a node, and what is to come behind it.
+-- How a path walks a tree: one mark at a node, and what is to come after it.
 use Rattle.std.proofs.Common.{◌≡◌, ℕ, zero, suc, ◌+◌, ◌-◌, ◌<◌, ◌≤◌, List, [], ◌∷◌, ◌++◌, length, reverse, arith, refl, sym, ap, ◌∙◌, subst, ⊎_elim, ◌⊎◌, inl, inr, ◌≢◌, ◌↔◌, Bool, true, false, IsTrue}
 use Rattle.std.proofs.lemmas.List.{reverse-append, length-reverse}
 use Rattle.std.specs.List.{range_with_len}
@@ -32,7 +32,7 @@ leaf_up leaf n g mark path marks other (rest, walk, after) = closed (g - length 
     closed zero h = (h.1, subst (FinishesBehind leaf n g path) h.2 after)
     closed (suc r) h = ⊎_elim (λ a. (a.1, subst (FinishesBehind leaf n g path) a.2 after)) (λ b. absurd (other b.0)) h
 
--- behind a node that was read whole stands its next sibling
+-- after a node that was read whole, its next sibling comes
 pub sibling_next : (leaf : List ℕ → ℕ → Type 0) (n g owner : ℕ) (up marks : List ℕ) → owner < n → FinishesBehind leaf n g (owner ∷ up) marks → FinishesAt leaf n g ((owner + 1) ∷ up) marks
 sibling_next leaf n g owner up marks low (rest, kids, after) =
     let r : ℕ = g - suc (length up) in
@@ -42,7 +42,7 @@ sibling_next leaf n g owner up marks low (rest, kids, after) =
     subst (λ k. Children (Subtree leaf n r) (reverse up) (range_with_len (owner + 1) k) marks rest) more kids in
     (first.0, subst (λ xs. Subtree leaf n r xs marks first.0) (sym (reverse_cons (owner + 1) up)) first.1, (rest, first.2, after))
 
--- or, behind the last one, its parent was read whole
+-- or, after the last one, its parent was read whole
 pub parent_done : (leaf : List ℕ → ℕ → Type 0) (n g owner : ℕ) (up marks : List ℕ) → n ≤ owner → FinishesBehind leaf n g (owner ∷ up) marks → FinishesBehind leaf n g up marks
 parent_done leaf n g owner up marks last (rest, kids, after) =
     let none : n - owner ≡ 0 = omega arith in
@@ -59,7 +59,7 @@ down_back leaf n g path marks some low (middle, walk, (rest, kids, after)) =
     let node : Subtree leaf n (suc r) (reverse path) (43 ∷ marks) rest = inr (refl, subst (λ k. Children (Subtree leaf n r) (reverse path) (range_with_len 1 k) marks rest) more all) in
     (rest, subst (λ d. Subtree leaf n d (reverse path) (43 ∷ marks) rest) deep node, after)
 
--- a leaf as the rule asks, and what is to come behind its node, are what is to come at it
+-- what is to come at a leaf: the leaf as the rule asks, then what is to come after its node
 pub leaf_back : (leaf : List ℕ → ℕ → Type 0) (n g mark : ℕ) (path marks : List ℕ) → ((mark ≡ 45) ⊎ ((mark ≡ 61) × (g ≤ length path))) → leaf (reverse path) mark → FinishesBehind leaf n g path marks → FinishesAt leaf n g path (mark ∷ marks)
 leaf_back leaf n g mark path marks kind is after = (marks, at (g - length path) refl kind, after)
   where
@@ -67,7 +67,7 @@ leaf_back leaf n g mark path marks kind is after = (marks, at (g - length path) 
     at zero e k = (⊎_elim (λ a. inl a) (λ b. inr b.0) k, is, refl)
     at (suc r) e k = ⊎_elim (λ a. inl (a, is, refl)) (λ b. absurd (let full = b.1 in omega arith)) k
 
--- what is to come at a node is what is to come behind its sibling before it
+-- what is to come at a node is what is to come after the sibling before it
 pub next_back : (leaf : List ℕ → ℕ → Type 0) (n g owner : ℕ) (up marks : List ℕ) → owner < n → FinishesAt leaf n g ((owner + 1) ∷ up) marks → FinishesBehind leaf n g (owner ∷ up) marks
 next_back leaf n g owner up marks low (middle, walk, (rest, kids, after)) =
     let r : ℕ = g - suc (length up) in
@@ -76,13 +76,13 @@ next_back leaf n g owner up marks low (middle, walk, (rest, kids, after)) =
     let all : Children (Subtree leaf n r) (reverse up) (range_with_len (owner + 1) (suc m)) marks rest = (middle, subst (λ xs. Subtree leaf n r xs marks middle) (reverse_cons (owner + 1) up) walk, kids) in
     (rest, subst (λ k. Children (Subtree leaf n r) (reverse up) (range_with_len (owner + 1) k) marks rest) more all, after)
 
--- and what is to come behind a node is what is to come behind its last child
+-- and what is to come after a node is what is to come after its last child
 pub parent_back : (leaf : List ℕ → ℕ → Type 0) (n g owner : ℕ) (up marks : List ℕ) → n ≤ owner → FinishesBehind leaf n g up marks → FinishesBehind leaf n g (owner ∷ up) marks
 parent_back leaf n g owner up marks last after =
     let none : 0 ≡ n - owner = omega arith in
     (marks, subst (λ k. Children (Subtree leaf n (g - suc (length up))) (reverse up) (range_with_len (owner + 1) k) marks marks) none refl, after)
 
--- a mark that can't stand at a node
+-- a mark that can't come at a node
 pub no_mark : (leaf : List ℕ → ℕ → Type 0) (n g mark : ℕ) (path marks : List ℕ) → (mark ≡ 45 → ⊥) → (mark ≡ 61 → length path < g) → (mark ≡ 43 → g ≤ length path) → FinishesAt leaf n g path (mark ∷ marks) → ⊥
 no_mark leaf n g mark path marks minus equals plus (rest, walk, after) = at (g - length path) refl walk
   where
@@ -102,14 +102,14 @@ no_end leaf n g path (rest, walk, after) = at (g - length path) walk
 pub reverse_push : (xs : List ℕ) (x : ℕ) → reverse (xs ++ x ∷ []) ≡ x ∷ reverse xs
 reverse_push xs x = reverse-append xs (x ∷ [])
 
--- behind a last child its parent was read whole, too
+-- after a last child, its parent was read whole, too
 pub climb_step : (leaf : List ℕ → ℕ → Type 0) (n g last : ℕ) (all front : List ℕ) → all ≡ front ++ last ∷ [] → n ≤ last → (marks : List ℕ) → FinishesBehind leaf n g (reverse all) marks ↔ FinishesBehind leaf n g (reverse front) marks
 climb_step leaf n g last all front e full marks =
     let is : reverse all ≡ last ∷ reverse front = ap reverse e ∙ reverse_push front last in
     subst (λ p. FinishesBehind leaf n g p marks ↔ FinishesBehind leaf n g (reverse front) marks) (sym is)
     (parent_done leaf n g last (reverse front) marks full, parent_back leaf n g last (reverse front) marks full)
 
--- behind a node with a later sibling that sibling comes next
+-- after a node with a later sibling, that sibling comes next
 pub climb_next : (leaf : List ℕ → ℕ → Type 0) (n g last : ℕ) (all front : List ℕ) → all ≡ front ++ last ∷ [] → last < n → (marks : List ℕ) → FinishesBehind leaf n g (reverse all) marks ↔ FinishesAt leaf n g (reverse (front ++ (last + 1) ∷ [])) marks
 climb_next leaf n g last all front e low marks =
     let is : reverse all ≡ last ∷ reverse front = ap reverse e ∙ reverse_push front last in

@@ -22,8 +22,8 @@ pub record HasOwners (view : GoodsView) : Type 0 where
   pub each : length view.owners ≡ view.goods
   pub owned : All (λ owner. (pos 1 ≤ℤ owner) × (owner ≤ℤ pos (length view.who))) view.owners
 
--- what a rule asks of a leaf: rule 4, that a `-` with goods still to give stands only where no allocation that begins with the prefix comes before the answer;
--- rule 5, the same of a `-` where all goods are given; rule 6, that a `=` stands at the answer
+-- what a rule asks of a leaf: rule 4 asks that a `-` with goods still to give comes only where no allocation that begins with the prefix comes
+-- before the answer; rule 5 asks the same of a `-` where all goods are given; rule 6 asks that a `=` is at the answer
 abbrev pub leaf_rule : GoodsCase → List ℕ → ℕ → List ℕ → ℕ → Type 0
 leaf_rule case answer zero prefix mark = Unit {0}
 leaf_rule case answer (suc zero) prefix mark = Unit {0}

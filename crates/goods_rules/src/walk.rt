@@ -16,9 +16,9 @@ use nash_bounds::players;
 pub struct Kept {
     /// The marks are those of a tree.
     pub tree: bool,
-    /// Each `-` with goods still to give may stand.
+    /// Each `-` with goods still to give is allowed.
     pub above: bool,
-    /// Each `-` with all goods given may stand.
+    /// Each `-` with all goods given is allowed.
     pub leaves: bool,
     /// Each `=` is the answer's leaf.
     pub answer: bool,
@@ -77,7 +77,7 @@ impl Walk {
         }
     }
 
-    /// Whether a mark can stand where the walk is.
+    /// Whether a mark can come where the walk is.
     fn fits(&self, goods: u8, mark: u8) -> bool
         ensures { IsTrue result ↔ CanStand goods self.now.whole self.now.path.owners.items mark }
     {

@@ -9,7 +9,7 @@ use Rattle.serving.specs.Served.{LinkTells}
 use Rattle.serving_laws.specs.Last.{EndsAfter}
 use Rattle.host_commands.specs.Links.{Every, LinksAnswered, last_request, requests_of}
 
--- the run of a link is a list of its requests, and requests behind others are one list with them
+-- the run of a link is a list of its requests, and requests after others are one list with them
 abbrev pub Exchanges : {W : Type 0} → Service W → Type 0
 Exchanges {W} service = (n : ℕ) (all : List ℕ) (answers : List (Option ℕ)) (w : W) (out : List ℕ) (new : W) (end : Ending) → LinkRun service n all answers w out new end
     → LinkExchanges service all answers w out new end

@@ -16,7 +16,7 @@ use Rattle.split_base.specs.declared.disk.Disk.{Ghosts}
 use Rattle.split_base.specs.Disk.{Each, LeavesOnly, Only, Rests, Tears}
 use Rattle.split_base.specs.Faults.{HasRisen, counted}
 
--- one call failed, and no other: the count goes up by one, or stands at its greatest value
+-- one call failed, and no other: the count goes up by one, or is at its greatest value
 abbrev pub FailedOnce : ℕ → ℕ → Type 0
 FailedOnce before now = HasRisen before now × (now ≡ counted before)
 
@@ -65,7 +65,7 @@ pub record Opens {D : Type 0} (d : Ghosts D) (disk after : D) (answer : Result S
   pub any_moment : d.is_honest disk → (s : State) → Each (d.images disk) (IsFile s) → LeavesOnly d.moment d.left_since disk after (IsFile s)
   pub left : d.is_honest disk → (s : State) → Each (d.images disk) (IsFile s) → Each (d.images after) (IsFile s)
 
--- the state for which a file that was opened stands: the host is ready, with the file's secret and events
+-- the state of a file that was opened: the host is ready, with the file's secret and events
 abbrev pub state_of : {D : Type 0} {d : Ghosts D} {disk after : D} {serving : Serving} → Opened d disk after serving → State
 state_of opened = ready_with opened.secret opened.kept
 

@@ -27,8 +27,8 @@ use Rattle.host_commands.specs.Publishing.{AsksFor, Publishes}
 -- is best for its rule among all divisions of the bids kept, least among equals and the same for every number of workers, its printed certificate
 -- passes the checker, and a crash at any moment leaves a prefix of the commands holding each acknowledged one.
 --
--- `disk` is the file before it was opened, `begun` the file as it was opened with the state for which it stands. What is said without the premise that
--- the disk is honest holds of every disk.
+-- `disk` is the file before it was opened, `begun` the file as it was opened, with the state that it holds. What is said without the premise
+-- that the disk is honest holds of every disk.
 pub record Headline {D P L C : Type 0} (d : Ghosts D) (p : PortSide P L) (tells : LinkTells L) (c : ClockSide C) (disk : D) (begun : D × State) (after : D)
     (port port_after : P) (clock clock_after : C) (number : ℕ) : Type 0 where
   -- for every list of connections, bytes and clock moments: so many links, the first that were to come, each as it was handed out and as it was
@@ -53,29 +53,29 @@ pub record Headline {D P L C : Type 0} (d : Ghosts D) (p : PortSide P L) (tells 
   pub serving : Serving
   pub stands : StandsAt d serving after ended
   -- each request changes the state by at most one event, which one step of the machine makes, kept after those of the state at which it is answered:
-  -- the state before it, or that as which the file of a host that waits is opened. In all the machine takes these steps in order, and no others. Each
-  -- request has the reply of its step, or a refusal of its path or method, or it is told that memory ran out, that a call of the disk failed in it, or
-  -- that its file is no journal, which is never so on an honest disk
+  -- the state before it, or the one that the file of a waiting host gives when it is opened. In all the machine takes these steps in order, and no
+  -- others. Each request has the reply of its step, or a refusal of its path or method, or it is told that memory ran out, that a call of the disk
+  -- failed in it, or that its file is no journal, which is never so on an honest disk
   pub moved : Every (Moves d) run
   pub taken : d.is_honest disk → (steps : List Taken) × TakesSteps run steps
   pub replied : Every (HasAnswer d) run
-  -- a request that is refused changes nothing, but by the Close of an instance whose deadline has passed
+  -- a request that is refused changes nothing, except by the Close of an instance whose deadline has passed
   pub refused : Every (RefusesQuietly d) run
   -- of accepted commands: each event that is kept was made by a command of this run, in one step
   pub accepted : d.is_honest disk → Accepts run begun.1 ended.1
-  -- bids are sealed: of an instance that isn't closed a reply tells no more than what its caller may know
+  -- bids are sealed: a reply tells no more of an instance that isn't closed than what its caller may know
   pub sealed : Every (IsSealedReply d) run
   -- each published division is best for its rule among all divisions of the bids kept, least among equals and the same for every number of workers,
-  -- and its printed certificate passes the checker: so of each request for what is published that has a reply with status 200, whatever the disk
+  -- and its printed certificate passes the checker: this is so of each request for what is published whose reply has status 200, whatever the disk
   pub published : Every (λ x. (asked : What) → AsksFor x asked → x.due.said.status ≡ 200 → Publishes x asked) run
   -- a crash at any moment leaves a prefix of the commands: since each request a file of the state that it left or of a later one, with or without the
-  -- event that is being appended; and since before the opening, of a file of a state, a file of that one or of one of these
+  -- event that is being appended; and since before the opening, where the file was one of a state, a file of that state or of one of these
   pub crash : d.is_honest disk → Since d ended.0 begun run
   pub any_moment : d.is_honest disk → (s : State) → Each (d.images disk) (IsFile s) → (file : List ℕ) → d.left_since ended.0 (d.moment disk) file → IsFile s file ⊎ IsFileOfOne begun.1 run file
   -- holding each acknowledged one: since each request all events that were kept when it was answered, at their places
   pub acknowledged : d.is_honest disk → Acknowledges d ended.0 begun run
 
--- the same, from whatever state the file stood for when it was opened
+-- the same, from whatever state the file held when it was opened
 abbrev pub HasHeadline : {D P L C : Type 0} → Ghosts D → PortSide P L → LinkTells L → ClockSide C → (disk after : D) (port port_after : P) (clock clock_after : C) (number : ℕ) → Type 0
 HasHeadline {D} d p tells c disk after port port_after clock clock_after number = (begun : D × State) × Headline d p tells c disk begun after port port_after clock clock_after number
 

@@ -59,8 +59,8 @@ pub record TellsBestOf (i : InstanceView) (asked : What) (told : ContentView) : 
   pub text : IsPublished asked (case_data i) one division told
   pub certificate : (text : List ℕ) → IsCanonical one text → IsJudged text Yes × PrintsBest text
 
--- What the reply tells is published of the instance that the request names, as it stands after the request: closed, so that its bids are the last ones.
--- It is the one thing that may be told of it: so neither the number of workers nor their order takes part in it.
+-- What the reply tells is published of the instance that the request names, as it is after the request: closed, so that its bids are the last ones.
+-- It is the one thing that may be told of it: so neither the number of workers nor their order changes it.
 pub record Publishes {D : Type 0} (x : Exchange (D × State)) (asked : What) : Type 0 where
   pub route : Route
   pub i : InstanceView

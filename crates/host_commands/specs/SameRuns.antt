@@ -33,7 +33,7 @@ AllGotAlike tells [] (m ∷ others) = ⊥
 AllGotAlike tells (l ∷ links) [] = ⊥
 AllGotAlike tells (l ∷ links) (m ∷ others) = (tells.written l.1 ≡ tells.written m.1) × AllGotAlike tells links others
 
--- on none of the links a call failed, and memory sufficed on each
+-- no call failed on any of the links, and memory sufficed on each
 abbrev pub AllDone : {L W : Type 0} (service : Service W) (tells : LinkTells L) (links : List (L × L)) (answers : List (Option ℕ)) (w : W) (requests : List (Exchange W)) (new : W)
     → LinksAnswered service tells links answers w requests new → Type 0
 AllDone service tells [] answers w requests new run = Unit {0}

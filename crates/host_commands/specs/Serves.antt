@@ -29,7 +29,7 @@ abbrev pub served_line : ℕ → List ℕ
 served_line number = word_line (codes "served") (decimal number ∷ [])
 
 -- The run of the host over so many links of the port, in order, from this disk and state on, at the answers of the clock. Each link is given
--- back, and the serving then stands for the state that the last one left.
+-- back, and the serving is then in the state that the last one left.
 pub record Runs {D P L C : Type 0} (d : Ghosts D) (p : PortSide P L) (tells : LinkTells L) (c : ClockSide C) (w : D × State) (after : D) (port port_after : P) (clock clock_after : C) (number : ℕ) : Type 0 where
   pub serving : Serving
   pub served : PortServed (host_service d) tells (p.to_come port) (p.to_come port_after) (p.given_back port) (p.given_back port_after) (p.places port)
@@ -41,7 +41,7 @@ pub data RunEnds {P L : Type 0} (p : PortSide P L) (port port_after : P) (count 
   told : ending ≡ Ok (served_line number) → p.faults port_after ≡ p.faults port → number ≤ count → (number < count → p.has_ended port_after) → RunEnds p port port_after count number ending
   cut : ending ≡ Err stop.PortFault → FailedOnce (p.faults port) (p.faults port_after) → number ≤ count → RunEnds p port port_after count number ending
 
--- From a file that was opened, and stands for this state: the port fails to listen, and neither disk nor clock is called; or it listens, and its
+-- From a file that was opened, and holds this state: the port fails to listen, and neither disk nor clock is called; or it listens, and its
 -- links are served.
 pub data ServesOpened {D P L C : Type 0} (d : Ghosts D) (p : PortSide P L) (tells : LinkTells L) (c : ClockSide C) (w : D × State) (after : D) (port port_after : P) (clock clock_after : C) (count : ℕ)
     (ending : Result (List ℕ) Stop) : Type 0 where

@@ -28,7 +28,7 @@ use std::thread::Threads;
 /// - `NoMemory` comes only where memory runs out, and only before the port listens.
 ///
 /// No other stop comes. Before the file is opened neither the port nor the clock is called. Goods are searched by 1 to `MOST_WORKERS` workers, and
-/// the last searches are kept, so that a closed round is not searched for each request. Neither takes part in what is written.
+/// the last searches are kept, so that a closed round is not searched for each request. Neither changes what is written.
 #[allow(clippy::too_many_arguments)]
 pub fn serve_port<D: Disk, P: Port, C: Clock, R: Threads + Sync, G: Gate + Sync>(
     alloc: Global,

@@ -13,7 +13,7 @@ use split_base::Disk;
 /// - `BadJournal`, with place 0, comes exactly where the file isn't empty.
 /// - `StoreFault` comes only where the disk's count of faults has risen, by one.
 ///
-/// No other stop comes. No byte of a file that isn't empty changes, whatever the answer. Of an empty file, what a crash leaves before the answer
+/// No other stop comes. No byte of a file that isn't empty changes, whatever the answer. What a crash leaves of an empty file before the answer
 /// is Ok isn't promised.
 pub fn make<D: Disk>(disk: &mut D, secret: &[u8; SECRET_SIZE]) -> Result<Text, Stop>
     ensures makes { Makes D.Disk disk.old disk.new secret.now (ending_of result) }

@@ -14,7 +14,7 @@ use split_base::{Clock, Disk, Port};
 
 /// Two runs of a host write the same bytes to each link, where their files had the same bytes, their links, pair by pair, bring the same bytes, and the
 /// answers of their clocks are the same as far as both take some; where no call of a disk or of a link failed, and memory sufficed. They come to one
-/// state, and take as many answers of the clock. Nothing else takes part in what is written: not the number of workers, nor the pieces in which bytes
+/// state, and take as many answers of the clock. Nothing else changes what is written: not the number of workers, nor the pieces in which bytes
 /// come, nor how long a search takes.
 ///
 /// A clock may fail in both, at the same of its answers.

@@ -12,7 +12,7 @@ use std::thread::Threads;
 /// The most calls of a disk that are tried.
 const MOST_CALLS: u64 = 10_000;
 
-/// A disk that has stopped, how many requests were acknowledged before, and whether none was behind.
+/// A disk that has stopped, how many requests were acknowledged before, and whether none was after that.
 #[derive(Drop)]
 struct Stopped {
     disk: MemDisk,

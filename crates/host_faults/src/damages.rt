@@ -1,4 +1,4 @@
-// Hosts that wait, and are handed a damaged file.
+// Hosts that wait, and get a damaged file.
 use crate::disks::STORE_FAULT;
 use crate::dues::Dues;
 use crate::hosts::{Host, disk_of, fault_in};
@@ -10,7 +10,7 @@ use std::thread::Threads;
 /// The code with which a request is refused where the file is no journal.
 const STORE_DAMAGED: &str = "{\"code\":\"store_damaged\",\"place\":";
 
-/// Each byte of the file of the whole round is changed in turn, and a host that waits is handed the file. Where opening the file by itself tells that
+/// Each byte of the file of the whole round is changed in turn, and a host that waits gets the file. Where opening the file by itself tells that
 /// it is no journal, the next request is refused with the place that this tells.
 pub(crate) fn try_damages<R: Threads + Sync>(
     alloc: Global,
@@ -30,14 +30,14 @@ pub(crate) fn try_damages<R: Threads + Sync>(
     Ok(report)
 }
 
-// The file behind the whole round.
+// The file after the whole round.
 fn whole_file<R: Threads + Sync>(alloc: Global, rt: &R, dues: &Dues) -> io::Result<Vec<u8>> {
     let mut host = Host::of_file(alloc, &dues.file)?;
     host.talk(alloc, rt, &dues.round, usize::MAX, None)?;
     Ok(host.into_disk().bytes().to_vec(alloc)?)
 }
 
-// The place that a host tells whose append failed, and which is then handed this file.
+// The place that a host tells after its append failed and it got this file.
 fn place_told<R: Threads + Sync>(
     alloc: Global,
     rt: &R,

@@ -42,7 +42,7 @@ pub(crate) fn try_disks<R: Threads + Sync>(
     Ok(report)
 }
 
-/// Tells of rounds in which two calls of the disk fail: the second in the request of the first, in the opening behind it, or in the append behind
+/// Tells of rounds in which two calls of the disk fail: the second in the request of the first, in the opening after it, or in the append after
 /// that.
 pub(crate) fn tell_pairs<R: Threads + Sync + Print>(
     alloc: Global,
@@ -137,7 +137,7 @@ fn ask<R: Threads + Sync>(
     Ok(())
 }
 
-/// What a request got: its due, and whether the events are then kept that it tells of; or the refusal of a fault of the disk.
+/// What a request got: its due, and whether the events that it tells of are then kept; or the refusal of a fault of the disk.
 #[derive(Clone, Copy)]
 pub(crate) enum Answer {
     Due { kept: bool },

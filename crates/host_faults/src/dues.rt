@@ -11,7 +11,7 @@ use std::thread::Threads;
 /// The line that is written before a body that is waited for.
 pub(crate) const INTERIM: &[u8] = b"HTTP/1.1 100 Continue\r\n\r\n";
 
-/// What a request gets without a fault: its reply, the reply where it is sent once more, and the events that are kept behind it.
+/// What a request gets without a fault: its reply, the reply where it is sent once more, and the events that are kept after it.
 #[derive(Drop)]
 pub(crate) struct Due {
     pub(crate) reply: Vec<u8>,
@@ -92,7 +92,7 @@ impl Dues {
         self.round.get(place).is_some_and(|sent| sent.is_bodiless())
     }
 
-    /// How many replies stand whole in the first bytes of what a link gets, and how many bytes these are.
+    /// How many replies are whole in the first bytes of what a link gets, and how many bytes these are.
     pub(crate) fn replies_in(&self, most: usize) -> (usize, usize) {
         let mut count = 0usize;
         let mut bytes = 0usize;
@@ -115,13 +115,13 @@ impl Dues {
         }
     }
 
-    /// Whether these are the events behind so many requests, and not already those before the last of them.
+    /// Whether these are the events after so many requests, and not already those before the last of them.
     pub(crate) fn has_kept(&self, place: usize, events: &[u8]) -> bool {
         let before = self.events_behind(place);
         events != before && events == self.events_behind(place.saturating_add(1))
     }
 
-    /// Whether these are the events behind the whole round.
+    /// Whether these are the events after the whole round.
     pub(crate) fn has_all(&self, events: &[u8]) -> bool {
         events == self.events_behind(self.each.len())
     }

@@ -60,7 +60,7 @@ pub(crate) struct Got {
     pub(crate) failed: bool,
 }
 
-/// What was made, but for want of memory.
+/// What was made, except where memory runs out.
 pub(crate) fn made<T>(tried: Result<T, NoMemory>) -> io::Result<T> {
     match tried {
         Ok(object) => Ok(object),
@@ -213,7 +213,7 @@ fn clock_of(alloc: Global, round: &[Sent], fault: Option<Fault>) -> io::Result<M
     Ok(MemClock::new(moments, Fault::listed(alloc, fault, Call::Clock)?))
 }
 
-/// The events that a file keeps: the bodies of its records, each behind its length.
+/// The events that a file keeps: the bodies of its records, each after its length.
 pub(crate) fn events_of(alloc: Global, file: &[u8]) -> io::Result<Vec<u8>> {
     let mut disk = disk_of(alloc, file, &[], None)?;
     let (mut log, _) = Log::start(&mut disk).map_err(error_of)?;

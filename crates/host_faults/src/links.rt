@@ -97,7 +97,7 @@ fn ends_there(dues: &Dues, got: &Got, events: &[u8], fault: Fault) -> bool {
     got.end == LinkEnd::LinkFault && first_part && events == dues.events_behind(kept)
 }
 
-// Whether a link ended by the refusal of the request at this place, behind the replies to those before.
+// Whether a link ended by the refusal of the request at this place, after the replies to those before.
 fn ends_refused(dues: &Dues, got: &Got, place: usize) -> bool {
     let mut bytes = got.bytes.as_slice();
     for due in dues.each.iter().take(place) {

@@ -1,6 +1,6 @@
 //! Tries a host in memory over a whole round of requests, in which each call fails in turn.
 //!
-//! The round stands in the input. What each request is replied to without a fault is found first; nothing of it is listed here. The rule that the
+//! The round is in the input. The reply to each request without a fault is found first; nothing of it is listed here. The rule that the
 //! tables then hold it to is one for all of them:
 //!
 //! - A failed read or write of the link ends it there, as a link fault. The bytes written are a first part of those without a fault. A request
@@ -9,11 +9,11 @@
 //! - A failed call of the disk has its request refused as `store_fault`, each failed call just one request.
 //! - The client sends a request again until it gets another reply, and then the rest. Each gets what it gets without a fault, or where its event was
 //!   kept already, what it gets without a fault when it is sent once more. At the end the same events are kept.
-//! - A host that waits and is handed a file which is no journal refuses the request as `store_damaged`, with the place that opening the file by itself
+//! - A host that waits and gets a file which is no journal refuses the request as `store_damaged`, with the place that opening the file by itself
 //!   tells.
-//! - Where the disk stops, and what a crash leaves is opened, each acknowledged event is there, and at most that of the first request behind them.
+//! - Where the disk stops, and what a crash leaves is opened, each acknowledged event is there, and at most that of the first request after them.
 //!
-//! Of each table it is told how many rounds were tried and how many differ from the rule.
+//! Each table tells how many rounds were tried and how many differ from the rule.
 #![tactic(auto)]
 
 mod crashes;

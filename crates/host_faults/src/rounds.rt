@@ -1,9 +1,9 @@
-// The requests of a round, as they stand in the input.
+// The requests of a round, as they are in the input.
 use std::alloc::Global;
 use std::io;
 use std::io::ErrorKind;
 
-/// What begins a request: the moment that the clock tells at it, in seconds since 1970, stands behind it.
+/// What begins a request: the moment that the clock tells at it, in seconds since 1970, comes after it.
 const AT: &str = "at ";
 
 /// A request and the moment at which it comes.

@@ -25,7 +25,7 @@ next_kept images log h secret events e j two is can =
 pub bodies_are : (events : List EventView) (e : EventView) (body : List ℕ) → body ≡ spelling e → map spelling events ++ body ∷ [] ≡ map spelling (events ++ e ∷ [])
 bodies_are events e body is = ap (λ (b : List ℕ). map spelling events ++ b ∷ []) is ∙ sym (bodies_push events e)
 
--- what an append may leave stands for the events, with the new one or without
+-- what an append may leave holds the events, with the new one or without it
 pub either_events : (images : List ℕ → Type 0) (log : LogView) (h : HostView) (secret : List ℕ) (events : List EventView) (e : EventView) (body : List ℕ) → IsJournalOf images log h secret events → log.version ≡ 2 → IsEvent e
     → CanApply h e → body ≡ spelling e → (c : List ℕ) → records.IsBeforeOrAfter log.version secret (map spelling events) body c → IsBeforeOrAfter log.version secret events e c
 either_events images log h secret events e body j two is can same c (inl before) = inl (record { stands = before; kept = j.kept })

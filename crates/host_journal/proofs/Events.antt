@@ -273,7 +273,7 @@ IsFormed (BidKept moment id member turn given) = IsEvent (BidKept moment id memb
 IsFormed (Closed moment id) = IsEvent (Closed moment id)
 IsFormed (Withdrawn moment id member turn) = IsEvent (Withdrawn moment id member turn)
 
--- an event that is read was spelled behind this byte, and fits its numbers
+-- an event that is read was spelled after this byte, and fits its numbers
 abbrev TakesEvent : ℕ → List ℕ → EventView × List ℕ → Type 0
 TakesEvent kind bytes x = Takes (kind ∷ bytes) (spelling x.0) x.1 × IsFormed x.0
 

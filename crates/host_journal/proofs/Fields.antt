@@ -29,7 +29,7 @@ IsBytes-take n bytes h i =
       | inr le ↦ rw (get_or_past (take n bytes) i 0 (omega (arith, length-take n bytes))) (omega arith)
     ]
 
--- and so are those behind the first
+-- and so are those after the first
 IsBytes-rest : (b : ℕ) (bytes : List ℕ) → IsBytes (b ∷ bytes) → IsBytes bytes
 IsBytes-rest b bytes h i = h (suc i)
 
@@ -79,7 +79,7 @@ pub record Reads {A : Type 0} (read : List ℕ → Option (A × List ℕ)) (spel
   pub takes : (bytes : List ℕ) (x : A × List ℕ) → IsBytes bytes → read bytes ≡ Some x → Takes bytes (spell x.0) x.1 × Fits x.0
   pub again : (x : A) (rest : List ℕ) → Fits x → read (spell x ++ rest) ≡ Some (x, rest)
 
--- a field that was read, and what is read behind it
+-- a field that was read, and what is read after it
 pub record Step {A B : Type 0} (spell : A → List ℕ) (Fits : A → Type 0) (bytes : List ℕ) (f : A × List ℕ → Option B) (y : B) : Type 0 where
   pub x : A
   pub rest : List ℕ

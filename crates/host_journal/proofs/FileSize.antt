@@ -185,7 +185,7 @@ all_take h (e ∷ events) small is (can, rest) =
     let t = event_takes h e small (All-head IsEvent e events is) can in
     omega (arith, t.sum, all_take (apply h e) events t.small (All-tail IsEvent e events is) rest, sum_by-cons (λ (body : List ℕ). 5 + length body) (spelling e) (map spelling events))
 
--- the gate behind the records of events that were kept
+-- the gate after the records of events that were kept
 pub kept_place : (version : ℕ) (secret : List ℕ) (events : List EventView) → AreKept version secret events → place_after (map spelling events) < 40000000
 kept_place version secret events kept =
     omega (arith, all_take (empty secret) events (record { each = λ k d there. absurd (omega (arith, there)); few = omega arith }) kept.each kept.may_apply)

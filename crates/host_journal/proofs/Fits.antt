@@ -61,7 +61,7 @@ pub ok_any : {T E : Type 0} (P : Type 0) (r : Result T E) → P → OnOk r P
 ok_any P (Ok x) p = p
 ok_any P (Err e) p = tt
 
--- the names behind a front, with one more
+-- the names after a front, with one more
 pub names_more : (front : List ℕ) (names : List ArrayString) (i : ℕ) (name : ArrayString) → i < length names → name ≡ get_or names i name
     → (front ++ flat_map text_bytes (map text (take i names))) ++ text_bytes (text name) ≡ front ++ flat_map text_bytes (map text (take (i + 1) names))
 names_more front names i name lt is =

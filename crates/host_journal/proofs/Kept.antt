@@ -8,7 +8,7 @@ use Rattle.sealed_core.specs.Sealed.{empty}
 use Rattle.host_journal.specs.Spelling.{IsEvent, IsOfVersion, spelling}
 use Rattle.host_journal.specs.Journal.{AreKept, IsHostOf}
 
--- events that may be applied in turn, and one that may be applied behind them
+-- events that may be applied in turn, and one that may be applied after them
 may_push : (h : HostView) (events : List EventView) (e : EventView) → CanApplyAll h events → CanApply (apply_all h events) e → CanApplyAll h (events ++ e ∷ [])
 may_push h [] e may can = (can, tt)
 may_push h (first ∷ events) e (one, may) can = (one, may_push (apply h first) events e may can)

@@ -8,7 +8,7 @@ abbrev pub with_front : {A : Type 0} → List A → Option (List A × List ℕ) 
 with_front front read = read >>= λ x. Some (front ++ x.0, x.1)
 
 module _ {A : Type 0} (read : List ℕ → Option (A × List ℕ)) where
-  -- a value put before those still read stands behind those read before
+  -- a value put before those still read comes after those read before
   regroup : (front : List A) (x : A) (more : Option (List A × List ℕ)) → with_front front (more >>= λ y. Some (x ∷ y.0, y.1)) ≡ with_front (front ++ x ∷ []) more
   regroup front x (Some y) = ap (λ (xs : List A). Some (xs, y.1)) (simp append_assoc)
   regroup front x None = refl

@@ -1,4 +1,4 @@
--- A file stands for one list of events or has one first fault.
+-- A file holds one list of events or has one first fault.
 use Rattle.std.proofs.Common.{◌≡◌, ◌⊎◌, inl, inr, ⊎_elim, ℕ, List, [], ◌∷◌, ◌++◌, map, length, refl, sym, ◌∙◌, ap, subst, arith, All, length-append}
 use Rattle.std.proofs.lemmas.List.Elements.{All-head, All-tail}
 use Rattle.gate_log.specs.Records.{Stands, Begins, BeginWith, place_after}

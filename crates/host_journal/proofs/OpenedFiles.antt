@@ -48,7 +48,7 @@ module _ {D T : Type 0} (d : Ghosts D) (serving : Serving) (disk after : D) (s :
   moments : (new : State) → d.is_honest disk → LeavesOnly d.moment d.left_since disk after (IsEither s new)
   moments new h = weaker d.moment d.left_since disk after (IsFile s) (IsEither s new) (any h s.secret (lists_of s.kept s.waiting) (files h)) (λ file is. inl is)
 
-  -- the file stands for the events kept, with the one more or without it
+  -- the file holds the events kept, with the one more or without it
   events_seen : OneMeaning → (secret : List ℕ) (kept : List EventView) → HoldsEvents secret kept (d.seen disk) → d.is_honest disk
       → (secret ≡ s.secret) × ((kept ≡ s.kept) ⊎ (kept ≡ s.kept ++ event ∷ []))
   events_seen law secret kept (v, has) h =

@@ -30,7 +30,7 @@ of_later v w le most (BidKept moment id member turn bid) of = of
 of_later v w le most (Closed moment id) of = of
 of_later v w le most (Withdrawn moment id member turn) of = omega (arith, le, most, of)
 
--- events that were kept in a version stand in a later one
+-- events that were kept in a version are kept in a later one
 pub kept_later : (v w : ℕ) (secret : List ℕ) (events : List EventView) → v ≤ w → w ≤ 2 → AreKept v secret events → AreKept w secret events
 kept_later v w secret events le most kept = record {
   each = kept.each;
@@ -73,7 +73,7 @@ log_of_read file images log h secret events only r = record {
 abbrev pub OneMeaning : Type 0
 OneMeaning = (v w : ℕ) (secret word : List ℕ) (bodies others : List (List ℕ)) (file : List ℕ) → Stands v secret bodies file → Stands w word others file → (v ≡ w) × (secret ≡ word) × (bodies ≡ others)
 
--- what a raise may leave of a file that was read stands for what it stood for
+-- what a raise may leave of a file that was read holds what the file held
 pub still_one : OneMeaning → (file : List ℕ) (log : LogView) (h : HostView) (secret word : List ℕ) (events : List EventView) (lists : List (List EventView)) → IsReplayed file log h secret events
     → HoldsOne word lists file → (f : List ℕ) → HoldsFrom log.version secret (map spelling events) f → HoldsOne word lists f
 still_one law file log h secret word events lists r (all, among, (version, has)) f (later, le, stands) =

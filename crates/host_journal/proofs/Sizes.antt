@@ -13,6 +13,7 @@ use Rattle.bid_rules.specs.declared.limits.TheConstants.{PLACE_ROOM}
 use Rattle.bid_rules.specs.Facts.{IsCheckedFacts, legs_in_order, member_count}
 use Rattle.sealed_core.specs.Host.{CreationView, EventView, Created, BidKept, Closed, Withdrawn, IsName, item_count}
 use Rattle.gate_log.specs.Records.{IsBody}
+use Rattle.host_journal.specs.declared.laws.TheConstants.{FARES_MOST}
 use Rattle.host_journal.specs.Spelling.{text_bytes, texts_bytes, numbers_bytes, facts_bytes, bid_bytes, creation_bytes, kind_of, spelling, FitsBid, HasRules, IsEvent}
 use Rattle.host_journal.proofs.Names.{name_most, tag_most}
 
@@ -97,14 +98,14 @@ facts_size (facts.Fares fares) checked =
     )
 
 -- rent and goods have few bytes of facts, and rides few members and places
-parts_size : (f : Facts) (members items : ℕ) → IsCheckedFacts f → members ≡ member_count f → items ≡ item_count f → 41 * members + 41 * items + length (facts_bytes f) ≤ 1530
+parts_size : (f : Facts) (members items : ℕ) → IsCheckedFacts f → members ≡ member_count f → items ≡ item_count f → 41 * members + 41 * items + length (facts_bytes f) + 131 ≤ FARES_MOST
 parts_size (facts.Rent rent) members items checked m i = omega (arith, four rent.rent, checked.0.1, m, i)
 parts_size (facts.Goods goods) members items checked m i = omega (arith, four goods.limit, checked.counts.1, checked.counts.3, m, i)
 parts_size (facts.Fares fares) members items checked m i =
     omega (arith, facts_size (facts.Fares fares) checked, checked.shape.members_high, checked.shape.places_high, m, i)
 
 -- a creation's record has no more than one of fares may have
-pub fares_record : (moment : ℕ) (c : CreationView) → HasRules c → 5 + length (spelling (Created moment c)) ≤ 1661
+pub fares_record : (moment : ℕ) (c : CreationView) → HasRules c → 5 + length (spelling (Created moment c)) ≤ FARES_MOST
 fares_record moment c rules =
     omega (
       arith,

@@ -1,4 +1,4 @@
--- Each file stands for events, or it has a first fault.
+-- Each file holds events, or it has a first fault.
 use Rattle.std.proofs.Common.{◌≡◌, ◌⊎◌, inl, inr, ⊎_elim, ℕ, zero, suc, ◌+◌, ◌≤◌, ◌<◌, ◌^◌, List, [], ◌∷◌, ◌++◌, length, map, get_or, All, refl, ap, subst, arith}
 use Rattle.std.proofs.lemmas.Bool.{cases_lt}
 use Rattle.std.proofs.lemmas.List.{get_or_past}
@@ -49,7 +49,7 @@ module _ (file : List ℕ) (v : ℕ) (secret : List ℕ) (events : List EventVie
   next_meaning later (inr (inl (place, fault))) = inr (place, inr (record { version = v; secret = secret; events = events; kept = kept; fault = inl fault }))
   next_meaning later (inr (inr (body, bytes, more))) = event_meaning body more (later body more) (event_or_none v (host_of secret events) body (are_bytes body bytes))
 
--- from some events on, with no more bytes behind them than this
+-- from some events on, with no more bytes after them than this
 meaning_from : Steps → (file : List ℕ) → All (λ b. b < 2 ^ 8) file → (left v : ℕ) (secret : List ℕ) (events : List EventView) → AreKept v secret events → Begins v secret (map spelling events) file
     → length file ≤ place_after (map spelling events) + left → HoldsSome file ⊎ ((place : ℕ) × IsFirstFault place file)
 meaning_from steps file small zero v secret events kept begins le = absurd (omega (arith, le, steps.within v secret (map spelling events) file begins))

@@ -11,7 +11,7 @@ use Rattle.sealed_core.specs.Host.{EventView}
 use Rattle.host_journal.specs.States.{HasState, Passes, State, ready_with, waits_with}
 use Rattle.host_journal.specs.declared.serving.Serving.{Serving}
 
--- the serving stands for a new state, this holds of it, and the disk went on from the state before to it
+-- the serving is in a new state, this holds of it, and the disk went on from the state before to it
 pub record Leads {D : Type 0} (d : Ghosts D) (serving : Serving) (disk after : D) (s : State) (case : State → Type 0) : Type 0 where
   pub new : State
   pub stands : HasState d serving after new
@@ -30,7 +30,7 @@ pub data Keeps {D T : Type 0} (d : Ghosts D) (disk after : D) (event : EventView
   failed : result ≡ Err fault.Disk → d.faults after ≡ counted (d.faults disk) → new ≡ waits_with s event → Keeps d disk after event s new result
   memory : result ≡ Err fault.NoMemory → after ≡ disk → new ≡ s → Keeps d disk after event s new result
 
--- A file that was opened: what a read gave stood for just these events, and stands for them now in version 2, which is the one image.
+-- A file that was opened: what a read gave held just these events, and now holds them in version 2, which is the one image.
 -- It was left alone, or raised from version 1.
 pub record IsFound {D : Type 0} (d : Ghosts D) (disk after : D) (secret : List ℕ) (events : List EventView) : Type 0 where
   pub before : HoldsEvents secret events (d.seen disk)
@@ -57,7 +57,7 @@ pub data Reopens {D T : Type 0} (d : Ghosts D) (disk after : D) (s new : State) 
   memory : (event : EventView) → s.waiting ≡ Some event → result ≡ Err fault.NoMemory → d.faults after ≡ d.faults disk
       → (d.is_honest disk → Rests d.seen d.images d.moment d.left_since disk after) → new ≡ s → Reopens d disk after s new result
 
--- a journal was opened: the serving stands for a state that is ready, and an honest disk's file stood for its events
+-- a journal was opened: the serving is in a state that is ready, and an honest disk's file held its events
 pub record Opened {D : Type 0} (d : Ghosts D) (disk after : D) (serving : Serving) : Type 0 where
   pub secret : List ℕ
   pub kept : List EventView

@@ -1,4 +1,4 @@
--- What a journal stands for as events, or the place of its first fault.
+-- The events that a journal holds, or the place of its first fault.
 use Rattle.std.specs.Prelude.{◌≡◌, ◌⊎◌, ℕ, ◌+◌, ◌≤◌, List, [], ◌∷◌, ◌++◌, map, All, Contains}
 use Rattle.split_base.specs.Disk.{IsWritten}
 use Rattle.gate_log.specs.declared.limits.TheConstants.{VERSION_GATE}
@@ -25,11 +25,11 @@ pub record HasEvents (version : ℕ) (secret : List ℕ) (events : List EventVie
 abbrev pub HoldsEvents : List ℕ → List EventView → List ℕ → Type 0
 HoldsEvents secret events file = (version : ℕ) × HasEvents version secret events file
 
--- the file stands for some events
+-- the file holds some events
 abbrev pub HoldsSome : List ℕ → Type 0
 HoldsSome file = (version : ℕ) × (secret : List ℕ) × (events : List EventView) × HasEvents version secret events file
 
--- the file stands for the events, with one more or without it
+-- the file holds the events, with one more or without it
 abbrev pub IsBeforeOrAfter : ℕ → List ℕ → List EventView → EventView → List ℕ → Type 0
 IsBeforeOrAfter version secret events e file = HasEvents version secret events file ⊎ HasEvents version secret (events ++ e ∷ []) file
 
@@ -38,7 +38,7 @@ pub record IsHostOf (host : HostView) (secret : List ℕ) (events : List EventVi
   pub may_apply : CanApplyAll (empty secret) events
   pub is_host : host ≡ host_of secret events
 
--- each image stands for these events in the log's version, the log is at the closed gate after them, and the host is
+-- each image holds these events in the log's version, the log is at the closed gate after them, and the host is
 -- the one that they make
 pub record IsJournalOf (images : List ℕ → Type 0) (log : LogView) (host : HostView) (secret : List ℕ) (events : List EventView) : Type 0 where
   pub is_log : IsLogOf images log secret (map spelling events)
@@ -82,11 +82,11 @@ pub record IsReplayed (file : List ℕ) (log : LogView) (host : HostView) (secre
   pub place : log.place ≡ place_after (map spelling events)
   pub is_host : host ≡ host_of secret events
 
--- the file stands for these bodies, in this version or a later one
+-- the file has these bodies, in this version or a later one
 abbrev pub HoldsFrom : ℕ → List ℕ → List (List ℕ) → List ℕ → Type 0
 HoldsFrom version secret bodies file = (later : ℕ) × (version ≤ later) × Stands later secret bodies file
 
--- the file stands for one of these lists of events, in either version
+-- the file holds one of these lists of events, in either version
 abbrev pub HoldsOne : List ℕ → List (List EventView) → List ℕ → Type 0
 HoldsOne secret lists file = (events : List EventView) × Contains lists events × HoldsEvents secret events file
 
@@ -95,13 +95,13 @@ pub record IsHostOfFile (host : HostView) (secret : List ℕ) (events : List Eve
   pub of_events : IsHostOf host secret events
   pub of_file : told
 
--- the file stood for these events and stands for them in version 2, and host and log are theirs
+-- the file held these events and now holds them in version 2, and host and log are theirs
 pub record HasOpened (old new : List ℕ) (images : List ℕ → Type 0) (log : LogView) (host : HostView) (secret : List ℕ) (events : List EventView) : Type 0 where
   pub before : HoldsEvents secret events old
   pub after : HasEvents 2 secret events new
   pub journal : IsJournalOf images log host secret events
 
--- the file stood for some events and stands for them in version 2, and host and log are theirs
+-- the file held some events and now holds them in version 2, and host and log are theirs
 pub record IsOpened (old new : List ℕ) (images : List ℕ → Type 0) (log : LogView) (host : HostView) : Type 0 where
   pub secret : List ℕ
   pub events : List EventView

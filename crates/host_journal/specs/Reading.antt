@@ -143,7 +143,7 @@ whole_at bytes = do
   event ← event_at bytes
   if length event.1 == 0 then Some event.0 else None
 
--- the creation but for its deadline, which has no limit here
+-- the creation except for its deadline, which has no limit here
 abbrev pub undated : CreationView → CreationView
 undated c = record { title = c.title; members = c.members; items = c.items; facts = c.facts; deadline = 0; tag = c.tag }
 

@@ -1,4 +1,4 @@
--- The states of a serving host, and the file that stands for each.
+-- The states of a serving host, and the file of each.
 use Rattle.std.specs.Prelude.{◌≡◌, ◌⊎◌, ◌↔◌, ℕ, ◌≤◌, List, [], ◌∷◌, ◌++◌, Option, Some, None, option_map, IfSome}
 use Rattle.split_base.specs.declared.disk.Disk.{Ghosts}
 use Rattle.split_base.specs.Disk.{Each, LeavesOnly}
@@ -44,7 +44,7 @@ abbrev pub IsFileOf : (List ℕ → Type 0) → LogView → HostView → List �
 IsFileOf images log host secret kept None = IsJournalOf images log host secret kept
 IsFileOf images log host secret kept (Some event) = Each images (HoldsOne secret (lists_of kept (Some event)))
 
--- The serving and its disk stand for the state. The events kept may be applied one after another, and make the host; the one that waits
+-- The serving and its disk are in the state. The events kept may be applied one after another, and make the host; the one that waits
 -- may be applied after them.
 pub record HasState {D : Type 0} (d : Ghosts D) (serving : Serving) (disk : D) (s : State) : Type 0 where
   pub host : IsHostOf serving.host.content s.secret s.kept

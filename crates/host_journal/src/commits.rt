@@ -28,7 +28,7 @@ pub struct CommitFault {
 ///   holds the event or doesn't. The log isn't at its end: the file is opened anew.
 /// - `NoMemory` comes when memory runs out, before the first call of the disk, which is as before.
 ///
-/// Each hands the event back; `NotALog` never comes.
+/// Each gives the event back; `NotALog` never comes.
 pub fn commit<D: Disk>(
     alloc: Global,
     host: &mut Host,

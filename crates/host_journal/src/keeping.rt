@@ -30,7 +30,7 @@ pub fn keep<D: Disk>(
     ensures kept { (s : State) → HasState D.Disk serving.old disk.old s
         → Leads D.Disk serving.new disk.old disk.new s (λ new. Keeps D.Disk disk.old disk.new (event_view event) s new result) }
 
-    // Whatever the serving stands for.
+    // Whatever state the serving is in.
     ensures count { D.faults disk.old ≤ D.faults disk.new }
     ensures honest { D.is_honest disk.old ↔ D.is_honest disk.new }
 {

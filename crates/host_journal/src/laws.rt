@@ -41,7 +41,7 @@ pub fn size_law()
 {}
 
 /// A journal of events stays below 40 MB: what its header and records take, with the closed gate
-/// after them. What a crash left after that gate takes no part.
+/// after them. What a crash left after that gate plays no role.
 pub fn file_law()
     ensures { (version : ℕ) (secret : List ℕ) (events : List EventView) (file : List ℕ) → HasEvents version secret events file
         → place_after (map spelling events) < JOURNAL_MOST }
@@ -52,7 +52,7 @@ pub fn spelling_law()
     ensures { (e f : EventView) → IsEvent e → IsEvent f → spelling e ≡ spelling f → e ≡ f }
 {}
 
-/// A file has one meaning: it stands for the events of one list in one version and with one secret,
+/// A file has one meaning: it holds the events of one list in one version and with one secret,
 /// or it has its first fault at one place.
 pub fn events_law()
     ensures one_meaning { (v w : ℕ) (secret word : List ℕ) (events others : List EventView) (file : List ℕ)

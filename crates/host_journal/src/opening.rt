@@ -20,8 +20,8 @@ use std::alloc::Global;
 /// and then raises a journal of version 1 to version 2. It gives the host of the events, and the log
 /// at its end.
 ///
-/// - `Disk` comes only where the disk's count of faults has risen. The file stands for the events for
-///   which it stood, in either version.
+/// - `Disk` comes only where the disk's count of faults has risen. The file holds the events that
+///   it held, in either version.
 /// - `NotALog` comes exactly where the file has a fault, with the place of its first. A body that is
 ///   no event of the file's version, or none that may be applied at its turn, is a fault at its gate's
 ///   place.
@@ -53,12 +53,12 @@ pub fn open_host<D: Disk>(alloc: Global, disk: &mut D) -> Result<(Host, Log), Lo
     ensures writes { D.is_honest disk.old → LeavesOnly D.moment D.left_since disk.old disk.new (Tears (D.images disk.old) VERSION_GATE 1) }
     ensures torn { D.is_honest disk.old → Each (D.images disk.new) (Tears (D.images disk.old) VERSION_GATE 1) }
 
-    // A byte changes only where the whole file was read and stands for events of version 1.
+    // A byte changes only where the whole file was read and holds events of version 1.
     ensures kept { D.is_honest disk.old → IfErr result (λ e. e ≢ LogFault.Disk → Rests D.seen D.images D.moment D.left_since disk.old disk.new) }
     ensures raised_whole { D.is_honest disk.old → Rests D.seen D.images D.moment D.left_since disk.old disk.new
         ⊎ ((secret : List ℕ) × (events : List EventView) × HasEvents 1 secret events (D.seen disk.old)) }
 
-    // Where each image stands for one of some lists of events, it does so at each moment.
+    // Where each image holds one of some lists of events, it does so at each moment.
     ensures any_moment { D.is_honest disk.old → (secret : List ℕ) (lists : List (List EventView)) → Each (D.images disk.old) (HoldsOne secret lists)
         → LeavesOnly D.moment D.left_since disk.old disk.new (HoldsOne secret lists) }
     ensures after { D.is_honest disk.old → (secret : List ℕ) (lists : List (List EventView)) → Each (D.images disk.old) (HoldsOne secret lists)

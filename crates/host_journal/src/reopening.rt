@@ -12,8 +12,8 @@ use gate_log::LogFault;
 use split_base::Disk;
 use std::alloc::Global;
 
-/// Opens the file of a host that waits. At `Ok` the host is ready again, with the events for which the
-/// file stands: so it is settled whether the event that waited was kept. Nothing is appended.
+/// Opens the file of a host that waits. At `Ok` the host is ready again, with the events that the
+/// file holds: so it is settled whether the event that waited was kept. Nothing is appended.
 ///
 /// - `Disk` comes only where the disk's count of faults has risen, by one.
 /// - `NotALog` comes exactly where the file is no journal, with the place of its first fault: never on
@@ -27,7 +27,7 @@ pub fn reopen<D: Disk>(alloc: Global, serving: &mut Serving, disk: &mut D) -> Re
         → Leads D.Disk serving.new disk.old disk.new s (λ new. Reopens D.Disk disk.old disk.new s new result) }
     ensures ready { OnOk result (serving.new.waiting ≡ None) }
 
-    // Whatever the serving stands for.
+    // Whatever state the serving is in.
     ensures place { D.tells disk.old → (place : ℕ) → result ≡ Err (LogFault.NotALog place) → IsFirstFault place (D.seen disk.old) }
     ensures count { D.faults disk.old ≤ D.faults disk.new }
     ensures honest { D.is_honest disk.old ↔ D.is_honest disk.new }

@@ -7,7 +7,7 @@ ghost use Rattle.host_journal.specs.declared.serving.Serving.{Serving};
 
 use split_base::Disk;
 
-/// On an honest disk each image is a file of the state for which a serving stands.
+/// On an honest disk each image is a file of the state that a serving is in.
 pub fn files_law<D: Disk>()
     ensures { (serving : Serving) (disk : D) (s : State) → HasState D.Disk serving disk s → D.is_honest disk → Each (D.images disk) (IsFile s) }
 {}

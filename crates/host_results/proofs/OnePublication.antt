@@ -48,7 +48,7 @@ same_fault (fault.Void missing) told other a b = a ∙ sym b
 same_fault (fault.OverLimit limit) told other a b = a ∙ sym b
 same_fault fault.NoMemory told other a b = absurd a
 
--- an end that is told is not want of memory
+-- an end that is told is not a lack of memory
 not_memory : (asked : What) (given : CaseData) (end : Result (Case × Division) SolveFault) (told : ContentView) → TellsEnd asked given end told → end ≢ Err fault.NoMemory
 not_memory asked given end told tells = λ e. subst (λ (x : Result (Case × Division) SolveFault). TellsEnd asked given x told) e tells
 

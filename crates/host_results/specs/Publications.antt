@@ -31,7 +31,7 @@ use Rattle.host_results.specs.declared.contents.ContentType.TheVariants.{Json, P
 use Rattle.host_results.specs.Contents.{ContentView, refusal_told}
 use Rattle.bid_rules.specs.declared.limits.TheConstants.{PAIR}
 
--- the case that an instance is of: its names, its facts and the kept bids. Turns, deadline and tag take no part in it
+-- the case that an instance is of: its names, its facts and the kept bids. Turns, deadline and tag do not change it
 abbrev pub case_data : InstanceView → CaseData
 case_data i = record { title = i.creation.title; members = i.creation.members; items = i.creation.items; facts = i.creation.facts; bids = i.bids }
 
@@ -41,7 +41,7 @@ refusal_of (fault.Void missing) = service.Void missing
 refusal_of (fault.OverLimit limit) = service.StepLimit limit
 refusal_of fault.NoMemory = service.Memory
 
--- a success, with a text of this type of which this is so
+-- a success, with a text of this type, and this is so of the text
 abbrev pub IsText : ContentType → (List ℕ → Type 0) → ContentView → Type 0
 IsText type so told = (told.status ≡ 200) × (told.content_type ≡ type) × so told.text
 
@@ -87,7 +87,7 @@ abbrev pub TellsPair : Bool → GoodsCase → ContentView → Type 0
 TellsPair true goods told = IsText Plain (IsWinnerText goods) told
 TellsPair false goods told = told ≡ refusal_told service.NotTwo
 
--- a winner is one of goods between two players; the step limit takes no part
+-- a winner is one of goods between two players; the step limit plays no role
 abbrev pub TellsWinner : Result Case Missing → ContentView → Type 0
 TellsWinner (Err missing) told = told ≡ refusal_told (service.Void missing)
 TellsWinner (Ok (cases.Rent rent)) told = told ≡ refusal_told service.NotTwo

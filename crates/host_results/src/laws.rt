@@ -23,8 +23,8 @@ pub fn instance_law()
     ensures closed { (i : InstanceView) → case_data (as_closed i) ≡ case_data i }
 {}
 
-/// Of a case one thing alone is published by what is asked: so neither the number of workers nor their order takes part in its status,
-/// its content type and its text.
+/// One thing alone is published of a case by what is asked: so neither the number of workers nor their order changes its status,
+/// its content type or its text.
 pub fn one_publication_law()
     ensures { (given : CaseData) (asked : What) (told other : ContentView) → IsReady given → IsPublication given asked told → IsPublication given asked other → told ≡ other }
 {

@@ -32,13 +32,13 @@ use std::thread::Threads;
 /// What is published of an instance by what is asked.
 ///
 /// - A division, a certificate and a report tell the best division of the case that its facts and bids make, and so does the audit of goods
-///   or of a shared fare; or, with the status of the refusal, that they make none for want of bids, or one of goods whose step count is
+///   or of a shared fare; or, with the status of the refusal, that they make none where bids are missing, or one of goods whose step count is
 ///   above its limit. A rent has no audit, whatever its bids.
 /// - The winner is told of a case of goods between two players, whatever its step count; else that bids are missing, or that they are not
 ///   two.
 ///
 /// It may be asked before the event that closes the instance is applied: that changes nothing of it. Goods are searched by 1 to
-/// `MOST_WORKERS` workers, unless a kept search is of the same case. Neither they nor the kept searches take part in the answer.
+/// `MOST_WORKERS` workers, unless a kept search is of the same case. Neither they nor the kept searches change the answer.
 /// `NoMemory` comes only where memory runs out.
 pub fn publication<R: Threads + Sync, G: Gate + Sync>(
     alloc: Global,

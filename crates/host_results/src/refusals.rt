@@ -20,8 +20,8 @@ pub fn refusal_of(fault: SolveFault) -> ServiceRefusal
     }
 }
 
-/// What the reply tells by which the service refuses a request: the status of the refusal, and its text as JSON. `NoMemory` comes for want
-/// of memory alone.
+/// What the reply tells by which the service refuses a request: the status of the refusal, and its text as JSON. `NoMemory` comes only
+/// where memory runs out.
 pub fn refusal_content(alloc: Global, refusal: &ServiceRefusal) -> Result<ReplyContent, NoMemory>
     ensures { IfOk result (λ told. content_view told ≡ refusal_told refusal.now) }
 {

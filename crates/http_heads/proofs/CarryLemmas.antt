@@ -7,7 +7,7 @@ use Rattle.std.proofs.Math.Seq.{take-append-add}
 use Rattle.std.specs.List.{copy_within}
 use Rattle.std.specs.Io.KnownBytes.{Keeps, Consumes, prepend_known}
 
--- the first n of what was read stand behind the first a
+-- the first n of what was read come after the first a
 pub take-put_part : (a k n : ℕ) (xs ys : List ℕ) → a ≤ length xs → n ≤ length ys → take (a + n) (put_mid a k xs ys) ≡ take a xs ++ take n ys
 take-put_part a k n xs ys h l =
     let whole = take-put_mid a k xs ys (a + length ys) refl h in
@@ -17,7 +17,7 @@ take-put_part a k n xs ys h l =
     ∙ ap (λ m. take (m + n) (take a xs ++ ys)) (sym front)
     ∙ take-append-add (take a xs) ys n
 
--- what a read gave goes behind the bytes that were there
+-- what a read gave goes after the bytes that were there
 pub Keeps-read : (a b : Option (List ℕ)) (old new front : List ℕ) → Consumes a b new → front ≡ old ++ new → Keeps (prepend_known old a) (prepend_known front b)
 Keeps-read None b old new front p e = tt
 Keeps-read (Some x) None old new front p e = absurd p

@@ -1,5 +1,5 @@
 -- The search for a head of a kind. `IsText` says which bytes are the whole text of a head with few enough fields, `AsksMore` for which bytes the
--- parser asks for more, and `IsFound` where a head stands.
+-- parser asks for more, and `IsFound` where a head is.
 use Rattle.std.specs.Prelude.{◌≡◌, ◌≢◌, ℕ, ◌<◌, ◌≤◌, List, [], ◌++◌, length, Option, IfSome, ⊤}
 use Rattle.httparse.specs.declared.spans.HeaderSpan.{HeaderSpan}
 use Rattle.split_base.specs.Faults.{counted}
@@ -22,13 +22,13 @@ pub record IsBad (IsText : List ℕ → Type 0) (bytes : List ℕ) : Type 0 wher
   pub some : 0 < length bytes
   pub none : (text rest : List ℕ) → IsText text → length text ≤ MAX_HEAD → bytes ≢ text ++ rest
 
--- no head stands at the front of the bytes, the parser asks for more of them, and they are fewer than a head may have
+-- no head is at the front of the bytes, the parser asks for more of them, and they are fewer than a head may have
 pub record IsOpen (IsText AsksMore : List ℕ → Type 0) (bytes : List ℕ) : Type 0 where
   pub none : 0 < length bytes → HasNone IsText bytes
   pub asks : 0 < length bytes → AsksMore bytes
   pub few : length bytes < MAX_HEAD
 
--- what a look at the bytes answers: a head stands there; none does, whatever follows; or none does yet, and the parser asks for more
+-- what a look at the bytes answers: a head is there; none is, whatever follows; or none is yet, and the parser asks for more
 abbrev pub LookSays : {T : Type 0} → (IsText AsksMore : List ℕ → Type 0) → (List ℕ → List HeaderSpan → T → Type 0) → List ℕ → List HeaderSpan → Look T → Type 0
 LookSays IsText AsksMore IsFound bytes fields (looks.Found spans) = IsFound bytes fields spans
 LookSays IsText AsksMore IsFound bytes fields looks.Never = NeverHasOne IsText bytes

@@ -15,7 +15,7 @@ use split_base::Source;
 
 /// A kind of head, of requests or of responses, as `httparse` reads it.
 pub trait HeadKind {
-    /// Where the parts of a head stand.
+    /// Where the parts of a head are.
     type Spans: Copy;
 
     /// The bytes are the whole text of a head with at most `MAX_FIELDS` fields.
@@ -24,7 +24,7 @@ pub trait HeadKind {
     /// The parser asks for more of the bytes, or has no room for all their fields.
     ghost AsksMore: { List ℕ → Type 0 };
 
-    /// Such a head stands at the front of the bytes, at these spans.
+    /// Such a head is at the front of the bytes, at these spans.
     ghost IsFound: { List ℕ → List HeaderSpan → Self.Spans → Type 0 };
 
     /// How many fields the head at these spans has.
@@ -48,7 +48,7 @@ pub trait HeadKind {
 /// What the bytes that were read so far say of a head.
 #[derive(Clone, Copy, Debug)]
 pub enum Look<T> {
-    /// One stands at their front, at these spans.
+    /// One is at their front, at these spans.
     Found(T),
     /// They begin with none, whatever follows.
     Never,

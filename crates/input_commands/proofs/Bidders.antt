@@ -6,7 +6,7 @@ use Rattle.bid_rules.specs.declared.bids.Bid.{Bid}
 use Rattle.bid_rules.specs.Facts.{members_where}
 use Rattle.split_json.specs.Proposals.{has_bid}
 
--- what stands at the number of a bid that passes the test
+-- what is at the number of a bid that passes the test
 abbrev numbered : ℕ × Option Bid → Option ℕ
 numbered entry = if is_some entry.1 then Some entry.0 else None
 
@@ -14,12 +14,12 @@ numbered entry = if is_some entry.1 then Some entry.0 else None
 abbrev bidders_from : ℕ → List (Option Bid) → List ℕ
 bidders_from n bids = filter_map numbered (enumerate_from n bids)
 
--- one who is among some members is still there behind another
+-- one who is among some members is still there after another
 behind : (passes : Bool) (n : ℕ) (members : List ℕ) (member : ℕ) → Contains members member → Contains (cons_option (if passes then Some n else None) members) member
 behind true n members member c = (suc c.0, (let l = c.1 in omega arith), c.2)
 behind false n members member c = c
 
--- one who passes the test stands first
+-- one who passes the test comes first
 first : (passes : Bool) (n : ℕ) (members : List ℕ) → passes ≡ true → Contains (cons_option (if passes then Some n else None) members) n
 first true n members e = (0, omega arith, refl)
 first false n members e = cc

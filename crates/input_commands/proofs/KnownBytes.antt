@@ -1,4 +1,4 @@
--- An ending that is neither a fault nor want of memory is the one for which the known bytes call.
+-- An ending that is neither a fault nor a lack of memory is the one that the known bytes call for.
 use Rattle.std.proofs.Common.{◌≡◌, ◌≢◌, ◌≤◌, ℕ, List, ◌++◌, None, Some, Result, Err, IfSome, length, arith, inl, inr, refl, ap, sym, ◌∙◌, append-nil, length-append, subst}
 use Rattle.std.specs.Prelude.{Option}
 use Rattle.std.specs.Io.KnownBytes.{Consumes, IsAtEnd}
@@ -33,7 +33,7 @@ of_long command input h =
     known_from input.bytes_before (λ known low. (let long = h.1 in inl (omega (arith, long, low), refl)))
     (given_is input.bytes_before input.bytes_after h.0 h.2)
 
--- bytes that were taken whole are all that stood there
+-- bytes that were taken whole are all that were there
 of_whole : (command : InputCommand) (input : ObjectUse) (ending : Result (List ℕ) Stop) → (bytes : List ℕ) × IsWhole (longest command) input bytes × Answers command bytes ending
     → IfSome input.bytes_before (λ bytes. CallsFor command bytes ending)
 of_whole command input ending h =

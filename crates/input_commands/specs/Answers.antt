@@ -37,15 +37,15 @@ use Rattle.bid_rules.specs.declared.limits.TheConstants.{PAIR}
 abbrev pub Holds : {A E : Type 0} → Result A E → (A → Type 0) → Type 0
 Holds {A = A} result so = (value : A) × (result ≡ Ok value) × so value
 
--- the facts and bids make a case of which this is so
+-- the facts and bids make a case, and this is so of it
 abbrev pub MakesCase : CaseData → (Case → Type 0) → Type 0
 MakesCase given so = Holds (case_of given.facts given.bids) so
 
--- they make a case of goods of which this is so
+-- they make a case of goods, and this is so of it
 abbrev pub MakesGoods : CaseData → (GoodsCase → Type 0) → Type 0
 MakesGoods given so = (case : GoodsCase) × (case_of given.facts given.bids ≡ Ok (Goods case)) × so case
 
--- they make no case, for want of the bids of these members
+-- they make no case, because the bids of these members are missing
 abbrev pub IsVoid : Missing → CaseData → Type 0
 IsVoid missing given = case_of given.facts given.bids ≡ Err missing
 
@@ -54,7 +54,7 @@ abbrev pub OfBody : {A : Type 0} → (List ℕ → Result A BodyFault) → (A �
 OfBody read answers bytes (Err (BadCase fault)) = read bytes ≡ Err fault
 OfBody read answers bytes ending = Holds (read bytes) (λ body. answers body ending)
 
--- the answer to facts and bids: a text of the best division of the case that they make; the members for want of whose bids they make none; or the
+-- the answer to facts and bids: a text of the best division of the case that they make; the members whose missing bids leave no case; or the
 -- limit that the case is above
 abbrev pub OfCase : (CaseData → Case → Division → List ℕ → Type 0) → CaseData → Result (List ℕ) Stop → Type 0
 OfCase prints given (Ok text) = MakesCase given (λ case. (division : Division) × IsDivisionOf case division × prints given case division text)
@@ -76,8 +76,8 @@ OfOwners given case owners (Err other) = ⊥
 abbrev pub OfProposal : CaseData × List ℕ → Result (List ℕ) Stop → Type 0
 OfProposal proposal ending = MakesGoods proposal.0 (λ case. OfOwners proposal.0 case (players_of case proposal.1) ending)
 
--- the answer to facts and bids of goods: the text of adjusted winner, where there are two players; or that there are not; or the members for
--- want of whose bids there is no case
+-- the answer to facts and bids of goods: the text of adjusted winner, where there are two players; or that there are not; or, where there
+-- is no case, the members whose bids are missing
 abbrev pub OfPair : CaseData → Result (List ℕ) Stop → Type 0
 OfPair given (Ok text) = MakesGoods given (λ case. (player_count case ≡ PAIR) × IsWinnerText case text)
 OfPair given (Err (Void missing)) = IsVoid missing given

@@ -14,7 +14,7 @@ EndsOn command input (Err ReadFault) = HasOneFault input × IsPartRead (longest 
 EndsOn command input (Err NoMemory) = TakesMemory command × IsPartRead (longest command) input × HasNoFault input
 EndsOn command input ending = (bytes : List ℕ) × IsWhole (longest command) input bytes × Answers command bytes ending
 
--- the ending of the command for which these bytes call, where no call fails and memory is there
+-- the ending that these bytes call for, where no call fails and memory suffices
 abbrev pub CallsFor : InputCommand → List ℕ → Result (List ℕ) Stop → Type 0
 CallsFor command bytes ending =
     ((longest command < length bytes) × (ending ≡ Err TooLong))

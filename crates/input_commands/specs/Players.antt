@@ -3,7 +3,7 @@ use Rattle.std.specs.Prelude.{ℕ, ◌+◌, ◌==◌, List, map}
 use Rattle.std.specs.List.{position_or_len}
 use Rattle.bid_rules.specs.declared.goods.GoodsCase.{GoodsCase}
 
--- the player, from 1, that a member is who has bid
+-- the player, from 1, that a member with a bid is
 abbrev pub player_of : GoodsCase → ℕ → ℕ
 player_of case member = position_or_len (λ other. other == member) case.who.items + 1
 

@@ -26,7 +26,7 @@ use std::thread::Threads;
 ///
 /// - `TooLong` comes exactly where the input has more bytes. One byte more than the command may have was read then.
 /// - `ReadFault` comes only where the input's count of faults has risen, and at once: the failed read is not tried again.
-/// - `NoMemory` comes for want of memory alone, and never of `check` and `checkwinner`.
+/// - `NoMemory` comes only where memory runs out, and never of `check` and `checkwinner`.
 /// - Each other ending is what the command answers to the bytes of the input, which was read to its end.
 pub fn input_ending<R: Threads + Sync, I: Source, G: Gate + Sync>(
     alloc: Global,

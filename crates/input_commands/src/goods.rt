@@ -29,7 +29,7 @@ pub(crate) fn goods_case(input: &CaseInput) -> Result<GoodsCase, Missing>
     }
 }
 
-/// The place of a number in a list, or how many stand there.
+/// The place of a number in a list, or how many there are.
 fn place_of(numbers: &[u8], number: u8) -> usize
     ensures { result ≡ position_or_len (λ other. other == number) numbers.now }
 {
@@ -41,7 +41,7 @@ fn place_of(numbers: &[u8], number: u8) -> usize
     numbers.len()
 }
 
-/// The player that a member is who has bid.
+/// The player that a member with a bid is.
 fn player_of(case: &GoodsCase, member: u8) -> u8
     requires case { IsValidGoodsCase case.now }
     requires bidder { Contains case.now.who.items member }
@@ -52,7 +52,7 @@ fn player_of(case: &GoodsCase, member: u8) -> u8
     place_of(case.who.as_slice(), member) as u8 + 1
 }
 
-/// The players that members are who have bid.
+/// The players that members with bids are.
 pub(crate) fn players_of(case: &GoodsCase, members: &[u8]) -> ArrayVec<u8, ITEM_ROOM>
     requires case { IsValidGoodsCase case.now }
     requires few { length members.now ≤ ITEM_ROOM }

@@ -25,7 +25,7 @@ use winner_rules::winner_verdict_law;
 
 /// What a command ends with is fixed by the input's bytes, so it is the same for every number of workers: its text, since a case has one
 /// best division and a division one text; and each other ending, with the members who lack a bid, the limit, the rule, the field and the
-/// line that it names. And an ending that is neither a fault nor want of memory is the one for which the bytes of the input call, where it
+/// line that it names. And an ending that is neither a fault nor a lack of memory is the one that the bytes of the input call for, where it
 /// tells them.
 pub fn input_answer_law()
     ensures one { (command other : InputCommand) (bytes : List ℕ) (ending another : Result (List ℕ) Stop) → AreAlike command other

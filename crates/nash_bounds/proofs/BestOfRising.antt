@@ -27,11 +27,11 @@ not_less a x h = grind (arith, nat_tests)
 less_behind : (a x r : Pair) → IsLess a x → IsLess x r → IsLess a r
 less_behind a x r h l = grind arith
 
--- an allocation is behind itself
+-- an allocation is no better than itself
 behind_itself : (case : GoodsCase) (a : List ℕ) → IsBehind case a a
 behind_itself case a = inr (refl, λ h. let e = tied_itself nat_list_cmp_total a in absurd (cc))
 
--- below an allocation that is behind another is below the other
+-- where the first is below the second, and the second is no better than a third, the first is below the third
 behind_through : (case : GoodsCase) (a x r : List ℕ) → IsLess (pair_of case a) (pair_of case x) → IsBehind case x r → IsLess (pair_of case a) (pair_of case r)
 behind_through case a x r l (inl m) = less_behind (pair_of case a) (pair_of case x) (pair_of case r) l m
 behind_through case a x r l (inr e) = subst (λ (p : Pair). IsLess (pair_of case a) p) e.0 l
@@ -43,7 +43,7 @@ behind_after case a x r (inl l) b h = inl (behind_through case x a r l h)
 behind_after case a x r (inr e) b (inl m) = inl (subst (λ (p : Pair). IsLess p (pair_of case r)) (sym (same_pair (pair_of case x) (pair_of case a) e.0 e.1)) m)
 behind_after case a x r (inr e) b (inr f) = inr (same_pair (pair_of case x) (pair_of case a) e.0 e.1 ∙ f.0, λ g. f.1 (nat_list_cmp_total.trans a x r b g))
 
--- the one that is kept at the end, which the first and all others are behind
+-- the one that is kept at the end: neither the first nor any other is better
 abbrev pub Wins : GoodsCase → List ℕ → List (List ℕ) → List ℕ → Type 0
 Wins case acc xs r = (fold (keep case) (Some acc) xs ≡ Some r) × IsBehind case acc r × All (λ x. IsBehind case x r) xs
 

@@ -108,7 +108,7 @@ unfolding zeros
 zeros_order zero = tt
 zeros_order (suc k) = (omega arith, zeros_order k)
 
--- a zero is what stands past the end of a list
+-- a zero is what comes past the end of a list
 zeros_get : (k i : ℕ) → get_or (zeros k) i 0 ≡ 0
 unfolding zeros
 zeros_get zero i = refl

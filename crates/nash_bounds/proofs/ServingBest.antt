@@ -276,7 +276,7 @@ both_behind case a b (inl l) (inr e) = absurd (less_not (pair_of case a) (pair_o
 both_behind case a b (inr e) (inl l) = absurd (less_not (pair_of case b) (pair_of case a) l (subst (λ (p : Pair). IsAtMost p (pair_of case b)) (sym e.0) (at_most_itself (pair_of case b))))
 both_behind case a b (inr e) (inr f) = same_from_neither a b e.1 f.1
 
--- no list stands in a list without entries
+-- no list is in a list without entries
 contains_none : (x : List ℕ) (xs : List (List ℕ)) → xs ≡ [] → Contains xs x → ⊥
 contains_none x xs e h = let l = h.1 in let n : length xs ≡ 0 = ap length e in omega arith
 

@@ -42,7 +42,7 @@ map_nothing : (xs : List (List ℕ)) → map (λ os. [] ++ os) xs ≡ xs
 map_nothing [] = refl
 map_nothing (x ∷ xs) = ap (λ ys. x ∷ ys) (map_nothing xs)
 
--- one more owner in front of all heads stands in front of all lists
+-- one more owner in front of all heads is in front of all lists
 under_head : (n k o : ℕ) (xs : List (List ℕ)) → flat_map (λ os. map (λ ps. os ++ ps) (lists n k)) (map (λ os. o ∷ os) xs) ≡ map (λ os. o ∷ os) (flat_map (λ os. map (λ ps. os ++ ps) (lists n k)) xs)
 under_head n k o [] = refl
 under_head n k o (x ∷ xs) =

@@ -43,7 +43,7 @@ pub record IsLanes (case : GoodsCase) (owners : List ℕ) (lanes : Lanes) : Type
 abbrev pub next_good : GoodsCase → List ℕ → ℕ
 next_good case owners = slice_index (order_of case) (length owners)
 
--- for each lane, what the player has under these owners, and what the player would have with all free goods but the next
+-- for each lane, what the player has under these owners, and what the player would have with all free goods except the next
 pub record IsFork (case : GoodsCase) (owners : List ℕ) (lanes : Lanes) : Type 0 where
   pub is_low : lanes.low ≡ by_lane (has case owners)
   pub is_high : lanes.high ≡ by_lane (λ player. may_have case owners player - points case player (next_good case owners))

@@ -19,7 +19,7 @@ use bid_rules::{GoodsCase, Pair};
 
 /// Owners of the first few goods in search order. The other goods are free.
 ///
-/// Whoever gets the free goods, the players' utilities lie between `low` and `high`, and sum to at most `top`.
+/// No matter who gets the free goods, the players' utilities lie between `low` and `high`, and sum to at most `top`.
 #[derive(Drop)]
 pub struct Prefix {
     /// The owner, a player from 1, of each of the first few goods in search order.

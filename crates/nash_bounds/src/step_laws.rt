@@ -110,10 +110,10 @@ pub fn steps_law()
     ensures rises { (case : GoodsCase) (floor : Pair) (task more : ℕ) → steps_before case floor task ≤ steps_before case floor (task + more) }
 {}
 
-/// The step law: of the prefixes of all lengths, the empty one among them, at most as many as the step count and `MOST_SHORTER` may not be
-/// left out by a tree that shows the best allocation. One may be left out if its bound is below the answer's pair, or the same and it is
-/// after the answer's first owners: where its bound does not reach the pair, or is not above it where the owners are after the answer's first
-/// ones.
+/// The step law is about the prefixes that a tree which shows the best allocation may not leave out. They have all lengths, and the empty
+/// one is among them. They are at most as many as the step count and `MOST_SHORTER`. One may be left out if its bound is below the
+/// answer's pair, or the same and it is after the answer's first owners: where its bound does not reach the pair, or is not above it where
+/// the owners are after the answer's first ones.
 pub fn open_prefixes_law()
     ensures left { (case : GoodsCase) (answer owners : List ℕ) → may_be_left case answer owners ≡ true
         ↔ IsLess (prefix_bound case owners) (pair_of case answer)

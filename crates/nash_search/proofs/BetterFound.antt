@@ -28,7 +28,7 @@ not_before a b d h k l = go (slice_cmp nat_cmp b d) refl
 both_before : (a b : List ℕ) → slice_cmp nat_cmp a b ≡ Less → slice_cmp nat_cmp b a ≡ Less → ⊥
 both_before a b h k = let e : slice_cmp nat_cmp b a ≡ Greater = nat_list_cmp_total.antisymm b a ∙ ap ordering_reverse h in let f : Less ≡ Greater = sym k ∙ e in cc
 
--- of two with the same pair the one that is before is not behind
+-- where two have the same pair and the first comes before, the second is no better
 pub same_ahead : (case : GoodsCase) (a b : Found) (before : Bool) → before ≡ true ↔ slice_cmp nat_cmp a.list.items b.list.items ≡ Less → a.pair ≡ b.pair → a.pair ≡ pair_of case a.list.items → b.pair ≡ pair_of case b.list.items
     → not before ≡ false → IsBehind case b.list.items a.list.items
 same_ahead case a b before is same own other h = inr (sym other ∙ sym same ∙ own, both_before a.list.items b.list.items (is.0 (yes_before before h)))
@@ -37,14 +37,14 @@ same_ahead case a b before is same own other h = inr (sym other ∙ sym same ∙
     yes_before true e = refl
     yes_before false e = cc
 
--- behind one that is behind a third
+-- where the first is no better than the second, and the second is no better than a third, the first is no better than the third
 behind_trans : (case : GoodsCase) (a b d : List ℕ) → IsBehind case a b → IsBehind case b d → IsBehind case a d
 behind_trans case a b d (inl l) (inl m) = inl (less_through (pair_of case a) (pair_of case b) (pair_of case d) l (less_at_most (pair_of case b) (pair_of case d) m))
 behind_trans case a b d (inl l) (inr f) = inl (subst (λ (p : Pair). IsLess (pair_of case a) p) f.0 l)
 behind_trans case a b d (inr e) (inl m) = inl (subst (λ (p : Pair). IsLess p (pair_of case d)) (sym e.0) m)
 behind_trans case a b d (inr e) (inr f) = inr (e.0 ∙ f.0, not_before a b d e.1 f.1)
 
--- the second is kept, which the first is behind
+-- the second is kept where the first is no better
 pub second_kept : (case : GoodsCase) (xs ys : List (List ℕ)) (a b : Found) → IsFoundBest case xs (Some a) → IsFoundBest case ys (Some b) → IsBehind case a.list.items b.list.items → IsFoundBest case (xs ++ ys) (Some b)
 second_kept case xs ys a b one two behind = record {
   best = (
@@ -55,7 +55,7 @@ second_kept case xs ys a b one two behind = record {
   pair = two.pair;
 }
 
--- the first is kept, which the second is behind
+-- the first is kept where the second is no better
 pub first_kept : (case : GoodsCase) (xs ys : List (List ℕ)) (a b : Found) → IsFoundBest case xs (Some a) → IsFoundBest case ys (Some b) → IsBehind case b.list.items a.list.items → IsFoundBest case (xs ++ ys) (Some a)
 first_kept case xs ys a b one two behind = record {
   best = (

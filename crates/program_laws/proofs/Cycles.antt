@@ -74,7 +74,7 @@ two_parts f g x u n l m two same =
     let other = off u two in
     omega (arith, ints, first, second, at, other)
 
--- rooms that are the same but for two members are worth the same to others
+-- rooms that are the same except for two members are worth the same to others
 same_own : (worth : ℕ → ℕ → ℤ) (s t : List ℕ) (x u : ℕ) → ((i : ℕ) → i ≢ x → i ≢ u → get_or t i 0 ≡ get_or s i 0)
     → (members : List ℕ) → AllByRecursion (λ y. eqb x y ≡ false) members → AllByRecursion (λ y. eqb u y ≡ false) members → own_sum worth t members ≡ own_sum worth s members
 same_own worth s t x u same [] a b = refl

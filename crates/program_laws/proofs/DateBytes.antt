@@ -1,4 +1,4 @@
--- The text of a date may stand in a field, and is short.
+-- The text of a date may be in a field, and is short.
 use Rattle.std.proofs.Common.{◌≡◌, ℕ, zero, suc, ◌+◌, ◌-◌, ◌/◌, ◌%◌, ◌<◌, ◌≤◌, nat_le, Bool, true, false, ◌&&◌, List, [], ◌∷◌, ◌++◌, length, get_or, codes, cond, refl, ◌∙◌, arith, length-append}
 use Rattle.std.proofs.lemmas.Bool.{and_parts, and_from}
 use Rattle.std.proofs.lemmas.Bool.Decides.{nat_tests}
@@ -10,7 +10,7 @@ use Rattle.httpdate.specs.Date.{date_text}
 use Rattle.httpdate.specs.declared.date.HttpDate.{HttpDate}
 use Rattle.httpdate.specs.Text.{day_name, month_name, two_digits}
 
--- the bytes may stand in a field's value, and are at most so many
+-- the bytes may be in a field's value, and are at most so many
 pub record FitsIn (most : ℕ) (bytes : List ℕ) : Type 0 where
   pub all : list_all is_value_byte bytes ≡ true
   pub short : length bytes ≤ most
@@ -31,7 +31,7 @@ joined_fit {n} {m} {xs} {ys} p q = record {
   short = omega (arith, p.short, q.short, length-append xs ys);
 }
 
--- a visible byte of ASCII may stand there
+-- a visible byte of ASCII may be there
 value_byte : (b : ℕ) → 32 ≤ b → b < 127 → is_value_byte b ≡ true
 value_byte b low high = grind (arith, nat_tests)
 
@@ -65,7 +65,7 @@ month_days leap true b = by leap
 month_days leap false true = omega arith
 month_days leap false false = omega arith
 
--- the text of a date has at most 29 bytes, all of which may stand in a field's value
+-- the text of a date has at most 29 bytes, all of which may be in a field's value
 pub date_fits : (date : HttpDate) → FitsIn 29 (date_text date)
 date_fits date =
     let parts = date.parts in

@@ -25,7 +25,7 @@ decimal_digits =
 digit_value_byte : (b : ℕ) → is_ascii_digit b ≡ true → is_value_byte b ≡ true
 digit_value_byte b digit = grind (arith, nat_tests)
 
--- digits may stand in a field's value
+-- digits may be in a field's value
 pub digits_pass : (bytes : List ℕ) → list_all is_ascii_digit bytes ≡ true → list_all is_value_byte bytes ≡ true
 digits_pass [] e = refl
 digits_pass (b ∷ bytes) e =
@@ -56,6 +56,6 @@ is_length_told n most =
     let second : nat_le (length (decimal n)) 10 ≡ true = grind (arith, nat_tests) in
     and_from _ _ first (and_from _ _ second (decimal_digits n (omega arith)))
 
--- the number comes back from behind a space
+-- the number is read back after a space
 pub length_told : (n : ℕ) → n ≤ MOST_BYTES → length_in (Some (trim_ows (32 ∷ decimal n))) ≡ Some n
 length_told n most = rw (trimmed (decimal n) (decimal_digits n (omega arith)), is_length_told n most) (ap Some (decimal_is_IsNumeral n (omega arith)).1)

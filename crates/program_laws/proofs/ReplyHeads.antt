@@ -98,7 +98,7 @@ is_field name text some token value = record {
   raw = AllPass-from_list_all is_value_byte (32 ∷ text) value;
 }
 
--- the text of the date may stand in a field, where there is one
+-- the text of the date may be in a field, where there is one
 abbrev pub HasDate : Option (List ℕ) → Type 0
 HasDate None = Unit {0}
 HasDate (Some text) = FitsIn 29 text

@@ -11,7 +11,7 @@ use Rattle.program_laws.specs.Brought.{Brings, IsToBring}
 use Rattle.program_laws.proofs.DateBytes.{date_fits}
 use Rattle.program_laws.proofs.ReplyHeads.{HasDate, date_line, head_of, head_printed, head_tells, is_head, reply_bytes}
 
--- the line of a date is that of a text that may stand in a field, or of none
+-- the line of a date is that of a text that may be in a field, or of none
 dated : (moment : Option ℕ) (line : List ℕ) → IsDateLine moment line → (date : Option (List ℕ)) × HasDate date × (line ≡ date_line date)
 dated None line is = (None, tt, is)
 dated (Some moment) line (date, at, is) = (Some (date_text date), date_fits date, is)
@@ -21,7 +21,7 @@ brought_bytes : (reply : HttpReply) (text line : List ℕ) (date : Option (List 
     → reply_with line reply ≡ reply_bytes date reply.plain (length text) reply.close text
 brought_bytes reply text line date brings is = rw (brings.status, brings.allow, brings.whole, brings.is_text, is)
 
--- the bytes of such a reply, and more behind them
+-- the bytes of such a reply, and more after them
 pub is_taken : (date : Option (List ℕ)) (plain : Bool) (close : Bool) (text rest : List ℕ) → HasDate date → length text ≤ MOST_BYTES
     → IsReplyOf (reply_bytes date plain (length text) close text ++ rest) text
 is_taken date plain close text rest fits most = record {

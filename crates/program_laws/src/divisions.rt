@@ -19,9 +19,9 @@ use bid_rules::rent_value_law;
 use nash_bounds::{owners_by_good_law, serving_law};
 use split_frac::{quotient_law, value_law};
 
-/// Each valid case of a rent or of fares has a division, and each valid case of goods a best allocation, by the rule of its kind: of a rent there
-/// are envy-free prices that no others exceed in their least utility (Gal, Mash, Procaccia and Zick 2016), of goods an allocation of maximum Nash
-/// welfare (Caragiannis and others 2016), of fares the mean marginal costs (Shapley 1953), with the tie rule of each. A valid case of goods whose
+/// Each valid case of a rent or of fares has a division, and each valid case of goods a best allocation, by the rule of its kind: a rent has
+/// envy-free prices that no others exceed in their least utility (Gal, Mash, Procaccia and Zick 2016), goods an allocation of maximum Nash
+/// welfare (Caragiannis and others 2016), fares the mean marginal costs (Shapley 1953), with the tie rule of each. A valid case of goods whose
 /// step count is within its limit has a division, too.
 ///
 /// A division has all numbers that its certificate shows, and its amounts are fractions in lowest terms.

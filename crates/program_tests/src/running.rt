@@ -53,7 +53,7 @@ fn port_of(rt: &impl Abort, alloc: Global, outside: Outside<'_>) -> MemPort {
     MemPort::new(alloc, Vec::new(alloc), fails).expect(rt, "no memory")
 }
 
-/// A clock that stands at the first second of 1970.
+/// A clock that shows the first second of 1970.
 fn clock_of(rt: &impl Abort, alloc: Global) -> MemClock {
     let moments = [0].to_vec(alloc).expect(rt, "no memory");
     MemClock::new(moments, Vec::new(alloc))

@@ -86,7 +86,7 @@ pub ends_says : (held rest : List ℕ) (left : Option (List ℕ)) (end : FetchEn
 ends_says held rest None end is = tt
 ends_says held rest (Some more) end is = λ other. inr (is.head, rest ++ more, begins_more held rest more is.head is.begins, is.says (rest ++ more))
 
--- a head with a body behind it
+-- a head with a body after it
 pub goes_on_says : (held rest : List ℕ) (left : Option (List ℕ)) (count : ℕ) (result : Result Verdict FetchEnd) → GoesOn held rest count
     → IfSome (prepend_known rest left) (λ all. result ≢ Err ends.LinkFault → SaysBody count all result) → FetchSays (prepend_known held left) result
 goes_on_says held rest None count result is says = tt

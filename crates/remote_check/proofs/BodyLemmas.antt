@@ -7,7 +7,7 @@ use Rattle.std.specs.Io.KnownBytes.{Consumes, IsAtEnd, prepend_known}
 use Rattle.remote_check.specs.declared.limits.TheConstants.{FILLER}
 use Rattle.remote_check.specs.Bodies.{filler_of, given, given_of, named}
 
--- the name, and what stands beside the source, under what is told of both
+-- the name, and what is beside the source, under what is told of both
 abbrev name_in : Option (List ℕ) × ℕ → ℕ
 name_in (None, tag) = 0
 name_in (Some [], tag) = 0

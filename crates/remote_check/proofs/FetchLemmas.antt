@@ -7,14 +7,14 @@ use Rattle.remote_check.specs.declared.ends.FetchEnd.{FetchEnd}
 use Rattle.remote_check.specs.declared.ends.FetchEnd.TheVariants as ends
 use Rattle.remote_check.specs.Requests.{Asks, faults_of}
 
--- what a law says to stand beside stays where what is beside does
+-- where what is beside stays, what a law says of it stays
 pub first_beside : {A B : Type 0} (x y : A × B) (a c : A) (b d : B) → x ≡ (a, b) → y ≡ (c, d) → y ≡ x → c ≡ a
 first_beside {A} {B} x y a c b d p q r = ap (λ (z : A × B). z.0) (sym q ∙ r ∙ p)
 
 pub second_beside : {A B : Type 0} (x y : A × B) (a c : A) (b d : B) → x ≡ (a, b) → y ≡ (c, d) → y ≡ x → d ≡ b
 second_beside {A} {B} x y a c b d p q r = ap (λ (z : A × B). z.1) (sym q ∙ r ∙ p)
 
--- the whole request was written, and nothing behind it
+-- the whole request was written, and nothing after it
 asks_all : (before now : Option (List ℕ)) (request : List ℕ) (result : Result Verdict FetchEnd) → Appends before now request → Asks before now request result
 asks_all before now request (Ok verdict) wrote = wrote
 asks_all before now request (Err ends.Reply) wrote = wrote

@@ -20,7 +20,7 @@ given_of awaited filler input = take awaited input ++ replicate (filler_of await
 abbrev pub given : ℕ → ℕ → Option (List ℕ) → Option (List ℕ)
 given awaited filler input = option_map (given_of awaited filler) input
 
--- what stands beside a source, and under it the name of the reference to the source, as one
+-- what is beside a source, and under it the name of the reference to the source, as one
 abbrev pub named : ℕ → Option (List ℕ) × ℕ → Option (List ℕ) × ℕ
 named name (None, faults) = (Some (name ∷ faults ∷ []), 0)
 named name (Some written, faults) = (Some (name ∷ faults ∷ written), 1)

@@ -22,7 +22,7 @@ pub record BeginsWith (bytes : List ℕ) (head : ResponseHead) (rest : List ℕ)
   pub is_head : IsHead head
   pub text : bytes ≡ print_response head ++ rest
 
--- `httparse` asks for more of the bytes: no head of any number of fields stands at their front, and they become one when the right bytes
+-- `httparse` asks for more of the bytes: no head of any number of fields is at their front, and they become one when the right bytes
 -- follow; or they have more fields than the 256 for which it has room
 abbrev pub AsksMore : List ℕ → Type 0
 AsksMore bytes = (HasNoResponse bytes × MayBecomeResponse bytes) ⊎ ResponseExceeds ROOM bytes
@@ -31,7 +31,7 @@ AsksMore bytes = (HasNoResponse bytes × MayBecomeResponse bytes) ⊎ ResponseEx
 abbrev pub IsText : List ℕ → Type 0
 IsText text = (head : ResponseHead) × IsResponseHead head × (length head.fields ≤ MAX_FIELDS) × (text ≡ print_response head)
 
--- the head stands at the front of the bytes, at these spans
+-- the head is at the front of the bytes, at these spans
 pub record IsFoundAt (bytes : List ℕ) (fields : List HeaderSpan) (spans : ResponseSpans) : Type 0 where
   pub head : (h : ResponseHead) × IsResponseAt bytes fields spans h × (length h.fields ≤ MAX_FIELDS)
   pub within : IsResponseWithin bytes fields spans

@@ -30,7 +30,7 @@ faults_of before (Err (NotText line)) = before
 faults_of before (Err TooLong) = before
 faults_of before (Err LinkFault) = counted before
 
--- the counts of reads and of writes: one of them is one more where the link failed, and else both stand
+-- the counts of reads and of writes: one of them is one more where the link failed, and else both stay
 abbrev pub Counts : ℕ → ℕ → ℕ → ℕ → Result Verdict FetchEnd → Type 0
 Counts reads reads_now writes writes_now result =
     ((reads_now ≡ faults_of reads result) × (writes_now ≡ writes))

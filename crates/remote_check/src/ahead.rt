@@ -4,7 +4,7 @@ ghost use Rattle.remote_check.specs.Bodies.{named};
 
 use split_base::{Failed, Source};
 
-// Gives the bytes that were read ahead, and then those that the link has left. No read changes what stands beside it: what stands beside the link, and
+// Gives the bytes that were read ahead, and then those that the link has left. No read changes what is beside it: what is beside the link, and
 // which link it is.
 #[derive(Drop)]
 pub(crate) struct Ahead<'l, 'h, S> {

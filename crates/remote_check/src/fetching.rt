@@ -91,7 +91,7 @@ fn read_reply<S: Source>(source: &mut S) -> Result<Verdict, FetchEnd>
     }
 }
 
-// Reads the body after a head, which stands at the front of what was read.
+// Reads the body after a head, which is at the front of what was read.
 fn read_body<S: Source>(
     source: &mut S,
     held: &[u8],

@@ -1,4 +1,4 @@
--- A list by member of any length stands for the list of its first n numbers, with 0 where it has none.
+-- A list by member of any length means the list of its first n numbers, with 0 where it has none.
 use Rattle.std.proofs.Common.{◌≡◌, ℕ, ℤ, pos, sym, ◌-◌, ◌<◌, ◌+ℤ◌, ◌-ℤ◌, ◌*ℤ◌, List, length, map, get_or, arith, ap, ◌∙◌, subst, slice_index, slice_index_or}
 use Rattle.std.specs.List.{range_with_len}
 use Rattle.std.proofs.lemmas.List.{length-map, get_or-map}

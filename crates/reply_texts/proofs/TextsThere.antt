@@ -1,4 +1,4 @@
--- What a reply names is there after the event too, so each reply but a publication has a text.
+-- What a reply names is there after the event too, so each reply except a publication has a text.
 use Rattle.std.proofs.Common.{◌≡◌, ℕ, ◌≤◌, inl, inr, max, false, length, is_some, Option, None, Some, option_map, refl, ap, sym, subst, true≢false}
 use Rattle.std.specs.Prelude.{IsSome, IsSomeAnd, List}
 use Rattle.sealed_core.specs.declared.commands.Ask.TheVariants as asks
@@ -32,7 +32,7 @@ found_stays h e id (inr (now, close)) (Some i) is there = subst (λ (e : Option 
 stays : (h : HostView) (e : Option EventView) (id : ℕ) → IsCloseOf e id → IsSome (instance_at h id) → IsSome (instance_at (applied h e) id)
 stays h e id close there = found_stays h e id close (instance_at h id) refl there
 
--- each reply but a publication has a text where what it names is there
+-- each reply except a publication has a text where what it names is there
 pub text_there : (h : HostView) (e : Option EventView) (r : Reply) → is_publication r ≡ false → Tells h e r → IsSome (text_of (applied h e) r)
 text_there h e (reply.Created id) never (inl (there, none)) = mapped _ _ (mapped _ _ (mapped _ _ (subst (λ (e : Option EventView). IsSome (instance_at (applied h e) id)) (sym none) there)))
 text_there h e (reply.Created id) never (inr (now, c, made, is)) =

@@ -37,16 +37,16 @@ pub fn text_sealing_law()
     sealing_law();
 }
 
-/// The text of a reply is written from the reply and, of the host, from no more than it names. A status shows the public facts, so it is
-/// the same whatever turns and bids members have kept, where the same members have a bid; an own bid shows that member's turn and bid
-/// alone; a creation shows the keys that the secret gives. No other text shows anything of the host, so none but that of a creation
-/// shows a key, and none shows a tag.
+/// The text of a reply is written from the reply, and from no more of the host than it names. A status shows the public facts. So it is
+/// the same whatever turns and bids members have kept, where the same members have a bid. An own bid shows that member's turn and bid
+/// alone. A creation shows the keys that the secret gives. No other text shows anything of the host, so only that of a creation shows a
+/// key, and none shows a tag.
 pub fn shown_law()
     ensures { (g h : HostView) (r : Reply) → ShowSame g h r → text_of g r ≡ text_of h r }
 {}
 
-/// What the reply of a step names is there before the event, but for a new instance. So each reply has a text over the host after the
-/// event, but a publication, whose text is made of a division.
+/// What the reply of a step names is there before the event, except for a new instance. So each reply has a text over the host after
+/// the event, except for a publication, whose text is made of a division.
 pub fn telling_law()
     ensures tells { (h : HostView) (t : ℕ) (command : CommandView) → Tells h (step h t command).event (step h t command).reply }
     ensures text { (h : HostView) (t : ℕ) (command : CommandView) → is_publication (step h t command).reply ≡ false → IsSome (text_of (host_after h t command) (step h t command).reply) }

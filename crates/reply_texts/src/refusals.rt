@@ -12,7 +12,7 @@ use serde_json::{Value, json};
 use split_base::NoMemory;
 use std::alloc::{AllocError, Global};
 
-/// Why the service around a host refuses a request that the host itself does not. Of several causes the first is told, in this order; what
+/// Why the service around a host refuses a request that the host itself does not. The first of several causes is told, in this order; what
 /// the host refuses is tested between `StoreDamaged` and `NoAudit`. `StoreFault` comes when the store is opened, which is its place here, and last
 /// of all when an event is kept. `Memory` may come at any point.
 #[derive(Debug, Drop, PartialEq, Eq)]
@@ -100,7 +100,7 @@ impl ServiceRefusal {
         }
     }
 
-    /// Whether the connection closes after the reply, whatever the request says: after each refusal of a head, a clock fault and want of
+    /// Whether the connection closes after the reply, whatever the request says: after each refusal of a head, a clock fault and lack of
     /// memory.
     pub fn closes(&self) -> bool
         ensures { result ≡ (service_row self.now).closes }

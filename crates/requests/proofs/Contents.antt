@@ -38,7 +38,7 @@ module _ (h : HostView) (closing : (now id : ℕ) (i : InstanceView) → instanc
       subst (λ (r : Reply). Shows (applied h a.event) r told) (sym publishes)
       (shows_after t id key asked i told a.event there tells (subst (λ (x : CommandView). IsLateClose h t x a.event) command_is close))
 
--- the instance of a publication stands
+-- the instance of a publication is there
 pub published_stands : (h : HostView) (stands : (t id : ℕ) (command : CommandView) (what : What) → (step h t command).reply ≡ reply.Publish id what → IsSome (instance_at h id))
     → (a : Answer) → IsAnswered h a → (id : ℕ) (asked : What) → a.reply ≡ reply.Publish id asked → instance_at h id ≡ None → ⊥
 published_stands h stands a (t, command, right, is) id asked publishes gone =

@@ -32,7 +32,7 @@ pub data Settles {D : Type 0} (d : Ghosts D) (disk after : D) (s new : State) (r
   -- the file is no journal, and the place of its first fault is told: never on an honest disk
   damaged : (event : EventView) (place : ℕ) → s.waiting ≡ Some event → d.faults after ≡ d.faults disk → (d.tells disk → IsFirstFault place (d.seen disk)) → (d.is_honest disk → ⊥)
       → new ≡ s → result ≡ Some (refused_said (service.StoreDamaged place)) → Settles d disk after s new result
-  -- the file was opened, and the state is that of events that may be applied in turn: on an honest disk those for which the file stands, which are
+  -- the file was opened, and the state is that of events that may be applied in turn: on an honest disk those that the file holds, which are
   -- those kept, with the one more or without it
   opened : (event : EventView) (secret : List ℕ) (kept : List EventView) → s.waiting ≡ Some event → d.faults after ≡ d.faults disk → (d.is_honest disk → IsSettled d disk after s event secret kept)
       → CanApplyAll (empty secret) kept → new ≡ ready_with secret kept → result ≡ None → Settles d disk after s new result
@@ -57,7 +57,7 @@ pub data Responds {D : Type 0} (d : Ghosts D) (disk after : D) (head : Head) (bo
   no_route : IsRouted head.verb head.path (Err NoRoute) → after ≡ disk → new ≡ s → said ≡ refused_said service.NoRoute → Responds d disk after head body moment s new said
   method : (allow : Allow) → IsRouted head.verb head.path (Err (Method allow)) → after ≡ disk → new ≡ s → said ≡ method_said allow → Responds d disk after head body moment s new said
   at_once : (route : Route) → IsRouted head.verb head.path (Ok route) → Settles d disk after s new (Some said) → Responds d disk after head body moment s new said
-  -- of an honest disk a crash in the reopening leaves a file of the state before or of the settled one, and one in the step a file of the
+  -- on an honest disk a crash in the reopening leaves a file of the state before or of the settled one, and one in the step a file of the
   -- settled one or of the new one
   stepped : (route : Route) (between : D) (settled : State) → IsRouted head.verb head.path (Ok route)
       → Settles d disk between s settled None → Passes d disk s between settled

@@ -16,8 +16,8 @@ use split_solve::KeptSearches;
 use std::alloc::Global;
 use std::thread::Threads;
 
-/// What the host's answer tells, with all of its text: over the host after the event, which isn't applied. `NoMemory` comes for want of
-/// memory alone.
+/// What the host's answer tells, with all of its text: over the host after the event, which isn't applied. `NoMemory` comes only where
+/// memory runs out.
 pub(crate) fn content<R: Threads + Sync, G: Gate + Sync>(
     alloc: Global,
     rt: &R,

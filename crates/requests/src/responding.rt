@@ -32,7 +32,7 @@ use std::thread::Threads;
 /// A store fault is said only where a call of the disk failed in this request, which is counted once and not tried again. That the file is no
 /// journal is said with the place of its first fault, wherever the disk tells its bytes, and never on an honest disk. That memory ran out may be
 /// said at any point, with no event of the request. On an honest disk a crash at any moment leaves the events kept before, with or without the
-/// one of the request. The kept searches take no part in what is said.
+/// one of the request. The kept searches do not change what is said.
 #[allow(clippy::too_many_arguments)]
 pub fn respond<D: Disk, R: Threads + Sync, G: Gate + Sync>(
     alloc: Global,
@@ -51,7 +51,7 @@ pub fn respond<D: Disk, R: Threads + Sync, G: Gate + Sync>(
     ensures responds { (s : State) → HasState D.Disk serving.old disk.old s
         → Leads D.Disk serving.new disk.old disk.new s (λ new. Responds D.Disk disk.old disk.new head.now body.now moment s new (said_view result)) }
 
-    // Whatever the serving stands for.
+    // Whatever state the serving is in.
     ensures count { D.faults disk.old ≤ D.faults disk.new }
     ensures honest { D.is_honest disk.old ↔ D.is_honest disk.new }
 {

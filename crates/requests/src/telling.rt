@@ -86,7 +86,7 @@ impl Said {
     }
 }
 
-/// What is said where the journal has failed. Of these texts that of a place alone takes memory.
+/// What is said where the journal has failed. Among these texts only that of a place takes memory.
 pub(crate) fn failure(alloc: Global, fault: LogFault) -> Said
     ensures { FaultSays fault (said_view result) }
 {

@@ -54,7 +54,7 @@ vertices_after n (x ∷ xs) v ys h =
     let rest = vertices_after n xs v ys (All-tail (λ j. j < n) x (xs ++ v ∷ ys) h) in
     (All-cons (λ j. j < n) x xs (All-head (λ j. j < n) x (xs ++ v ∷ ys) h) rest.0, rest.1)
 
--- no vertex stands twice in an empty walk
+-- no vertex comes twice in an empty walk
 nothing : IsDistinct eqb []
 unfolding IsDistinct
 nothing = tt

@@ -101,7 +101,7 @@ event_applies h t command sound right (Some (Withdrawn now id m turn)) fits =
           (next_turn now m turn i (sound_found h id i sound fits.2.1) fits.2.2, is_there (kept_bid i m) fits.2.3),
     )
 
--- of an event as the code holds it, what holds of its view
+-- what holds of an event's view, for the event as the code holds it
 seen_event : (h : HostView) (event : Option Event) → IfSome (option_map event_view event) (CanApply h) → IfSome event (λ e. CanApply h (event_view e))
 seen_event h None can = tt
 seen_event h (Some e) can = can

@@ -191,7 +191,7 @@ by_instance h t id key ask None is = tt
 by_instance h t id None ask (Some i) is = tt
 by_instance h t id (Some key) ask (Some i) is = by_holder h t id key ask i is (ap (λ (o : Option InstanceView). caller_with h.secret id o (Some key)) is) (holder h.secret id i key) refl
 
--- of a creation, by the one that stands under its tag
+-- of a creation, by the one that is kept under its tag
 fits_creation : (h : HostView) (t : ℕ) (c : CreationView) (found : Option (ℕ × CreationView)) → tagged_from 1 h.instances c.tag ≡ found
     → Fits h t (Create (Ok c)) (new_creation (max t h.moment) (length h.instances) c found).event
 fits_creation h t c None is =

@@ -89,7 +89,7 @@ shut_changed f keeps (i ∷ instances) zero (suc q) shut = shut
 shut_changed f keeps (i ∷ instances) (suc p) zero shut = shut
 shut_changed f keeps (i ∷ instances) (suc p) (suc q) shut = shut_changed f keeps instances p q shut
 
--- so does a new instance behind it
+-- so does a new instance after it
 shut_pushed : (instances : List InstanceView) (new : InstanceView) (q : ℕ) → is_shut (slice_get instances q) ≡ true → is_shut (slice_get (instances ++ new ∷ []) q) ≡ true
 shut_pushed [] new q shut = absurd (true≢false (sym shut))
 shut_pushed (i ∷ instances) new zero shut = shut

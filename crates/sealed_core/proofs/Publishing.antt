@@ -1,4 +1,4 @@
--- What a publication is of: an instance that stands, is asked for this, and is closed after the step.
+-- What a publication is of: an instance that is there, is asked for this, and is closed after the step.
 use Rattle.std.proofs.Common.{◌≡◌, ℕ, ◌+◌, inl, max, Bool, true, false, List, length, nat_lt, is_some, Option, None, Some, Ok, refl, ap, sym, subst, ◌∙◌, true≢false}
 use Rattle.std.specs.Prelude.{IsSome}
 use Rattle.std.proofs.lemmas.Bool.{cond_both}

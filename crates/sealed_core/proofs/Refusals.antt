@@ -128,7 +128,7 @@ again s turn given is = let p = and_parts (turn == s.turn) (is_kept s.bid given)
 from_again : (s : Standing) (turn : ℕ) (given : Bid) → (turn ≡ s.turn) × (s.bid ≡ Some given) → is_again s turn given ≡ true
 from_again s turn given both = and_from (turn == s.turn) (is_kept s.bid given) (eq-eqb turn s.turn both.0) ((kept_is s.bid given).1 both.1)
 
--- the tests of a bid in order, of which the first that holds tells
+-- the tests of a bid in order: the first that holds tells
 abbrev BidChain : Standing → ℕ → Bid → Refusal → Type 0
 BidChain s turn given r =
     ((s.closed ≡ true) × (r ≡ refusal.Closed)) ⊎ ((s.closed ≡ false) × ((is_again s turn given ≡ false) × (
@@ -401,7 +401,7 @@ few_tagged id (i ∷ instances) tag each =
     (λ same. absurd (each zero i (omega arith) ((bytes_decides i.creation.tag tag).0 same)))
     (λ _. few_tagged (id + 1) instances tag (λ k d there. each (suc k) d (omega (arith, there))))
 
--- the creation that stands under a tag, with its id
+-- the creation that is kept under a tag, with its id
 abbrev Found : Type 0
 Found = Option (ℕ × CreationView)
 
@@ -415,7 +415,7 @@ full_from : (count : ℕ) → nat_lt count MOST_INSTANCES ≡ false → (count <
 full_from count is (inl below) = absurd (true≢false (sym (lt-ltb count MOST_INSTANCES below) ∙ is))
 full_from count is (inr full) = full
 
--- a tag that stands with another creation is taken
+-- a tag that another creation has is taken
 old_from : (instances : List InstanceView) (c : CreationView) (r : Refusal) (id : ℕ) (found : CreationView) → tagged_from 1 instances c.tag ≡ Some (id, found) → CauseOfCreation instances (Ok c) r
     → (same_creation found c ≡ false) × (r ≡ refusal.TagTaken)
 old_from instances c r id found is (inl (other, stands, there, differs, this)) =

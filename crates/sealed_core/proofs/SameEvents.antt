@@ -21,7 +21,7 @@ use Rattle.sealed_core.specs.Step.{Answer, CommandView, Create, To, Standing, st
 use Rattle.sealed_core.specs.Veil.{veil, veiled}
 use Rattle.sealed_core.proofs.Veil.{have_bid_veiled, has_bid_veiled, instance_veiled}
 
--- how a caller stands, field by field
+-- the standing of a caller, field by field
 abbrev pub standing : Facts → Bool → List Bool → ℕ → Option Bid → Standing
 standing facts closed have turn bid = record { facts = facts; closed = closed; have_bid = have; turn = turn; bid = bid }
 
@@ -82,7 +82,7 @@ ask_event now id m facts closed have kept a b is (asks.Withdraw (Err Json)) = re
 ask_event now id m facts closed have kept a b is (asks.Withdraw (Err (Field name))) = refl
 ask_event now id m facts closed have kept a b is (asks.Withdraw (Ok body)) = withdrawal_body_event now id m facts closed have kept a b body.turn is
 
--- under the veil a caller stands as without it, but for the bid
+-- under the veil a caller has the standing that they have without it, except for the bid
 veiled_standing : (c : Caller) (i : InstanceView) (m : ℕ) → standing_of (veiled c i) m i.closed ≡ standing i.creation.facts i.closed (map is_some i.bids) (kept_turn i m) (kept_bid (veiled c i) m)
 veiled_standing c i m = λ j. record { facts = i.creation.facts; closed = i.closed; have_bid = have_bid_veiled c i.bids j; turn = kept_turn i m; bid = kept_bid (veiled c i) m }
 

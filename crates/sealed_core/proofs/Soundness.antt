@@ -73,7 +73,7 @@ at_if : (none : Bool) (instances : List InstanceView) (p : ℕ) (i : InstanceVie
 at_if true instances p i is = absurd (true≢false (sym (ap is_some is)))
 at_if false instances p i is = (refl, is)
 
--- an instance with an id stands at its place
+-- an instance with an id is at its place
 pub is_at : (h : HostView) (id : ℕ) (i : InstanceView) → instance_at h id ≡ Some i → IsAt h id i
 is_at h id i is = let both = at_if (id == 0) h.instances (id - 1) i is in let some = eqb-false id 0 both.0 in record { least = omega (arith, some); at = both.1 }
 

@@ -21,7 +21,7 @@ abbrev pub refusal_of : BodyFault → Refusal
 refusal_of Json = refusal.BadJson
 refusal_of (Field name) = refusal.BadField name
 
--- a creation is refused where its body is at fault, its tag stands with another, or it is new and the host is full
+-- a creation is refused where its body is at fault, another has its tag, or it is new and the host is full
 abbrev pub CauseOfCreation : List InstanceView → Result CreationView BodyFault → Refusal → Type 0
 CauseOfCreation instances (Err fault) r = r ≡ refusal_of fault
 CauseOfCreation instances (Ok c) r =

@@ -86,7 +86,7 @@ pub record IsNextTurn (now : ℕ) (i : InstanceView) (m turn : ℕ) : Type 0 whe
   pub next : turn ≡ kept_turn i m + 1
   pub used : turn ≤ MOST_TURNS
 
--- the event's own condition, whatever its moment: what it is to change stands, is open, and takes it
+-- the event's own condition, whatever its moment: what it is to change is there, is open, and takes it
 abbrev pub IsAllowed : HostView → EventView → Type 0
 IsAllowed h (Created now c) = (length h.instances < MOST_INSTANCES) × IsCheckedCreation c × All (λ i. i.creation.tag ≢ c.tag) h.instances
 IsAllowed h (BidKept now id m turn bid) = IsSomeAnd (instance_at h id) (λ i. IsNextTurn now i m turn × IsCheckedBid i.creation.facts bid)

@@ -6,7 +6,7 @@ use Rattle.case_fields.specs.declared.bodies.BidBody.{BidBody}
 use Rattle.sealed_core.specs.Host.{InstanceView, HostView, EventView, Created, BidKept, Closed, Withdrawn, instance_at}
 use Rattle.sealed_core.specs.Step.{CommandView, Create, To, form_of, holder, may_ask}
 
--- the command asks this of the instance with this id, which stands, under the key of this number, who may ask it
+-- the command asks this of the instance with this id, which is there, under the key of this number, who may ask it
 pub record IsAskedBy (h : HostView) (command : CommandView) (id m : ℕ) (i : InstanceView) (ask : Ask) : Type 0 where
   pub key : List ℕ
   pub asked : command ≡ To id (Some key) ask

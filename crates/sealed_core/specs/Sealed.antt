@@ -46,7 +46,7 @@ caller_with secret id (Some i) (Some key) = holder secret id i key
 abbrev pub caller_number : HostView → ℕ → Option (List ℕ) → Caller
 caller_number h id key = caller_with h.secret id (instance_at h id) key
 
--- what a caller may know: who they are, the public facts where the instance stands, the greatest moment of a kept event,
+-- what a caller may know: who they are, the public facts where the instance is there, the greatest moment of a kept event,
 -- and their own kept turn and bid
 pub record View : Type 0 where
   pub caller : Caller

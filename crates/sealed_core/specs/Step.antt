@@ -1,4 +1,4 @@
--- One step of the host: to a command at a moment at most one event, and one reply.
+-- One step of the host: a command at a moment has at most one event, and one reply.
 use Rattle.std.specs.Prelude.{ℕ, ◌+◌, max, Bool, true, not, ◌&&◌, ◌==◌, nat_le, nat_lt, List, [], ◌∷◌, map, length, if◌then◌else◌, is_some, is_none, option_and_then, Option, None, Some, Result, Ok, Err}
 use Rattle.std.specs.List.{list_all}
 use Rattle.std.specs.Option.{option_map}
@@ -74,7 +74,7 @@ abbrev pub tagged_from : ℕ → List InstanceView → List ℕ → Option (ℕ 
 tagged_from id [] tag = None
 tagged_from id (i ∷ instances) tag = if same_text i.creation.tag tag then Some (id, i.creation) else tagged_from (id + 1) instances tag
 
--- the answer to a creation, whose tag stands or not
+-- the answer to a creation, whether or not an instance has its tag
 abbrev pub new_creation : ℕ → ℕ → CreationView → Option (ℕ × CreationView) → Answer
 new_creation now count c None = if nat_lt count MOST_INSTANCES then record { event = Some (Created now c); reply = reply.Created (count + 1) } else refused refusal.HostFull
 new_creation now count c (Some found) = if same_creation found.1 c then says (reply.Created found.0) else refused refusal.TagTaken
@@ -112,7 +112,7 @@ may_ask m asks.Close = m == 0
 may_ask m (asks.Publish what) = true
 may_ask m (asks.Withdraw body) = not (m == 0)
 
--- how a caller stands in an instance, which is closed or not: all that the answer to what they ask depends on
+-- the standing of a caller in an instance, which is closed or not: all that the answer to what they ask depends on
 pub record Standing : Type 0 where
   pub facts : Facts
   pub closed : Bool
@@ -216,7 +216,7 @@ abbrev pub answer_to : ℕ → ℕ → Ask → Result (InstanceView × ℕ) Refu
 answer_to now id ask (Err r) = refused r
 answer_to now id ask (Ok caller) = answer_caller now id ask caller.0 caller.1
 
--- a command at the greater of the moment handed in and the greatest kept one
+-- a command at the greater of the moment given and the greatest kept one
 abbrev pub step : HostView → ℕ → CommandView → Answer
 step h t (Create body) = answer_creation (max t h.moment) h.instances body
 step h t (To id key ask) = answer_to (max t h.moment) id ask (caller_of h id key)

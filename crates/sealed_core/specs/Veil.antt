@@ -1,11 +1,11 @@
--- A host as a caller may see it: the bids of all others are hidden, but that they are there.
+-- A host as a caller may see it: the bids of all others show only that they are there.
 use Rattle.std.specs.Prelude.{◌≡◌, ℕ, zero, suc, List, [], ◌∷◌, map, Option, None, Some}
 use Rattle.bid_rules.specs.declared.bids.Bid.{Bid}
 use Rattle.bid_rules.specs.declared.bids.Bid.TheVariants.{Place}
 use Rattle.sealed_core.specs.Host.{HostView, InstanceView}
 use Rattle.sealed_core.specs.Sealed.{Caller}
 
--- a bid of which only that it is there shows: one bid stands for all
+-- a bid that shows only that it is there: one and the same bid in place of all
 abbrev pub hidden : Option Bid → Option Bid
 hidden None = None
 hidden (Some given) = Some (Place 0)

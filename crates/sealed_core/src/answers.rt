@@ -35,7 +35,7 @@ fn broken(fault: BodyFault) -> Answered
     }
 }
 
-/// A creation. One that is equal to the creation that stands under its tag is answered as that one was.
+/// A creation. One that is equal to the creation that is kept under its tag is answered as that one was.
 fn answer_creation(now: u64, instances: &[Instance], body: Result<Creation, BodyFault>) -> Answered
     requires { length instances.now ≤ MOST_INSTANCES }
     ensures { answer_view result ≡ answer_creation now (map instance_view instances.now) (creation_seen body) }
@@ -302,7 +302,7 @@ fn answer_to(host: &Host, now: u64, id: u32, key: Option<Key>, ask: Ask) -> Answ
     }
 }
 
-/// The same answer, of which only the step is said.
+/// The same answer; only the step is said of it.
 fn step(host: &Host, moment: u64, command: Command) -> Answered
     ensures step { answer_view result ≡ step host.now.content moment (command_view command) }
     ensures sound { AreCheckedInstances host.now.content.instances }
@@ -324,11 +324,11 @@ fn step(host: &Host, moment: u64, command: Command) -> Answered
 ///
 /// The moment is taken as the greatest one of a kept event where it is below that. A new creation, bid or withdrawal and the
 /// organiser's close have their event. What a caller may ask of an instance at or past its deadline, which isn't closed, has the close
-/// as its event, and is answered as on the closed instance. A creation equal to the one that stands under its tag has no event and
+/// as its event, and is answered as on the closed instance. A creation equal to the one that is kept under its tag has no event and
 /// that one's reply; nor has a bid equal to the kept one with the kept turn, or a withdrawal with the turn of the last withdrawal where
 /// the member has not bid since: they get the kept turn.
 ///
-/// A creation in the command keeps the rules that `Creation::is_checked` tests; every other command may come as it stands.
+/// A creation in the command keeps the rules that `Creation::is_checked` tests; every other command may come as it is.
 ///
 /// Each refusal comes exactly where it has its cause, and with no event but the close, at the moment, of the instance that is asked, which
 /// is open past its deadline. Where the instance that is asked isn't closed after the step, the reply follows from what the caller may

@@ -10,7 +10,7 @@ pub enum What {
     Certificate,
     /// The text that explains the division.
     Report,
-    /// The text that audits the division: of goods, whom each envies, and that no other one betters it.
+    /// The text that audits the division: for goods, whom each envies, and that no other one betters it.
     Audit,
     /// The division of goods between two by adjusted winner (Brams and Taylor 1996), beside the one that is the best by its rule.
     Winner,

@@ -19,8 +19,8 @@ ghost use Rattle.sealed_core.specs.Sealed.{Asked, Caller, IsLateClose, RunAlike,
 ghost use Rattle.sealed_core.specs.Veil.{LookAlike};
 
 /// Bids are sealed until their instance is closed. Take two hosts that differ in nothing but what others than the caller have bid, and a run from
-/// each, whose steps are equal pair by pair, but that some of them may be two bids on the instance by the same member other than the caller, at the
-/// same moment, each of them kept.
+/// each, whose steps are equal pair by pair, except that some of them may be two bids on the instance by the same member other than the caller, at
+/// the same moment, each of them kept.
 /// Then the caller hears the same of the instance in both, and their view of it is the same, up to the step at which it is closed.
 /// The reply to a command is written from the caller's view, the command and the moment where the instance isn't closed after the step.
 /// So at any two hosts, one command from two callers with equal views gets one reply where the instance isn't closed after the step; and
@@ -60,7 +60,7 @@ pub fn machine_law()
     ensures closed { (h : HostView) (id : ℕ) (e : EventView) → is_closed h id ≡ true → is_closed (apply h e) id ≡ true }
 {}
 
-/// What is published is what was asked for under a key, of an instance that stands. The event beside it is none or the Close, at the
+/// What is published is what was asked for under a key, of an instance that is there. The event beside it is none or the Close, at the
 /// moment, of that instance, which is open past its deadline; so the instance is closed after the step.
 pub fn publication_law()
     ensures asked { (h : HostView) (t id : ℕ) (command : CommandView) (what : What) → (step h t command).reply ≡ replies.Publish id what → (key : List ℕ) × (command ≡ To id (Some key) (asks.Publish what)) }

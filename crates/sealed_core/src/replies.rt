@@ -1,7 +1,7 @@
 use crate::{Event, What};
 use case_fields::FieldName;
 
-/// Why a command is refused. Of several causes the first is told, in the order `NoInstance` to `TurnsUsed`, `NoBid`, `NotAll`,
+/// Why a command is refused. The first of several causes is told, in the order `NoInstance` to `TurnsUsed`, `NoBid`, `NotAll`,
 /// `NotClosed`.
 #[derive(Clone, Copy, Debug, PartialEq, Eq)]
 pub enum Refusal {
@@ -17,7 +17,7 @@ pub enum Refusal {
     BadJson,
     /// The first field of the body that breaks its rule.
     BadField { name: FieldName },
-    /// The tag stands with another creation.
+    /// Another creation has the tag.
     TagTaken,
     /// The creation is new and the host holds as many instances as it may.
     HostFull,
@@ -39,7 +39,7 @@ pub enum Refusal {
 /// The reply to a command.
 #[derive(Clone, Copy, Debug, PartialEq, Eq)]
 pub enum Reply {
-    /// The instance that stands for the creation: a new one, or that of an equal creation before.
+    /// The instance of the creation: a new one, or that of an equal creation before.
     Created { id: u32 },
     /// The public facts of the instance, and who asks: a member from 1, or 0 for the organiser.
     Status { id: u32, you: u8 },

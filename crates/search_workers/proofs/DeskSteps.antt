@@ -49,14 +49,14 @@ tickets_below left workers s j v r at k d h =
     absurd (omega (arith, one, a, b, c, none_there)))
     (λ no. omega (arith, no))
 
--- the views stop at most as often as they stand for workers
+-- the views have no more stops than workers that they account for
 pub few_stops : (left workers : ℕ) (s : DeskState) → IsDesk left workers s → all_stops s.views ≤ workers
 few_stops left workers s r =
     let a : all_stops s.views ≤ 1 * all_allots s.views = sum_le (λ (v : DeskView). v.stops) (λ (v : DeskView). v.allot) 1 s.views (λ i v e. let b = (r.views i v e).few_stops in omega arith) in
     let b = r.allots in
     omega arith
 
--- a view that stands for a worker has the desk's numbers
+-- a view that accounts for a worker has the desk's numbers
 pub not_spent : (left workers : ℕ) (v : DeskView) → IsViewOf left workers v → 0 < v.allot → (v.left ≡ left) × (v.workers ≡ workers)
 not_spent left workers v fits h = ⊎_elim (λ e. absurd (omega (arith, h, ap (λ (u : DeskView). u.allot) e))) (λ t. (t.1, t.2)) fits.stands
 

@@ -141,7 +141,7 @@ module _ (left workers : ℕ) (s : DeskState) (r : IsDesk left workers s) where
         let nodes = r.nodes in
         omega (arith, most, tickets, all, nodes)
 
-    -- the best of a view that stands for all workers is that of the block
+    -- the best of a view that accounts for all workers is that of the block
     pub whole_best : RowLaws → (place : ℕ) (view : DeskView) (best : Option Found) → get_elem? s.views place ≡ some view → view.allot ≡ workers
         → HasWhole case floor above block view.tickets view.reported best → IsFoundBest case (counted_of_block case floor above block) best
     whole_best laws place view best at all is =

@@ -1,4 +1,4 @@
--- The view that stands for all workers has all that is drawn and reported.
+-- The view that accounts for all workers has all that is drawn and reported.
 use Rattle.std.proofs.Common.{◌≡◌, ◌≢◌, ℕ, zero, suc, ◌+◌, ◌≤◌, List, [], ◌∷◌, set, sym, refl, ap, ◌∙◌, subst, ⊎_elim, arith}
 use Rattle.std.specs.List.{sum_by}
 use Rattle.std.proofs.lemmas.List.{set-get_or}
@@ -16,11 +16,11 @@ use Rattle.search_workers.specs.Plays.{HasAll, Learns, SeatState}
 use Rattle.search_workers.proofs.DeskSteps.{not_spent}
 use Rattle.search_workers.proofs.Sums.{entry_le, two_le}
 
--- a view that stands for no worker is the spent one
+-- a view that accounts for no worker is the spent one
 idle_spent : (left workers : ℕ) (v : DeskView) → IsViewOf left workers v → v.allot ≡ 0 → v ≡ spent
 idle_spent left workers v fits none_left = ⊎_elim (λ e. e) (λ t. absurd (omega (arith, t.0, none_left))) fits.stands
 
--- views that stand for no worker have nothing
+-- views that account for no worker have nothing
 all_idle : (left workers : ℕ) (g : DeskView → ℕ) (l : List DeskView) → g spent ≡ 0 → ((i : ℕ) (v : DeskView) → get_elem? l i ≡ some v → IsViewOf left workers v) → all_allots l ≡ 0 → sum_by g l ≡ 0
 all_idle left workers g [] nothing fits none_left = refl
 all_idle left workers g (x ∷ xs) nothing fits none_left =
@@ -30,7 +30,7 @@ all_idle left workers g (x ∷ xs) nothing fits none_left =
     let rest = all_idle left workers g xs nothing (λ i v e. fits (suc i) v e) (omega (arith, b, none_left)) in
     omega (arith, a, here, rest, nothing)
 
--- where one view stands for all workers, sums over all views are its own
+-- where one view accounts for all workers, sums over all views are its own
 alone : (left workers : ℕ) (g : DeskView → ℕ) (l : List DeskView) (j : ℕ) (v : DeskView) → g spent ≡ 0
     → ((i : ℕ) (u : DeskView) → get_elem? l i ≡ some u → IsViewOf left workers u) → get_elem? l j ≡ some v → all_allots l ≡ v.allot → sum_by g l ≡ g v
 alone left workers g [] j v nothing fits at all = absurd (some-ne-none v (sym at))
@@ -76,7 +76,7 @@ has_all left workers s j v r at all =
       few = (r.views j v at).few_stops;
     }
 
--- so the seat that stands for all workers may see the ticket word
+-- so the seat that accounts for all workers may see the ticket word
 pub learns : (left workers slots id : ℕ) (me : SeatState) → 1 ≤ me.0.allot → me.0.allot ≡ me.0.workers
     → Allows (IsDesk left workers) slots id me 0 (λ n. n) (Learns (step slots 0 0 0 none) me)
 learns left workers slots id me some_worker all s r homes at small =

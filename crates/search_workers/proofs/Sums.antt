@@ -163,7 +163,7 @@ below_once k (suc n) =
     (λ ne. let here = only_other k n ne in let rest = below_once k n in omega (arith, more, here, rest))
     (cases_eq n k)
 
--- what is counted stands in the list
+-- what is counted is in the list
 pub stands_in : (k : ℕ) (xs : List ℕ) → 1 ≤ sum_by (only k) xs → Contains xs k
 stands_in k [] h = absurd (omega arith)
 stands_in k (x ∷ xs) h = ⊎_elim
@@ -175,14 +175,14 @@ stands_in k (x ∷ xs) h = ⊎_elim
     (suc rest.0, (let l = rest.1 in omega arith), rest.2))
     (cases_eq x k)
 
--- what stands in a list is counted
+-- what is in a list is counted
 pub counted_once : (k : ℕ) (xs : List ℕ) → Contains xs k → 1 ≤ sum_by (only k) xs
 counted_once k xs there =
     let le = place_le (only k) xs there.0 k there.1 in
     let one = ap (only k) there.2 ∙ only_same k in
     omega (arith, le, one)
 
--- a number that stands at two places is counted twice
+-- a number that is at two places is counted twice
 twice : (k : ℕ) (xs : List ℕ) (i j d : ℕ) → i < j → j < length xs → get_or xs i d ≡ k → get_or xs j d ≡ k → 2 ≤ sum_by (only k) xs
 twice k [] i j d l m a b = absurd (omega arith)
 twice k (x ∷ xs) i zero d l m a b = absurd (omega (arith, l))

@@ -134,8 +134,8 @@ pub(crate) fn run_by<R: Threads + Sync, G: Gate + Sync>(
 /// Searches a block by several workers, who draw its tasks and share the budget `left`, at most `MOST_STEPS`.
 ///
 /// Those prefixes of the tasks are counted whose bound is at least `floor` and, if there is an `above`, greater than it. `Over` comes exactly
-/// where they are more than `left`. The end is the same for every number of workers and whichever walks which task, but for the number that
-/// `Over` gives.
+/// where they are more than `left`. The end is the same for every number of workers, no matter which of them walks which task, except for
+/// the number that `Over` gives.
 ///
 /// It takes no more workers than the block has tasks, the calling thread among them. Where it takes one, or no memory is found for the desk or
 /// its seats, the calling thread walks the block alone.

@@ -4,7 +4,7 @@ use Rattle.split_http.specs.declared.heads.HeadTurn.{HeadTurn}
 use Rattle.split_http.specs.declared.heads.HeadTurn.TheVariants as turns
 use Rattle.split_http.specs.Turns.{CarrySays, IsOpen}
 
--- what a law says to stand beside stays where what is beside does
+-- where what is beside stays, what a law says of it stays
 pub first_beside : {A B : Type 0} (x y : A × B) (a c : A) (b d : B) → x ≡ (a, b) → y ≡ (c, d) → y ≡ x → c ≡ a
 first_beside {A} {B} x y a c b d p q r = ap (λ (z : A × B). z.0) (sym q ∙ r ∙ p)
 

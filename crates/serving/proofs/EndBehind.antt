@@ -1,4 +1,4 @@
--- The end behind a reply.
+-- The end after a reply.
 use Rattle.std.proofs.Common.{◌≡◌, Bool, true, false, Some, ap, sym, if◌then◌else◌, ◌||◌}
 use Rattle.serving.specs.declared.ends.LinkEnd.TheVariants as ends
 use Rattle.serving.specs.Dues.{DueView, closes}

@@ -25,12 +25,12 @@ module _ (link now : LinkView) (due : DueView) (reply : HttpReply) (tells : Says
   pub torn : (bytes : List ℕ) × IsReply reply bytes × AppendsProperPart link.written now.written bytes → CountsEnd link now Ending.write_fault → FinishSays link now due (Some ends.LinkFault)
   torn (bytes, is, (part, rest, whole, missing, wrote)) counts = inr (((bytes, part, (reply, tells, is), (rest, whole, missing), wrote), counts), refl)
 
--- bytes that are held take no part in it
+-- bytes that are held play no role in it
 pub finish_held : (held : List ℕ) (link now : LinkView) (due : DueView) (result : Option LinkEnd) → FinishSays link now due result → FinishSays (carried held link) now due result
 finish_held held link now due None says = says
 finish_held held link now due (Some end) says = says
 
--- behind a reply that closes the connection the link does not go on
+-- after a reply that closes the connection the link does not go on
 pub ends_behind : (link now : LinkView) (due : DueView) (result : Option LinkEnd) → FinishSays link now due result → due.manner.closes ≡ true → is_some result ≡ true
 ends_behind link now due None says closed = absurd (never_open due.said.memory due.manner.closes closed says.0)
 ends_behind link now due (Some end) says closed = refl

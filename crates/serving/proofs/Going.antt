@@ -105,7 +105,7 @@ module _ {W : Type 0} (service : Service W) (link mid : LinkView) (held : List �
         }
       ]
 
--- the counts behind a reply
+-- the counts after a reply
 pub counts_finished : (link mid now : LinkView) (due : DueView) (result : Option LinkEnd) → NoneFailed link mid → FinishSays mid now due result → CountsServed link now result
 counts_finished link mid now due None none (still, (bytes, counts)) = none_joined link mid now none counts
 counts_finished link mid now due (Some end) none (inl ((closed, is_end), (bytes, counts))) =

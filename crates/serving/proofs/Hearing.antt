@@ -18,7 +18,7 @@ use Rattle.serving.specs.Runs.{BodyStops, Refuses, Replies, SaysHead, Service, S
 use Rattle.serving.specs.Served.{CountsEnd, HaveCome, HeardQuiet, HeardRefused, HeardRequest, LinkView, NoneFailed, Replied}
 use Rattle.requests.specs.Said.{SaidView}
 
--- what was told after some bytes were taken is told before, behind them
+-- what was told after some bytes were taken was told before too, after those bytes
 pub told_back : (a b : Option (List ℕ)) (text rest : List ℕ) → Consumes a b text → IsToldAs b rest → IsToldAs a (text ++ rest)
 told_back None b text rest p q = tt
 told_back (Some x) None text rest p q = absurd p
@@ -44,7 +44,7 @@ came_kept None left held p = tt
 came_kept (Some x) None held p = absurd p
 came_kept (Some x) (Some y) held p = sym p
 
--- what came after some bytes were taken came before, behind them
+-- what came after some bytes were taken came before too, after those bytes
 pub came_behind : (ending : Ending) (a b left : Option (List ℕ)) (text come : List ℕ) → Consumes a b text → HaveCome ending b left come → HaveCome ending a left (text ++ come)
 came_behind Ending.ended a b left text come p q = told_back a b text come p q
 came_behind Ending.cut a b left text come p q = told_back a b text come p q
@@ -60,7 +60,7 @@ pub head_text : (a b : Option (List ℕ)) (head : Head) → (h : RequestHead) ×
     → (text : List ℕ) × SaysHead text head × Consumes a b text
 head_text a b head (h, is, of, taken) = (print_request h, (h, is, of, refl), taken)
 
--- counts over one stretch in which no call failed, and one behind it
+-- counts over one stretch in which no call failed, and one after it
 pub counts_joined : (link mid now : LinkView) (end : Ending) → NoneFailed link mid → CountsEnd mid now end → CountsEnd link now end
 counts_joined link mid now end none counts = (counts.0 ∙ ap (λ n. reads_after n end) none.0, counts.1 ∙ ap (λ n. writes_after n end) none.1)
 

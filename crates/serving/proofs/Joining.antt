@@ -14,7 +14,7 @@ use Rattle.serving.specs.Runs.{After, Asks, LinkRun, Refuses, Replies, Run, Serv
 use Rattle.requests.specs.Said.{SaidView}
 
 module _ {W : Type 0} (service : Service W) where
-  -- behind no request
+  -- after no request
   ends_at : (all : List ℕ) (answers : List (Option ℕ)) (w : W) (out : List ℕ) (new : W) (end : Ending) → EndsLink service w all answers out new end → LinkExchanges service all answers w out new end
   ends_at all answers w out new end ends = record {
     exchanges = [];
@@ -30,7 +30,7 @@ module _ {W : Type 0} (service : Service W) where
     ends = ends;
   }
 
-  -- behind one request more
+  -- after one request more
   one_more : (e : Exchange W) (all rest : List ℕ) (answers later : List (Option ℕ)) (w : W) (out tail : List ℕ) (new : W) (end : Ending) → IsExchange service e → e.before ≡ w → IsWhole e → closes e.due ≡ false
       → all ≡ (e.text ++ e.body) ++ rest → answers ≡ Some e.moment ∷ later → out ≡ e.got ++ tail → LinkExchanges service rest later e.after tail new end → LinkExchanges service all answers w out new end
   one_more e all rest answers later w out tail new end is same whole open_still input clock wrote x = record {

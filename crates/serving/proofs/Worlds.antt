@@ -9,7 +9,7 @@ use Rattle.split_http.specs.declared.head.Head.{Head}
 use Rattle.serving.specs.Serving.{StandsAt, host_service}
 use Rattle.requests.specs.Said.{SaidView}
 
--- the new world, for which the serving stands, and the response that led to it
+-- the new world, which the serving has, and the response that led to it
 pub responded : {D : Type 0} (d : Ghosts D) (serving : Serving) (disk after : D) (w : D × State) (head : Head) (body given : List ℕ) (moment : ℕ) (said : SaidView) → w.0 ≡ disk → given ≡ body
     → Leads d serving disk after w.1 (λ new. Responds d disk after head given moment w.1 new said)
     → (new : D × State) × StandsAt d serving after new × (host_service d).responds head body moment w new said

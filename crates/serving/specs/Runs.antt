@@ -25,7 +25,7 @@ abbrev pub SaysHead : List ℕ → Head → Type 0
 SaysHead text head = (h : RequestHead) × IsHead h × IsHeadOf (text_of h) head × (text ≡ print_request h)
 
 -- Why the bytes that are left get a reply that closes the connection, at an answer of the clock, before any body is read: they begin with no
--- head; the clock failed; what the head says is refused; or there was no memory, for the head, which stands there still, or for its body. And
+-- head; the clock failed; what the head says is refused; or there was no memory, for the head, which is still there, or for its body. And
 -- whether the reply is bodiless, as one to HEAD is. The rest is left then.
 pub data Refuses (all rest : List ℕ) (answer : Option ℕ) (refusal : HeadRefusal) (bodiless : Bool) : Type 0 where
   bad_head : IsBad all → refusal ≡ refusals.BadHead → bodiless ≡ false → Refuses all rest answer refusal bodiless

@@ -54,7 +54,7 @@ HaveCome Ending.read_fault ahead left come = Consumes ahead left come
 HaveCome Ending.write_fault ahead left come = IsToldAs ahead come
 HaveCome Ending.memory ahead left come = IsToldAs ahead come
 
--- A run over the bytes that came of a link; asked: the answers that the clock gave; stands: the worlds for which what serves may stand.
+-- A run over the bytes that came of a link; asked: the answers that the clock gave; stands: the worlds that may be the state of what serves.
 pub record RanTo {W : Type 0} (run : Run W) (link now : LinkView) (asked : List (Option ℕ) → Type 0) (stands : W → Type 0) (w : W) (end : LinkEnd) : Type 0 where
   pub all : List ℕ
   pub answers : List (Option ℕ)

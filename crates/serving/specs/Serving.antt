@@ -38,7 +38,7 @@ host_service {D} d = record {
   responds = λ head body moment w new said. Responds d w.0 new.0 head body moment w.1 new.1 said × Passes d w.0 w.1 new.0 new.1;
 }
 
--- the serving and its disk stand for this world
+-- this world is the disk and the state of the serving
 abbrev pub StandsAt : {D : Type 0} → Ghosts D → Serving → D → D × State → Type 0
 StandsAt d serving disk w = (w.0 ≡ disk) × HasState d serving disk w.1
 

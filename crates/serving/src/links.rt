@@ -81,8 +81,8 @@ fn closes(head: &Head, last: bool) -> bool
 ///   body of one: all others are answered first.
 /// - `Memory`: a memory reply was the last, and was written.
 ///
-/// Goods are searched by 1 to `MOST_WORKERS` workers, unless a kept search is of the same case. Neither they nor the kept searches take part
-/// in what is written.
+/// Goods are searched by 1 to `MOST_WORKERS` workers, unless a kept search is of the same case. Neither they nor the kept searches change
+/// what is written.
 #[allow(clippy::too_many_arguments)]
 pub fn serve_one<D: Disk, L: Link, C: Clock, R: Threads + Sync, G: Gate + Sync>(
     alloc: Global,
@@ -101,7 +101,7 @@ pub fn serve_one<D: Disk, L: Link, C: Clock, R: Threads + Sync, G: Gate + Sync>(
         (link_view (tells_of L.Source L.Sink) link.old) (link_view (tells_of L.Source L.Sink) link.new)
         (ClockRun C.gives C.faults clock.old clock.new) (StandsAt D.Disk serving.new disk.new) w result }
 
-    // Whatever the serving stands for.
+    // Whatever state the serving has.
     ensures counts { CountsServed (link_view (tells_of L.Source L.Sink) link.old) (link_view (tells_of L.Source L.Sink) link.new) (Some result) }
     ensures reads { L.Source.faults link.old ≤ L.Source.faults link.new }
     ensures writes { L.Sink.faults link.old ≤ L.Sink.faults link.new }

@@ -79,7 +79,7 @@ pub fn serve<D: Disk, P: Port, C: Clock, R: Threads + Sync, G: Gate + Sync>(
     ensures cause { HasCause (P.faults port.old) (P.faults port.new) result }
     ensures counted { IsCounted (P.faults port.old) (P.faults port.new) result }
 
-    // Whatever the serving stands for.
+    // Whatever state the serving has.
     ensures clock { C.faults clock.old ≤ C.faults clock.new }
     ensures disk { D.faults disk.old ≤ D.faults disk.new }
     ensures honest { D.is_honest disk.old ↔ D.is_honest disk.new }

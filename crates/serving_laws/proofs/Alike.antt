@@ -1,5 +1,5 @@
--- Two runs of a link over the same bytes and the same answers of the clock, from worlds that are alike, of a service that answers each request in one
--- way at worlds that are alike, where no call of the link failed and memory sufficed: they write the same, and take as many answers.
+-- Two runs of a link write the same, and take as many answers of the clock. They are over the same bytes and the same answers, from worlds that are
+-- alike. The service answers each request in one way at worlds that are alike. No call of the link failed, and memory sufficed.
 use Rattle.std.proofs.Common.{◌≡◌, ℕ, zero, suc, ◌<◌, ◌+◌, ◌==◌, Bool, true, false, ◌||◌, List, [], ◌∷◌, ◌++◌, length, take, drop, Option, Some, None, refl, sym, ap, ◌∙◌, subst, inl, inr, arith, not-suc-le-zero, length-append, if◌then◌else◌}
 use Rattle.std.proofs.Math.Seq.{drop-append_seam, take-append_seam}
 use Rattle.split_http.specs.declared.head.Head.{Head}
@@ -17,7 +17,7 @@ use Rattle.serving_laws.specs.Writing.{IsDone}
 use Rattle.serving.specs.Runs.{After, Asks, BodyStops, LinkRun, Refuses, Replies, Run, SaysHead, Service, Stops, end_of}
 use Rattle.requests.specs.Said.{SaidView}
 
--- of the same bytes one turn comes first, and the same is left
+-- one turn comes first of the same bytes, and the same is left
 abbrev TurnsOnce : Type 0
 TurnsOnce = (all rest other : List ℕ) (t u : HeadTurn) → HeadSays (Some all) (Some rest) t → HeadSays (Some all) (Some other) u → IsHeadDone t → IsHeadDone u → (t ≡ u) × (rest ≡ other)
 
@@ -30,7 +30,7 @@ abbrev pub AnswersOnce : {W : Type 0} → Service W → (W → W → Type 0) →
 AnswersOnce {W} service Same = (head : Head) (body : List ℕ) (moment : ℕ) (w v new other : W) (said told : SaidView) → Same w v
     → service.responds head body moment w new said → service.responds head body moment v other told → Same new other × (said ≡ told)
 
--- the head stands at the front, and this is left behind it
+-- the head is at the front, and this is left after it
 abbrev HeadAt : List ℕ → List ℕ → Head → Type 0
 HeadAt all left head = (text : List ℕ) × (all ≡ text ++ left) × SaysHead text head
 
@@ -228,7 +228,7 @@ module _ {W : Type 0} (service : Service W) where
       clock = p.over ∙ sym q.over;
     }
 
-    -- two bodies behind one head, and what was answered to them
+    -- two bodies after one head, and what was answered to them
     same_answer : (last : Bool) (moment : ℕ) (head : Head) (w v : W) (left body rest body' rest' : List ℕ) (mid mid' : W) (said said' : SaidView) → Same w v → left ≡ body ++ rest → left ≡ body' ++ rest'
         → length body ≡ head.length → length body' ≡ head.length → service.responds head body moment w mid said → service.responds head body' moment v mid' said'
         → (rest ≡ rest') × Same mid mid' × (said ≡ said')

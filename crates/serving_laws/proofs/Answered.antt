@@ -22,7 +22,7 @@ counted_rises n =
 pub not_counted : (n now : ℕ) → (HasRisen n now → ⊥) → now ≡ counted n → ⊥
 not_counted n now none is = none (subst (λ m. HasRisen n m) (sym is) (counted_rises n))
 
--- a count that rose behind a later one rose behind the earlier one
+-- a count that has risen since a later one has risen since the earlier one
 later_rises : (n m now : ℕ) → n ≤ m → now ≡ counted m → HasRisen n now
 later_rises n m now least is =
     subst (λ k. HasRisen n k) (sym is) (⊎_elim (λ (risen : m < counted m). inl (omega (arith, least, risen))) (λ full. inr full) (counted_rises m))

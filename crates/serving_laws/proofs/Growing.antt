@@ -11,7 +11,7 @@ use Rattle.serving.specs.Serving.{host_service}
 use Rattle.serving_laws.proofs.Chains.{passes_first, responds_first}
 use Rattle.requests.specs.Said.{SaidView}
 
--- the events of the later state are those of the earlier one, and others behind them
+-- the events of the later state are those of the earlier one, and others after them
 pub record Grows (s new : State) : Type 0 where
   pub secret : new.secret ≡ s.secret
   pub more : List EventView

@@ -1,4 +1,4 @@
--- The run of a link in which no call of the disk failed and memory sufficed, as one of a host of which that is so of each request.
+-- The run of a link in which no call of the disk failed and memory sufficed, as a run of a host for which each request is so.
 use Rattle.std.proofs.Common.{◌≡◌, ℕ, zero, suc, ◌<◌, ◌≤◌, ◌==◌, Bool, true, false, ◌||◌, List, Option, refl, sym, ap, ◌∙◌, subst, inl, inr, ⊎_elim, arith, le_refl, le_trans, if◌then◌else◌}
 use Rattle.std.proofs.lemmas.Bool.{cases_lt}
 use Rattle.split_base.specs.declared.disk.Disk.{Ghosts}
@@ -50,7 +50,7 @@ module _ {D : Type 0} (d : Ghosts D) where
   rises (suc n) all answers w out new end (inr h) =
       le_trans (replies_rise (n == 0) all h.rest h.answer w h.interim h.mid h.due h.replies) (after_rises n (rises n) h.rest h.later h.mid h.due h.tail new end h.after)
 
-  -- a reply behind which a link goes on or ends well doesn't say that memory ran out
+  -- a reply after which a link goes on or ends well doesn't say that memory ran out
   plain_due : (n : ℕ) (rest : List ℕ) (answers : List (Option ℕ)) (w : D × State) (due : DueView) (out : List ℕ) (new : D × State) (end : Ending) → IsDone end
       → After (LinkRun (host_service d) n) rest answers w due out new end → due.said.memory ≡ false
   plain_due n rest answers w due out new end done (After.torn bytes a are part same ends) = absurd (subst IsDone ends done)

@@ -67,7 +67,7 @@ pub fn accepted_law<D: Disk>()
         → Accepts run w.1 new.1 }
 {}
 
-/// On an honest disk each event that was kept when a request was answered stands in whatever a crash may leave since then, at its place: each
+/// On an honest disk each event that was kept when a request was answered is in whatever a crash may leave since then, at its place: each
 /// image begins with all of them.
 pub fn acknowledged_law<D: Disk>()
     ensures { (w : D × State) (run : List (Exchange (D × State))) (new : D × State) → Answered (host_service D.Disk) w run new → D.is_honest w.0 → Each (D.images w.0) (IsFile w.1)
@@ -98,7 +98,7 @@ pub fn refused_law<D: Disk>()
 }
 
 /// Over the same bytes and answers of the clock, where the machine with its disk and its memory answers each request in one way, a link on which
-/// no call fails gets the same bytes and ends alike. So neither the pieces in which its bytes come nor the number of workers takes part in
+/// no call fails gets the same bytes and ends alike. So neither the pieces in which its bytes come nor the number of workers plays a role in
 /// what it gets.
 ///
 /// Where hosts of one state answer alike: over the same bytes, and answers of the clock that are the same as far as both take some, a link at either

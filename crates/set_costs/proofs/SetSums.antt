@@ -62,7 +62,7 @@ added_is x y k a b others e f g high low few =
     ∙ ap (λ z. kept (z *ℤ pos (factorial others))) inner ∙ kept_whole ((pos a -ℤ pos b) *ℤ pos (factorial others)) (omega (arith, sized)) in
     (whole, subst (λ z. unsigned_abs z ≤ most_part) (sym whole) sized)
 
--- another than the first of a list is behind it
+-- what is in a list and is not its first element comes after it
 pub behind_other : (x y : ℕ) (xs : List ℕ) → x ≢ y → Contains (x ∷ xs) y → Contains xs y
 behind_other x y xs apart (zero, l, e) = absurd (apart e)
 behind_other x y xs apart (suc k, l, e) = (k, omega arith, e)

@@ -74,7 +74,7 @@ impl SetCosts<'_> {
         self.case.facts.flag + self.entry(0, set)
     }
 
-    /// Of the cheapest orders of all riders, the least as a list, in numbers of riders.
+    /// The least, as a list, of the cheapest orders of all riders, in numbers of riders.
     pub fn route(&self) -> RiderList
         ensures { IsLeastRoute self.now result.items }
     {

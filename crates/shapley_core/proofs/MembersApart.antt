@@ -1,4 +1,4 @@
--- The number of members takes no part in what routes and coalitions cost, nor in the best division.
+-- The number of members does not change what routes and coalitions cost, nor the best division.
 use Rattle.std.proofs.Common.{◌≡◌, ℕ, pos, get_or, ◌+◌, ◌+ℤ◌, ◌-ℤ◌, List, [], ◌∷◌, ◌++◌, length, fold, refl, sym, ap, ◌∙◌, subst}
 use Rattle.std.specs.List.{AllZip}
 use Rattle.bid_rules.specs.declared.cases.FareCase.{FareCase}

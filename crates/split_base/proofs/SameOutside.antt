@@ -6,7 +6,7 @@ use Rattle.split_base.specs.Past.{State, DiskState, Wrote, written, after, state
 use Rattle.split_base.specs.PastLaws.{le_or_lt, seen_image, written_is_torn}
 use Rattle.split_base.proofs.Images.{after_push}
 
--- of two prefixes the shorter is taken, whichever comes first
+-- the shorter of two prefixes is taken, whichever comes first
 takes_swap : (m n : ℕ) (l : List ℕ) → take m (take n l) ≡ take n (take m l)
 takes_swap m n l = by_order (le_or_lt m n)
   where
@@ -14,7 +14,7 @@ takes_swap m n l = by_order (le_or_lt m n)
     by_order (inl le) = take-take m n l le ∙ sym (take_all n (take m l) (omega (arith, le, length-take m l)))
     by_order (inr lt) = take_all m (take n l) (omega (arith, lt, length-take n l)) ∙ sym (take-take n m l (omega (arith, lt)))
 
--- what stands behind k bytes of a prefix is a prefix of what stands behind them
+-- what comes after k bytes of a prefix is a prefix of what comes after them
 drop_prefix : (k n : ℕ) (l : List ℕ) → drop k (take n l) ≡ take (n - k) (drop k l)
 drop_prefix k n l = by_order (le_or_lt k n)
   where

@@ -1,7 +1,7 @@
 -- What an object's count of faults shows of its calls.
 use Rattle.std.specs.Prelude.{◌≡◌, ◌⊎◌, ℕ, ◌+◌, ◌-◌, ◌^◌, ◌<◌, ◌≤◌, min, Result, IsErr, MatchResult}
 
--- the count went up, or stands at its greatest value, where it can't
+-- the count went up, or is at its greatest value, where it can't
 abbrev pub HasRisen : ℕ → ℕ → Type 0
 HasRisen before now = (before < now) ⊎ (now ≡ 2 ^ 64 - 1)
 

@@ -10,7 +10,8 @@ pub record SourceState : Type 0 where
   pub calls : ℕ
   pub faults : ℕ
 
--- a sink: the bytes that were written, the number of bytes that still fit, the numbers of the calls that fail, and how many calls were made, have failed, and were handed no byte
+-- a sink: the bytes that were written, the number of bytes that still fit, the numbers of the calls that fail, and how many calls were made,
+-- have failed, and were given no byte
 pub record SinkState : Type 0 where
   pub written : List ℕ
   pub room : ℕ
@@ -57,12 +58,12 @@ after_failed_read source = record {
   faults = counted source.faults;
 }
 
--- a count of the calls that were handed no byte, after a call with this piece
+-- a count of the calls that were given no byte, after a call with this piece
 abbrev pub with_empty : List ℕ → ℕ → ℕ
 with_empty [] count = counted count
 with_empty (b ∷ bytes) count = count
 
--- the sink after a call that wrote the piece: it stands at the end, and its room is used up
+-- the sink after a call that wrote the piece: it is at the end, and its room is used up
 abbrev pub after_write : SinkState → List ℕ → SinkState
 after_write sink piece = record {
   written = sink.written ++ piece;

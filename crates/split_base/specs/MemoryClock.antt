@@ -15,6 +15,7 @@ moved_on [] = []
 moved_on (m ∷ []) = m ∷ []
 moved_on (m ∷ n ∷ ms) = n ∷ ms
 
+-- the first moment, or none where none is left
 abbrev pub first_of : List ℕ → Option ℕ
 first_of [] = None
 first_of (m ∷ ms) = Some m

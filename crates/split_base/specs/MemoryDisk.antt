@@ -5,6 +5,7 @@ use Rattle.split_base.specs.declared.memory.disk.TheConstants.{CALL_SIZE}
 use Rattle.split_base.specs.Past.{DiskState, state_of, seen_of, total}
 use Rattle.split_base.specs.Replay.{acts_of, bytes_of}
 
+-- what contracts see of the disk that this object keeps
 abbrev pub disk_view : Inside → DiskState
 disk_view d = record {
   first = d.first.items;

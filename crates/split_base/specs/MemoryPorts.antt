@@ -53,6 +53,7 @@ taken_back p link zero = p
 taken_back p link (suc places) =
     record { to_come = p.to_come; given_back = p.given_back ++ link ∷ []; places = places; fails = p.fails; calls = p.calls; faults = p.faults; asked = p.asked }
 
+-- after a link was given back: it is kept where there is a place for it, and else dropped
 abbrev pub after_done : PortState → LinkState → PortState
 after_done p link = taken_back p link p.places
 

@@ -24,14 +24,17 @@ abbrev pub written : List ℕ → ℕ → List ℕ → List ℕ
 written old place [] = old
 written old place (b ∷ bytes) = take place old ++ replicate (place - length old) 0 ++ b ∷ bytes ++ drop (place + length (b ∷ bytes)) old
 
+-- the state after this call: a write changes what a read gives and is listed, and a sync makes all of it stable and empties the list
 abbrev pub after : State → Act → State
 after s (Wrote place bytes) = record { seen = written s.seen place bytes; stable = s.stable; later = record { place = place; bytes = bytes } ∷ s.later }
 after s Synced = record { seen = s.seen; stable = s.seen; later = [] }
 
+-- the state after these calls, one after the other
 abbrev pub after_all : State → List Act → State
 after_all s [] = s
 after_all s (act ∷ acts) = after_all (after s act) acts
 
+-- the state of a file that is stable with these bytes, before any write
 abbrev pub fresh : List ℕ → State
 fresh bytes = record { seen = bytes; stable = bytes; later = [] }
 
@@ -40,6 +43,7 @@ abbrev pub IsImage : List Write → List ℕ → List ℕ → Type 0
 IsImage [] stable c = c ≡ stable
 IsImage (w ∷ earlier) stable c = (d : List ℕ) × IsImage earlier stable d × IsTorn w.place (length w.bytes) d c
 
+-- what a crash in this state may leave of the file
 abbrev pub images_of : State → List ℕ → Type 0
 images_of s c = IsImage s.later s.stable c
 
@@ -70,18 +74,23 @@ pub record DiskState : Type 0 where
   pub calls : ℕ
   pub faults : ℕ
 
+-- the state that the disk has come to by its calls
 abbrev pub state_of : DiskState → State
 state_of d = after_all (fresh d.first) d.acts
 
+-- the bytes of the file, as a read of the disk gives them
 abbrev pub seen_of : DiskState → List ℕ
 seen_of d = (state_of d).seen
 
+-- what a crash of the disk may leave now
 abbrev pub images_at : DiskState → List ℕ → Type 0
 images_at d c = images_of (state_of d) c
 
+-- the moment of the disk: how many calls have changed it
 abbrev pub moment_of : DiskState → ℕ
 moment_of d = length d.acts
 
+-- what a crash of the disk after t of the calls that changed it, or later, might have left
 abbrev pub left_of : DiskState → ℕ → List ℕ → Type 0
 left_of d t c = LeftSince d.first d.acts t c
 
@@ -105,6 +114,7 @@ IsFull d taken = d.list < taken
 abbrev pub after_call : DiskState → DiskState
 after_call d = record { first = d.first; acts = d.acts; room = d.room; list = d.list; fails = d.fails; stop = d.stop; calls = counted d.calls; faults = d.faults }
 
+-- one fault more, and nothing else changed
 abbrev pub after_fault : DiskState → DiskState
 after_fault d = record { first = d.first; acts = d.acts; room = d.room; list = d.list; fails = d.fails; stop = d.stop; calls = d.calls; faults = counted d.faults }
 

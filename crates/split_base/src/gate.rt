@@ -1,6 +1,6 @@
 // A gate that a walk of a task goes through.
 
-/// Is told when a worker begins and ends the walk of a task. Each walk stands between the two
+/// Is told when a worker begins and ends the walk of a task. Each walk comes between the two
 /// calls. A gate may hold a worker up, and so tests can choose in which order workers go on; it
 /// answers nothing, so no result depends on it.
 pub trait Gate {

@@ -3,8 +3,8 @@
 //!
 //! A call of each object fails only where the object's count of faults rises in it, by one; a
 //! successful call leaves the count. `read_all` and `write_all` end at the first failed call and
-//! try nothing again. Of an honest `Disk` the clauses say what reads give, and what a crash at any
-//! moment of a call may leave. An object in memory fails exactly where it is told to, and no
+//! try nothing again. For an honest `Disk` the clauses say what reads give, and what a crash at
+//! any moment of a call may leave. An object in memory fails exactly where it is told to, and no
 //! contract says anything of a `Gate`.
 #![tactic(auto)]
 

@@ -9,9 +9,9 @@ use crate::{Sink, Source};
 /// It has no call. Its two laws say that what each side calls `beside` is the other side. The
 /// count of faults of a link has risen where that of one of its sides has.
 pub trait Link: Source + Sink {
-    /// Beside the source stand the bytes that were written and the sink's count.
+    /// Beside the source are the bytes that were written and the sink's count.
     ghost source_beside: { (link : Self) → Self.Source.beside link ≡ (Self.Sink.written link, Self.Sink.faults link) };
 
-    /// Beside the sink stand the bytes that are left and the source's count.
+    /// Beside the sink are the bytes that are left and the source's count.
     ghost sink_beside: { (link : Self) → Self.Sink.beside link ≡ (Self.Source.left link, Self.Source.faults link) };
 }

@@ -4,7 +4,7 @@ ghost use Rattle.split_base.specs.Faults.{HasCause, IsCounted};
 ghost use Rattle.split_base.specs.Streams.{Reads, Writes};
 
 /// A call failed. The count of faults of the object that was called has risen by one in this call,
-/// or stands at its greatest value, 2^64 - 1.
+/// or is at its greatest value, 2^64 - 1.
 #[derive(Clone, Copy, Debug, PartialEq, Eq)]
 pub struct Failed;
 
@@ -40,7 +40,7 @@ pub trait Sink {
     /// How many of its calls have failed, up to 2^64 - 1.
     ghost faults: { Self → ℕ };
 
-    /// How many of its calls were handed no byte, where the object counts them; else always 0.
+    /// How many of its calls were given no byte, where the object counts them; else always 0.
     ghost empty_writes: { Self → ℕ } = { λ _. 0 };
 
     /// Where the object is a source too: what that side has left, and its count of faults.

@@ -23,11 +23,11 @@ pub enum ReadStop {
 /// - `Fault` comes only where the source's count of faults has risen. A failed read ends the
 ///   reading: it is not tried again, so the count has risen by one then, and not at all with
 ///   every other answer.
-/// - `TooLong` comes exactly where more than `most` bytes stand. Then `most + 1` of them were read.
-/// - `NoMemory` comes for want of memory alone.
+/// - `TooLong` comes exactly where there are more than `most` bytes. Then `most + 1` of them were read.
+/// - `NoMemory` comes only for lack of memory.
 ///
-/// After each of these the bytes read so far, at most `most + 1`, are lost, and the source stands
-/// behind them.
+/// After each of these the bytes read so far, at most `most + 1`, are lost, and the source goes on
+/// after them.
 pub fn read_all<S: Source>(alloc: Global, source: &mut S, most: usize) -> Result<Vec<u8>, ReadStop>
     ensures short { IfOk result (λ bytes. length bytes.items ≤ most) }
     ensures bytes { IfOk result (λ bytes. Consumes (S.left source.old) (S.left source.new) bytes.items) }
@@ -64,7 +64,7 @@ pub fn read_all<S: Source>(alloc: Global, source: &mut S, most: usize) -> Result
 }
 
 /// Writes all the bytes. It takes no memory. Where there is no byte, it doesn't call the sink, and it
-/// never hands the sink a piece of no bytes.
+/// never gives the sink a piece of no bytes.
 ///
 /// `Failed` comes only where the sink's count of faults has risen. A first part of the bytes was
 /// written then, and not all of them: so it never comes where there are none. A failed write is not

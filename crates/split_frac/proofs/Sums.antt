@@ -50,7 +50,7 @@ module _ (l m n : ℤ) (p q r whole : ℕ) (some_p : 0 < p) (some_q : 0 < q) (lo
   abbrev over : ℤ
   over = l *ℤ pos (whole / p) +ℤ m *ℤ pos (whole / q)
 
-  -- n times the multiple is, but for the sign, that numerator times r
+  -- except for the sign, n times the multiple is that numerator times r
   same : unsigned_abs n * whole ≡ unsigned_abs over * r
   same =
       let e : n *ℤ pos whole ≡ over *ℤ pos r = parts l m n p q r (whole / p) (whole / q) whole some_p some_q (div-mul_cancel p by_p) (div-mul_cancel q by_q) h in

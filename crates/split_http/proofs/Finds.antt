@@ -28,7 +28,7 @@ words = numbered_from 0 tails
 abbrev last : ℕ
 last = length words
 
--- the slash after an id, with those words behind it
+-- the slash after an id, and those words after it
 abbrev node : Seen
 node = record { prefix = 47 ∷ []; tails = words; height = 1 }
 
@@ -40,7 +40,7 @@ nodes = node ∷ []
 abbrev id_rows : Rows
 id_rows = rows_of nodes ++ ends (Some last)
 
--- the routes after the slash behind `/instances`
+-- the routes after the slash that follows `/instances`
 abbrev slash_rows : Rows
 slash_rows = prepend (param_token ∷ []) id_rows
 
@@ -81,7 +81,7 @@ longest seg = longest-kid seg [] (47 ∷ []) (rows_of nodes) (slashed words) (li
 word_texts : AreTexts (rename numbered (rows node))
 word_texts = AreTexts-test (rename numbered (rows node)) refl
 
--- behind an id the router looks the tail up
+-- after an id the router looks the tail up
 tail_place : (b : ℕ) (rest : List ℕ) → map_key numbered (first (rows node) (b ∷ rest)) ≡ endpoint_in tails (b ∷ rest)
 tail_place b rest = sym (first-rename numbered (rows node) (b ∷ rest)) ∙ first-texts (b ∷ rest) (rename numbered (rows node)) word_texts
 
@@ -131,7 +131,7 @@ id_place c q = by (slash_or_none (c ∷ q)) (cuts (segment (c ∷ q)) (47 ∷ []
         let found = after_param-stop nodes (Some last) c q (longest (segment (c ∷ q)) ∙ ap (λ v. cond v (47 ∷ []) []) e) s.slash in
         ap (map_key numbered) found ∙ sym (place_at (c ∷ q) 0 none)
 
--- after the slash behind `/instances` the router finds what is defined
+-- after the slash that follows `/instances` the router finds what is defined
 slash_place : (p : List ℕ) → (0 < length p → get_or p 0 0 < 256) → map_key numbered (first slash_rows p) ≡ endpoint_after_slash p
 unfolding seek
 slash_place [] small = refl

@@ -14,7 +14,7 @@ use Rattle.split_http.specs.Turns.{AsksMore, HeadSays, IsOpen}
 use Rattle.split_http.specs.Framings.{IsRequest, FramingSays, NeverHasHead}
 use Rattle.split_http.proofs.LawLemmas.{one_head}
 
--- the first bytes, those behind them, and more
+-- the first bytes, those after them, and more
 parts : (n : ℕ) (bytes more : List ℕ) → take n bytes ++ (drop n bytes ++ more) ≡ bytes ++ more
 parts n bytes more = sym (append_assoc (take n bytes) (drop n bytes) more) ∙ ap (λ z. z ++ more) (take-append-drop n bytes)
 
@@ -29,7 +29,7 @@ request_of n bytes (framings.Request bound expects) (head, valid, ((rest, is), b
   due,
 )
 
--- where the first bytes never have a head, none will stand there
+-- where the first bytes never have a head, none will come there
 pub never_of : (n : ℕ) (bytes : List ℕ) → NeverHasOne IsText (take n bytes) → NeverHasHead bytes
 never_of n bytes never more head rest is_head is =
     never (drop n bytes ++ more) (print_request head) rest (head, is_head.valid, is_head.few, refl) (parts n bytes more ∙ is)
@@ -44,7 +44,7 @@ open_of n bytes all few looked =
       few = few;
     }
 
--- nor behind as many bytes as a head may have, which have none
+-- nor after as many bytes as a head may have, which have none
 full : (bytes more : List ℕ) → length bytes ≡ MAX_HEAD → HasNone IsText bytes → HasNoHead (bytes ++ more)
 full bytes more size none h rest head is =
     let text = print_request h in

@@ -16,7 +16,7 @@ use Rattle.split_http.specs.Replies.{IsReply, IsDateLine, reply_with}
 use Rattle.split_http.specs.Turns.{HeadSays, BodySays, IsHeadDone, IsBodyDone, IsSameBody}
 use Rattle.split_http.proofs.PathLemmas.{same_path}
 
--- of two heads with which the same bytes begin, each is the other
+-- where the same bytes begin with two heads, the heads are equal
 pub one_head : (a b : RequestHead) (r q : List ℕ) → IsHead a → IsHead b → print_request a ++ r ≡ print_request b ++ q → (a ≡ b) × (r ≡ q)
 one_head a b r q x y is = request_unique (print_request a ++ r) a b r q (x.valid, refl) (y.valid, is)
 

@@ -86,13 +86,13 @@ module _ {K : Type 0} where
         | false ↦ step-texts b rest texts.1
       ]
 
-  -- what stands at the end is what the empty text looks up
+  -- what is at the end is what the empty text looks up
   own-lookup : (rs : RowsOf K) → own rs ≡ lookup [] rs
   own-lookup [] = refl
   own-lookup (([], k) ∷ rest) = refl
   own-lookup ((x ∷ t, k) ∷ rest) = own-lookup rest
 
-  -- looking up behind a byte is looking up after a step on it
+  -- looking up the rest after a step on a byte is looking up the whole
   lookup-step : (b : ℕ) (p : List ℕ) (rs : RowsOf K) → lookup p (step b rs) ≡ lookup (b ∷ p) rs
   lookup-step b p [] = refl
   lookup-step b p (([], k) ∷ rest) = lookup-step b p rest

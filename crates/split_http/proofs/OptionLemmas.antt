@@ -9,7 +9,7 @@ use Rattle.std.proofs.lemmas.List.Elements.{All-from_get_or}
 use Rattle.std.proofs.lemmas.List.Splits.{slice_split_none, slice_split_at}
 use Rattle.split_http.specs.Fields.{is_close, lists_close}
 
--- no comma stands from the one place to before the other
+-- there is no comma from the one place to before the other
 abbrev pub NoComma : List ℕ → ℕ → ℕ → Type 0
 NoComma value start end = (i : ℕ) → start ≤ i → i < end → (get_or value i 0 == 44) ≡ false
 
@@ -34,7 +34,7 @@ part_uncut value start end low high none =
         let same : get_or (slice_range value start end) k 0 ≡ get_or value (start + k) 0 = grind (arith, common_steps) in
         rw same (none (start + k) (omega arith) (omega arith))
 
--- what stands from `start` on: the part, a comma, and the rest
+-- what comes from `start` on: the part, a comma, and the rest
 parts_at : (value : List ℕ) (start at : ℕ) → start ≤ at → at < length value
     → drop start value ≡ slice_range value start at ++ get_or value at 0 ∷ drop (at + 1) value
 parts_at value start at low high =
@@ -52,7 +52,7 @@ options_at value start at low high none comma =
     ap lists_close (parts_at value start at low high)
     ∙ ap (list_any is_close) (slice_split_at (λ b. b == 44) (slice_range value start at) (get_or value at 0) (drop (at + 1) value) uncut cut)
 
--- the last option is what stands from `start` on
+-- the last option is what comes from `start` on
 pub last_option : (value : List ℕ) (start : ℕ) → start ≤ length value → NoComma value start (length value)
     → lists_close (drop start value) ≡ is_close (drop start value)
 last_option value start low none =

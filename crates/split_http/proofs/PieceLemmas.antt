@@ -30,7 +30,7 @@ proper_after a b c xs ys zs p (part, rest, split, missing, q) =
 pub proper_more : (a b : Option (List ℕ)) (xs zs : List ℕ) → AppendsProperPart a b xs → AppendsProperPart a b (xs ++ zs)
 proper_more a b xs zs (part, rest, split, missing, q) = (part, rest ++ zs, rw split (simp append_assoc), omega (arith, missing, length-append rest zs), q)
 
--- a first part of the next bytes, after all of the first, and nothing behind
+-- a first part of the next bytes, after all of the first, and nothing after it
 pub proper_next : (a b c : Option (List ℕ)) (xs ys : List ℕ) → Appends a b xs → AppendsProperPart b c ys → AppendsProperPart a c (xs ++ ys)
 proper_next a b c xs ys p (part, rest, split, missing, q) = (xs ++ part, rest, rw split (simp append_assoc), missing, Appends-trans a b c _ _ p q)
 

@@ -19,7 +19,7 @@ told known row low high e =
     let is : known ≡ row = cc in
     (omega (arith, is, low), omega (arith, is, high))
 
--- the same behind a test
+-- the same after a test
 told_if : (v : Bool) (known row : ℕ) (rest : Option ℕ) → BAD_HOST ≤ known → known ≤ BODY_TOO_LARGE → (rest ≡ Some row → IsRow row)
     → (if v then Some known else rest) ≡ Some row → IsRow row
 told_if true known row rest low high next e = told known row low high e

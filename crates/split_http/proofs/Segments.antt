@@ -19,7 +19,7 @@ pub record NoSlash (q : List ℕ) : Type 0 where
   pub segment_is : segment q ≡ q
   pub all : id_len q ≡ length q
 
--- a slash stands in the bytes or none does
+-- a slash is in the bytes or none is
 pub slash_or_none : (q : List ℕ) → SlashAt q ⊎ NoSlash q
 slash_or_none [] = inr (record { slash = refl; segment_is = refl; all = refl })
 slash_or_none (b ∷ q) = by (b == 47) refl (slash_or_none q)
@@ -34,7 +34,7 @@ slash_or_none (b ∷ q) = by (b == 47) refl (slash_or_none q)
     by false e (inr s) =
         inr (record { slash = rw e s.slash; segment_is = rw e (ap (λ z. b ∷ z) s.segment_is); all = rw e (omega (arith, s.all)) })
 
--- where no slash stands, none begins what is left anywhere
+-- where there is no slash, none begins what is left anywhere
 no_slash_from : (q : List ℕ) (n : ℕ) → has_slash q ≡ false → pointwise nat_eq (47 ∷ []) (drop n q) ≡ false
 no_slash_from [] zero h = refl
 no_slash_from [] (suc n) h = refl
@@ -48,7 +48,7 @@ no_slash_from (b ∷ q) n h = by (b == 47) refl (no_slash_from q) n h
         rw other
     by false e ih (suc n) h = ih n h
 
--- as many bytes stand before the slash as are counted
+-- as many bytes come before the slash as are counted
 front_len : (q : List ℕ) → SlashAt q → length (take (id_len q) q) ≡ id_len q
 front_len q s = length-take-le (id_len q) q (omega (arith, s.within))
 
@@ -66,14 +66,14 @@ segment_ends q s =
     let place : length (front ++ 47 ∷ []) - 1 ≡ length front = omega (arith, length-append front (47 ∷ [])) in
     rw (s.segment_is, place, drop-append_seam front (47 ∷ []))
 
--- a slash cuts a segment where it ends it, and something stands before it
+-- a slash cuts a segment where it ends it, and something comes before it
 pub cuts_with : (q : List ℕ) → SlashAt q → 0 < id_len q → cuts (segment q) (47 ∷ []) ≡ true
 cuts_with q s some =
     let size = segment-len q s in
     let long : ltb 1 (length (segment q)) ≡ true = grind (arith, nat_tests) in
     rw (long, segment_ends q s)
 
--- it does not where nothing stands before it
+-- it does not where nothing comes before it
 pub cuts_empty : (q : List ℕ) → SlashAt q → id_len q ≡ 0 → cuts (segment q) (47 ∷ []) ≡ false
 cuts_empty q s none =
     let size = segment-len q s in

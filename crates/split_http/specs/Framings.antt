@@ -14,13 +14,13 @@ NeverHasHead bytes = (more : List ℕ) → HasNoHead (bytes ++ more)
 abbrev pub EndsAt : List ℕ → RequestHead → ℕ → Type 0
 EndsAt bytes head bound = ((rest : List ℕ) × (bytes ≡ print_request head ++ rest)) × (bound ≡ length (print_request head) + length_of (text_of head))
 
--- a head stands at the front, which ends so far on with its body, and this is whether an interim reply is due
+-- a head is at the front, it ends so far on with its body, and this is whether an interim reply is due
 abbrev pub IsRequest : List ℕ → Framing → Type 0
 IsRequest bytes framings.Open = ⊥
 IsRequest bytes framings.NoHead = ⊥
 IsRequest bytes (framings.Request bound expects) = (head : RequestHead) × IsHead head × EndsAt bytes head bound × (expects ≡ expects_of (text_of head))
 
--- what stands at the front: no head yet, and the parser asks for more; no head ever; or a request
+-- what is at the front: no head yet, and the parser asks for more; no head ever; or a request
 abbrev pub FramingSays : List ℕ → Framing → Type 0
 FramingSays bytes framings.Open = IsOpen bytes
 FramingSays bytes framings.NoHead = NeverHasHead bytes

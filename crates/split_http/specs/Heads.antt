@@ -29,7 +29,7 @@ HasNoHead bytes = (head : RequestHead) (rest : List ℕ) → IsHead head → byt
 abbrev pub IsText : List ℕ → Type 0
 IsText text = (head : RequestHead) × IsRequestHead head × (length head.fields ≤ MAX_FIELDS) × (text ≡ print_request head)
 
--- the head stands at the front of the bytes, at these spans
+-- the head is at the front of the bytes, at these spans
 pub record IsFoundAt (bytes : List ℕ) (fields : List HeaderSpan) (spans : RequestSpans) : Type 0 where
   pub head : (h : RequestHead) × IsRequestAt bytes fields spans h × (length h.fields ≤ MAX_FIELDS)
   pub within : IsRequestWithin bytes fields spans
@@ -57,7 +57,7 @@ verb_of method =
     else (if bytes_eq method (codes "HEAD") then Head
     else (if bytes_eq method (codes "POST") then Post else Other))
 
--- a key of 64 bytes is taken as it stands; 64 zero bytes stand for any other
+-- a key of 64 bytes is taken as it is; any other becomes 64 zero bytes
 abbrev pub key_from : List ℕ → List ℕ
 key_from value = if length value == 64 then value else replicate 64 0
 

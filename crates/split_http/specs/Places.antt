@@ -11,7 +11,7 @@ use Rattle.split_http.specs.declared.routes.Route.{Route}
 use Rattle.split_http.specs.declared.routes.RouteFault.{RouteFault}
 use Rattle.split_http.specs.declared.routes.RouteFault.TheVariants.{NoRoute, Method}
 
--- how many bytes stand before the first slash
+-- how many bytes come before the first slash
 abbrev pub id_len : List ℕ → ℕ
 id_len bytes = prefix_len (λ b. not (b == 47)) bytes
 
@@ -43,11 +43,11 @@ abbrev pub endpoint_in : List (List ℕ × Endpoint) → List ℕ → Option End
 endpoint_in [] tail = None
 endpoint_in ((text, endpoint) ∷ rest) tail = if bytes_eq text tail then Some endpoint else endpoint_in rest tail
 
--- what stands after `/instances/`: an id, which is not empty, and a tail
+-- what comes after `/instances/`: an id, which is not empty, and a tail
 abbrev pub endpoint_after_slash : List ℕ → Option Endpoint
 endpoint_after_slash rest = if id_len rest == 0 then None else endpoint_in tails (drop (id_len rest) rest)
 
--- what stands after `/instances`
+-- what comes after `/instances`
 abbrev pub endpoint_after_word : List ℕ → Option Endpoint
 endpoint_after_word [] = Some creation
 endpoint_after_word (b ∷ rest) = if 47 == b then endpoint_after_slash rest else None

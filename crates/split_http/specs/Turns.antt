@@ -23,7 +23,7 @@ IsToldAs (Some known) bytes = bytes ≡ known
 abbrev pub IsBad : List ℕ → Type 0
 IsBad all = (0 < length all) × HasNoHead all
 
--- `httparse` asks for more of the bytes: no head of any number of fields stands at their front, and they become one when the right bytes
+-- `httparse` asks for more of the bytes: no head of any number of fields is at their front, and they become one when the right bytes
 -- follow, or they end within a target, whose text it tests at the target's end; or they have more fields than the 256 for which it has room
 abbrev pub AsksMore : List ℕ → Type 0
 AsksMore bytes = (HasNoRequest bytes × MayBecomeRequest bytes) ⊎ RequestExceeds ROOM bytes
@@ -34,11 +34,12 @@ pub record IsOpen (bytes : List ℕ) : Type 0 where
   pub asks : AsksMore bytes
   pub few : length bytes < MAX_HEAD
 
--- a head with this method stands at the front
+-- a head with this method is at the front
 abbrev pub HasHeadOf : Verb → List ℕ → Type 0
 HasHeadOf verb bytes = (h : RequestHead) × (rest : List ℕ) × IsHead h × (verb ≡ verb_of h.method) × (bytes ≡ print_request h ++ rest)
 
--- what the next head is and what it leaves of the bytes: a head is taken off, with what it says; nothing is taken where no head stands or the link failed
+-- what the next head is and what it leaves of the bytes: a head is taken off, with what it says; nothing is taken where there is no head or the
+-- link failed
 abbrev pub HeadSays : Option (List ℕ) → Option (List ℕ) → HeadTurn → Type 0
 HeadSays old new (turns.Head head) = (h : RequestHead) × IsHead h × IsHeadOf (text_of h) head × Consumes old new (print_request h)
 HeadSays old new turns.BadHead = Keeps old new × ((all : List ℕ) × IsToldAs old all × IsBad all)
@@ -46,7 +47,7 @@ HeadSays old new turns.End = Keeps old new × IsToldAs old []
 HeadSays old new turns.LinkFault = Keeps old new
 HeadSays old new (turns.NoMemory verb) = Keeps old new × ((all : List ℕ) × IsToldAs old all × HasHeadOf verb all)
 
--- the head was taken off the bytes, or it stands there and there was no memory
+-- the head was taken off the bytes, or it is still there and there was no memory
 abbrev pub IsTaken : List ℕ → List ℕ → HeadTurn → Type 0
 IsTaken old new (turns.Head head) = (h : RequestHead) × IsHead h × IsHeadOf (text_of h) head × (old ≡ print_request h ++ new)
 IsTaken old new turns.BadHead = ⊥

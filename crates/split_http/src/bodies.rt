@@ -28,8 +28,8 @@ pub enum BodyTurn {
     NoMemory,
 }
 
-/// Reads the body after a head and takes it off the link's bytes. Where the head asks for it the
-/// interim line stands in the link first.
+/// Reads the body after a head and takes it off the link's bytes. Where the head asks for it, the
+/// interim line is written to the link first.
 ///
 /// - `Refused` comes exactly where the head is refused. Nothing is read or written then.
 /// - `Cut` comes exactly where the input ends within the body.

@@ -14,12 +14,12 @@ use crate::request_heads::RequestHeads;
 use http_heads::{Look, MAX_HEAD, ROOM, find_head};
 use httparse::spans::{EMPTY_HEADER_SPAN, HeaderSpan, RequestSpans};
 
-/// What stands at the front of the bytes of a client.
+/// What is at the front of the bytes of a client.
 #[derive(Clone, Copy, Debug, PartialEq, Eq)]
 pub enum Framing {
     /// No head, and the parser asks for more bytes.
     Open,
-    /// No head, and none will stand there, whatever follows.
+    /// No head, and none will come there, whatever follows.
     NoHead,
     /// A head, with the body that it tells or some of it.
     Request {
@@ -33,8 +33,8 @@ pub enum Framing {
 /// Where the request at the front of these bytes ends, by the rule by which `next_head` and `next_body` read it. So a caller that has the
 /// bytes of a client can tell when its request is whole, before a link reads any of them. Nothing is kept, and no memory is taken.
 ///
-/// - `Request` comes exactly where a head stands at the front, as `next_head` finds it.
-/// - `NoHead` comes only where none does, whatever follows; so as soon as 8,192 bytes hold none.
+/// - `Request` comes exactly where a head is at the front, as `next_head` finds it.
+/// - `NoHead` comes only where none is there, whatever follows; so as soon as 8,192 bytes hold none.
 /// - `Open` comes only for fewer bytes than these, and only while the parser asks for more of them.
 pub fn framing_of(bytes: &[u8]) -> Framing
     ensures { FramingSays bytes.now result }
@@ -54,7 +54,7 @@ pub fn framing_of(bytes: &[u8]) -> Framing
     }
 }
 
-/// One rule: of bytes that begin with a request, `next_head` takes its head, and what it says of the body's length and of the interim reply is
+/// One rule: where bytes begin with a request, `next_head` takes its head. What the head says of the body's length and of the interim reply is
 /// what `framing_of` says.
 pub fn framing_law()
     ensures { (bytes rest : List ℕ) (bound : ℕ) (expects : Bool) (head : Head) → FramingSays bytes (Framing.Request bound expects)

@@ -155,7 +155,7 @@ fn closes(bytes: &[u8], fields: &[HeaderSpan], minor: u8) -> bool
     minor == 0 || any_closes(bytes, fields, b"connection")
 }
 
-// What the head at the front of the bytes says, whose parts stand at these spans. `NoMemory` comes
+// What the head at the front of the bytes says, whose parts are at these spans. `NoMemory` comes
 // only where there was no memory for the path.
 pub(crate) fn head_at(
     alloc: Global,

@@ -41,7 +41,7 @@ pub enum HeadTurn {
 ///   leaves that count as it is. A read is made only while the parser asks for more of what the carry
 ///   holds: nothing is read while a whole head waits there, and bytes that can never become one are
 ///   answered by `BadHead` at once.
-/// - `NoMemory` comes only where memory ran out and a head stands at the front. That head
+/// - `NoMemory` comes only where memory ran out and a head is at the front. That head
 ///   stays there. Its method is told, so that a reply to HEAD can leave its body out
 ///   (`HttpReply::bodiless`).
 ///

@@ -11,7 +11,7 @@ ghost use Rattle.split_http.specs.Heads.{IsHead, IsHeadOf, HeadText};
 ghost use Rattle.split_http.specs.Replies.{IsReply, is_host_status};
 ghost use Rattle.split_http.specs.Turns.{HeadSays, BodySays, IsHeadDone, IsBodyDone, IsSameBody};
 
-/// Heads are unique: of two heads with which the same bytes begin, each is the other, and the same
+/// Heads are unique: where the same bytes begin with two heads, the heads are equal, and the same
 /// bytes follow.
 pub fn head_law()
     ensures one { (a b : RequestHead) (r q : List ℕ) → IsHead a → IsHead b → print_request a ++ r ≡ print_request b ++ q → (a ≡ b) × (r ≡ q) }

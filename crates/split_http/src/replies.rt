@@ -119,7 +119,7 @@ fn body<'a>(reply: &HttpReply<'a>) -> &'a [u8]
     if reply.bodiless { b"" } else { reply.text }
 }
 
-// Writes a reply from its parts. One lifetime stands for all of them, since they lie in one array.
+// Writes a reply from its parts. All of them have one lifetime, since they are in one array.
 #[allow(clippy::too_many_arguments)]
 fn write_parts<'a, S: Sink>(
     sink: &mut S,

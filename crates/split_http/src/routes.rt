@@ -162,7 +162,7 @@ fn leads_zero(text: &[u8]) -> bool
     }
 }
 
-// The number that stands there in plain decimal, from 1 to the greatest `u32`; else 0.
+// The number that is there in plain decimal, from 1 to the greatest `u32`; else 0.
 fn number(text: &[u8]) -> u32
     ensures { IsId text.now result }
 {

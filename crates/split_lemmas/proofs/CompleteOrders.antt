@@ -14,7 +14,7 @@ use Rattle.bid_rules.specs.Orders.{insertions, orders}
 use Rattle.split_lemmas.proofs.Counts.{mark, mark_same, found}
 use Rattle.split_lemmas.proofs.OrderLaws.{orders_permute}
 
--- each number stands as often in both lists
+-- each number comes as often in one list as in the other
 abbrev pub SameCounts : List ℕ → List ℕ → Type 0
 SameCounts xs ys = (a : ℕ) → sum_by (mark a) xs ≡ sum_by (mark a) ys
 

@@ -1,4 +1,4 @@
--- How often a number stands in a list.
+-- How often a number comes in a list.
 use Rattle.std.proofs.Common.{◌≡◌, ◌≢◌, ℕ, suc, zero, ◌+◌, ◌<◌, ◌≤◌, List, [], ◌∷◌, Contains, cond, ◌==◌, arith, ⊎_elim}
 use Rattle.std.specs.List.{sum_by, range_with_len}
 use Rattle.std.specs.List.Sorted.{IsPermutation}
@@ -11,7 +11,7 @@ use Rattle.std.proofs.lemmas.List.Sorted.{sum_by-IsPermutation}
 abbrev pub mark : ℕ → ℕ → ℕ
 mark a y = cond (y == a) 1 0
 
--- each number stands at most once in the list
+-- each number comes at most once in the list
 abbrev pub HasNoRepeat : List ℕ → Type 0
 HasNoRepeat xs = (a : ℕ) → sum_by (mark a) xs ≤ 1
 

@@ -1,4 +1,4 @@
--- How many members there are takes no part in what is said of players and goods, and players are no more than members can be.
+-- How many members there are does not change what is said of players and goods, and players are no more than members can be.
 use Rattle.std.proofs.Common.{◌≡◌, ℕ, ◌+◌, ◌≤◌, List, [], ◌∷◌, length, cond, nat_le, ◌==◌, arith, refl, ap, ◌∙◌}
 use Rattle.std.specs.List.{range_with_len}
 use Rattle.bid_rules.specs.declared.goods.GoodsCase.{GoodsCase}

@@ -42,7 +42,7 @@ order_apart a n xs i j h l m =
     let distinct = IsDistinct-IsPermutation eqb flips (range_with_len a n) xs h (IsDistinct-from_apart eqb (range_with_len a n) (range_apart a n)) in
     eqb-false (get_or xs i 0) (get_or xs j 0) (apart_from_distinct eqb xs i j 0 distinct l (omega arith))
 
--- no number stands at two places
+-- no number is at two places
 pub permutation_apart : (a n : ℕ) (xs : List ℕ) (i j : ℕ) → IsPermutation (range_with_len a n) xs → i < n → j < n → get_or xs i 0 ≡ get_or xs j 0 → i ≡ j
 permutation_apart a n xs i j h l m e = ⊎_elim
     (λ same. same)
@@ -52,7 +52,7 @@ permutation_apart a n xs i j h l m e = ⊎_elim
     other)
     (cases_order i j)
 
--- each number stands somewhere
+-- each number is somewhere
 pub permutation_place : (n : ℕ) (xs : List ℕ) (r : ℕ) → IsPermutation (range_with_len 0 n) xs → r < n → (i : ℕ) × (i < n) × (get_or xs i 0 ≡ r)
 permutation_place n xs r h l =
     let count = permutation_length 0 n xs h in

@@ -43,7 +43,7 @@ pub orders-map : {X Y : Type 0} (f : X → Y) (xs : List X) → orders (map f xs
 orders-map f [] = refl
 orders-map f (x ∷ xs) = ap (flat_map (insertions (f x))) (orders-map f xs) ∙ all_insertions-map f x (orders xs)
 
--- what is in a list and is not its first element stands after it
+-- what is in a list and is not its first element comes after it
 after_first : {X : Type 0} (x z : X) (rest : List X) (k : ℕ) → k < length (x ∷ rest) → get_or (x ∷ rest) k z ≡ z → x ≢ z → Contains rest z
 after_first x z rest zero l at other = absurd (other at)
 after_first x z rest (suc k) l at other = (k, omega arith, at)

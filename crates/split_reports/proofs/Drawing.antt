@@ -59,7 +59,7 @@ pub legs_more : (draw from places : ℕ) → legs_drawn draw from (places + 1)
 unfolding legs_drawn
 legs_more draw from places = map-range_with_len_more (λ place. if place == from then 0 else LEAST_LEG + after (others from place) draw % LEG_COUNT) 1 places (places + 1) (omega arith)
 
--- a place more is another one but where the legs go from there
+-- a place more is another one, except where the legs go from there
 pub others_same : (from places : ℕ) → (places + 1 == from) ≡ true → others from (places + 1) ≡ others from places
 others_same from places same =
     let more = sum_more (λ other. cond (not (other == from)) 1 0) 1 places in
@@ -74,14 +74,14 @@ others_next from places other =
     let one : ◌≡◌ {A = ℕ} (cond (not (1 + places == from)) 1 0) 1 = ap (λ n. cond (not (n == from)) 1 0) turn ∙ ap (λ b. cond (not b) 1 0) other in
     omega (arith, more, one)
 
--- the last draw behind one more leg
+-- the last draw after one more leg
 pub leg_last : (draw from places : ℕ) (b : Bool) → (places + 1 == from) ≡ b
     → cond b (after (others from places) draw) (next (after (others from places) draw)) ≡ after (others from (places + 1)) draw
 leg_last draw from places true same = ap (λ n. after n draw) (sym (others_same from places same))
 leg_last draw from places false other =
     sym (after_more (others from places) draw) ∙ ap (λ n. after n draw) (sym (others_next from places other))
 
--- one more leg, which is the next draw's but where it is that of a place to itself
+-- one more leg, which is the next draw's, except where it is that of a place to itself
 pub leg_more : (draw from places : ℕ) (b : Bool) → (places + 1 == from) ≡ b
     → cond b 0 (LEAST_LEG + next (after (others from places) draw) % LEG_COUNT) ≡ cond b 0 (LEAST_LEG + after (others from (places + 1)) draw % LEG_COUNT)
 leg_more draw from places true same = refl

@@ -17,8 +17,8 @@ use split_base::NoMemory;
 use split_json::CaseInput;
 use std::alloc::Global;
 
-/// The report that people read: who gets what, of rents and fares what each pays in whole cents, and of rents and goods who envies
-/// whom. Lines end with LF.
+/// The report that people read: who gets what, what each pays in whole cents for rents and fares, and who envies whom over rents
+/// and goods. Lines end with LF.
 ///
 /// The lists of the input have the counts of its facts, the facts and bids have no fault, the case is the one that they make,
 /// and the division is the solver's for that case. `NoMemory` comes only if memory runs out.
@@ -44,8 +44,8 @@ pub fn report(
 
 /// The report that people read, of a case whose names are given apart from its facts and bids.
 ///
-/// There is a name for each member and each item of the case, and the division is the solver's for it. `NoMemory` comes for want of
-/// memory alone.
+/// There is a name for each member and each item of the case, and the division is the solver's for it. `NoMemory` comes only if
+/// memory runs out.
 pub fn named_report(
     alloc: Global,
     names: &Names<'_>,

@@ -21,8 +21,8 @@ use bid_rules::{FareCase, Fares, Goods, GoodsCase, Rent, RentCase};
 /// takes no memory.
 ///
 /// Draws begin with the number modulo `DRAW_MODULUS`, and each is the one before times `DRAW_FACTOR`, modulo `DRAW_MODULUS`. On the rent
-/// and the goods each member spreads the whole by weights of one draw each. The fare has a draw for the flag fall, one for each leg but
-/// those of a place to itself, and one for the place of each rider.
+/// and the goods each member spreads the whole by weights of one draw each. The fare has a draw for the flag fall, one for each leg
+/// except those of a place to itself, and one for the place of each rider.
 pub fn trial_cases(number: u64) -> (RentCase, GoodsCase, FareCase)
     ensures rent { result.0 ≡ trial_rent number }
     ensures goods { result.1 ≡ trial_goods number }

@@ -1,4 +1,4 @@
--- Facts and bids have one end, but for want of memory.
+-- Facts and bids have one end, except where memory runs out.
 use Rattle.std.proofs.Common.{◌≡◌, ◌≢◌, ℕ, ◌<◌, ◌≤◌, ◌↔◌, List, Option, Result, Ok, Err, refl, sym, ap, ◌∙◌, subst, arith}
 use Rattle.bid_rules.specs.declared.bids.Bid.{Bid}
 use Rattle.bid_rules.specs.declared.bids.Facts.{Facts}
@@ -78,7 +78,7 @@ limit_of (case.Rent rent) limit other a b = absurd a
 limit_of (case.Goods goods) limit other a b = a.is_limit ∙ sym b.is_limit
 limit_of (case.Fares fares) limit other a b = absurd a
 
--- two faults of the same facts and bids are the same, but for want of memory
+-- two faults of the same facts and bids are the same, except where memory runs out
 pub one_fault : (given : Facts) (bids : List (Option Bid)) (a b : SolveFault) → IsSolved given bids (Err a) → IsSolved given bids (Err b) → a ≢ fault.NoMemory → b ≢ fault.NoMemory → a ≡ b
 one_fault given bids (fault.Void missing) (fault.Void other) h k some more = cc (h, k)
 one_fault given bids (fault.Void missing) (fault.OverLimit limit) h k some more = absurd (not_both given bids k.0 missing k.1 h)
@@ -111,7 +111,7 @@ one_kind within above given bids answer fault.NoMemory is h = refl
 abbrev pub OneDivision : Type 0
 OneDivision = (case : Case) (division other : Division) → IsValidCase case → IsDivisionOf case division → IsDivisionOf case other → division ≡ other
 
--- two ends of facts and bids that make only valid cases are the same, but for want of memory
+-- two ends of facts and bids that make only valid cases are the same, except where memory runs out
 pub one_end : Within → Above → OneDivision → (given : Facts) (bids : List (Option Bid)) → ((one : Case) → case_of given bids ≡ Ok one → IsValidCase one)
     → (a b : Result (Case × Division) SolveFault) → IsSolved given bids a → IsSolved given bids b → a ≢ Err fault.NoMemory → b ≢ Err fault.NoMemory → a ≡ b
 one_end within above division given bids valid (Ok a) (Ok b) h k some more =

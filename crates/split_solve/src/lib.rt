@@ -1,8 +1,8 @@
 //! One call for all kinds: the case that facts and bids make, and its best division.
 //!
-//! Bids are missing, or the limit is passed, exactly where the definitions say so. But for the lack
-//! of memory, checked facts and bids have one end (`solve_law`), so neither the number of workers
-//! nor a kept search changes the answer.
+//! Bids are missing, or the limit is passed, exactly where the definitions say so. Except where
+//! memory runs out, checked facts and bids have one end (`solve_law`). So neither the number of
+//! workers nor a kept search changes the answer.
 #![tactic(auto)]
 
 mod kept;

@@ -33,8 +33,9 @@ pub enum SolveFault {
 
 /// The case that checked facts and checked bids make, and its best division.
 ///
-/// The bids are by member, `None` where one has not bid. Of a rent the division has the maximin prices, of goods the greatest Nash welfare, of
-/// fares the Shapley values, with the tie rules of each. Goods are searched by 1 to `MOST_WORKERS` workers, whose number never changes the answer.
+/// The bids are by member, `None` where one has not bid. The division has the maximin prices for a rent, the greatest Nash welfare
+/// for goods and the Shapley values for fares, with the tie rules of each. Goods are searched by 1 to `MOST_WORKERS` workers, whose number
+/// never changes the answer.
 pub fn solve<R: Threads + Sync, G: Gate + Sync>(
     alloc: Global,
     rt: &R,

@@ -88,7 +88,7 @@ module _ {D P L C : Type 0} (d : DiskTells D) (p : PortTells P L) (links : LinkT
   serve_port (Serves.not_opened why opens still asked is) = absurd (not_port why is)
   serve_port (Serves.opened serving between opens once served) = opened_port (between, state_of opens.opened) served
 
--- no answer of a fetch is a fault of the store or of a read, or want of memory
+-- no answer of a fetch is a fault of the store or of a read, or a lack of memory
 no_store : (answer : Result Verdict FetchEnd) → ends StoreFault ≡ fetch_ending answer → ⊥
 no_store (Ok Yes) is = cc is
 no_store (Ok (No rule)) is = cc is
@@ -250,7 +250,7 @@ module _ {D P L C X M : Type 0} (tells : OutsideTells D P L C X M) (outside : Ou
   read_of (Audit port asked) h = absurd (audit_not tells.dialer tells.dialled outside.dialer outside.dialer_now port asked ReadFault (λ e. cc e) no_read h.1)
   read_of (Read reads) h = h.1.0
 
-  -- and memory lacks of a command that takes some
+  -- and memory runs out only in a command that takes some
   memory_of : (command : Command) → Came tells outside command (Err NoMemory) → TakesMemory command
   memory_of (Init secret) h = absurd (no_memory_made tells.disk outside.disk outside.disk_now secret h.1)
   memory_of (Serve port workers count) h = tt

@@ -58,7 +58,7 @@ among : (ending other : Result (List ℕ) Stop) → ending ≡ other → Contain
 among ending other is there = subst (Contains {X = ℕ} (0 ∷ 9 ∷ [])) (sym (status_is ending other is)) there
 
 module _ (no_fault : (version place : ℕ) (secret : List ℕ) (events : List EventView) (file : List ℕ) → HasEvents version secret events file → IsFirstFault place file → ⊥) where
-  -- a journal is opened, but for want of memory
+  -- a journal is opened, except where memory runs out
   opens_finishes : {D : Type 0} (d : DiskTells D) (disk after : D) (why : LogFault) (ending : Result (List ℕ) Stop) → Opens d disk after (Err why) → ending ≡ Err (stop_of why)
       → d.is_honest disk → IsStill (d.faults disk) (d.faults after) → HoldsSome (d.seen disk) → Contains {X = ℕ} (0 ∷ 9 ∷ []) (owed ending).status
   opens_finishes d disk after fault.Disk ending opens is honest still holds = absurd (still (opens.failed refl).0)
@@ -123,7 +123,7 @@ audit_finishes x tells before after port asked ending (once, inl none) still = a
 audit_finishes x tells before after port asked ending (once, inr fetched) still =
     subst (Contains {X = ℕ} (0 ∷ 1 ∷ 3 ∷ [])) (sym (status_is ending (fetch_ending fetched.answer) fetched.is)) (fetch_finishes (x.faults before) (x.faults after) fetched.answer fetched.fault still)
 
--- an ending is a fault of a read, want of memory, or none of the two
+-- an ending is a fault of a read, a lack of memory, or neither
 abbrev IsUsual : Result (List ℕ) Stop → Type 0
 IsUsual ending = (ending ≢ Err ReadFault) × (ending ≢ Err NoMemory)
 

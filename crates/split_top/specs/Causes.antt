@@ -70,7 +70,7 @@ Finishes tells outside (Read reads) status =
     IsSound outside.input
     → IfSome outside.input.bytes_before (λ bytes. (ending : Result (List ℕ) Stop) → CallsFor reads bytes ending → (status ≡ (owed ending).status) ⊎ (ReadingTakesMemory reads × (status ≡ 9)))
 
--- where no write failed, the status is 2 exactly where the words are no row, and else that with which their command finishes
+-- where no write failed, the status is 2 exactly where the words are no row, and else the one that their command finishes with
 abbrev pub IsComplete : {D P L C X M : Type 0} → OutsideTells D P L C X M → Outside D P C X → List (List ℕ) → ℕ → Type 0
 IsComplete tells outside words status =
     IsSound outside.output → (AreNoRow words × (status ≡ 2)) ⊎ ((command : Command) × Names words command × Finishes tells outside command status)

@@ -1,4 +1,4 @@
--- What stood around a command before it and after it.
+-- What was around a command before it and after it.
 use Rattle.std.specs.Prelude.{◌≡◌}
 use Rattle.command_results.specs.ObjectUse.{IsUntouched, ObjectUse}
 

@@ -34,7 +34,7 @@ one_text one_rent one_of_goods valid number text other a b =
     ∙ ap (λ (total : ℕ). number_line number ++ rent_line b.rent.least ++ goods_line b.goods.pair b.goods.steps ++ fare_line total) totals
     ∙ sym b.is
 
--- the lines of the three cases behind that of the number are the text of its trial
+-- the line of a number, and after it the lines of the three cases, are the text of its trial
 pub text_of_lines : (number : ℕ) (rent : RentCase) (goods : GoodsCase) (fare : FareCase) (none first second third all : List ℕ) → rent ≡ trial_rent number → goods ≡ trial_goods number
     → fare ≡ trial_fare number → none ≡ [] → first ≡ none ++ number_line number → IsRentLine rent first second → IsGoodsLine goods second third → IsFareLine fare third all → IsTrialText number all
 text_of_lines number rent goods fare none first second third all rents of_goods fares empty head a b c = record {

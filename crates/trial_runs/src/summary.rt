@@ -21,8 +21,8 @@ use split_reports::{trial_cases, trial_law};
 use std::alloc::Global;
 use std::thread::Threads;
 
-/// The trial of a number, in four lines: the number; of the rent the least utility of a member; of the goods how many players get something,
-/// the product of their utilities and the steps of the search; of the fare what all riders cost. The last three end with `check yes`.
+/// The trial of a number, in four lines: the number; the least utility of a member of the rent; how many players get something of the goods,
+/// the product of their utilities and the steps of the search; what all riders of the fare cost. The last three end with `check yes`.
 ///
 /// The cases are drawn from the number, each gets its best division, and its certificate is written in memory, read back and judged: the
 /// verdict is yes. Goods are searched by 1 to `MOST_WORKERS` workers, whose number never changes the text, and their step count is never above the

@@ -28,7 +28,7 @@ pub(crate) enum Call {
 /// failing fails, and so does each call from the one at which the disk stops. A write that ends
 /// past the room for the file fails too, and so does a write or sync for which too little is left
 /// of the list of calls: a write takes its bytes and 32 more of it, a sync 32. A call that fails
-/// changes no byte. No call after `new` takes memory, but for `crash`.
+/// changes no byte. No call after `new` takes memory, except for `crash`.
 #[derive(Debug, Drop)]
 pub struct MemDisk {
     first: Vec<u8>,
@@ -256,7 +256,7 @@ fn copy_to(file: &mut [u8], place: usize, bytes: &[u8])
     file[place..place + bytes.len()].copy_from_slice(bytes);
 }
 
-// Copies as many bytes of a file as stand from the place on, up to the buffer's end.
+// Copies as many bytes of a file as come from the place on, up to the buffer's end.
 fn copy_from(file: &[u8], place: u64, into: &mut [u8]) -> usize
     ensures count { result ≡ min (length into.old) (length file.now - place) }
     ensures bytes { take result into.new ≡ take result (drop place file.now) }

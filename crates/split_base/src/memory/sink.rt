@@ -67,7 +67,7 @@ impl MemSink {
         &self.bytes
     }
 
-    /// How many of its calls were handed no byte.
+    /// How many of its calls were given no byte.
     pub fn empty_writes(&self) -> u64
         ensures { result ≡ self.now.empty_writes }
     {
@@ -110,7 +110,7 @@ impl Sink for MemSink {
     }
 }
 
-// A count of the calls that were handed no byte, after a call with this piece.
+// A count of the calls that were given no byte, after a call with this piece.
 fn counted_empty(count: u64, piece: &[u8]) -> u64
     ensures { result ≡ with_empty piece.now count }
 {

@@ -3,7 +3,7 @@ use Rattle.std.proofs.lemmas.List.{map-append}
 use Rattle.adapters.proofs.WordLists.{ended, no_words, one_more}
 use Rattle.adapters.proofs.words.words_of.Goals as goal
 
--- behind the last argument
+-- after the last argument
 pub returns-in_default : goal.returns-in_default
 returns-in_default g c = ended (g.A.Arguments.told c.args.arguments.now) c.loop-place.words.items c.loop-place.place c.loop-place.invariant.begun c.loop-place.invariant.words (search rules)
 

@@ -1,4 +1,4 @@
--- The words so far are the arguments before this place, but for the program's own path.
+-- The words so far are the arguments before this place, except for the program's own path.
 use Rattle.std.proofs.Common.{◌≡◌, ◌-◌, ◌≤◌, IfSome, map, string_bytes, take, drop}
 use Rattle.adapters.proofs.words.words_of.Given as goal
 

@@ -10,7 +10,7 @@ use Rattle.nash_bounds.specs.Prefixes.{highest, prefix_bound, top_of}
 use Rattle.bid_rules.specs.Goods.{utilities}
 use Rattle.cert_checker.proofs.laws.goods_leaves_law.Goals as goal
 
--- a node may be left out exactly where a `-` may stand
+-- a node may be left out exactly where a `-` is allowed
 stands : (c : goal.After-whole_list_law) (case : GoodsCase) (answer owners : List ℕ) → IsValidGoodsCase case → may_be_left case answer owners ≡ true ↔ MayStand case answer owners
 stands c case answer owners valid =
     let left = c.open_prefixes_law.ensures.left case answer owners in

@@ -9,7 +9,7 @@ use Rattle.cert_reader.specs.Text.{Leads}
 use Rattle.cert_reader.proofs.Numbers.{numbers_apart}
 use Rattle.cert_reader.proofs.line.read_line.Goals as goal
 
--- what stands behind a word is one text
+-- what comes after a word is one text
 behind_word : (line word rest text : List ℕ) → line ≡ word ++ rest → line ≡ word ++ text → rest ≡ text
 behind_word line word rest text e f = append_cancel_left word rest text (sym e ∙ f)
 

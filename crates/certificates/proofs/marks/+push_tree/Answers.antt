@@ -11,7 +11,7 @@ use Rattle.certificates.proofs.TreeMarks.{children_marks, children_more, marks_l
 use Rattle.certificates.proofs.marks.+push_tree.Goals as goal
 use Rattle.certificates.proofs.marks.+push_tree.Goals.{then-open_child+in_ok-waiting, else-open_child+in_ok-waiting-2}
 
--- one child more behind what stands
+-- one child more after what is there
 next_child : (case : GoodsCase) (answer : List ℕ) (k : ℕ) (owners : List ℕ) (n : ℕ) (old now text child : List ℕ) → now ≡ old ++ INNER_NODE ∷ children_marks case answer k owners n
     → text ≡ now ++ child → canonical_marks case answer k (owners ++ (n + 1) ∷ []) ≡ child → text ≡ old ++ INNER_NODE ∷ children_marks case answer k owners (n + 1)
 next_child case answer k owners n old now text child sofar here same =

@@ -8,7 +8,7 @@ use Rattle.envy_check.specs.declared.goods.Ef1.{Ef1}
 use Rattle.envy_check.proofs.GoodsEnvy.{push_entry}
 use Rattle.envy_check.proofs.goods.ef1_table.Goals as goal
 
--- a row as it stands in the code
+-- a row as the code has it
 abbrev Row : Type 0
 Row = ArrayVec Ef1 12 (Unit {0})
 

@@ -1,4 +1,4 @@
--- The names so far stand behind what was there, and are UTF-8.
+-- The names so far come after what was there, and are UTF-8.
 use Rattle.std.proofs.Common.{◌≡◌, ◌++◌, map, take}
 use Rattle.std.specs.List.{flat_map}
 use Rattle.std.specs.Prelude.{All}

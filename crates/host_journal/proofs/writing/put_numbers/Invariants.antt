@@ -1,4 +1,4 @@
--- The numbers so far stand behind what was there.
+-- The numbers so far come after what was there.
 use Rattle.std.proofs.Common.{◌≡◌, ◌++◌, take}
 use Rattle.host_journal.specs.Spelling.{numbers_bytes}
 use Rattle.host_journal.proofs.writing.put_numbers.Given as goal

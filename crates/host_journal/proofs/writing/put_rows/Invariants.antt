@@ -1,4 +1,4 @@
--- The rows so far stand behind what was there.
+-- The rows so far come after what was there.
 use Rattle.std.proofs.Common.{◌≡◌, ◌++◌, take}
 use Rattle.std.specs.List.{flat_map}
 use Rattle.host_journal.specs.Spelling.{numbers_bytes}

@@ -1,4 +1,4 @@
--- The carry and the source hold what they held, no head stands in the carry, and the parser asks for more of it.
+-- The carry and the source hold what they held, no head is in the carry, and the parser asks for more of it.
 use Rattle.std.proofs.Common.{◌≡◌, ◌+◌, ◌++◌, ◌<◌, ℕ, List, length}
 use Rattle.std.specs.Io.KnownBytes.{Keeps, prepend_known}
 use Rattle.http_heads.specs.declared.limits.TheConstants.{MAX_HEAD}

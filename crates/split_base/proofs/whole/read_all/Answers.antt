@@ -31,7 +31,7 @@ returns-in-Ok-read-clause-taken g c =
     let taken = returns-in-Ok-read-clause-one_more g c refl in
     (taken.0, omega (arith, taken.1), taken.2)
 
--- one byte more than `most` was taken, so more than `most` stand
+-- one byte more than `most` was taken, so there are more than `most`
 pub returns-in-Ok-read-clause-too_long : goal.returns-in-Ok-read-clause-too_long
 returns-in-Ok-read-clause-too_long g c is =
     let taken = returns-in-Ok-read-clause-one_more g c refl in

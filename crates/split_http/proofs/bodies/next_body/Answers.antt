@@ -2,7 +2,7 @@ use Rattle.std.proofs.Common.{arith, rules}
 use Rattle.split_http.proofs.BodyLemmas.{consumed_more}
 use Rattle.split_http.proofs.bodies.next_body.Goals as goal
 
--- the first bytes of the carry go behind the body
+-- the first bytes of the carry go after the body
 pub pieces-preserved : goal.pieces-preserved
 pieces-preserved g c = record {
   took = rw (c.move_front.ensures.items, c.move_front.ensures.rest)

@@ -1,4 +1,4 @@
--- The body so far is what the link's bytes began with, and the interim line stands in the link.
+-- The body so far is what the link's bytes began with, and the interim line is in the link.
 use Rattle.std.proofs.Common.{◌≡◌, ◌≤◌, ◌-◌, vec_len, vec_capacity}
 use Rattle.std.specs.Io.KnownBytes.{Consumes, prepend_known}
 use Rattle.split_http.proofs.bodies.next_body.Given as goal

@@ -4,7 +4,7 @@ use Rattle.http_heads.specs.declared.limits.TheConstants.{MAX_HEAD}
 use Rattle.split_http.proofs.HeadLemmas.{same_text}
 use Rattle.split_http.proofs.heads.take_head.Goals as goal
 
--- the head that was found stands there still, with this method
+-- the head that was found is still there, with this method
 pub returns-in-Err : goal.returns-in-Err
 returns-in-Err c =
     let found = c.requires.head in
@@ -14,7 +14,7 @@ returns-in-Err c =
     let verb = rw (c.of.ensures, c.as_slice-in-Err.ensures.bytes, at.method) at c.read_verb-verb.ensures in
     (refl, (h, _, record { valid = at.reads.0; few = found.2; short = short }, verb, at.reads.1))
 
--- the head that was found, what it says, and what stands behind it
+-- the head that was found, what it says, and what comes after it
 pub returns-in-Ok : goal.returns-in-Ok
 returns-in-Ok c =
     let found = c.requires.head in

@@ -1,4 +1,4 @@
--- What is left before the slash, behind the bytes so far.
+-- What is left before the slash, after the bytes so far.
 use Rattle.std.proofs.Common.{length, ◌-◌, ◌≡◌, ◌+◌, ◌≤◌, drop}
 use Rattle.split_http.specs.Places.{id_len}
 use Rattle.split_http.proofs.routes.id_bytes.Given as goal

@@ -1,4 +1,4 @@
--- No more bytes were written than were handed in.
+-- No more bytes were written than were given.
 use Rattle.std.proofs.Common.{◌≤◌, length}
 use Rattle.adapters.proofs.held.HeldFile.write_front.Given as goal
 

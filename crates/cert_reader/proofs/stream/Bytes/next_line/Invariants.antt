@@ -1,4 +1,4 @@
--- What was handed out of the line so far.
+-- What was given out of the line so far.
 use Rattle.std.proofs.Common.{◌≡◌, ℕ, ◌+◌, ◌-◌, ◌<◌, ◌≤◌, List, length, true, false}
 use Rattle.cert_reader.specs.Stream.{Hands, IsPlain}
 use Rattle.cert_reader.specs.declared.limits.TheConstants.{LONGEST_LINE, MOST_BYTES}

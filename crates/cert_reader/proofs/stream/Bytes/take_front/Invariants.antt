@@ -1,4 +1,4 @@
--- The bytes so far stood there.
+-- The bytes so far were there.
 use Rattle.std.proofs.Common.{◌≡◌, ◌≤◌, take}
 use Rattle.cert_reader.specs.Stream.{Hands, taken_count}
 use Rattle.cert_reader.specs.declared.limits.TheConstants.{MOST_BYTES}

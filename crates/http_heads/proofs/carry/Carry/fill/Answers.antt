@@ -14,7 +14,7 @@ returns-clause-same g c =
     Keeps-read _ _ _ _ _ read.1
     (take-put_part len (8192 - len) n bytes c.read.new.into (omega arith) bound ∙ ap (λ z. z ++ take n c.read.new.into) c.self.view_is)
 
--- what was read stands behind what was there
+-- what was read comes after what was there
 pub returns-clause-front : goal.returns-clause-front
 returns-clause-front g c =
     let bytes = c.self.inside.bytes in
