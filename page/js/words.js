@@ -138,7 +138,7 @@ export const words = {
     of: { rent: 'A certificate of a rent for {n}.', goods: 'A certificate of goods for {n}.', fares: 'A certificate of a shared ride for {n}.' },
     says: { rent: 'Prices by room: {list} cents.', goods: 'Owners by thing: {list}.', fares: 'Fares by rider: {list} cents.' },
     yes: 'Yes: all holds, as far as this page can tell.', beside: 'The certificate holds, but something beside it does not.', no: 'No: rule {rule} does not hold. Do not believe this result.',
-    tooLong: 'This is too long for a certificate.', badLine: 'This is no whole certificate: line {line} cannot stand there.', rules: 'Rules of the certificate that were tried: {n}',
+    tooLong: 'This is too long for a certificate.', badLine: 'This is no whole certificate: line {line} cannot be there.', rules: 'Rules of the certificate that were tried: {n}',
     holds: 'holds:', fails: 'does not hold:',
   },
   rules: {
