@@ -116,7 +116,7 @@ impl<'r, S: Read + Write + OpenStream + Drop, C: Clock> Source for TcpLink<'r, S
 
     ghost faults = { λ link. link.read_faults };
 
-    ghost beside = { λ link. (None, link.write_faults) };
+    ghost beside = { λ link. (None, link.write_faults, 0) };
 
     fn read(&mut self, into: &mut [u8]) -> Result<usize, Failed> {
         let count = self.read_now(into);

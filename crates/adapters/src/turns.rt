@@ -177,7 +177,7 @@ impl<'r, C: Clock> Source for TurnLink<'r, C> {
 
     ghost faults = { λ link. link.read_faults };
 
-    ghost beside = { λ link. (None, link.write_faults) };
+    ghost beside = { λ link. (None, link.write_faults, 0) };
 
     fn read(&mut self, into: &mut [u8]) -> Result<usize, Failed> {
         let count = self.read_now(into);

@@ -5,5 +5,6 @@ use split_base::limits::LAST_MOMENT;
 pub const SHORTEST_TAG: usize = 16;
 /// The length of the longest tag, in bytes.
 pub const LONGEST_TAG: usize = 64;
-/// The last second, since 1970, that a deadline may name: 9999-12-31T23:59:59Z.
+/// The greatest deadline, in seconds since 1970: 9999-12-31T23:59:59Z. The texts that are read as times end earlier, at
+/// 9999-12-30T22:00:00.999999999Z.
 pub const LAST_DEADLINE: u64 = LAST_MOMENT;

@@ -1,7 +1,6 @@
 -- The lines of sets, one after another, and the row of costs that a line is compared with.
-use Rattle.std.proofs.Common.{arith, ◌≡◌, ◌≤◌, ◌<◌, ◌+◌, ◌-◌, ◌∙◌, ℕ, ℤ, pos, All, List, [], ◌∷◌, ◌++◌, length, map, get_or, ap, sym, subst, refl, ⊎_elim, inl, inr, unsigned_abs}
+use Rattle.std.proofs.Common.{arith, ◌≡◌, ◌≤◌, ◌+◌, ◌-◌, ◌∙◌, ℕ, ℤ, pos, All, List, [], ◌∷◌, ◌++◌, length, map, get_or, ap, sym, refl, inr, unsigned_abs}
 use Rattle.std.specs.List.{range_with_len}
-use Rattle.std.proofs.lemmas.Bool.{cases_lt}
 use Rattle.std.proofs.lemmas.List.{length-append, length-map, get_or_append_left, get_or-append-add}
 use Rattle.std.proofs.lemmas.List.Elements.{All-head, All-tail}
 use Rattle.std.proofs.lemmas.List.FromFn.{get_or-map-range_with_len, length-range_with_len}
@@ -11,8 +10,8 @@ use Rattle.bid_rules.specs.declared.cases.FareCase.{FareCase}
 use Rattle.bid_rules.specs.Coalitions.{riders_in, start_of}
 use Rattle.bid_rules.specs.Fares.{route_cost}
 use Rattle.cert_reader.specs.Sets.{starts}
-use Rattle.set_costs.specs.Table.{ListsCosts, route_costs}
-use Rattle.fare_rules.specs.Head.{AreCostLines, HasOtherLine, cost_line}
+use Rattle.set_costs.specs.Table.{route_costs}
+use Rattle.fare_rules.specs.Head.{HasOtherLine, cost_line}
 use Rattle.cert_reader.specs.Layout.{FaresView}
 use Rattle.fare_rules.specs.Printed.{printed_case}
 use Rattle.fare_rules.specs.State.{StandsFor}

@@ -1,16 +1,16 @@
 -- The main theorem, from the laws of whole runs.
-use Rattle.std.proofs.Common.{◌≡◌, ◌⊎◌, ℕ, ◌≤◌, zero, suc, List, [], ◌∷◌, Option, None, Some, Result, Ok, arith, refl, sym, ap, ◌∙◌, subst, inl, inr, ⊎_elim, le_trans, take, append-nil, Contains}
+use Rattle.std.proofs.Common.{◌≡◌, ◌⊎◌, ℕ, ◌≤◌, zero, suc, List, [], ◌∷◌, Option, None, Some, Result, Ok, refl, sym, ap, ◌∙◌, subst, inl, inr, ⊎_elim, le_trans, take, append-nil, Contains}
 use Rattle.command_results.specs.declared.stop.Stop.{Stop}
 use Rattle.gate_log.specs.declared.fault.LogFault.TheVariants as fault
 use Rattle.host_journal.specs.Journal.{HasEvents}
 use Rattle.host_journal.specs.declared.serving.Serving.{Serving}
 use Rattle.host_journal.specs.States.{HasState, IsFile, Passes, State, lists_of}
 use Rattle.serving.specs.Exchanges.{Answered, Exchange, IsExchange}
-use Rattle.serving.specs.Ports.{GivesBack, HandsOut}
+use Rattle.serving.specs.Ports.{GivesBack, HandsOut, PortServed}
 use Rattle.serving.specs.Served.{LinkTells}
 use Rattle.sealed_core.specs.declared.commands.What.{What}
 use Rattle.sealed_core.specs.Host.{EventView}
-use Rattle.serving.specs.Serving.{host_service}
+use Rattle.serving.specs.Serving.{StandsAt, host_service}
 use Rattle.serving_laws.specs.Accepting.{Accepts}
 use Rattle.serving_laws.specs.Answering.{HasAnswer}
 use Rattle.serving_laws.specs.Crashes.{Acknowledges, IsFileOfOne, Since}
@@ -18,6 +18,7 @@ use Rattle.serving_laws.specs.Heard.{Taken, TakesSteps, WaitsByStep}
 use Rattle.serving_laws.specs.Moving.{Moves}
 use Rattle.serving_laws.specs.Refusing.{RefusesQuietly}
 use Rattle.serving_laws.specs.Sealing.{IsSealedReply}
+use Rattle.split_base.specs.Clocks.{ClockRun}
 use Rattle.split_base.specs.declared.clock.Clock.{Ghosts as ClockSide}
 use Rattle.split_base.specs.declared.disk.Disk.{Ghosts}
 use Rattle.split_base.specs.declared.port.Port.{Ghosts as PortSide}
@@ -153,24 +154,36 @@ module _ {D P L C : Type 0} (d : Ghosts D) (p : PortSide P L) (tells : LinkTells
     };
   }
 
+  abbrev RanFrom : Serving → D × State → ℕ → Option (List L) → Option (List L) → ℕ → Type 0
+  RanFrom serving w number links given free = PortServed (host_service d) tells links (p.to_come port_after) given (p.given_back port_after) free
+      (ClockRun c.gives c.faults clock clock_after) (StandsAt d serving after) w number
+
+  -- a port that listens has handed out none yet
+  heard_runs : (serving : Serving) (between : D) (opens : Opens d disk between (Ok serving)) (heard : P) → HasNoLink p port heard → (number : ℕ)
+      → Runs d p tells c (between, state_of opens.opened) after heard port_after clock clock_after number → Runs d p tells c (between, state_of opens.opened) after port port_after clock clock_after number
+  heard_runs serving between opens heard none number runs = record {
+    serving = runs.serving;
+    served = subst (λ (free : ℕ). RanFrom runs.serving (between, state_of opens.opened) number (p.to_come port) (p.given_back port) free) none.places
+        (subst (λ (given : Option (List L)). RanFrom runs.serving (between, state_of opens.opened) number (p.to_come port) given (p.places heard)) none.back
+        (subst (λ (links : Option (List L)). RanFrom runs.serving (between, state_of opens.opened) number links (p.given_back heard) (p.places heard)) none.come runs.served));
+  }
+
   pub told_headline : (port_number count : ℕ) (text : List ℕ) → Serves d p tells c disk after port port_after clock clock_after port_number count (Ok text)
-      → (number : ℕ) × (number ≤ count) × (text ≡ served_line number) × HasHeadline d p tells c disk after port port_after clock clock_after number
+      → (number : ℕ) × (text ≡ served_line number) × IsOpened p port_number port port_after count number (Ok text) × HasHeadline d p tells c disk after port port_after clock clock_after number
   told_headline port_number count text (Serves.no_routes still quiet mute is) = absurd (cc)
   told_headline port_number count text (Serves.not_opened why opens quiet mute is) = absurd (cc)
   told_headline port_number count text (Serves.opened serving between opens asked (ServesOpened.deaf still mute none failed is)) = absurd (cc)
-  told_headline port_number count text (Serves.opened serving between opens asked (ServesOpened.ran number runs (RunEnds.told is faults most few))) =
+  told_headline port_number count text (Serves.opened serving between opens asked (ServesOpened.ran heard listens number runs (RunEnds.told is faults most few))) =
       let one : text ≡ served_line number = cc in
-      (number, most, one, ((between, state_of opens.opened), headline serving between opens number runs))
-  told_headline port_number count text (Serves.opened serving between opens asked (ServesOpened.ran number runs (RunEnds.cut is failed most))) = absurd (cc)
+      (number, one, IsOpened.ran heard listens (RunEnds.told is faults most few), ((between, state_of opens.opened), headline serving between opens number (heard_runs serving between opens heard listens.none number runs)))
+  told_headline port_number count text (Serves.opened serving between opens asked (ServesOpened.ran heard listens number runs (RunEnds.cut is failed most))) = absurd (cc)
 
   pub any_headline : (port_number count : ℕ) (ending : Result (List ℕ) Stop) → Serves d p tells c disk after port port_after clock clock_after port_number count ending
       → (IsUnopened ending × HasNoRun port port_after clock clock_after)
-      ⊎ ((number : ℕ) × (number ≤ count) × IsOpened number ending × HasHeadline d p tells c disk after port port_after clock clock_after number)
+      ⊎ ((number : ℕ) × IsOpened p port_number port port_after count number ending × HasHeadline d p tells c disk after port port_after clock clock_after number)
   any_headline port_number count ending (Serves.no_routes still quiet mute is) = inl ((fault.NoMemory, is), (quiet, mute))
   any_headline port_number count ending (Serves.not_opened why opens quiet mute is) = inl ((why, is), (quiet, mute))
   any_headline port_number count ending (Serves.opened serving between opens asked (ServesOpened.deaf still mute none failed is)) =
-      inr (0, omega arith, inr is, ((between, state_of opens.opened), headline serving between opens 0 (deaf_runs serving between opens still mute none)))
-  any_headline port_number count ending (Serves.opened serving between opens asked (ServesOpened.ran number runs (RunEnds.told is faults most few))) =
-      inr (number, most, inl is, ((between, state_of opens.opened), headline serving between opens number runs))
-  any_headline port_number count ending (Serves.opened serving between opens asked (ServesOpened.ran number runs (RunEnds.cut is failed most))) =
-      inr (number, most, inr is, ((between, state_of opens.opened), headline serving between opens number runs))
+      inr (0, IsOpened.deaf is failed none refl, ((between, state_of opens.opened), headline serving between opens 0 (deaf_runs serving between opens still mute none)))
+  any_headline port_number count ending (Serves.opened serving between opens asked (ServesOpened.ran heard listens number runs ends)) =
+      inr (number, IsOpened.ran heard listens ends, ((between, state_of opens.opened), headline serving between opens number (heard_runs serving between opens heard listens.none number runs)))

@@ -8,6 +8,7 @@ use Rattle.serving.specs.Runs.{LinkRun, Service}
 use Rattle.serving.specs.Served.{LinkTells}
 use Rattle.serving_laws.specs.Last.{EndsAfter}
 use Rattle.host_commands.specs.Links.{Every, LinksAnswered, last_request, requests_of}
+use Rattle.host_commands.specs.SameRuns.{AllDone, AreDone}
 
 -- the run of a link is a list of its requests, and requests after others are one list with them
 abbrev pub Exchanges : {W : Type 0} → Service W → Type 0
@@ -73,6 +74,19 @@ module _ {W : Type 0} (service : Service W) where
               others,
             ),
           )
+
+      -- where no call failed on any of the links, and memory sufficed, it is so of their requests
+      pub links_done : (links : List (L × L)) (answers : List (Option ℕ)) (w new : W) (run : PortRun service tells links answers w new) → AreDone service tells links answers w new run
+          → (requests : List (Exchange W)) × (written : LinksAnswered service tells links answers w requests new) × AllDone service tells links answers w requests new written
+      unfolding links_answered
+      links_done links answers w new run done =
+          let written = links_answered links answers w new run in
+          (written.0, written.1, each links answers w new run done)
+        where
+          each : (links : List (L × L)) (answers : List (Option ℕ)) (w new : W) (run : PortRun service tells links answers w new) → AreDone service tells links answers w new run
+              → AllDone service tells links answers w (links_answered links answers w new run).0 new (links_answered links answers w new run).1
+          each [] answers w new run done = tt
+          each (l ∷ links) answers w new (now, later, mid, is, one, rest) (here, others) = (here, each links later mid new rest others)
 
       -- the requests of all links are answered one after the other
       pub one_machine : (links : List (L × L)) (answers : List (Option ℕ)) (w : W) (run : List (Exchange W)) (new : W) → LinksAnswered service tells links answers w run new → Answered service w run new

@@ -49,16 +49,16 @@ stop_of fault.Disk = stop.StoreFault
 stop_of (fault.NotALog place) = stop.BadJournal place
 stop_of fault.NoMemory = stop.NoMemory
 
--- The file of a host is opened, or why it isn't: a call of the disk failed; the file is no journal, with the place of its first fault; or there
--- was no memory. No byte but the version gate may be torn, and after the last two no byte changed. What was a file of a state before is one at
--- each moment, and after.
+-- The file of a host is opened, or why it isn't: a call of the disk failed; the file is no journal, with the place of its first fault wherever the
+-- disk tells its bytes; or there was no memory. No byte but the version gate may be torn, and after the last two no byte changed. What was a file of
+-- a state before is one at each moment, and after.
 pub record Opens {D : Type 0} (d : Ghosts D) (disk after : D) (answer : Result Serving LogFault) : Type 0 where
   pub opened : IfOk answer (Opened d disk after)
   pub count : d.faults disk ≤ d.faults after
   pub faults : d.faults after ≡ faults_after (d.faults disk) answer
   pub failed : answer ≡ Err fault.Disk → FailedOnce (d.faults disk) (d.faults after)
   pub honest : d.is_honest disk ↔ d.is_honest after
-  pub place : d.is_honest disk → (place : ℕ) → answer ≡ Err (fault.NotALog place) → IsFirstFault place (d.seen disk)
+  pub place : d.tells disk → (place : ℕ) → answer ≡ Err (fault.NotALog place) → IsFirstFault place (d.seen disk)
   pub kept : d.is_honest disk → IfErr answer (λ e. e ≢ fault.Disk → Rests d.seen d.images d.moment d.left_since disk after)
   pub writes : d.is_honest disk → LeavesOnly d.moment d.left_since disk after (Tears (d.images disk) VERSION_GATE 1)
   pub torn : d.is_honest disk → Each (d.images after) (Tears (d.images disk) VERSION_GATE 1)

@@ -1,5 +1,5 @@
 // The main theorem, as the contract of a function that does nothing.
-ghost use Rattle.std.specs.Prelude.{◌≡◌, ◌⊎◌, ◌≤◌, ℕ, List, Ok, Result};
+ghost use Rattle.std.specs.Prelude.{◌≡◌, ◌⊎◌, ℕ, List, Ok, Result};
 ghost use Rattle.command_results.specs.declared.stop.Stop.{Stop};
 ghost use Rattle.serving.specs.Served.{tells_of};
 ghost use Rattle.host_commands.specs.Headline.{HasHeadline, HasNoRun};
@@ -24,16 +24,18 @@ use split_base::{Clock, Disk, Port};
 /// printed certificate passes the checker, and a crash at any moment leaves a prefix of the commands holding each acknowledged one.
 ///
 /// It holds of whatever `serve_port` says of a file, a port and a clock, once the file was opened: where it tells how many links were served, of
-/// these, and else of those that were served until the port failed, which are none where it failed to listen. Where the file was not opened, neither
-/// the port nor the clock was called.
+/// these, and then no call of the port failed; else of those that were served until the port failed, which are none where it failed to listen. Where
+/// the file was not opened, neither the port nor the clock was called.
 pub fn headline_law<D: Disk, P: Port, C: Clock>()
     ensures told { (disk after : D) (port port_after : P) (clock clock_after : C) (port_number count : ℕ) (text : List ℕ)
         → Serves D.Disk P.Port (tells_of P.Link.Source P.Link.Sink) C.Clock disk after port port_after clock clock_after port_number count (Ok text)
-        → (number : ℕ) × (number ≤ count) × (text ≡ served_line number) × HasHeadline D.Disk P.Port (tells_of P.Link.Source P.Link.Sink) C.Clock disk after port port_after clock clock_after number }
+        → (number : ℕ) × (text ≡ served_line number) × IsOpened P.Port port_number port port_after count number (Ok text)
+        × HasHeadline D.Disk P.Port (tells_of P.Link.Source P.Link.Sink) C.Clock disk after port port_after clock clock_after number }
     ensures any { (disk after : D) (port port_after : P) (clock clock_after : C) (port_number count : ℕ) (ending : Result (List ℕ) Stop)
         → Serves D.Disk P.Port (tells_of P.Link.Source P.Link.Sink) C.Clock disk after port port_after clock clock_after port_number count ending
         → (IsUnopened ending × HasNoRun port port_after clock clock_after)
-        ⊎ ((number : ℕ) × (number ≤ count) × IsOpened number ending × HasHeadline D.Disk P.Port (tells_of P.Link.Source P.Link.Sink) C.Clock disk after port port_after clock clock_after number) }
+        ⊎ ((number : ℕ) × IsOpened P.Port port_number port port_after count number ending
+        × HasHeadline D.Disk P.Port (tells_of P.Link.Source P.Link.Sink) C.Clock disk after port port_after clock clock_after number) }
 {
     accepted_law::<D>();
     acknowledged_law::<D>();

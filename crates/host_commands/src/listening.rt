@@ -76,7 +76,7 @@ fn serve_opened<D: Disk, P: Port, C: Clock, R: Threads + Sync, G: Gate + Sync>(
 ) -> Result<Text, Stop>
     requires { (1 ≤ workers) × (workers ≤ MOST_WORKERS) }
     ensures serves { (w : D × State) → StandsAt D.Disk serving disk.old w
-        → ServesOpened D.Disk P.Port (tells_of P.Link.Source P.Link.Sink) C.Clock w disk.new port.old port.new clock.old clock.new count (ending_of result) }
+        → ServesOpened D.Disk P.Port (tells_of P.Link.Source P.Link.Sink) C.Clock w disk.new port.old port.new clock.old clock.new number count (ending_of result) }
     ensures asked { P.asked port.new ≡ asked_again number (P.asked port.old) }
     ensures disk { D.faults disk.old ≤ D.faults disk.new }
     ensures honest { D.is_honest disk.old ↔ D.is_honest disk.new }

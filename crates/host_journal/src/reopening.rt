@@ -57,7 +57,7 @@ pub fn open<D: Disk>(alloc: Global, disk: &mut D) -> Result<Serving, LogFault>
     ensures count { D.faults disk.old ≤ D.faults disk.new }
     ensures faults { D.faults disk.new ≡ faults_after (D.faults disk.old) result }
     ensures honest { D.is_honest disk.old ↔ D.is_honest disk.new }
-    ensures place { D.is_honest disk.old → (place : ℕ) → result ≡ Err (LogFault.NotALog place) → IsFirstFault place (D.seen disk.old) }
+    ensures place { D.tells disk.old → (place : ℕ) → result ≡ Err (LogFault.NotALog place) → IsFirstFault place (D.seen disk.old) }
     ensures kept { D.is_honest disk.old → IfErr result (λ e. e ≢ LogFault.Disk → Rests D.seen D.images D.moment D.left_since disk.old disk.new) }
 
     // No byte but the version gate is written, and a file of a state stays one at each moment.

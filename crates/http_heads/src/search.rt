@@ -95,7 +95,8 @@ pub fn find_head<K: HeadKind>(bytes: &[u8], fields: &mut [HeaderSpan; ROOM]) -> 
 /// - `End` comes where nothing is left.
 /// - `Fault` comes for one failed read, which the source's count of faults tells. Each other answer
 ///   leaves that count as it is. A read is made only while the parser asks for more of what the carry
-///   holds: `Bad` comes at once where that can never become a head.
+///   holds, or has no room for all its fields: `Bad` comes at once where it tells that no head can
+///   come. That a head has more than `MAX_FIELDS` fields is told at its end, up to `ROOM` of them.
 pub fn look_ahead<K: HeadKind, S: Source>(
     source: &mut S,
     carry: &mut Carry,

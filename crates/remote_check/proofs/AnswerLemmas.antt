@@ -1,8 +1,8 @@
 -- What the judge says of the body, and what a fetch answers.
-use Rattle.std.proofs.Common.{◌≡◌, ◌≢◌, ℕ, ◌<◌, ◌≤◌, nat_lt, true, false, inl, inr, List, ◌++◌, length, take, replicate, Option, Some, None, Result, Ok, Err, IfSome, refl, sym, ap, ◌∙◌, arith, append-nil, append_assoc, length-append, length-take-le, subst, cond}
+use Rattle.std.proofs.Common.{◌≡◌, ◌≢◌, ℕ, ◌<◌, ◌≤◌, nat_lt, true, false, inl, inr, List, ◌++◌, length, min, ◌-◌, ◌^◌, take, drop, replicate, Option, Some, None, Result, Ok, Err, IfSome, refl, sym, ap, ◌∙◌, arith, append-nil, append_assoc, length-append, length-take-le, subst, cond, take-append-drop}
 use Rattle.std.proofs.lemmas.Bool.{cases_lt}
 use Rattle.std.proofs.lemmas.Bool.Decides.{nat_tests}
-use Rattle.std.proofs.lemmas.List.{length-replicate}
+use Rattle.std.proofs.lemmas.List.{length-replicate, take-append-le, take_all}
 use Rattle.std.specs.Io.KnownBytes.{Consumes, Keeps, prepend_known}
 use Rattle.std.proofs.KnownBytes.{Consumes-whole}
 use Rattle.httparse.specs.Grammar.{ResponseHead}
@@ -12,13 +12,15 @@ use Rattle.cert_reader.specs.declared.limits.TheConstants.{MOST_BYTES}
 use Rattle.cert_checker.specs.Judged.{IsJudged, IsJudgement}
 use Rattle.cert_reader.specs.Text.{IsBrokenText}
 use Rattle.rule_verdicts.specs.declared.verdict.Verdict.{Verdict}
+use Rattle.http_heads.specs.Search.{IsOpen}
 use Rattle.remote_check.specs.declared.limits.TheConstants.{FILLER}
 use Rattle.remote_check.specs.declared.ends.FetchEnd.{FetchEnd}
 use Rattle.remote_check.specs.declared.ends.FetchEnd.TheVariants as ends
 use Rattle.remote_check.specs.Bodies.{JudgeSays, filler_of, given, given_of}
+use Rattle.remote_check.proofs.BodyLemmas.{awaited_gone, only_filler}
 use Rattle.remote_check.specs.Fetched.{FetchSays, Fetched, SaysBody, SaysLength}
-use Rattle.remote_check.specs.Heads.{BeginsWith, HasNoHead}
-use Rattle.remote_check.specs.Taken.{Ends, GoesOn}
+use Rattle.remote_check.specs.Heads.{AsksMore, BeginsWith, HasNoHead, IsText}
+use Rattle.remote_check.specs.Taken.{Ends, GoesOn, IsInBody, IsUnsettled, LeavesSome}
 
 -- the judge's answer is on all that it was given
 judged : (known now : Option (List ℕ)) (taken : List ℕ) (result : Result Verdict TextEnd) → Consumes known now taken → IsJudgement now taken result
@@ -108,3 +110,81 @@ same_says (Some x) (Some y) result same says = λ other. subst (λ bytes. Fetche
 pub bad_says : (input : Option (List ℕ)) → IfSome input HasNoHead → FetchSays input (Err ends.Reply)
 bad_says None none = tt
 bad_says (Some bytes) none = λ other. inl (none, refl)
+
+-- a body to be judged is one whatever follows the bytes
+goes_more : (held rest more : List ℕ) (count : ℕ) → GoesOn held rest count → GoesOn (held ++ more) (rest ++ more) count
+goes_more held rest more count on =
+    record { head = on.head; begins = begins_more held rest more on.head on.begins; status = on.status; told = on.told; most = on.most }
+
+pub in_body : (held rest : List ℕ) (ahead left : Option (List ℕ)) (count reads : ℕ) → GoesOn held rest count
+    → (reads < 2 ^ 64 - 1 → IfSome (prepend_known rest ahead) (λ all. LeavesSome count all left)) → IfSome (prepend_known held ahead) (λ bytes. IsInBody bytes left reads)
+in_body held rest None left count reads on some = tt
+in_body held rest (Some more) left count reads on some = record { rest = rest ++ more; count = count; goes_on = goes_more held rest more count on; some = some }
+
+-- what was read of what was to come settles no answer
+pub head_unsettled : (held : List ℕ) (ahead left : Option (List ℕ)) (reads : ℕ) → Keeps ahead (prepend_known held left) → IsOpen IsText AsksMore held
+    → IsUnsettled ahead left reads
+head_unsettled held None left reads same unended = IsUnsettled.in_head held tt unended
+head_unsettled held (Some x) None reads same unended = absurd same
+head_unsettled held (Some x) (Some y) reads same unended = IsUnsettled.in_head held (sym same) unended
+
+pub body_unsettled : (ahead now left : Option (List ℕ)) (reads : ℕ) → Keeps ahead now → IfSome now (λ bytes. IsInBody bytes left reads) → IsUnsettled ahead left reads
+body_unsettled None now left reads same body = IsUnsettled.in_body tt
+body_unsettled (Some x) None left reads same body = absurd same
+body_unsettled (Some x) (Some y) left reads same body = IsUnsettled.in_body (subst (λ bytes. IsInBody bytes left reads) same body)
+
+-- the front of what the judge is given was read ahead
+front_given : (held rest : List ℕ) (count n : ℕ) → n ≡ min (length held) count → take n held ++ given_of (count - n) 0 rest ≡ given_of count 0 (held ++ rest)
+front_given held rest count n is =
+    elim (cases_lt count (length held)) [
+      | inl less ↦
+          let all : n ≡ count = omega (arith, is, less) in
+          let none : count - n ≡ 0 = omega (arith, all) in
+          let test : nat_lt (length (held ++ rest)) count ≡ false = grind (arith, nat_tests, less, length-append held rest) in
+          ap (λ k. take n held ++ given_of k 0 rest) none ∙ ap (λ z. take n held ++ z) (only_filler 0 rest) ∙ append-nil (take n held) ∙ ap (λ k. take k held) all
+          ∙ sym (take-append-le count held rest (omega (arith, less)))
+          ∙ sym (append-nil (take count (held ++ rest)))
+          ∙ ap (λ v. take count (held ++ rest) ++ replicate (cond v FILLER 0) 0) (sym test)
+      | inr fits ↦
+          let all : n ≡ length held = omega (arith, is, fits) in
+          ap (λ z. z ++ given_of (count - n) 0 rest) (take_all n held (omega (arith, all))) ∙ ap (λ k. held ++ given_of (count - k) 0 rest) all
+          ∙ sym (awaited_gone count 0 (length held) held rest refl fits)
+    ]
+
+pub front_told : (held : List ℕ) (input : Option (List ℕ)) (count n : ℕ) → n ≡ min (length held) count
+    → prepend_known (take n held) (given (count - n) 0 input) ≡ given count 0 (prepend_known held input)
+front_told held None count n is = refl
+front_told held (Some rest) count n is = ap Some (front_given held rest count n is)
+
+-- what was not read of a body that comes whole is still to come
+some_left : (count awaited : ℕ) (rest taken held left : List ℕ) → count ≤ MOST_BYTES → 0 < awaited → given_of count 0 rest ≡ taken ++ (held ++ given_of awaited 0 left)
+    → LeavesSome count rest (Some left)
+some_left count awaited rest taken held left most some is enough =
+    let body : take count rest ≡ taken ++ (held ++ given_of awaited 0 left) = sym (whole count rest enough) ∙ is in
+    let size : length (given_of awaited 0 left) ≤ MOST_BYTES =
+    omega (arith, ap length body, length-take-le count rest enough, length-append taken (held ++ given_of awaited 0 left), length-append held (given_of awaited 0 left), most) in
+    elim (cases_lt (length left) awaited) [
+      | inl less ↦ absurd (omega (arith, size, short awaited left less))
+      | inr fits ↦ (
+        taken ++ held,
+        take awaited left,
+        drop awaited left,
+        omega (arith, some, length-take-le awaited left fits),
+        body ∙ ap (λ z. taken ++ (held ++ z)) (whole awaited left fits) ∙ sym (append_assoc taken held (take awaited left)),
+        ap Some (sym (take-append-drop awaited left)),
+      )
+    ]
+
+pub leaves_some : (count awaited filler : ℕ) (input left : Option (List ℕ)) (taken held : List ℕ) → count ≤ MOST_BYTES → 0 < awaited → filler ≡ 0
+    → Consumes (given count 0 input) (prepend_known held (given awaited filler left)) taken → IfSome input (λ rest. LeavesSome count rest left)
+leaves_some count awaited filler None left taken held most some none took = tt
+leaves_some count awaited filler (Some rest) None taken held most some none took = absurd took
+leaves_some count awaited filler (Some rest) (Some left) taken held most some none took =
+    some_left count awaited rest taken held left most some (took ∙ ap (λ k. taken ++ (held ++ given_of awaited k left)) none)
+
+-- the judge's answer, where the front of the body was read ahead
+pub judged_front : (held : List ℕ) (input now : Option (List ℕ)) (count n : ℕ) (taken : List ℕ) (result : Result Verdict TextEnd) → n ≡ min (length held) count
+    → Consumes (prepend_known (take n held) (given (count - n) 0 input)) now taken → IsJudgement now taken result
+    → IfSome (prepend_known held input) (λ rest. JudgeSays (given_of count 0 rest) result)
+judged_front held input now count n taken result is took says =
+    judged_given count (prepend_known held input) now taken result (subst (λ known. Consumes known now taken) (front_told held input count n is) took) says

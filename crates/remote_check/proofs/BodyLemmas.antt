@@ -1,39 +1,56 @@
 -- What the judge is given of a body, as it is read.
-use Rattle.std.proofs.Common.{◌≡◌, ℕ, ◌==◌, ◌∷◌, ◌+◌, ◌-◌, ◌<◌, ◌≤◌, nat_lt, true, false, List, [], ◌++◌, length, take, drop, replicate, Option, Some, None, refl, sym, ap, ◌∙◌, arith, append_assoc, length-append, subst, cond, take-append-drop, length-drop}
+use Rattle.std.proofs.Common.{◌≡◌, ◌≢◌, ℕ, ◌==◌, ◌∷◌, ◌+◌, ◌-◌, ◌<◌, ◌≤◌, nat_lt, true, false, List, [], ◌++◌, length, take, drop, replicate, Option, Some, None, refl, sym, ap, ◌∙◌, arith, append_assoc, length-append, subst, cond, take-append-drop, length-drop}
 use Rattle.std.proofs.lemmas.Bool.Decides.{nat_tests}
 use Rattle.std.proofs.lemmas.List.{length-replicate, length-take-le, replicate-append-replicate, take-append-le, take_all, take_at}
 use Rattle.std.proofs.Math.Seq.{take-append-add}
 use Rattle.std.specs.Io.KnownBytes.{Consumes, IsAtEnd, prepend_known}
+use Rattle.remote_check.specs.declared.body.Due.{Due}
+use Rattle.remote_check.specs.declared.body.Due.TheVariants.{Awaited, Filler}
 use Rattle.remote_check.specs.declared.limits.TheConstants.{FILLER}
-use Rattle.remote_check.specs.Bodies.{filler_of, given, given_of, named}
+use Rattle.remote_check.specs.Bodies.{filler_of, given, given_by, given_of, named}
 
--- the name, and what is beside the source, under what is told of both
-abbrev name_in : Option (List ℕ) × ℕ → ℕ
-name_in (None, tag) = 0
-name_in (Some [], tag) = 0
-name_in (Some (name ∷ rest), tag) = name
+-- the name, the count, and what is beside the link, under what is told of them
+abbrev name_in : Option (List ℕ) × ℕ × ℕ → ℕ
+name_in (None, faults, tag) = 0
+name_in (Some [], faults, tag) = 0
+name_in (Some (name ∷ rest), faults, tag) = name
 
-abbrev beside_in : Option (List ℕ) × ℕ → Option (List ℕ) × ℕ
-beside_in (None, tag) = (None, 0)
-beside_in (Some [], tag) = (None, 0)
-beside_in (Some (name ∷ []), tag) = (None, 0)
-beside_in (Some (name ∷ (faults ∷ written)), tag) = (cond (tag == 0) None (Some written), faults)
+abbrev count_in : Option (List ℕ) × ℕ × ℕ → ℕ
+count_in (None, faults, tag) = 0
+count_in (Some [], faults, tag) = 0
+count_in (Some (name ∷ []), faults, tag) = 0
+count_in (Some (name ∷ (count ∷ rest)), faults, tag) = count
 
-name_is : (name : ℕ) (beside : Option (List ℕ) × ℕ) → name_in (named name beside) ≡ name
-name_is name (None, n) = refl
-name_is name (Some x, n) = refl
+abbrev beside_in : Option (List ℕ) × ℕ × ℕ → Option (List ℕ) × ℕ × ℕ
+beside_in (None, faults, tag) = (None, 0, 0)
+beside_in (Some [], faults, tag) = (None, 0, 0)
+beside_in (Some (name ∷ []), faults, tag) = (None, 0, 0)
+beside_in (Some (name ∷ (count ∷ [])), faults, tag) = (None, 0, 0)
+beside_in (Some (name ∷ (count ∷ (empty ∷ written))), faults, tag) = (cond (tag == 0) None (Some written), faults, empty)
 
-beside_is : (name : ℕ) (beside : Option (List ℕ) × ℕ) → beside_in (named name beside) ≡ beside
-beside_is name (None, n) = refl
-beside_is name (Some x, n) = refl
+name_is : (name count : ℕ) (beside : Option (List ℕ) × ℕ × ℕ) → name_in (named name count beside) ≡ name
+name_is name count (None, faults, empty) = refl
+name_is name count (Some x, faults, empty) = refl
+
+count_is : (name count : ℕ) (beside : Option (List ℕ) × ℕ × ℕ) → count_in (named name count beside) ≡ count
+count_is name count (None, faults, empty) = refl
+count_is name count (Some x, faults, empty) = refl
+
+beside_is : (name count : ℕ) (beside : Option (List ℕ) × ℕ × ℕ) → beside_in (named name count beside) ≡ beside
+beside_is name count (None, faults, empty) = refl
+beside_is name count (Some x, faults, empty) = refl
 
 -- they are told apart
-pub named_same : (name other : ℕ) (beside those : Option (List ℕ) × ℕ) → named name beside ≡ named other those → (name ≡ other) × (beside ≡ those)
-named_same name other beside those e =
-    (sym (name_is name beside) ∙ ap name_in e ∙ name_is other those, sym (beside_is name beside) ∙ ap beside_in e ∙ beside_is other those)
+pub named_same : (name other count counts : ℕ) (beside those : Option (List ℕ) × ℕ × ℕ) → named name count beside ≡ named other counts those
+    → (name ≡ other) × (count ≡ counts) × (beside ≡ those)
+named_same name other count counts beside those e = (
+  sym (name_is name count beside) ∙ ap name_in e ∙ name_is other counts those,
+  sym (count_is name count beside) ∙ ap count_in e ∙ count_is other counts those,
+  sym (beside_is name count beside) ∙ ap beside_in e ∙ beside_is other counts those,
+)
 
 -- the bytes that were read go
-awaited_gone : (awaited filler n : ℕ) (front rest : List ℕ) → length front ≡ n → n ≤ awaited → given_of awaited filler (front ++ rest) ≡ front ++ given_of (awaited - n) filler rest
+pub awaited_gone : (awaited filler n : ℕ) (front rest : List ℕ) → length front ≡ n → n ≤ awaited → given_of awaited filler (front ++ rest) ≡ front ++ given_of (awaited - n) filler rest
 awaited_gone awaited filler n front rest size fits =
     let split : awaited ≡ length front + (awaited - n) = omega arith in
     let first : take awaited (front ++ rest) ≡ front ++ take (awaited - n) rest = ap (λ k. take k (front ++ rest)) split ∙ take-append-add front rest (awaited - n) in
@@ -49,7 +66,7 @@ given_gone awaited filler n (Some x) None front took size fits = absurd took
 given_gone awaited filler n (Some x) (Some y) front took size fits = ap (given_of awaited filler) took ∙ awaited_gone awaited filler n front y size fits
 
 -- nothing is awaited
-only_filler : (filler : ℕ) (input : List ℕ) → given_of 0 filler input ≡ replicate filler 0
+pub only_filler : (filler : ℕ) (input : List ℕ) → given_of 0 filler input ≡ replicate filler 0
 only_filler filler input =
     let never : nat_lt (length input) 0 ≡ false = grind (arith, nat_tests) in
     ap (λ short. replicate (cond short FILLER filler) 0) never
@@ -109,6 +126,18 @@ awaited_read awaited filler n got behind before now few fits took =
       subst (Consumes (given awaited filler before) (given (awaited - n) filler now)) (sym same) (given_gone awaited filler n before now (take n got) took (length-take-le n got few) (omega (arith, few, fits))),
     )
 
+-- the same by what is due
+pub awaited_due : (due : Due) (count n : ℕ) (got behind : List ℕ) (before now : Option (List ℕ)) → due ≡ Awaited count → n ≢ 0 → n ≤ length got → length got ≤ count
+    → Consumes before now (take n got)
+    → (n ≤ length (got ++ behind)) × Consumes (given_by due before) (given (count - n) 0 now) (take n (got ++ behind))
+    × (n ≡ 0 → 0 < length (got ++ behind) → IsAtEnd (given (count - n) 0 now))
+awaited_due due count n got behind before now is some few fits took =
+    let read = awaited_read count 0 n got behind before now few fits took in (
+      read.0,
+      subst (λ d. Consumes (given_by d before) (given (count - n) 0 now) (take n (got ++ behind))) (sym is) read.1,
+      λ none room. absurd (some none),
+    )
+
 -- a read of the filler
 pub filler_read : (awaited filler n : ℕ) (front behind : List ℕ) (input : Option (List ℕ)) → awaited ≡ 0 → n ≤ filler → front ≡ replicate n 0
     → Consumes (given awaited filler input) (given awaited (filler - n) input) (take n (front ++ behind))
@@ -116,3 +145,9 @@ filler_read awaited filler n front behind input none fits is =
     let first : take n (front ++ behind) ≡ front = take_at front behind n (ap length is ∙ length-replicate n 0) in
     let gone : Consumes (given 0 filler input) (given 0 (filler - n) input) (take n (front ++ behind)) = filler_gone filler n input _ fits (first ∙ is) in
     subst (λ k. Consumes (given k filler input) (given k (filler - n) input) (take n (front ++ behind))) (sym none) gone
+
+-- the same by what is due
+pub filler_due : (due : Due) (count n : ℕ) (front behind : List ℕ) (input : Option (List ℕ)) → due ≡ Filler count → n ≤ count → front ≡ replicate n 0
+    → Consumes (given_by due input) (given 0 (count - n) input) (take n (front ++ behind))
+filler_due due count n front behind input is fits zeros =
+    subst (λ d. Consumes (given_by d input) (given 0 (count - n) input) (take n (front ++ behind))) (sym is) (filler_read 0 count n front behind input refl fits zeros)

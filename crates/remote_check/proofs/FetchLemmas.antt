@@ -1,34 +1,37 @@
--- What was written, the counts, and the other side of a link.
-use Rattle.std.proofs.Common.{◌≡◌, ◌≢◌, ℕ, ◌<◌, List, length, take, Option, Result, Ok, Err, refl, sym, ap, ◌∙◌, arith, subst}
-use Rattle.std.proofs.lemmas.List.{take_all}
+-- What was written, and the counts.
+use Rattle.std.proofs.Common.{◌≡◌, ◌≢◌, ℕ, ◌<◌, List, length, take, Option, Result, Ok, Err, IsErrOf, refl, sym, ap, ◌∙◌, subst}
 use Rattle.std.specs.Io.KnownBytes.{Appends}
+use Rattle.split_base.specs.Faults.{counted}
 use Rattle.rule_verdicts.specs.declared.verdict.Verdict.{Verdict}
 use Rattle.remote_check.specs.declared.ends.FetchEnd.{FetchEnd}
 use Rattle.remote_check.specs.declared.ends.FetchEnd.TheVariants as ends
-use Rattle.remote_check.specs.Requests.{Asks, faults_of}
+use Rattle.remote_check.specs.Requests.{AsksOnce, faults_of}
+use Rattle.remote_check.specs.Taken.{IsUnsettled}
 
--- where what is beside stays, what a law says of it stays
-pub first_beside : {A B : Type 0} (x y : A × B) (a c : A) (b d : B) → x ≡ (a, b) → y ≡ (c, d) → y ≡ x → c ≡ a
-first_beside {A} {B} x y a c b d p q r = ap (λ (z : A × B). z.0) (sym q ∙ r ∙ p)
-
-pub second_beside : {A B : Type 0} (x y : A × B) (a c : A) (b d : B) → x ≡ (a, b) → y ≡ (c, d) → y ≡ x → d ≡ b
-second_beside {A} {B} x y a c b d p q r = ap (λ (z : A × B). z.1) (sym q ∙ r ∙ p)
-
--- the whole request was written, and nothing after it
-asks_all : (before now : Option (List ℕ)) (request : List ℕ) (result : Result Verdict FetchEnd) → Appends before now request → Asks before now request result
-asks_all before now request (Ok verdict) wrote = wrote
-asks_all before now request (Err ends.Reply) wrote = wrote
-asks_all before now request (Err (ends.Status code)) wrote = wrote
-asks_all before now request (Err (ends.NotText line)) wrote = wrote
-asks_all before now request (Err ends.TooLong) wrote = wrote
-asks_all before now request (Err ends.LinkFault) wrote = (length request, omega arith, subst (Appends before now) (sym (take_all (length request) request (omega arith))) wrote)
-
-pub asks_heard : (before mid now : Option (List ℕ)) (request : List ℕ) (result : Result Verdict FetchEnd) → Appends before mid request → now ≡ mid → Asks before now request result
-asks_heard before mid now request result wrote same = asks_all before now request result (subst (λ z. Appends before z request) (sym same) wrote)
+-- the reply was heard after the whole request
+pub asks_heard : (ahead left before mid now : Option (List ℕ)) (reads reads_mid reads_now writes writes_mid writes_now : ℕ) (request : List ℕ) (result : Result Verdict FetchEnd)
+    → Appends before mid request → now ≡ mid → reads_mid ≡ reads → writes_mid ≡ writes → reads_now ≡ faults_of reads_mid result → writes_now ≡ writes_mid
+    → (IsErrOf result ends.LinkFault → IsUnsettled ahead left reads_now)
+    → AsksOnce ahead left before now reads reads_now writes writes_now request result
+asks_heard ahead left before mid now reads reads_mid reads_now writes writes_mid writes_now request result wrote same read write heard kept unsettled =
+    let all : Appends before now request = subst (λ z. Appends before z request) (sym same) wrote in
+    let stays : writes_now ≡ writes = kept ∙ write in
+    let counts : reads_now ≡ faults_of reads result = heard ∙ ap (λ n. faults_of n result) read in
+    by_end result all stays counts unsettled
+  where
+    by_end : (result : Result Verdict FetchEnd) → Appends before now request → writes_now ≡ writes → reads_now ≡ faults_of reads result → (IsErrOf result ends.LinkFault → IsUnsettled ahead left reads_now)
+        → AsksOnce ahead left before now reads reads_now writes writes_now request result
+    by_end (Ok verdict) all stays counts unsettled = AsksOnce.none_failed (λ is. cc) all counts stays
+    by_end (Err ends.Reply) all stays counts unsettled = AsksOnce.none_failed (λ is. cc) all counts stays
+    by_end (Err (ends.Status code)) all stays counts unsettled = AsksOnce.none_failed (λ is. cc) all counts stays
+    by_end (Err (ends.NotText line)) all stays counts unsettled = AsksOnce.none_failed (λ is. cc) all counts stays
+    by_end (Err ends.TooLong) all stays counts unsettled = AsksOnce.none_failed (λ is. cc) all counts stays
+    by_end (Err ends.LinkFault) all stays counts unsettled = AsksOnce.read_failed refl all counts stays (unsettled refl)
 
 -- a write failed
-pub asks_part : (before now : Option (List ℕ)) (request : List ℕ) → ((n : ℕ) × (n < length request) × Appends before now (take n request)) → Asks before now request (Err ends.LinkFault)
-asks_part before now request (n, less, wrote) = (n, omega (arith, less), wrote)
+pub asks_part : (ahead left before now : Option (List ℕ)) (reads reads_now writes writes_now : ℕ) (request : List ℕ) → ((n : ℕ) × (n < length request) × Appends before now (take n request))
+    → reads_now ≡ reads → writes_now ≡ counted writes → AsksOnce ahead left before now reads reads_now writes writes_now request (Err ends.LinkFault)
+asks_part ahead left before now reads reads_now writes writes_now request (n, less, wrote) stays count = AsksOnce.write_failed refl n less wrote stays count
 
 -- another end than a fault of the link leaves the counts
 pub same_faults : (before : ℕ) (end : FetchEnd) → end ≢ ends.LinkFault → before ≡ faults_of before (Err end)

@@ -1,5 +1,6 @@
 mod AnswerLemmas
 mod BodyLemmas
+mod CountLemmas
 mod FetchLemmas
 mod HeadLemmas
 mod LawLemmas

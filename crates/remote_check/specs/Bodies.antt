@@ -1,11 +1,14 @@
 -- A body as a source of bytes for the judge.
-use Rattle.std.specs.Prelude.{ℕ, ◌<◌, ◌≤◌, nat_lt, List, [], ◌∷◌, ◌++◌, length, take, replicate, Option, option_map, Some, None, Result, Ok, Err, if◌then◌else◌, ⊤}
+use Rattle.std.specs.Prelude.{ℕ, ◌+◌, ◌-◌, ◌^◌, min, ◌<◌, ◌≤◌, nat_lt, List, [], ◌∷◌, ◌++◌, length, take, replicate, Option, option_map, Some, None, Result, Ok, Err, if◌then◌else◌, ⊤}
 use Rattle.cert_reader.specs.declared.ends.TextEnd.{TextEnd}
 use Rattle.cert_reader.specs.declared.ends.TextEnd.TheVariants.{NotText, ReadFault, TooLong}
 use Rattle.cert_reader.specs.declared.limits.TheConstants.{MOST_BYTES}
 use Rattle.cert_reader.specs.Text.{IsBrokenText}
+use Rattle.split_base.specs.Faults.{counted}
 use Rattle.cert_checker.specs.Judged.{IsJudged}
 use Rattle.rule_verdicts.specs.declared.verdict.Verdict.{Verdict}
+use Rattle.remote_check.specs.declared.body.Due.{Due}
+use Rattle.remote_check.specs.declared.body.Due.TheVariants.{Awaited, Filler, Refused}
 use Rattle.remote_check.specs.declared.limits.TheConstants.{FILLER}
 
 -- how many bytes of filler follow the awaited ones: more than a certificate has where the input ends within them
@@ -20,10 +23,28 @@ given_of awaited filler input = take awaited input ++ replicate (filler_of await
 abbrev pub given : ℕ → ℕ → Option (List ℕ) → Option (List ℕ)
 given awaited filler input = option_map (given_of awaited filler) input
 
--- what is beside a source, and under it the name of the reference to the source, as one
-abbrev pub named : ℕ → Option (List ℕ) × ℕ → Option (List ℕ) × ℕ
-named name (None, faults) = (Some (name ∷ faults ∷ []), 0)
-named name (Some written, faults) = (Some (name ∷ faults ∷ written), 1)
+-- what the judge is given of a link with these bytes left
+abbrev pub given_by : Due → Option (List ℕ) → Option (List ℕ)
+given_by (Awaited count) left = given count 0 left
+given_by (Filler count) left = given 0 count left
+given_by (Refused behind more) left = given (behind + 1) 0 left
+
+-- the link's count of failed reads once one has failed, whether or not one has
+abbrev pub count_at_fault : Due → ℕ → ℕ
+count_at_fault (Awaited count) faults = counted faults
+count_at_fault (Filler count) faults = counted faults
+count_at_fault (Refused behind more) faults = faults
+
+-- its count with the reads that were refused since
+abbrev pub count_with : Due → ℕ → ℕ
+count_with (Awaited count) faults = faults
+count_with (Filler count) faults = faults
+count_with (Refused behind more) faults = min (faults + more) (2 ^ 64 - 1)
+
+-- what is beside a link, and under it the name of the reference to the link and its count once a read has failed, as one
+abbrev pub named : ℕ → ℕ → Option (List ℕ) × ℕ × ℕ → Option (List ℕ) × ℕ × ℕ
+named name count (None, faults, empty) = (Some (name ∷ count ∷ empty ∷ []), faults, 0)
+named name count (Some written, faults, empty) = (Some (name ∷ count ∷ empty ∷ written), faults, 1)
 
 -- what the judge says of what it was given
 abbrev pub JudgeSays : List ℕ → Result Verdict TextEnd → Type 0

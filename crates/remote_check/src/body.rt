@@ -2,78 +2,97 @@
 ghost use Rattle.std.specs.Prelude.{◌≡◌, ◌≤◌, ◌<◌, length, take, MatchResult, IfOk};
 ghost use Rattle.std.specs.Io.KnownBytes.{Consumes, IsAtEnd, Keeps};
 ghost use Rattle.split_base.specs.Faults.{HasCause, IsCounted};
-ghost use Rattle.remote_check.specs.Bodies.{given};
+ghost use Rattle.split_base.specs.Streams.{Reads};
+ghost use Rattle.remote_check.specs.Bodies.{count_at_fault, count_with, given_by, named};
 
 use crate::limits::FILLER;
 use split_base::{Failed, Source};
 
-// Gives the awaited bytes, so many, and then ends. Where the input ends within them, filler follows, more than a certificate has, so that the judge finds
-// the body too long, whatever was sent of it; it finds no other so.
-#[derive(Drop)]
-pub(crate) struct Body<S> {
-    pub(crate) input: S,
-    pub(crate) awaited: usize,
-    pub(crate) filler: usize,
+// What is due of a body.
+#[derive(Clone, Copy, Drop)]
+pub(crate) enum Due {
+    // So many bytes of the link are awaited.
+    Awaited(usize),
+    // The input ended within the body, and so much filler is left.
+    Filler(usize),
+    // A read failed before a byte that so many follow. Each read since was refused: so many.
+    Refused(usize, u64),
 }
 
-impl<S: Source> Body<S> {
-    // Gives some of the awaited bytes, or none where none is left.
-    fn take_awaited(&mut self, into: &mut [u8]) -> Result<usize, Failed>
-        requires { 0 < length into.old }
-        ensures bytes { MatchResult result
-            (λ n. (n ≤ length into.new) × Consumes (given self.old.awaited self.old.filler (S.left self.old.input)) (given self.new.awaited self.new.filler (S.left self.new.input)) (take n into.new))
-            (λ _. Keeps (given self.old.awaited self.old.filler (S.left self.old.input)) (given self.new.awaited self.new.filler (S.left self.new.input))) }
-        ensures none { IfOk result (λ n. n ≡ 0 → self.new.awaited ≡ 0) }
-        ensures beside { S.beside self.new.input ≡ S.beside self.old.input }
-        ensures cause { HasCause (S.faults self.old.input) (S.faults self.new.input) result }
-        ensures count { IsCounted (S.faults self.old.input) (S.faults self.new.input) result }
+// Gives the awaited bytes of the link, so many, and then ends. Where the input ends within them, filler follows, more than a certificate has, so that the judge
+// finds the body too long, whatever was sent of it; it finds no other so. Once a read has failed the link is not read again.
+#[derive(Drop)]
+pub(crate) struct Body<'l, S> {
+    pub(crate) link: &'l mut S,
+    pub(crate) due: Due,
+}
+
+impl<'l, S: Source> Body<'l, S> {
+    // Gives some of the awaited bytes, so many, or filler where the input ends.
+    fn take_awaited(&mut self, into: &mut [u8], count: usize) -> Result<usize, Failed>
+        requires some { 0 < length into.old }
+        requires due { self.old.due ≡ Due.Awaited count }
+        ensures bytes { Reads (given_by self.old.due (S.left self.old.link.now)) (given_by self.new.due (S.left self.new.link.now)) result into.new }
+        ensures kept { named self.new.link.ghost_name (count_at_fault self.new.due (S.faults self.new.link.now)) (S.beside self.new.link.now)
+            ≡ named self.old.link.ghost_name (count_at_fault self.old.due (S.faults self.old.link.now)) (S.beside self.old.link.now) }
+        ensures cause { HasCause (count_with self.old.due (S.faults self.old.link.now)) (count_with self.new.due (S.faults self.new.link.now)) result }
+        ensures count { IsCounted (count_with self.old.due (S.faults self.old.link.now)) (count_with self.new.due (S.faults self.new.link.now)) result }
     {
-        if self.awaited == 0 {
+        if count == 0 {
             return Ok(0);
         }
-        let room = into.len().min(self.awaited);
-        let count = self.input.read(&mut into[..room])?;
-        if count == 0 {
-            // The input ends within them.
-            self.awaited = 0;
-            self.filler = FILLER;
-        } else {
-            self.awaited -= count;
+        let room = into.len().min(count);
+        match self.link.read(&mut into[..room]) {
+            Err(Failed) => {
+                self.due = Due::Refused(count - 1, 0);
+                Err(Failed)
+            }
+            Ok(0) => {
+                self.due = Due::Filler(FILLER);
+                Ok(self.take_filler(into, FILLER))
+            }
+            Ok(read) => {
+                self.due = Due::Awaited(count - read);
+                Ok(read)
+            }
         }
-        Ok(count)
     }
 
-    // Gives some of the filler, or none where none is left.
-    fn take_filler(&mut self, into: &mut [u8]) -> usize
-        requires { self.old.awaited ≡ 0 }
+    // Gives some of the filler, so much, or none where none is left.
+    fn take_filler(&mut self, into: &mut [u8], count: usize) -> usize
+        requires { self.old.due ≡ Due.Filler count }
         ensures few { result ≤ length into.new }
-        ensures bytes { Consumes (given self.old.awaited self.old.filler (S.left self.old.input)) (given self.new.awaited self.new.filler (S.left self.new.input)) (take result into.new) }
-        ensures end { result ≡ 0 → 0 < length into.new → IsAtEnd (given self.new.awaited self.new.filler (S.left self.new.input)) }
-        ensures beside { S.beside self.new.input ≡ S.beside self.old.input }
-        ensures count { S.faults self.new.input ≡ S.faults self.old.input }
+        ensures bytes { Consumes (given_by self.old.due (S.left self.old.link.now)) (given_by self.new.due (S.left self.new.link.now)) (take result into.new) }
+        ensures end { result ≡ 0 → 0 < length into.new → IsAtEnd (given_by self.new.due (S.left self.new.link.now)) }
+        ensures kept { named self.new.link.ghost_name (count_at_fault self.new.due (S.faults self.new.link.now)) (S.beside self.new.link.now)
+            ≡ named self.old.link.ghost_name (count_at_fault self.old.due (S.faults self.old.link.now)) (S.beside self.old.link.now) }
+        ensures count { count_with self.new.due (S.faults self.new.link.now) ≡ count_with self.old.due (S.faults self.old.link.now) }
     {
-        let count = into.len().min(self.filler);
-        into[..count].fill(0);
-        self.filler -= count;
-        count
+        let filled = into.len().min(count);
+        into[..filled].fill(0);
+        self.due = Due::Filler(count - filled);
+        filled
     }
 }
 
-impl<S: Source> Source for Body<S> {
-    ghost left = { λ body. given body.awaited body.filler (S.left body.input) };
+impl<'l, S: Source> Source for Body<'l, S> {
+    ghost left = { λ body. given_by body.due (S.left body.link.now) };
 
-    ghost faults = { λ body. S.faults body.input };
+    ghost faults = { λ body. count_with body.due (S.faults body.link.now) };
 
-    ghost beside = { λ body. S.beside body.input };
+    ghost beside = { λ body. named body.link.ghost_name (count_at_fault body.due (S.faults body.link.now)) (S.beside body.link.now) };
 
     fn read(&mut self, into: &mut [u8]) -> Result<usize, Failed> {
         if into.is_empty() {
             return Ok(0);
         }
-        let count = self.take_awaited(into)?;
-        if count > 0 {
-            return Ok(count);
+        match self.due {
+            Due::Awaited(count) => self.take_awaited(into, count),
+            Due::Filler(count) => Ok(self.take_filler(into, count)),
+            Due::Refused(behind, more) => {
+                self.due = Due::Refused(behind, more.saturating_add(1));
+                Err(Failed)
+            }
         }
-        Ok(self.take_filler(into))
     }
 }

@@ -2,12 +2,12 @@
 ghost use Rattle.std.specs.Prelude.{◌≡◌, ◌≤◌, ◌<◌, ℕ, List, length, take, IfOk, IfSome, OnErr, IsErrOf, Ok};
 ghost use Rattle.std.specs.Io.KnownBytes.{Appends, prepend_known};
 ghost use Rattle.split_base.specs.Faults.{HasCause, HasRisen, IsCounted};
-ghost use Rattle.split_base.specs.Links.{LinkHasRisen};
 ghost use Rattle.cert_checker.specs.Judged.{PrintsBest};
 ghost use Rattle.http_heads.specs.declared.limits.TheConstants.{MAX_HEAD};
 ghost use Rattle.remote_check.specs.Fetched.{FetchSays, IsReplyOf};
-ghost use Rattle.remote_check.specs.Requests.{Asks, Counts, faults_of, request_of};
+ghost use Rattle.remote_check.specs.Requests.{AsksOnce, faults_of, request_of};
 ghost use Rattle.remote_check.specs.Heads.{IsFoundAt};
+ghost use Rattle.remote_check.specs.Taken.{IsInBody, IsUnsettled};
 
 use crate::ends::FetchEnd;
 use crate::head::length_of;
@@ -18,9 +18,10 @@ use crate::response_heads::ResponseHeads;
 use http_heads::{Ahead, Carry, ROOM, look_ahead};
 use httparse::spans::{EMPTY_HEADER_SPAN, HeaderSpan, ResponseSpans};
 use rule_verdicts::Verdict;
-use split_base::{Failed, Link, Source, write_all};
+use split_base::{Failed, Link, Source, sides_law, write_all};
 
-/// Asks a host for the certificate of an instance, and judges it as it comes, in one pass and in fixed memory. One request is written, and nothing else.
+/// Asks a host for the certificate of an instance, and judges it as it comes, in one pass and in fixed memory. One request is written, and nothing else, and
+/// no write is empty.
 ///
 /// What is answered depends on the bytes of the reply alone, and not on the pieces in which they come. In this order:
 ///
@@ -32,13 +33,16 @@ use split_base::{Failed, Link, Source, write_all};
 /// 6. The judge's verdict on the body, or `NotText`, where it is no certificate text, with its first broken line. What follows the body is not read as part
 ///    of it.
 ///
-/// `LinkFault` comes for one failed call, which one of the link's two counts of faults tells. Any other answer leaves both as they are.
+/// `LinkFault` comes for one failed call. Where it was a write, the count of failed writes goes up by one, and a first part of the request was written, but not
+/// all of it. Where it was a read, that of failed reads does, the whole request was written, and what came settles no answer: no head, and the parser asks for
+/// more, or less than a body that is to be judged (the last is told where the count is below 2^64 - 1). Any other answer leaves both counts as they are, after
+/// the whole request.
 pub fn fetch<L: Link>(link: &mut L, words: &Words) -> Result<Verdict, FetchEnd>
     ensures says { FetchSays (L.Source.left link.old) result }
     ensures best { result ≡ Ok Verdict.Yes → IfSome (L.Source.left link.old) (λ bytes. (body : List ℕ) × IsReplyOf bytes body × PrintsBest body) }
-    ensures asked { Asks (L.Sink.written link.old) (L.Sink.written link.new) (request_of words.now) result }
-    ensures fault { IsErrOf result FetchEnd.LinkFault → LinkHasRisen (L.Source.faults link.old) (L.Source.faults link.new) (L.Sink.faults link.old) (L.Sink.faults link.new) }
-    ensures counts { Counts (L.Source.faults link.old) (L.Source.faults link.new) (L.Sink.faults link.old) (L.Sink.faults link.new) result }
+    ensures asked { AsksOnce (L.Source.left link.old) (L.Source.left link.new) (L.Sink.written link.old) (L.Sink.written link.new)
+        (L.Source.faults link.old) (L.Source.faults link.new) (L.Sink.faults link.old) (L.Sink.faults link.new) (request_of words.now) result }
+    ensures empty { L.Sink.empty_writes link.new ≡ L.Sink.empty_writes link.old }
     ensures reads { L.Source.faults link.old ≤ L.Source.faults link.new }
     ensures writes { L.Sink.faults link.old ≤ L.Sink.faults link.new }
 {
@@ -49,15 +53,17 @@ pub fn fetch<L: Link>(link: &mut L, words: &Words) -> Result<Verdict, FetchEnd>
     }
 }
 
-// Writes the request.
+// Writes the request, which leaves what is to come as it is.
 fn ask<L: Link>(link: &mut L, words: &Words) -> Result<(), Failed>
     ensures whole { IfOk result (λ _. Appends (L.Sink.written link.old) (L.Sink.written link.new) (request_of words.now)) }
     ensures prefix { OnErr result ((n : ℕ) × (n < length (request_of words.now)) × Appends (L.Sink.written link.old) (L.Sink.written link.new) (take n (request_of words.now))) }
     ensures cause { HasCause (L.Sink.faults link.old) (L.Sink.faults link.new) result }
     ensures count { IsCounted (L.Sink.faults link.old) (L.Sink.faults link.new) result }
+    ensures empty { L.Sink.empty_writes link.new ≡ L.Sink.empty_writes link.old }
     ensures left { L.Source.left link.new ≡ L.Source.left link.old }
     ensures reads { L.Source.faults link.new ≡ L.Source.faults link.old }
 {
+    sides_law::<L>();
     write_all(link, request_text(words).as_slice())
 }
 
@@ -66,10 +72,13 @@ fn hear<L: Link>(link: &mut L) -> Result<Verdict, FetchEnd>
     ensures says { FetchSays (L.Source.left link.old) result }
     ensures faults { L.Source.faults link.new ≡ faults_of (L.Source.faults link.old) result }
     ensures fault { IsErrOf result FetchEnd.LinkFault → HasRisen (L.Source.faults link.old) (L.Source.faults link.new) }
+    ensures unsettled { IsErrOf result FetchEnd.LinkFault → IsUnsettled (L.Source.left link.old) (L.Source.left link.new) (L.Source.faults link.new) }
     ensures count { L.Source.faults link.old ≤ L.Source.faults link.new }
     ensures written { L.Sink.written link.new ≡ L.Sink.written link.old }
     ensures writes { L.Sink.faults link.new ≡ L.Sink.faults link.old }
+    ensures empty { L.Sink.empty_writes link.new ≡ L.Sink.empty_writes link.old }
 {
+    sides_law::<L>();
     read_reply(link)
 }
 
@@ -78,6 +87,7 @@ fn read_reply<S: Source>(source: &mut S) -> Result<Verdict, FetchEnd>
     ensures says { FetchSays (S.left source.old) result }
     ensures faults { S.faults source.new ≡ faults_of (S.faults source.old) result }
     ensures fault { IsErrOf result FetchEnd.LinkFault → HasRisen (S.faults source.old) (S.faults source.new) }
+    ensures unsettled { IsErrOf result FetchEnd.LinkFault → IsUnsettled (S.left source.old) (S.left source.new) (S.faults source.new) }
     ensures count { S.faults source.old ≤ S.faults source.new }
     ensures beside { S.beside source.new ≡ S.beside source.old }
 {
@@ -103,6 +113,8 @@ fn read_body<S: Source>(
     ensures says { FetchSays (prepend_known held.now (S.left source.old)) result }
     ensures faults { S.faults source.new ≡ faults_of (S.faults source.old) result }
     ensures fault { IsErrOf result FetchEnd.LinkFault → HasRisen (S.faults source.old) (S.faults source.new) }
+    ensures unsettled { IsErrOf result FetchEnd.LinkFault → IfSome (prepend_known held.now (S.left source.old))
+        (λ bytes. IsInBody bytes (S.left source.new) (S.faults source.new)) }
     ensures count { S.faults source.old ≤ S.faults source.new }
     ensures beside { S.beside source.new ≡ S.beside source.old }
 {

@@ -1,5 +1,5 @@
 // The judge's answer on a body.
-ghost use Rattle.std.specs.Prelude.{◌≡◌, ◌≢◌, ◌≤◌, IfSome, IsErrOf, Err};
+ghost use Rattle.std.specs.Prelude.{◌≡◌, ◌≢◌, ◌≤◌, ◌<◌, ◌-◌, ◌^◌, IfSome, IsErrOf, Err};
 ghost use Rattle.std.specs.Io.KnownBytes.{prepend_known};
 ghost use Rattle.cert_reader.specs.Stream.{faults_after};
 ghost use Rattle.cert_reader.specs.declared.limits.TheConstants.{MOST_BYTES};
@@ -7,9 +7,10 @@ ghost use Rattle.split_base.specs.Faults.{HasRisen};
 ghost use Rattle.remote_check.specs.Bodies.{JudgeSays, given_of};
 ghost use Rattle.remote_check.specs.Fetched.{SaysBody};
 ghost use Rattle.remote_check.specs.Requests.{faults_of};
+ghost use Rattle.remote_check.specs.Taken.{LeavesSome};
 
 use crate::ahead::Ahead;
-use crate::body::Body;
+use crate::body::{Body, Due};
 use crate::ends::FetchEnd;
 use cert_checker::judge_text;
 use cert_reader::TextEnd;
@@ -27,6 +28,8 @@ pub(crate) fn judge_body<S: Source>(
     ensures faults { S.faults link.new ≡ faults_of (S.faults link.old) result }
     ensures fault { IsErrOf result FetchEnd.LinkFault → HasRisen (S.faults link.old) (S.faults link.new) }
     ensures count { S.faults link.old ≤ S.faults link.new }
+    ensures some { IsErrOf result FetchEnd.LinkFault → S.faults link.new < 2 ^ 64 - 1
+        → IfSome (prepend_known held.now (S.left link.old)) (λ rest. LeavesSome length rest (S.left link.new)) }
     ensures beside { S.beside link.new ≡ S.beside link.old }
 {
     match judge_given(link, held, length) {
@@ -44,12 +47,17 @@ fn judge_given<S: Source>(link: &mut S, held: &[u8], length: usize) -> Result<Ve
     ensures faults { S.faults link.new ≡ faults_after (S.faults link.old) result }
     ensures fault { IsErrOf result TextEnd.ReadFault → HasRisen (S.faults link.old) (S.faults link.new) }
     ensures count { S.faults link.old ≤ S.faults link.new }
+    ensures some { IsErrOf result TextEnd.ReadFault → S.faults link.new < 2 ^ 64 - 1 → length ≤ MOST_BYTES
+        → IfSome (prepend_known held.now (S.left link.old)) (λ rest. LeavesSome length rest (S.left link.new)) }
     ensures beside { S.beside link.new ≡ S.beside link.old }
 {
-    let mut body = Body {
-        input: Ahead { link, held },
-        awaited: length,
-        filler: 0,
+    let front = held.len().min(length);
+    let mut reply = Ahead {
+        input: Body {
+            link,
+            due: Due::Awaited(length - front),
+        },
+        held: &held[..front],
     };
-    judge_text(&mut body)
+    judge_text(&mut reply)
 }

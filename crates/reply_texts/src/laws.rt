@@ -31,7 +31,7 @@ pub fn text_sealing_law()
     ensures one_step { (g h : HostView) (t id : ℕ) (key : Option (List ℕ)) (ask : Ask) → view g id (caller_number g id key) ≡ view h id (caller_number h id key)
         → is_closed (host_after g t (To id key ask)) id ≡ false
         → told g t (To id key ask) ≡ told h t (To id key ask) }
-    ensures runs { (g h : HostView) (id : ℕ) (caller : Caller) (run others : List Asked) → LookAlike caller g h → RunAlike g h id caller run others
+    ensures runs { (g h : HostView) (id : ℕ) (caller : Caller) (run others : List Asked) → LookAlike id caller g h → RunAlike g h id caller run others
         → told_all g id caller run ≡ told_all h id caller others }
 {
     sealing_law();

@@ -1,7 +1,6 @@
 -- Which event a step has doesn't depend on what the members bid, but on whether they have.
-use Rattle.std.proofs.Common.{◌≡◌, ℕ, ◌+◌, max, Bool, true, false, not, ◌&&◌, ◌==◌, List, [], ◌∷◌, map, if◌then◌else◌, is_some, is_none, Option, None, Some, option_map, Result, Ok, Err, refl, ap, ◌∙◌, arith}
+use Rattle.std.proofs.Common.{◌≡◌, ℕ, suc, ◌+◌, max, Bool, true, false, not, ◌&&◌, ◌==◌, List, [], ◌∷◌, map, length, if◌then◌else◌, is_some, is_none, Option, None, Some, option_map, Result, Ok, Err, refl, ap, ◌∙◌, arith}
 use Rattle.std.proofs.lemmas.Bool.{eqb-true, ne_eqb, not_from_false}
-use Rattle.std.proofs.lemmas.List.{length-map}
 use Rattle.bid_rules.specs.declared.bids.Bid.{Bid}
 use Rattle.bid_rules.specs.declared.bids.Facts.{Facts}
 use Rattle.sealed_core.specs.declared.limits.TheConstants.{MOST_TURNS}
@@ -18,7 +17,7 @@ use Rattle.sealed_core.specs.Host.{CreationView, InstanceView, HostView, EventVi
 use Rattle.sealed_core.specs.Sameness.{is_kept, same_text}
 use Rattle.sealed_core.specs.Sealed.{Caller, caller_with, caller_number}
 use Rattle.sealed_core.specs.Step.{Answer, CommandView, Create, To, Standing, standing_of, says, refused, bid_turn, bid_form, bid_body, checked, form_of, withdrawal_turn, withdrawal_body, answer_ask, is_over, may_ask, answer_to, caller_by, caller_in, holder, tagged_from, new_creation, answer_creation, step}
-use Rattle.sealed_core.specs.Veil.{veil, veiled}
+use Rattle.sealed_core.specs.Veil.{shown_in, veil, veiled, veiled_from}
 use Rattle.sealed_core.proofs.Veil.{have_bid_veiled, has_bid_veiled, instance_veiled}
 
 -- the standing of a caller, field by field
@@ -113,27 +112,33 @@ by_instance c secret now id ask None (Some i) = refl
 by_instance c secret now id ask (Some key) (Some i) = by_caller c now id ask i (holder secret id i key)
 
 -- one step of the search for a tag
-tagged_if : (c : Caller) (is : Bool) (id : ℕ) (creation : CreationView) (a b : Option (ℕ × CreationView)) → a ≡ b
+tagged_if : (is : Bool) (id : ℕ) (creation : CreationView) (a b : Option (ℕ × CreationView)) → a ≡ b
     → (if is then Some (id, creation) else a) ≡ (if is then Some (id, creation) else b)
-tagged_if c true id creation a b is = refl
-tagged_if c false id creation a b is = is
+tagged_if true id creation a b is = refl
+tagged_if false id creation a b is = is
 
 -- a tag is found under the veil as without it
-tagged_veiled : (c : Caller) (id : ℕ) (instances : List InstanceView) (tag : List ℕ) → tagged_from id (map (veiled c) instances) tag ≡ tagged_from id instances tag
-tagged_veiled c id [] tag = refl
-tagged_veiled c id (i ∷ instances) tag = tagged_if c (same_text i.creation.tag tag) id i.creation _ _ (tagged_veiled c (id + 1) instances tag)
+tagged_veiled : (id : ℕ) (c : Caller) (first : ℕ) (instances : List InstanceView) (tag : List ℕ) → tagged_from first (veiled_from first id c instances) tag ≡ tagged_from first instances tag
+tagged_veiled id c first [] tag = refl
+tagged_veiled id c first (i ∷ instances) tag = tagged_if (same_text i.creation.tag tag) first i.creation _ _ (tagged_veiled id c (first + 1) instances tag)
+
+-- as many instances are under it
+count_veiled : (first id : ℕ) (c : Caller) (instances : List InstanceView) → length (veiled_from first id c instances) ≡ length instances
+count_veiled first id c [] = refl
+count_veiled first id c (i ∷ instances) = ap suc (count_veiled (first + 1) id c instances)
 
 -- a creation is answered under the veil as without it
-creation_veiled : (c : Caller) (now : ℕ) (instances : List InstanceView) (body : Result CreationView BodyFault) → answer_creation now (map (veiled c) instances) body ≡ answer_creation now instances body
-creation_veiled c now instances (Err fault) = refl
-creation_veiled c now instances (Ok creation) = λ j. new_creation now (length-map instances (veiled c) j) creation (tagged_veiled c 1 instances creation.tag j)
+creation_veiled : (id : ℕ) (c : Caller) (now : ℕ) (instances : List InstanceView) (body : Result CreationView BodyFault)
+    → answer_creation now (veiled_from 1 id c instances) body ≡ answer_creation now instances body
+creation_veiled id c now instances (Err fault) = refl
+creation_veiled id c now instances (Ok creation) = λ j. new_creation now (count_veiled 1 id c instances j) creation (tagged_veiled id c 1 instances creation.tag j)
 
 -- the event of a step is the same under the veil
-pub step_veiled : (c : Caller) (h : HostView) (t : ℕ) (command : CommandView) → (step (veil c h) t command).event ≡ (step h t command).event
-step_veiled c h t (Create body) = ap (λ (a : Answer). a.event) (creation_veiled c (max t h.moment) h.instances body)
-step_veiled c h t (To id key ask) =
-    ap (λ (found : Option InstanceView). (answer_to (max t h.moment) id ask (caller_in h.secret id found key)).event) (instance_veiled c h id)
-    ∙ by_instance c h.secret (max t h.moment) id ask key (instance_at h id)
+pub step_veiled : (id : ℕ) (c : Caller) (h : HostView) (t : ℕ) (command : CommandView) → (step (veil id c h) t command).event ≡ (step h t command).event
+step_veiled id c h t (Create body) = ap (λ (a : Answer). a.event) (creation_veiled id c (max t h.moment) h.instances body)
+step_veiled id c h t (To k key ask) =
+    ap (λ (found : Option InstanceView). (answer_to (max t h.moment) k ask (caller_in h.secret k found key)).event) (instance_veiled id c h k)
+    ∙ by_instance (shown_in id c k) h.secret (max t h.moment) k ask key (instance_at h k)
 
 -- a key has one holder under the veil
 number_in : (c : Caller) (secret : List ℕ) (id : ℕ) (key : Option (List ℕ)) (found : Option InstanceView) → caller_with secret id (option_map (veiled c) found) key ≡ caller_with secret id found key
@@ -142,5 +147,5 @@ number_in c secret id None (Some i) = refl
 number_in c secret id (Some key) (Some i) = refl
 
 -- so is who calls
-pub caller_veiled : (c : Caller) (h : HostView) (id : ℕ) (key : Option (List ℕ)) → caller_number (veil c h) id key ≡ caller_number h id key
-caller_veiled c h id key = ap (λ (found : Option InstanceView). caller_with h.secret id found key) (instance_veiled c h id) ∙ number_in c h.secret id key (instance_at h id)
+pub caller_veiled : (id : ℕ) (c : Caller) (h : HostView) (k : ℕ) (key : Option (List ℕ)) → caller_number (veil id c h) k key ≡ caller_number h k key
+caller_veiled id c h k key = ap (λ (found : Option InstanceView). caller_with h.secret k found key) (instance_veiled id c h k) ∙ number_in (shown_in id c k) h.secret k key (instance_at h k)

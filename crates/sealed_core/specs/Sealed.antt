@@ -185,9 +185,9 @@ views h id caller (a ∷ run) = if is_closed (next h a) id then [] else view h i
 abbrev pub KeepsBid : HostView → ℕ → ℕ → Asked → Type 0
 KeepsBid h id m a = (now turn : ℕ) × (given : Bid) × ((step h a.moment a.command).event ≡ Some (BidKept now id m turn given))
 
--- two steps are equal, or both are bids on the instance by the same other member at the same moment, each with its event
+-- two steps are equal, or both are bids by one member on one instance at one moment, each with its event; but not the caller's own on this instance
 abbrev pub AreAlike : HostView → HostView → ℕ → Caller → Asked → Asked → Type 0
-AreAlike g h id caller a b = (a ≡ b) ⊎ ((a.moment ≡ b.moment) × ((m : ℕ) × (caller ≢ Some m) × KeepsBid g id m a × KeepsBid h id m b))
+AreAlike g h id caller a b = (a ≡ b) ⊎ ((a.moment ≡ b.moment) × ((k m : ℕ) × (k ≡ id → caller ≢ Some m) × KeepsBid g k m a × KeepsBid h k m b))
 
 -- the two lists have one length, and their steps are alike pair by pair, each at its own host
 abbrev pub RunAlike : HostView → HostView → ℕ → Caller → List Asked → List Asked → Type 0

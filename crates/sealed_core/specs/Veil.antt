@@ -1,5 +1,5 @@
--- A host as a caller may see it: the bids of all others show only that they are there.
-use Rattle.std.specs.Prelude.{◌≡◌, ℕ, zero, suc, List, [], ◌∷◌, map, Option, None, Some}
+-- A host as the caller of one instance may see it: each bid but their own there, on whatever instance, shows only that it is there.
+use Rattle.std.specs.Prelude.{◌≡◌, ℕ, zero, suc, ◌+◌, ◌==◌, List, [], ◌∷◌, map, if◌then◌else◌, Option, None, Some}
 use Rattle.bid_rules.specs.declared.bids.Bid.{Bid}
 use Rattle.bid_rules.specs.declared.bids.Bid.TheVariants.{Place}
 use Rattle.sealed_core.specs.Host.{HostView, InstanceView}
@@ -22,14 +22,23 @@ veiled_bids None bids = map hidden bids
 veiled_bids (Some zero) bids = map hidden bids
 veiled_bids (Some (suc k)) bids = but_one k bids
 
--- an instance as the caller may see it
+-- an instance as its caller may see it
 abbrev pub veiled : Caller → InstanceView → InstanceView
 veiled c i = record { creation = i.creation; turns = i.turns; bids = veiled_bids c i.bids; closed = i.closed }
 
--- a host as the caller may see it
-abbrev pub veil : Caller → HostView → HostView
-veil c h = record { secret = h.secret; moment = h.moment; instances = map (veiled c) h.instances }
+-- whose bid the caller of this instance sees on the other: their own where it is the same instance, else nobody's, whatever their number there
+abbrev pub shown_in : ℕ → Caller → ℕ → Caller
+shown_in id caller other = if other == id then caller else None
 
--- two hosts differ in nothing but what others have bid
-abbrev pub LookAlike : Caller → HostView → HostView → Type 0
-LookAlike caller g h = veil caller g ≡ veil caller h
+-- these instances, with ids from `first` on, as the caller of the instance with this id may see them
+abbrev pub veiled_from : ℕ → ℕ → Caller → List InstanceView → List InstanceView
+veiled_from first id caller [] = []
+veiled_from first id caller (i ∷ instances) = veiled (shown_in id caller first) i ∷ veiled_from (first + 1) id caller instances
+
+-- a host as the caller of the instance with this id may see it
+abbrev pub veil : ℕ → Caller → HostView → HostView
+veil id caller h = record { secret = h.secret; moment = h.moment; instances = veiled_from 1 id caller h.instances }
+
+-- two hosts differ in nothing but what others than the caller have bid on this instance, and what anyone has bid on the others
+abbrev pub LookAlike : ℕ → Caller → HostView → HostView → Type 0
+LookAlike id caller g h = veil id caller g ≡ veil id caller h

@@ -18,9 +18,9 @@ ghost use Rattle.sealed_core.specs.Runs.{AreChecked, CanApplyAll, HoldsLeast, ho
 ghost use Rattle.sealed_core.specs.Sealed.{Asked, Caller, IsLateClose, RunAlike, caller_number, empty, heard, host_after, is_closed, sealed_reply, view, views};
 ghost use Rattle.sealed_core.specs.Veil.{LookAlike};
 
-/// Bids are sealed until their instance is closed. Take two hosts that differ in nothing but what others than the caller have bid, and a run from
-/// each, whose steps are equal pair by pair, except that some of them may be two bids on the instance by the same member other than the caller, at
-/// the same moment, each of them kept.
+/// Bids are sealed until their instance is closed. Take two hosts that differ in nothing but what others than the caller have bid on the instance,
+/// and what anyone has bid on other instances. Take a run from each, whose steps are equal pair by pair, except that some of them may be two such bids, by
+/// the same member on the same instance at the same moment, each of them kept.
 /// Then the caller hears the same of the instance in both, and their view of it is the same, up to the step at which it is closed.
 /// The reply to a command is written from the caller's view, the command and the moment where the instance isn't closed after the step.
 /// So at any two hosts, one command from two callers with equal views gets one reply where the instance isn't closed after the step; and
@@ -33,9 +33,9 @@ pub fn sealing_law()
         → (step g t (To id key ask)).reply ≡ (step h t (To id key ask)).reply }
     ensures closed_alike { (g h : HostView) (t id : ℕ) (key : Option (List ℕ)) (ask : Ask) → view g id (caller_number g id key) ≡ view h id (caller_number h id key)
         → is_closed (host_after g t (To id key ask)) id ≡ is_closed (host_after h t (To id key ask)) id }
-    ensures heard { (g h : HostView) (id : ℕ) (caller : Caller) (run others : List Asked) → LookAlike caller g h → RunAlike g h id caller run others
+    ensures heard { (g h : HostView) (id : ℕ) (caller : Caller) (run others : List Asked) → LookAlike id caller g h → RunAlike g h id caller run others
         → heard g id caller run ≡ heard h id caller others }
-    ensures views { (g h : HostView) (id : ℕ) (caller : Caller) (run others : List Asked) → LookAlike caller g h → RunAlike g h id caller run others
+    ensures views { (g h : HostView) (id : ℕ) (caller : Caller) (run others : List Asked) → LookAlike id caller g h → RunAlike g h id caller run others
         → views g id caller run ≡ views h id caller others }
 {}
 

@@ -8,7 +8,7 @@ use Rattle.serving.specs.declared.ends.LinkEnd.{LinkEnd}
 use Rattle.serving.specs.declared.ends.LinkEnd.TheVariants as ends
 use Rattle.serving.specs.Dues.{DueView, SaysDue}
 use Rattle.serving.specs.Ends.{Ending}
-use Rattle.serving.specs.Served.{CountsEnd, EndsBehind, FinishSays, LinkView, NoneFailed, carried}
+use Rattle.serving.specs.Served.{CountsEnd, EndsBehind, FinishSays, LinkView, CountsStay, carried}
 
 never_open : (a b : Bool) → b ≡ true → (a || b) ≡ false → ⊥
 never_open true b closed open_still = absurd (cc)
@@ -16,7 +16,7 @@ never_open false b closed open_still = absurd (cc)
 
 module _ (link now : LinkView) (due : DueView) (reply : HttpReply) (tells : SaysDue due reply) where
   -- all of it
-  pub finished : (end : Option LinkEnd) → EndsBehind due end → (bytes : List ℕ) × IsReply reply bytes × Appends link.written now.written bytes → NoneFailed link now
+  pub finished : (end : Option LinkEnd) → EndsBehind due end → (bytes : List ℕ) × IsReply reply bytes × Appends link.written now.written bytes → CountsStay link now
       → FinishSays link now due end
   finished None ends_so (bytes, is, wrote) counts = (ends_so, ((bytes, (reply, tells, is), wrote), counts))
   finished (Some end) ends_so (bytes, is, wrote) counts = inl (ends_so, ((bytes, (reply, tells, is), wrote), counts))

@@ -9,7 +9,7 @@ use Rattle.serving.specs.Dues.{DueView}
 use Rattle.serving.specs.Ends.{Ending}
 use Rattle.serving.proofs.Hearing.{came_behind, counts_joined, none_joined, some_told}
 use Rattle.serving.specs.Runs.{After, Heads, LastHead, LinkRun, Never, Run, Service, end_of}
-use Rattle.serving.specs.Served.{CountsEnd, CountsServed, FinishSays, Going, HaveCome, HeadServed, HeardQuiet, LinkView, NoneFailed, RanTo, Replied, WentOn, carried}
+use Rattle.serving.specs.Served.{CountsEnd, CountsServed, FinishSays, Going, HaveCome, HeadServed, HeardQuiet, LinkView, CountsStay, RanTo, Replied, WentOn, carried}
 
 -- calls of a clock, one row of them after the other
 pub clock_trans : {C : Type 0} (gives : C → Option ℕ → C → Type 0) (faults : C → ℕ) (a b c : C) (xs ys : List (Option ℕ))
@@ -18,7 +18,7 @@ clock_trans gives faults a b c [] ys p q = subst (λ z. ClockRun gives faults z 
 clock_trans gives faults a b c (x ∷ xs) ys p q = (p.0, p.1, p.2, p.3, clock_trans gives faults p.0 b c xs ys p.4 q)
 
 -- a reply that was written tells of no failed call
-pub ends_whole : (link now : LinkView) (memory : Bool) → NoneFailed link now → CountsEnd link now (if memory then Ending.memory else Ending.ended)
+pub ends_whole : (link now : LinkView) (memory : Bool) → CountsStay link now → CountsEnd link now (if memory then Ending.memory else Ending.ended)
 ends_whole link now true none = none
 ends_whole link now false none = none
 
@@ -106,7 +106,7 @@ module _ {W : Type 0} (service : Service W) (link mid : LinkView) (held : List �
       ]
 
 -- the counts after a reply
-pub counts_finished : (link mid now : LinkView) (due : DueView) (result : Option LinkEnd) → NoneFailed link mid → FinishSays mid now due result → CountsServed link now result
+pub counts_finished : (link mid now : LinkView) (due : DueView) (result : Option LinkEnd) → CountsStay link mid → FinishSays mid now due result → CountsServed link now result
 counts_finished link mid now due None none (still, (bytes, counts)) = none_joined link mid now none counts
 counts_finished link mid now due (Some end) none (inl ((closed, is_end), (bytes, counts))) =
     (end_of due, is_end, counts_joined link mid now (end_of due) none (ends_whole mid now due.said.memory counts))
@@ -162,7 +162,7 @@ going_start service most gives faults clock link stands w st = record {
   mid = w;
   clock = refl;
   wrote = Appends-nil link.written;
-  counts = (refl, refl);
+  counts = (refl, refl, refl);
   serving = st;
   taken = [];
   took = subst (λ z. Consumes link.ahead z []) (sym (prepend_known-nil link.ahead)) (Consumes-nil link.ahead);

@@ -15,7 +15,7 @@ use Rattle.serving.specs.declared.refusals.HeadRefusal.TheVariants as refusals
 use Rattle.serving.specs.Dues.{DueView, closes, closing, is_head, manner_of}
 use Rattle.serving.specs.Ends.{Ending, end_as, reads_after, writes_after}
 use Rattle.serving.specs.Runs.{BodyStops, Refuses, Replies, SaysHead, Service, Stops}
-use Rattle.serving.specs.Served.{CountsEnd, HaveCome, HeardQuiet, HeardRefused, HeardRequest, LinkView, NoneFailed, Replied}
+use Rattle.serving.specs.Served.{CountsEnd, HaveCome, HeardQuiet, HeardRefused, HeardRequest, LinkView, CountsStay, Replied}
 use Rattle.requests.specs.Said.{SaidView}
 
 -- what was told after some bytes were taken was told before too, after those bytes
@@ -61,15 +61,15 @@ pub head_text : (a b : Option (List ℕ)) (head : Head) → (h : RequestHead) ×
 head_text a b head (h, is, of, taken) = (print_request h, (h, is, of, refl), taken)
 
 -- counts over one stretch in which no call failed, and one after it
-pub counts_joined : (link mid now : LinkView) (end : Ending) → NoneFailed link mid → CountsEnd mid now end → CountsEnd link now end
-counts_joined link mid now end none counts = (counts.0 ∙ ap (λ n. reads_after n end) none.0, counts.1 ∙ ap (λ n. writes_after n end) none.1)
+pub counts_joined : (link mid now : LinkView) (end : Ending) → CountsStay link mid → CountsEnd mid now end → CountsEnd link now end
+counts_joined link mid now end none counts = (counts.0 ∙ ap (λ n. reads_after n end) none.0, counts.1 ∙ ap (λ n. writes_after n end) none.1, counts.2 ∙ none.2)
 
-pub none_joined : (link mid now : LinkView) → NoneFailed link mid → NoneFailed mid now → NoneFailed link now
-none_joined link mid now one two = (two.0 ∙ one.0, two.1 ∙ one.1)
+pub none_joined : (link mid now : LinkView) → CountsStay link mid → CountsStay mid now → CountsStay link now
+none_joined link mid now one two = (two.0 ∙ one.0, two.1 ∙ one.1, two.2 ∙ one.2)
 
 -- before a head
 module _ (link now : LinkView) (asked : List (Option ℕ) → Type 0) (same : now.written ≡ link.written) where
-  pub heard_end : IsToldAs link.ahead [] → NoneFailed link now → asked [] → HeardQuiet link now asked ends.Ended
+  pub heard_end : IsToldAs link.ahead [] → CountsStay link now → asked [] → HeardQuiet link now asked ends.Ended
   heard_end told counts clock = record {
     all = [];
     answers = [];
@@ -99,7 +99,7 @@ module _ (link now : LinkView) (asked : List (Option ℕ) → Type 0) (same : no
     stops = Stops.head_fault open_still refl refl refl;
   }
 
-  pub heard_bad : (all : List ℕ) × IsToldAs link.ahead all × IsBad all → NoneFailed link now → (answer : Option ℕ) → asked (answer ∷ [])
+  pub heard_bad : (all : List ℕ) × IsToldAs link.ahead all × IsBad all → CountsStay link now → (answer : Option ℕ) → asked (answer ∷ [])
       → HeardRefused link now asked refusals.BadHead answer false
   heard_bad bad counts answer clock = record {
     clock = clock;
@@ -108,7 +108,7 @@ module _ (link now : LinkView) (asked : List (Option ℕ) → Type 0) (same : no
     refuses = λ rest told. (bad.0, bad.1, Refuses.bad_head bad.2 refl refl);
   }
 
-  pub heard_memory : (verb : Verb) → (all : List ℕ) × IsToldAs link.ahead all × HasHeadOf verb all → NoneFailed link now → (answer : Option ℕ) → asked (answer ∷ [])
+  pub heard_memory : (verb : Verb) → (all : List ℕ) × IsToldAs link.ahead all × HasHeadOf verb all → CountsStay link now → (answer : Option ℕ) → asked (answer ∷ [])
       → (bodiless : Bool) → bodiless ≡ is_head verb → HeardRefused link now asked refusals.Memory answer bodiless
   heard_memory verb found counts answer clock bodiless is = record {
     clock = clock;
@@ -117,7 +117,7 @@ module _ (link now : LinkView) (asked : List (Option ℕ) → Type 0) (same : no
     refuses = λ rest told. (found.0, found.1, Refuses.head_memory verb found.2 refl is);
   }
 
-  pub heard_late : (head : Head) → (text : List ℕ) × SaysHead text head × Consumes link.ahead now.ahead text → NoneFailed link now → asked (None ∷ [])
+  pub heard_late : (head : Head) → (text : List ℕ) × SaysHead text head × Consumes link.ahead now.ahead text → CountsStay link now → asked (None ∷ [])
       → (bodiless : Bool) → bodiless ≡ is_head head.verb → HeardRefused link now asked refusals.ClockFault None bodiless
   heard_late head found counts clock bodiless is = record {
     clock = clock;
@@ -128,8 +128,8 @@ module _ (link now : LinkView) (asked : List (Option ℕ) → Type 0) (same : no
 
 -- a head was taken off, and then its body was asked for
 module _ (link mid now : LinkView) (asked : List (Option ℕ) → Type 0) (head : Head) (moment : ℕ)
-    (found : (text : List ℕ) × SaysHead text head × Consumes link.ahead mid.ahead text) (same : mid.written ≡ link.written) (counts : NoneFailed link mid) (clock : asked (Some moment ∷ [])) where
-  pub heard_stated : (row : ℕ) → head.refused ≡ Some row → Keeps mid.ahead now.ahead → now.written ≡ mid.written → NoneFailed mid now → (bodiless : Bool) → bodiless ≡ is_head head.verb
+    (found : (text : List ℕ) × SaysHead text head × Consumes link.ahead mid.ahead text) (same : mid.written ≡ link.written) (counts : CountsStay link mid) (clock : asked (Some moment ∷ [])) where
+  pub heard_stated : (row : ℕ) → head.refused ≡ Some row → Keeps mid.ahead now.ahead → now.written ≡ mid.written → CountsStay mid now → (bodiless : Bool) → bodiless ≡ is_head head.verb
       → HeardRefused link now asked (refusals.Stated row) (Some moment) bodiless
   heard_stated row refused kept still none bodiless is = record {
     clock = clock;
@@ -139,7 +139,7 @@ module _ (link mid now : LinkView) (asked : List (Option ℕ) → Type 0) (head 
         (found.0 ++ rest, told_back link.ahead mid.ahead found.0 rest found.2 (told_kept mid.ahead now.ahead rest kept told), Refuses.stated found.0 head moment row refl found.1 refl refused refl is);
   }
 
-  pub heard_no_room : head.refused ≡ None → Keeps mid.ahead now.ahead → now.written ≡ mid.written → NoneFailed mid now → (bodiless : Bool) → bodiless ≡ is_head head.verb
+  pub heard_no_room : head.refused ≡ None → Keeps mid.ahead now.ahead → now.written ≡ mid.written → CountsStay mid now → (bodiless : Bool) → bodiless ≡ is_head head.verb
       → HeardRefused link now asked refusals.Memory (Some moment) bodiless
   heard_no_room accepted kept still none bodiless is = record {
     clock = clock;
@@ -149,7 +149,7 @@ module _ (link mid now : LinkView) (asked : List (Option ℕ) → Type 0) (head 
         (found.0 ++ rest, told_back link.ahead mid.ahead found.0 rest found.2 (told_kept mid.ahead now.ahead rest kept told), Refuses.body_memory found.0 head moment refl found.1 refl accepted refl is);
   }
 
-  pub heard_request : (body : List ℕ) → head.refused ≡ None → length body ≡ head.length → Consumes mid.ahead now.ahead body → Appends mid.written now.written (interim_of head.expects) → NoneFailed mid now
+  pub heard_request : (body : List ℕ) → head.refused ≡ None → length body ≡ head.length → Consumes mid.ahead now.ahead body → Appends mid.written now.written (interim_of head.expects) → CountsStay mid now
       → HeardRequest link now asked head body moment
   heard_request body accepted size taken wrote none = record {
     clock = clock;
@@ -175,21 +175,21 @@ module _ (link mid now : LinkView) (asked : List (Option ℕ) → Type 0) (head 
     stops = Stops.behind_head found.0 all head moment refl found.1 accepted refl stops;
   }
 
-  pub heard_cut : head.refused ≡ None → (all : List ℕ) → IsToldAs mid.ahead all → length all < head.length → Appends mid.written now.written (interim_of head.expects) → NoneFailed mid now
+  pub heard_cut : head.refused ≡ None → (all : List ℕ) → IsToldAs mid.ahead all → length all < head.length → Appends mid.written now.written (interim_of head.expects) → CountsStay mid now
       → HeardQuiet link now asked ends.Cut
   heard_cut accepted all told short wrote none = heard_behind ends.Cut Ending.cut refl accepted all (interim_of head.expects) told wrote none (BodyStops.cut_off short refl refl)
 
   -- a call failed, which the counts tell; these bytes that were read are held then
   pub heard_body_fault : (held : List ℕ) → head.refused ≡ None
-      → BodyCounts mid.ahead (prepend_known held now.ahead) mid.written now.written held head mid.reads now.reads mid.writes now.writes bodies.LinkFault
+      → BodyCounts mid.ahead (prepend_known held now.ahead) mid.written now.written held head mid.reads now.reads mid.writes now.writes bodies.LinkFault → now.empties ≡ mid.empties
       → HeardQuiet link now asked ends.LinkFault
-  heard_body_fault held accepted (inl (reads, writes, (due, kept, (part, rest, is, missing, wrote)))) =
+  heard_body_fault held accepted (inl (reads, writes, (due, kept, (part, rest, is, missing, wrote)))) empties =
       let all = some_told mid.ahead in
-      heard_behind ends.LinkFault Ending.write_fault refl accepted all.0 part all.1 wrote (reads, writes) (BodyStops.interim_fault due (rest, is, missing) refl)
-  heard_body_fault held accepted (inr (reads, writes, ((part, taken, short), wrote))) =
+      heard_behind ends.LinkFault Ending.write_fault refl accepted all.0 part all.1 wrote (reads, writes, empties) (BodyStops.interim_fault due (rest, is, missing) refl)
+  heard_body_fault held accepted (inr (reads, writes, ((part, taken, short), wrote))) empties =
       let size : length (part ++ held) ≡ length part + length held = length-append part held in
       heard_behind ends.LinkFault Ending.read_fault refl accepted (part ++ held) (interim_of head.expects)
-      (Consumes-trans mid.ahead (prepend_known held now.ahead) now.ahead part held taken (came_held held now.ahead)) wrote (reads, writes)
+      (Consumes-trans mid.ahead (prepend_known held now.ahead) now.ahead part held taken (came_held held now.ahead)) wrote (reads, writes, empties)
       (BodyStops.body_fault (subst (λ n. n < head.length) (sym size) short) refl refl)
 
 -- a reply to a head that is refused closes the link

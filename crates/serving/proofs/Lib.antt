@@ -1,8 +1,8 @@
-mod Beside
 mod EndBehind
 mod Finishing
 mod Going
 mod Hearing
+mod Held
 mod Joining
 mod Lasting
 mod Porting

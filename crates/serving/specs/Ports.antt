@@ -18,7 +18,7 @@ GivesBack None ended new = ⊤
 GivesBack (Some links) ended new = new ≡ Some (links ++ ended)
 
 -- One link, as it was handed out and as it was given back: the run over the bytes that came of it, and on each side its count, which tells the
--- failed call that ended it and no other.
+-- failed call that ended it and no other; and where it counts them, that no write was empty.
 pub record LinkServed {L W : Type 0} (service : Service W) (tells : LinkTells L) (begun ended : L) (answers : List (Option ℕ)) (w new : W) : Type 0 where
   pub input : List ℕ
   pub out : List ℕ

@@ -12,39 +12,42 @@ use Rattle.serving.specs.Dues.{AreBytes, DueView, IsPartOf, closes}
 use Rattle.serving.specs.Ends.{Ending, end_as, reads_after, writes_after}
 use Rattle.serving.specs.Runs.{Asks, LastHead, LinkRun, Refuses, Replies, Run, Service, Stops, end_of}
 
--- how a type of links tells the bytes that are left and those that were written, and how many reads and how many writes have failed
+-- how a type of links tells the bytes that are left and those that were written, how many reads and how many writes have failed, and how many
+-- writes were empty
 pub record LinkTells (L : Type 0) : Type 0 where
   pub left : L → Option (List ℕ)
   pub written : L → Option (List ℕ)
   pub reads : L → ℕ
   pub writes : L → ℕ
+  pub empties : L → ℕ
 
 -- by what the two sides of a link tell
 abbrev pub tells_of : {L : Type 0} → SourceSide L → SinkSide L → LinkTells L
-tells_of source sink = record { left = source.left; written = sink.written; reads = source.faults; writes = sink.faults }
+tells_of source sink = record { left = source.left; written = sink.written; reads = source.faults; writes = sink.faults; empties = sink.empty_writes }
 
--- a link at a moment: the bytes to come, those that were written, and its counts of failed reads and writes
+-- a link at a moment: the bytes to come, those that were written, and its counts of failed reads, failed writes and empty writes
 pub record LinkView : Type 0 where
   pub ahead : Option (List ℕ)
   pub written : Option (List ℕ)
   pub reads : ℕ
   pub writes : ℕ
+  pub empties : ℕ
 
 -- what a link tells at a moment
 abbrev pub link_view : {L : Type 0} → LinkTells L → L → LinkView
-link_view tells link = record { ahead = tells.left link; written = tells.written link; reads = tells.reads link; writes = tells.writes link }
+link_view tells link = record { ahead = tells.left link; written = tells.written link; reads = tells.reads link; writes = tells.writes link; empties = tells.empties link }
 
 -- with bytes that were read past the last message
 abbrev pub carried : List ℕ → LinkView → LinkView
-carried carry link = record { ahead = prepend_known carry link.ahead; written = link.written; reads = link.reads; writes = link.writes }
+carried carry link = record { ahead = prepend_known carry link.ahead; written = link.written; reads = link.reads; writes = link.writes; empties = link.empties }
 
--- no call failed
-abbrev pub NoneFailed : LinkView → LinkView → Type 0
-NoneFailed link now = (now.reads ≡ link.reads) × (now.writes ≡ link.writes)
+-- the counts of a link stay: no call failed, and no write was empty
+abbrev pub CountsStay : LinkView → LinkView → Type 0
+CountsStay link now = (now.reads ≡ link.reads) × (now.writes ≡ link.writes) × (now.empties ≡ link.empties)
 
--- the one call that the ending tells failed, or none
+-- the one call that the ending tells failed, or none, and no write was empty
 abbrev pub CountsEnd : LinkView → LinkView → Ending → Type 0
-CountsEnd link now end = (now.reads ≡ reads_after link.reads end) × (now.writes ≡ writes_after link.writes end)
+CountsEnd link now end = (now.reads ≡ reads_after link.reads end) × (now.writes ≡ writes_after link.writes end) × (now.empties ≡ link.empties)
 
 -- the bytes that came of a link with these to come, of which these are left: where a read failed, those that were read before it, and else all
 abbrev pub HaveCome : Ending → (ahead left : Option (List ℕ)) → List ℕ → Type 0
@@ -86,14 +89,14 @@ pub record HeardQuiet (link now : LinkView) (asked : List (Option ℕ) → Type 
 pub record HeardRefused (link now : LinkView) (asked : List (Option ℕ) → Type 0) (refusal : HeadRefusal) (answer : Option ℕ) (bodiless : Bool) : Type 0 where
   pub clock : asked (answer ∷ [])
   pub wrote : Appends link.written now.written []
-  pub counts : NoneFailed link now
+  pub counts : CountsStay link now
   pub refuses : (rest : List ℕ) → IsToldAs now.ahead rest → (all : List ℕ) × IsToldAs link.ahead all × Refuses all rest answer refusal bodiless
 
 -- a request was read whole and taken off the bytes, and the interim line written where it was due
 pub record HeardRequest (link now : LinkView) (asked : List (Option ℕ) → Type 0) (head : Head) (body : List ℕ) (moment : ℕ) : Type 0 where
   pub clock : asked (Some moment ∷ [])
   pub wrote : Appends link.written now.written (interim_of head.expects)
-  pub counts : NoneFailed link now
+  pub counts : CountsStay link now
   pub taken : List ℕ
   pub took : Consumes link.ahead now.ahead taken
   pub asks : (rest : List ℕ) → Asks (taken ++ rest) rest head body
@@ -105,16 +108,16 @@ pub record Replied {W : Type 0} (service : Service W) (link now : LinkView) (ask
   pub mid : W
   pub clock : asked (answer ∷ [])
   pub wrote : Appends link.written now.written interim
-  pub counts : NoneFailed link now
+  pub counts : CountsStay link now
   pub serving : stands mid
   pub replies : (rest : List ℕ) → IsToldAs now.ahead rest → (all : List ℕ) × IsToldAs link.ahead all × Replies service last all rest answer w interim mid due
   pub goes : closes due ≡ false → (taken : List ℕ) × Consumes link.ahead now.ahead taken × ((rest : List ℕ) → Replies service last (taken ++ rest) rest answer w interim mid due)
 
--- all bytes of a reply that was due were written, and no call failed
+-- all bytes of a reply that was due were written, no call failed, and no write was empty
 abbrev pub HasWritten : LinkView → LinkView → DueView → Type 0
-HasWritten link now due = ((bytes : List ℕ) × AreBytes due bytes × Appends link.written now.written bytes) × NoneFailed link now
+HasWritten link now due = ((bytes : List ℕ) × AreBytes due bytes × Appends link.written now.written bytes) × CountsStay link now
 
--- a first part of them was written, and then a write failed
+-- a first part of them was written, and then a write failed, and none was empty
 abbrev pub HasTorn : LinkView → LinkView → DueView → Type 0
 HasTorn link now due = ((bytes part : List ℕ) × AreBytes due bytes × IsPartOf bytes part × Appends link.written now.written part) × CountsEnd link now Ending.write_fault
 
@@ -130,7 +133,7 @@ FinishSays link now due (Some end) = (EndsBehind due (Some end) × HasWritten li
 
 -- the counts of a link: no call failed where it goes on, and else the one that its end tells
 abbrev pub CountsServed : LinkView → LinkView → Option LinkEnd → Type 0
-CountsServed link now None = NoneFailed link now
+CountsServed link now None = CountsStay link now
 CountsServed link now (Some end) = (ending : Ending) × (end ≡ end_as ending) × CountsEnd link now ending
 
 -- a request was taken off the bytes and answered, and the link goes on
@@ -144,7 +147,7 @@ pub record WentOn {W : Type 0} (service : Service W) (link now : LinkView) (aske
   pub are_bytes : AreBytes due bytes
   pub clock : asked (answer ∷ [])
   pub wrote : Appends link.written now.written (interim ++ bytes)
-  pub counts : NoneFailed link now
+  pub counts : CountsStay link now
   pub serving : stands mid
   pub taken : List ℕ
   pub took : Consumes link.ahead now.ahead taken
@@ -163,7 +166,7 @@ pub record Going {W : Type 0} (service : Service W) (most : ℕ) (link now : Lin
   pub mid : W
   pub clock : asked answers
   pub wrote : Appends link.written now.written out
-  pub counts : NoneFailed link now
+  pub counts : CountsStay link now
   pub serving : stands mid
   pub taken : List ℕ
   pub took : Consumes link.ahead now.ahead taken

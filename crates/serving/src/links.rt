@@ -72,7 +72,7 @@ fn closes(head: &Head, last: bool) -> bool
 }
 
 /// Serves one connection: its heads in order, at most `MAX_REQUESTS` of them, each at one answer of the clock and with one reply. It takes no
-/// memory but what a head or a request may be refused for.
+/// memory but what a head or a request may be refused for. No write is empty.
 ///
 /// - `Ended`: no byte was left where a head would begin, or the last reply was written, closed the connection and wasn't a memory reply.
 /// - `Cut`: the input ended within a body. Nothing is replied to its head.
@@ -105,6 +105,7 @@ pub fn serve_one<D: Disk, L: Link, C: Clock, R: Threads + Sync, G: Gate + Sync>(
     ensures counts { CountsServed (link_view (tells_of L.Source L.Sink) link.old) (link_view (tells_of L.Source L.Sink) link.new) (Some result) }
     ensures reads { L.Source.faults link.old ≤ L.Source.faults link.new }
     ensures writes { L.Sink.faults link.old ≤ L.Sink.faults link.new }
+    ensures empty { L.Sink.empty_writes link.new ≡ L.Sink.empty_writes link.old }
     ensures clock { C.faults clock.old ≤ C.faults clock.new }
     ensures disk { D.faults disk.old ≤ D.faults disk.new }
     ensures honest { D.is_honest disk.old ↔ D.is_honest disk.new }

@@ -53,7 +53,8 @@ fn serve_link<D: Disk, P: Port, C: Clock, R: Threads + Sync, G: Gate + Sync>(
 /// Serves `count` links, or fewer only where the port has ended or a call of it failed. It answers their number. Each link is given back,
 /// whatever its end. It takes no memory but what a request may be refused for.
 ///
-/// `Failed` comes only where the port's count of faults has risen, by one; no link is asked for again then. `Ok` leaves the count as it is.
+/// `Failed` comes only where the port's count of faults has risen, by one, and before `count` links were served; no link is asked for again then.
+/// `Ok` leaves the count as it is.
 #[allow(clippy::too_many_arguments)]
 pub fn serve<D: Disk, P: Port, C: Clock, R: Threads + Sync, G: Gate + Sync>(
     alloc: Global,
@@ -69,7 +70,7 @@ pub fn serve<D: Disk, P: Port, C: Clock, R: Threads + Sync, G: Gate + Sync>(
     gate: &G,
 ) -> Result<u64, Failed>
     requires { (1 ≤ workers) × (workers ≤ MOST_WORKERS) }
-    ensures run { (w : D × State) → StandsAt D.Disk serving.old disk.old w → (number : ℕ) × (number ≤ count) × (result ≡ Ok number ⊎ IsErr result)
+    ensures run { (w : D × State) → StandsAt D.Disk serving.old disk.old w → (number : ℕ) × (number ≤ count) × (result ≡ Ok number ⊎ (IsErr result × (number < count)))
         × PortServed (host_service D.Disk) (tells_of P.Link.Source P.Link.Sink)
         (P.to_come port.old) (P.to_come port.new) (P.given_back port.old) (P.given_back port.new) (P.places port.old)
         (ClockRun C.gives C.faults clock.old clock.new) (StandsAt D.Disk serving.new disk.new) w number }

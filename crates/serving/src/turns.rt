@@ -8,7 +8,7 @@ ghost use Rattle.serving.specs.Served.{carried, link_view, tells_of};
 ghost use Rattle.serving.specs.Hears.{HearSays, IsTimed};
 
 use crate::{HeadRefusal, LinkEnd};
-use split_base::{Clock, Link, ask};
+use split_base::{Clock, Link, ask, sides_law};
 use split_http::{BodyTurn, Carry, Head, HeadTurn, Verb, next_body, next_head};
 use std::alloc::Global;
 
@@ -52,11 +52,12 @@ pub(crate) fn is_head(verb: Verb) -> bool
 ///
 /// - `Quiet` with `Ended` comes exactly where nothing is left, with `Cut` exactly where the input ends within the body of a head that isn't
 ///   refused, and with `LinkFault` for one failed call, which one of the link's two counts of faults tells. A read is made only while the parser
-///   asks for more of the bytes that have come, or less than the body has: a head that can never become one is refused at once.
+///   asks for more of the bytes that have come, or has no room for all their fields, or less than the body has come: where the parser tells that no
+///   head can come, it is refused at once.
 /// - `Refused` comes exactly where the bytes begin with no head, the clock failed or the head is refused, in this order, or where memory ran
 ///   out. Nothing is written then.
 ///
-/// Any other answer than `LinkFault` leaves both counts as they are.
+/// Any other answer than `LinkFault` leaves both counts as they are. No write is empty.
 pub fn hear<L: Link, C: Clock>(
     alloc: Global,
     link: &mut L,
@@ -68,6 +69,7 @@ pub fn hear<L: Link, C: Clock>(
     ensures timed { IsTimed result }
     ensures reads { L.Source.faults link.old ≤ L.Source.faults link.new }
     ensures writes { L.Sink.faults link.old ≤ L.Sink.faults link.new }
+    ensures empty { L.Sink.empty_writes link.new ≡ L.Sink.empty_writes link.old }
     ensures clock { C.faults clock.old ≤ C.faults clock.new }
 {
     match turn(alloc, link, carry) {
@@ -109,8 +111,10 @@ fn turn<L: Link>(alloc: Global, link: &mut L, carry: &mut Carry) -> HeadTurn
     ensures held { result ≡ HeadTurn.LinkFault → IsOpen carry.new }
     ensures written { L.Sink.written link.new ≡ L.Sink.written link.old }
     ensures writes { L.Sink.faults link.new ≡ L.Sink.faults link.old }
+    ensures empty { L.Sink.empty_writes link.new ≡ L.Sink.empty_writes link.old }
     ensures reads { L.Source.faults link.old ≤ L.Source.faults link.new }
     ensures count { L.Source.faults link.new ≡ faults_of (L.Source.faults link.old) result }
 {
+    sides_law::<L>();
     next_head(alloc, link, carry)
 }

@@ -6,7 +6,7 @@ ghost use Rattle.serving.specs.Dues.{DueView, SaysDue, closes};
 ghost use Rattle.serving.specs.Served.{EndsBehind, FinishSays, link_view, tells_of};
 
 use crate::LinkEnd;
-use split_base::{Failed, Link};
+use split_base::{Failed, Link, sides_law};
 use split_http::{HttpReply, write_reply};
 
 /// Writes a reply, and answers the end of the link after it, or none where the link goes on. `memory` tells that the reply says that memory
@@ -14,6 +14,8 @@ use split_http::{HttpReply, write_reply};
 ///
 /// - `LinkFault` comes only where the link's count of failed writes has risen, by one. A first part of the reply was written then.
 /// - `Memory` comes exactly where a memory reply was written, and `Ended` exactly where another that closes the connection was.
+///
+/// No write is empty.
 pub fn finish<L: Link>(link: &mut L, reply: &HttpReply<'_>, memory: bool) -> Option<LinkEnd>
     requires status { IsSome (reason_phrase reply.now.status) }
     requires moment { IfSome reply.now.moment (λ t. t ≤ LAST_MOMENT) }
@@ -22,7 +24,9 @@ pub fn finish<L: Link>(link: &mut L, reply: &HttpReply<'_>, memory: bool) -> Opt
     ensures left { L.Source.left link.new ≡ L.Source.left link.old }
     ensures reads { L.Source.faults link.new ≡ L.Source.faults link.old }
     ensures writes { L.Sink.faults link.old ≤ L.Sink.faults link.new }
+    ensures empty { L.Sink.empty_writes link.new ≡ L.Sink.empty_writes link.old }
 {
+    sides_law::<L>();
     match write_reply(link, reply) {
         Err(Failed) => Some(LinkEnd::LinkFault),
         Ok(()) => end_behind(reply.close, memory),

@@ -66,9 +66,13 @@ module _ (one_more : OneMore) where
       host_is settled s.secret (s.kept ++ e ∷ []) keeps ∙ one_more s.secret s.kept e ∙ ap (applied (host_in s)) (sym event) ∙ ap (λ (g : HostView). next g a) same in
       subst (λ (l : List Taken). AreTold h (l ++ tail)) (sym one) (tt, subst (λ (g : HostView). AreTold g tail) goes rest)
 
+  no_steps_told : (settled new : State) (own tail : List Taken) → HasKept new settled.secret settled.kept → own ≡ [] → AreTold (host_in new) tail → AreTold (host_in settled) (own ++ tail)
+  no_steps_told settled new own tail keeps none rest =
+      subst (λ (l : List Taken). AreTold (host_in settled) (l ++ tail)) (sym none) (subst (λ (g : HostView). AreTold g tail) (host_is new settled.secret settled.kept keeps) rest)
+
   own_steps_told : {D : Type 0} (x : Exchange (D × State)) (settled : State) (own tail : List Taken) → Takes x settled own → AreTold (host_in x.after.1) tail → AreTold (host_in settled) (own ++ tail)
-  own_steps_told x settled own tail (Takes.nothing tells keeps none) rest =
-      subst (λ (l : List Taken). AreTold (host_in settled) (l ++ tail)) (sym none) (subst (λ (g : HostView). AreTold g tail) (host_is x.after.1 settled.secret settled.kept keeps) rest)
+  own_steps_told x settled own tail (Takes.nothing tells keeps none) rest = no_steps_told settled x.after.1 own tail keeps none rest
+  own_steps_told x settled own tail (Takes.damaged place tells keeps none) rest = no_steps_told settled x.after.1 own tail keeps none rest
   own_steps_told x settled own tail (Takes.one a at is) rest =
       let goes : host_in x.after.1 ≡ next (host_in settled) a =
       host_is x.after.1 settled.secret (settled.kept ++ option_to_list (step (host_in settled) a.moment a.command).event) (at.secret, at.kept)
@@ -249,7 +253,7 @@ module _ {D : Type 0} (d : Ghosts D) (x : Exchange (D × State)) where
   goes honest waits (Responds.no_route a b is c) = goes_nowhere waits is (TellsNoStep.no_route c)
   goes honest waits (Responds.method allow a b is c) = goes_nowhere waits is (TellsNoStep.method allow c)
   goes honest waits (Responds.at_once route a settles) =
-      goes_nowhere waits (at_once_still d x.before.0 x.after.0 x.before.1 x.after.1 x.due.said settles) (at_once_tells d x.before.0 x.after.0 x.before.1 x.after.1 x.due.said settles)
+      goes_nowhere waits (at_once_still d x.before.0 x.after.0 x.before.1 x.after.1 x.due.said settles) (at_once_tells d x.before.0 x.after.0 x.before.1 x.after.1 x.due.said honest settles)
   goes honest waits (Responds.stepped route between settled routed settles one steps two) =
       let (found, finds, ready) = finds_at d x.before.0 between x.before.1 settled honest waits settles in
       let (own, takes, after) = takes_at route routed between settled ready steps in

@@ -35,19 +35,26 @@ SendsSealed = (h : HostView) (t id : ℕ) (key : Option (List ℕ)) (ask : Ask) 
 some_same : (said other : SaidView) → Some said ≡ Some other → said ≡ other
 some_same said other is = cc
 
--- a request that goes no further tells nothing of the host
-pub at_once_tells : {D : Type 0} (d : Ghosts D) (disk after : D) (s new : State) (said : SaidView) → Settles d disk after s new (Some said) → TellsNoStep said
-at_once_tells d disk after s new said (Settles.ready a b is c) = absurd (cc)
-at_once_tells d disk after s new said (Settles.store_fault e a up torn is c) = TellsNoStep.store_fault (some_same said (refused_said service.StoreFault) c)
-at_once_tells d disk after s new said (Settles.damaged e place a same first never is c) = TellsNoStep.store_damaged place (some_same said (refused_said (service.StoreDamaged place)) c)
-at_once_tells d disk after s new said (Settles.opened e secret kept a same told can is c) = absurd (cc)
-at_once_tells d disk after s new said (Settles.memory e a same rests is c) = TellsNoStep.memory (some_same said memory_said c)
+-- a request that goes no further tells nothing of the host, where the disk is honest
+pub at_once_tells : {D : Type 0} (d : Ghosts D) (disk after : D) (s new : State) (said : SaidView) → d.is_honest disk → Settles d disk after s new (Some said) → TellsNoStep said
+at_once_tells d disk after s new said honest (Settles.ready a b is c) = absurd (cc)
+at_once_tells d disk after s new said honest (Settles.store_fault e a up torn is c) = TellsNoStep.store_fault (some_same said (refused_said service.StoreFault) c)
+at_once_tells d disk after s new said honest (Settles.damaged e place a same first never is c) = absurd (never honest)
+at_once_tells d disk after s new said honest (Settles.opened e secret kept a same told can is c) = absurd (cc)
+at_once_tells d disk after s new said honest (Settles.memory e a same rests is c) = TellsNoStep.memory (some_same said memory_said c)
 
 sealed_content : SendsSealed → (h : HostView) (t : ℕ) (command : CommandView) (said : SaidView) (content : ContentView) → Replies h t command content → said ≡ content_said content → IsSealedTold h t command (got said)
 sealed_content sends h t (Create body) said content replies is = tt
 sealed_content sends h t (To id key ask) said content replies is = λ still. ap got is ∙ sends h t id key ask content still replies
 
 module _ {D : Type 0} (d : Ghosts D) (x : Exchange (D × State)) (sends : SendsSealed) where
+  at_once_sealed : Settles d x.before.0 x.after.0 x.before.1 x.after.1 (Some x.due.said) → IsSealedReply d x
+  at_once_sealed (Settles.ready a b is c) = absurd (cc)
+  at_once_sealed (Settles.store_fault e a up torn is c) = IsSealedReply.nothing (TellsNoStep.store_fault (cc c))
+  at_once_sealed (Settles.damaged e p a same first shut is c) = IsSealedReply.damaged (record { event = e; place = p; waits = a; first = first; never = shut; said = cc c })
+  at_once_sealed (Settles.opened e secret kept a same told can is c) = absurd (cc)
+  at_once_sealed (Settles.memory e a same rests is c) = IsSealedReply.nothing (TellsNoStep.memory (cc c))
+
   steps_sealed : (route : Route) (between : D) (settled : State) → IsRouted x.head.verb x.head.path (Ok route) → IsAnsweredAt d x settled
       → Steps d between x.after.0 x.moment (command_of route.place route.id x.head.key x.body) settled x.after.1 x.due.said → IsSealedReply d x
   steps_sealed route between settled routed at (Steps.no_event told a b r is c) =
@@ -60,6 +67,6 @@ module _ {D : Type 0} (d : Ghosts D) (x : Exchange (D × State)) (sends : SendsS
   pub sealed_reply : Responds d x.before.0 x.after.0 x.head x.body x.moment x.before.1 x.after.1 x.due.said → IsSealedReply d x
   sealed_reply (Responds.no_route a b is c) = IsSealedReply.nothing (TellsNoStep.no_route c)
   sealed_reply (Responds.method allow a b is c) = IsSealedReply.nothing (TellsNoStep.method allow c)
-  sealed_reply (Responds.at_once route a settles) = IsSealedReply.nothing (at_once_tells d x.before.0 x.after.0 x.before.1 x.after.1 x.due.said settles)
+  sealed_reply (Responds.at_once route a settles) = at_once_sealed settles
   sealed_reply (Responds.stepped route between settled a settles one steps two) = steps_sealed route between settled a (answered_at d x between settled None settles) steps
   sealed_reply (Responds.memory a is c) = IsSealedReply.nothing (TellsNoStep.memory c)

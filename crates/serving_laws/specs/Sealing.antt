@@ -1,6 +1,7 @@
 -- What a caller is told of an instance that isn't closed.
 use Rattle.std.specs.Prelude.{◌≡◌, ℕ, false, List, Option, Some, Ok}
 use Rattle.split_base.specs.declared.disk.Disk.{Ghosts}
+use Rattle.host_journal.specs.Journal.{IsFirstFault}
 use Rattle.host_journal.specs.States.{State, host_in}
 use Rattle.serving.specs.Exchanges.{Exchange}
 use Rattle.host_results.specs.Contents.{ContentView}
@@ -10,7 +11,7 @@ use Rattle.requests.specs.Commands.{command_of}
 use Rattle.requests.specs.Replies.{Replies}
 use Rattle.requests.specs.Said.{SaidView, content_said, memory_said, method_said, refused_said}
 use Rattle.sealed_core.specs.declared.commands.Ask.{Ask}
-use Rattle.sealed_core.specs.Host.{HostView}
+use Rattle.sealed_core.specs.Host.{EventView, HostView}
 use Rattle.sealed_core.specs.Sealed.{caller_number, host_after, is_closed, view}
 use Rattle.sealed_core.specs.Step.{CommandView, Create, To}
 use Rattle.split_http.specs.declared.replies.Allow.{Allow}
@@ -34,13 +35,22 @@ pub record AsksOf {D : Type 0} (x : Exchange (D × State)) (id : ℕ) (key : Opt
 abbrev pub got : SaidView → Told
 got said = record { status = said.status; text = Some said.text }
 
--- the reply tells nothing of the host: a path or a method is refused, the store failed or is damaged, or memory ran out
+-- the reply tells nothing of the host: a path or a method is refused, the store failed, or memory ran out
 pub data TellsNoStep (said : SaidView) : Type 0 where
   no_route : said ≡ refused_said service.NoRoute → TellsNoStep said
   method : (allow : Allow) → said ≡ method_said allow → TellsNoStep said
   store_fault : said ≡ refused_said service.StoreFault → TellsNoStep said
-  store_damaged : (place : ℕ) → said ≡ refused_said (service.StoreDamaged place) → TellsNoStep said
   memory : said ≡ memory_said → TellsNoStep said
+
+-- The reply tells of the file of a host that waits that it is no journal, with a place. It is never so on an honest disk, and where the disk tells
+-- its bytes the place is that of the file's first fault.
+pub record TellsDamage {D : Type 0} (d : Ghosts D) (x : Exchange (D × State)) : Type 0 where
+  pub event : EventView
+  pub place : ℕ
+  pub waits : x.before.1.waiting ≡ Some event
+  pub first : d.tells x.before.0 → IsFirstFault place (d.seen x.before.0)
+  pub never : d.is_honest x.before.0 → ⊥
+  pub said : x.due.said ≡ refused_said (service.StoreDamaged place)
 
 -- where the command asks something of an instance that isn't closed after it, the caller gets the status and the text that follow from what they may
 -- know of it, the command and the moment
@@ -48,8 +58,9 @@ abbrev pub IsSealedTold : HostView → ℕ → CommandView → Told → Type 0
 IsSealedTold h t (Create body) told = Unit {0}
 IsSealedTold h t (To id key ask) told = is_closed (host_after h t (To id key ask)) id ≡ false → told ≡ sealed_told (view h id (caller_number h id key)) t id key ask
 
--- the reply tells nothing of the host, or of an instance that isn't closed no more than what its caller may know
+-- the reply tells nothing of the host, or that its file is no journal, or of an instance that isn't closed no more than what its caller may know
 pub data IsSealedReply {D : Type 0} (d : Ghosts D) (x : Exchange (D × State)) : Type 0 where
   nothing : TellsNoStep x.due.said → IsSealedReply d x
+  damaged : TellsDamage d x → IsSealedReply d x
   told : (route : Route) (settled : State) → IsRouted x.head.verb x.head.path (Ok route) → IsAnsweredAt d x settled
       → IsSealedTold (host_in settled) x.moment (command_of route.place route.id x.head.key x.body) (got x.due.said) → IsSealedReply d x

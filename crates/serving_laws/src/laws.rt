@@ -118,9 +118,10 @@ pub fn writing_law<D: Disk>()
     reply_law();
 }
 
-/// Bids are sealed in what a link gets. Each reply tells nothing of the host, or its status and text on an instance that isn't closed after the
-/// command are written from what the caller may know of it, the command and the moment. So where an instance isn't closed after a command on it, two
-/// requests of this command at one moment, at hosts of which the caller may know the same, have replies of one status and one text.
+/// Bids are sealed in what a link gets. Each reply tells nothing of the host; or that its file is no journal, which is never so on an honest disk, with
+/// the place of the first fault where the disk tells its bytes; or its status and text on an instance that isn't closed after the command are written
+/// from what the caller may know of it, the command and the moment. So where an instance isn't closed after a command on it, two requests of this
+/// command at one moment, at hosts of which the caller may know the same, have replies of one status and one text.
 pub fn sealed_law<D: Disk>()
     ensures alone { (x : Exchange (D × State)) → IsExchange (host_service D.Disk) x → IsSealedReply D.Disk x }
     ensures pairs { (x y : Exchange (D × State)) (id : ℕ) (key : Option (List ℕ)) (ask : Ask) (g h : HostView) → AsksOf x id key ask g → AsksOf y id key ask h → x.moment ≡ y.moment
@@ -134,15 +135,15 @@ pub fn sealed_law<D: Disk>()
 /// its reply tells nothing of the host, as where its path or method is refused, the store failed or memory ran out; and before it the step of an event
 /// that waited is taken, where the file that is opened again has it.
 ///
-/// Take two runs, from hosts that differ in nothing but what others than the caller have bid, as two hosts with empty journals or two that were started
-/// again. Let their steps be equal pair by pair, but that some of them may be two bids on an instance by the same member other than the caller, at
-/// the same moment, each of them kept; and let steps of a pair both have replies or both none. Then the caller gets the same status and text in
-/// reply to each of their own commands on the instance in both, up to the step at which it is closed.
+/// Take two runs, from hosts that differ in nothing but what others than the caller have bid on the instance, and what anyone has bid on other instances, as two
+/// hosts with empty journals or two that were started again. Let their steps be equal pair by pair, but that some of them may be two such bids, by
+/// the same member on the same instance at the same moment, each of them kept; and let steps of a pair both have replies or both none. Then the
+/// caller gets the same status and text in reply to each of their own commands on the instance in both, up to the step at which it is closed.
 ///
 /// A request at a host that is ready goes by a step, or its path or method is refused, where no call of the disk failed in it and memory didn't run out.
 pub fn sealed_runs_law<D: Disk>()
     ensures got { (id : ℕ) (caller : Caller) (run others : List (Exchange (D × State))) (steps besides : List Taken) (w v new after : D × State)
-        → Answered (host_service D.Disk) w run new → Answered (host_service D.Disk) v others after → LookAlike caller (host_in w.1) (host_in v.1)
+        → Answered (host_service D.Disk) w run new → Answered (host_service D.Disk) v others after → LookAlike id caller (host_in w.1) (host_in v.1)
         → TakesSteps run steps → TakesSteps others besides → RunAlike (host_in w.1) (host_in v.1) id caller (asked_of steps) (asked_of besides) → replied_of steps ≡ replied_of besides
         → got_all (host_in w.1) id caller steps ≡ got_all (host_in v.1) id caller besides }
     ensures takes { (w : D × State) (run : List (Exchange (D × State))) (new : D × State) → Answered (host_service D.Disk) w run new → D.is_honest w.0 → WaitsByStep w.1

@@ -29,9 +29,9 @@ pub record LinkState : Type 0 where
 abbrev pub source_side : LinkState → Option (List ℕ) × ℕ
 source_side link = (Some link.input.left, link.input.faults)
 
--- what the other side of a link tells of its sink: the bytes that were written, and the faults
-abbrev pub sink_side : LinkState → Option (List ℕ) × ℕ
-sink_side link = (Some link.output.written, link.output.faults)
+-- what the other side of a link tells of its sink: the bytes that were written, the faults, and the calls without a byte
+abbrev pub sink_side : LinkState → Option (List ℕ) × ℕ × ℕ
+sink_side link = (Some link.output.written, link.output.faults, link.output.empty_writes)
 
 -- the most bytes that the next call gives: any number where the list has ended
 abbrev pub next_piece : List ℕ → ℕ

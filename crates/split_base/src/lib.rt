@@ -25,7 +25,7 @@ pub use clock::{Clock, ask};
 pub use dial::Dial;
 pub use disk::{Disk, write_synced};
 pub use gate::{Gate, Quiet};
-pub use link::Link;
+pub use link::{Link, sides_law};
 pub use memory::{MemClock, MemDial, MemDisk, MemLink, MemPort, MemSink, MemSource, NoMemory};
 pub use port::Port;
 pub use streams::{Failed, Sink, Source};

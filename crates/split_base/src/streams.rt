@@ -16,9 +16,9 @@ pub trait Source {
     /// How many of its calls have failed, up to 2^64 - 1.
     ghost faults: { Self → ℕ };
 
-    /// Where the object is a sink too: what that side has written, and its count of faults.
-    /// A read leaves both as they are.
-    ghost beside: { Self → Option (List ℕ) × ℕ } = { λ _. (None, 0) };
+    /// Where the object is a sink too: what that side has written, its count of faults, and its
+    /// count of calls without a byte. A read leaves all three as they are.
+    ghost beside: { Self → Option (List ℕ) × ℕ × ℕ } = { λ _. (None, 0, 0) };
 
     /// Moves the next bytes to the front of `into`, and answers how many: from 1 to the length of
     /// `into` where that isn't empty, or 0 exactly at the end.

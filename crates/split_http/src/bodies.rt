@@ -39,7 +39,7 @@ pub enum BodyTurn {
 ///   where no body is due, and a failed call is not tried again.
 /// - `NoMemory` comes only where memory ran out, and before anything is read or written.
 ///
-/// Each answer but `LinkFault` leaves both counts as they are.
+/// Each answer but `LinkFault` leaves both counts as they are. No write is empty.
 /// After anything but a body the connection takes no further request.
 pub fn next_body<L: Link>(alloc: Global, link: &mut L, carry: &mut Carry, head: &Head) -> BodyTurn
     ensures says { BodySays (prepend_known carry.old (L.Source.left link.old)) (prepend_known carry.new (L.Source.left link.new))
@@ -47,6 +47,7 @@ pub fn next_body<L: Link>(alloc: Global, link: &mut L, carry: &mut Carry, head: 
     ensures cause { result ≡ BodyTurn.LinkFault → HasRisen (L.Source.faults link.old) (L.Source.faults link.new) ⊎ HasRisen (L.Sink.faults link.old) (L.Sink.faults link.new) }
     ensures reads { L.Source.faults link.old ≤ L.Source.faults link.new }
     ensures writes { L.Sink.faults link.old ≤ L.Sink.faults link.new }
+    ensures empty { L.Sink.empty_writes link.new ≡ L.Sink.empty_writes link.old }
     ensures counts { BodyCounts (prepend_known carry.old (L.Source.left link.old)) (prepend_known carry.new (L.Source.left link.new))
         (L.Sink.written link.old) (L.Sink.written link.new) carry.new head.now (L.Source.faults link.old) (L.Source.faults link.new) (L.Sink.faults link.old) (L.Sink.faults link.new) result }
 {
@@ -79,6 +80,7 @@ fn write_interim<S: Sink>(sink: &mut S, due: bool) -> Result<(), Failed>
     ensures due { OnErr result (IsTrue due) }
     ensures cause { HasCause (S.faults sink.old) (S.faults sink.new) result }
     ensures count { IsCounted (S.faults sink.old) (S.faults sink.new) result }
+    ensures empty { S.empty_writes sink.new ≡ S.empty_writes sink.old }
     ensures beside { S.beside sink.new ≡ S.beside sink.old }
 {
     write_all(sink, interim(due))

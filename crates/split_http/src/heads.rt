@@ -39,8 +39,9 @@ pub enum HeadTurn {
 /// - `End` comes exactly where nothing is left.
 /// - `LinkFault` comes for one failed read, which the link's count of faults tells. Each other answer
 ///   leaves that count as it is. A read is made only while the parser asks for more of what the carry
-///   holds: nothing is read while a whole head waits there, and bytes that can never become one are
-///   answered by `BadHead` at once.
+///   holds, or has no room for all its fields: nothing is read while a whole head waits there, and
+///   where the parser tells that no head can come, `BadHead` is answered at once. That a head has 65
+///   to 256 fields is told at its end; of more fields it tells nothing.
 /// - `NoMemory` comes only where memory ran out and a head is at the front. That head
 ///   stays there. Its method is told, so that a reply to HEAD can leave its body out
 ///   (`HttpReply::bodiless`).

@@ -22,6 +22,7 @@ fn hold<S: Sink>(
     ensures part { OnErr result (AppendsProperPart (S.written sink.old) (S.written sink.new) (held.old.items ++ piece.now)) }
     ensures cause { HasCause (S.faults sink.old) (S.faults sink.new) result }
     ensures count { IsCounted (S.faults sink.old) (S.faults sink.new) result }
+    ensures empty { S.empty_writes sink.new ≡ S.empty_writes sink.old }
     ensures beside { S.beside sink.new ≡ S.beside sink.old }
 {
     if held.try_extend_from_slice(piece).is_ok() {
@@ -42,6 +43,7 @@ pub(crate) fn write_pieces<S: Sink>(sink: &mut S, pieces: &[&[u8]]) -> Result<()
     ensures part { OnErr result (AppendsProperPart (S.written sink.old) (S.written sink.new) (flat_map (λ p. p.now) pieces.now)) }
     ensures cause { HasCause (S.faults sink.old) (S.faults sink.new) result }
     ensures count { IsCounted (S.faults sink.old) (S.faults sink.new) result }
+    ensures empty { S.empty_writes sink.new ≡ S.empty_writes sink.old }
     ensures beside { S.beside sink.new ≡ S.beside sink.old }
 {
     let mut held = ArrayVec::new();

@@ -138,6 +138,7 @@ fn write_parts<'a, S: Sink>(
         (joined digits.now phrase.now date.now kind.now size.now allow.now close.now body.now)) }
     ensures cause { HasCause (S.faults sink.old) (S.faults sink.new) result }
     ensures count { IsCounted (S.faults sink.old) (S.faults sink.new) result }
+    ensures empty { S.empty_writes sink.new ≡ S.empty_writes sink.old }
     ensures beside { S.beside sink.new ≡ S.beside sink.old }
 {
     let pieces: [&'a [u8]; 14] = [
@@ -161,7 +162,7 @@ fn write_parts<'a, S: Sink>(
 
 /// Writes the reply: its status with the phrase of `http`, the date as RFC 9110 has it, the
 /// type and length of its body, `Allow` and `Connection: close` where they are due, an empty
-/// line, and the body. It takes no memory.
+/// line, and the body. It takes no memory, and makes no empty write.
 ///
 /// `Failed` comes only where the sink's count of faults has risen. A first part of the reply was
 /// written then, and at least one byte of it is missing.
@@ -172,6 +173,7 @@ pub fn write_reply<S: Sink>(sink: &mut S, reply: &HttpReply<'_>) -> Result<(), F
     ensures part { OnErr result ((bytes : List ℕ) × IsReply reply.now bytes × AppendsProperPart (S.written sink.old) (S.written sink.new) bytes) }
     ensures cause { HasCause (S.faults sink.old) (S.faults sink.new) result }
     ensures count { IsCounted (S.faults sink.old) (S.faults sink.new) result }
+    ensures empty { S.empty_writes sink.new ≡ S.empty_writes sink.old }
     ensures beside { S.beside sink.new ≡ S.beside sink.old }
 {
     let (digits, phrase) = phrase(reply.status);

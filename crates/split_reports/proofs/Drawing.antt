@@ -1,7 +1,7 @@
 -- What is drawn, one draw after the other.
 use Rattle.std.proofs.Common.{◌≡◌, ℕ, zero, suc, ◌+◌, ◌*◌, ◌%◌, ◌==◌, List, [], ◌∷◌, ◌++◌, Bool, true, false, not, map, refl, sym, ap, ◌∙◌, add-one, arith, cond}
-use Rattle.std.specs.Prelude.{if◌then◌else◌, count_by}
-use Rattle.std.specs.List.{range_with_len, sum_by}
+use Rattle.std.specs.Prelude.{if◌then◌else◌}
+use Rattle.std.specs.List.{range_with_len}
 use Rattle.std.proofs.lemmas.List.FromFn.{map-range_with_len_more}
 use Rattle.split_lemmas.proofs.RangeSteps.{sum_more}
 use Rattle.arrayvec.specs.declared.array_vec.ArrayVec.{ArrayVec}

@@ -70,18 +70,19 @@ not_port (fault.NotALog place) is = cc is
 not_port fault.NoMemory is = cc is
 
 module _ {D P L C : Type 0} (d : DiskTells D) (p : PortTells P L) (links : LinkTells L) (c : ClockTells C) (disk after : D) (port port_after : P) (clock clock_after : C) (port_number count : ℕ) where
-  opened_store : (w : D × State) → ServesOpened d p links c w after port port_after clock clock_after count (Err StoreFault) → ⊥
+  opened_store : (w : D × State) → ServesOpened d p links c w after port port_after clock clock_after port_number count (Err StoreFault) → ⊥
   opened_store w (ServesOpened.deaf at asked none once is) = cc is
-  opened_store w (ServesOpened.ran number runs ends) = run_store p port port_after count number ends
+  opened_store w (ServesOpened.ran heard listens number runs ends) = run_store p heard port_after count number ends
 
   serve_store : Serves d p links c disk after port port_after clock clock_after port_number count (Err StoreFault) → FailedOnce (d.faults disk) (d.faults after)
   serve_store (Serves.no_routes same still asked is) = cc is
   serve_store (Serves.not_opened why opens still asked is) = open_store d disk after why opens is
   serve_store (Serves.opened serving between opens once served) = absurd (opened_store (between, state_of opens.opened) served)
 
-  opened_port : (w : D × State) → ServesOpened d p links c w after port port_after clock clock_after count (Err PortFault) → FailedOnce (p.faults port) (p.faults port_after)
+  opened_port : (w : D × State) → ServesOpened d p links c w after port port_after clock clock_after port_number count (Err PortFault) → FailedOnce (p.faults port) (p.faults port_after)
   opened_port w (ServesOpened.deaf at asked none once is) = once
-  opened_port w (ServesOpened.ran number runs ends) = run_port p port port_after count number ends
+  opened_port w (ServesOpened.ran heard listens number runs ends) =
+      subst (λ (n : ℕ). FailedOnce n (p.faults port_after)) listens.still (run_port p heard port_after count number ends)
 
   serve_port : Serves d p links c disk after port port_after clock clock_after port_number count (Err PortFault) → FailedOnce (p.faults port) (p.faults port_after)
   serve_port (Serves.no_routes same still asked is) = cc is
@@ -152,9 +153,9 @@ module _ (stop : Stop) (not_opened : (why : LogFault) → ends stop ≡ ends (st
     run_never p port after count number (RunEnds.cut is once most) = not_port is
 
     module _ {D P L C : Type 0} (d : DiskTells D) (p : PortTells P L) (links : LinkTells L) (c : ClockTells C) (disk after : D) (port port_after : P) (clock clock_after : C) (port_number count : ℕ) where
-      opened_never : (w : D × State) → ServesOpened d p links c w after port port_after clock clock_after count (Err stop) → ⊥
+      opened_never : (w : D × State) → ServesOpened d p links c w after port port_after clock clock_after port_number count (Err stop) → ⊥
       opened_never w (ServesOpened.deaf at asked none once is) = not_port is
-      opened_never w (ServesOpened.ran number runs ends) = run_never p port port_after count number ends
+      opened_never w (ServesOpened.ran heard listens number runs ends) = run_never p heard port_after count number ends
 
       serve_never : Serves d p links c disk after port port_after clock clock_after port_number count (Err stop) → ⊥
       serve_never (Serves.no_routes same still asked is) = not_opened fault.NoMemory is

@@ -60,17 +60,17 @@ among ending other is there = subst (Contains {X = ℕ} (0 ∷ 9 ∷ [])) (sym (
 module _ (no_fault : (version place : ℕ) (secret : List ℕ) (events : List EventView) (file : List ℕ) → HasEvents version secret events file → IsFirstFault place file → ⊥) where
   -- a journal is opened, except where memory runs out
   opens_finishes : {D : Type 0} (d : DiskTells D) (disk after : D) (why : LogFault) (ending : Result (List ℕ) Stop) → Opens d disk after (Err why) → ending ≡ Err (stop_of why)
-      → d.is_honest disk → IsStill (d.faults disk) (d.faults after) → HoldsSome (d.seen disk) → Contains {X = ℕ} (0 ∷ 9 ∷ []) (owed ending).status
-  opens_finishes d disk after fault.Disk ending opens is honest still holds = absurd (still (opens.failed refl).0)
-  opens_finishes d disk after (fault.NotALog place) ending opens is honest still holds =
-      absurd (no_fault holds.0 place holds.1 holds.2 (d.seen disk) holds.3 (opens.place honest place refl))
-  opens_finishes d disk after fault.NoMemory ending opens is honest still holds = among ending (Err NoMemory) is nine_of
+      → d.tells disk → IsStill (d.faults disk) (d.faults after) → HoldsSome (d.seen disk) → Contains {X = ℕ} (0 ∷ 9 ∷ []) (owed ending).status
+  opens_finishes d disk after fault.Disk ending opens is told still holds = absurd (still (opens.failed refl).0)
+  opens_finishes d disk after (fault.NotALog place) ending opens is told still holds =
+      absurd (no_fault holds.0 place holds.1 holds.2 (d.seen disk) holds.3 (opens.place told place refl))
+  opens_finishes d disk after fault.NoMemory ending opens is told still holds = among ending (Err NoMemory) is nine_of
 
   dump_finishes : {D : Type 0} (d : DiskTells D) (disk after : D) (ending : Result (List ℕ) Stop) → Dumps d disk after ending
-      → d.is_honest disk → IsStill (d.faults disk) (d.faults after) → HoldsSome (d.seen disk) → Contains {X = ℕ} (0 ∷ 9 ∷ []) (owed ending).status
-  dump_finishes d disk after ending (Dumps.dumped serving opens is) honest still holds = among ending (Ok _) is zero_of
-  dump_finishes d disk after ending (Dumps.no_rows serving opens is) honest still holds = among ending (Err NoMemory) is nine_of
-  dump_finishes d disk after ending (Dumps.not_opened why opens is) honest still holds = opens_finishes d disk after why ending opens is honest still holds
+      → d.tells disk → IsStill (d.faults disk) (d.faults after) → HoldsSome (d.seen disk) → Contains {X = ℕ} (0 ∷ 9 ∷ []) (owed ending).status
+  dump_finishes d disk after ending (Dumps.dumped serving opens is) told still holds = among ending (Ok _) is zero_of
+  dump_finishes d disk after ending (Dumps.no_rows serving opens is) told still holds = among ending (Err NoMemory) is nine_of
+  dump_finishes d disk after ending (Dumps.not_opened why opens is) told still holds = opens_finishes d disk after why ending opens is told still holds
 
   run_finishes : {P L : Type 0} (p : PortTells P L) (port after : P) (count number : ℕ) (ending : Result (List ℕ) Stop) → RunEnds p port after count number ending
       → IsStill (p.faults port) (p.faults after) → Contains {X = ℕ} (0 ∷ 9 ∷ []) (owed ending).status
@@ -78,16 +78,17 @@ module _ (no_fault : (version place : ℕ) (secret : List ℕ) (events : List Ev
   run_finishes p port after count number ending (RunEnds.cut is once most) still = absurd (still once.0)
 
   module _ {D P L C : Type 0} (d : DiskTells D) (p : PortTells P L) (links : LinkTells L) (c : ClockTells C) (disk after : D) (port port_after : P) (clock clock_after : C) (port_number count : ℕ) (ending : Result (List ℕ) Stop) where
-    opened_finishes : (w : D × State) → ServesOpened d p links c w after port port_after clock clock_after count ending → IsStill (p.faults port) (p.faults port_after)
+    opened_finishes : (w : D × State) → ServesOpened d p links c w after port port_after clock clock_after port_number count ending → IsStill (p.faults port) (p.faults port_after)
         → Contains {X = ℕ} (0 ∷ 9 ∷ []) (owed ending).status
     opened_finishes w (ServesOpened.deaf at asked none once is) still = absurd (still once.0)
-    opened_finishes w (ServesOpened.ran number runs ends) still = run_finishes p port port_after count number ending ends still
+    opened_finishes w (ServesOpened.ran heard listens number runs ends) still =
+        run_finishes p heard port_after count number ending ends (subst (λ (n : ℕ). IsStill n (p.faults port_after)) (sym listens.still) still)
 
     serve_finishes : Serves d p links c disk after port port_after clock clock_after port_number count ending
-        → d.is_honest disk → IsStill (d.faults disk) (d.faults after) → IsStill (p.faults port) (p.faults port_after) → HoldsSome (d.seen disk) → Contains {X = ℕ} (0 ∷ 9 ∷ []) (owed ending).status
-    serve_finishes (Serves.no_routes same port_same asked is) honest still port_still holds = among ending (Err NoMemory) is nine_of
-    serve_finishes (Serves.not_opened why opens port_same asked is) honest still port_still holds = opens_finishes d disk after why ending opens is honest still holds
-    serve_finishes (Serves.opened serving between opens once served) honest still port_still holds = opened_finishes (between, state_of opens.opened) served port_still
+        → d.tells disk → IsStill (d.faults disk) (d.faults after) → IsStill (p.faults port) (p.faults port_after) → HoldsSome (d.seen disk) → Contains {X = ℕ} (0 ∷ 9 ∷ []) (owed ending).status
+    serve_finishes (Serves.no_routes same port_same asked is) told still port_still holds = among ending (Err NoMemory) is nine_of
+    serve_finishes (Serves.not_opened why opens port_same asked is) told still port_still holds = opens_finishes d disk after why ending opens is told still holds
+    serve_finishes (Serves.opened serving between opens once served) told still port_still holds = opened_finishes (between, state_of opens.opened) served port_still
 
 trial_finishes : (number : ℕ) (ending : Result (List ℕ) Stop) → Tries number ending → Contains {X = ℕ} (0 ∷ 9 ∷ []) (owed ending).status
 trial_finishes number (Ok text) h = zero_of
@@ -181,9 +182,9 @@ module _
     module _ {D P L C X M : Type 0} (tells : OutsideTells D P L C X M) (outside : Outside D P C X) (ending : Result (List ℕ) Stop) where
       finishes : (command : Command) → Came tells outside command ending → Finishes tells outside command (owed ending).status
       finishes (Init secret) came = λ honest still empty. make_finishes tells.disk outside.disk outside.disk_now secret ending came.1 honest still empty
-      finishes (Serve port workers count) came = λ honest still port_still holds.
-          serve_finishes no_fault tells.disk tells.port tells.links tells.clock outside.disk outside.disk_now outside.port outside.port_now outside.clock outside.clock_now port count ending came.1 honest still port_still holds
-      finishes Dump came = λ honest still holds. dump_finishes no_fault tells.disk outside.disk outside.disk_now ending came.1 honest still holds
+      finishes (Serve port workers count) came = λ told still port_still holds.
+          serve_finishes no_fault tells.disk tells.port tells.links tells.clock outside.disk outside.disk_now outside.port outside.port_now outside.clock outside.clock_now port count ending came.1 told still port_still holds
+      finishes Dump came = λ told still holds. dump_finishes no_fault tells.disk outside.disk outside.disk_now ending came.1 told still holds
       finishes (Trial number workers) came = trial_finishes number ending came.1
       finishes (Audit port asked) came = λ still. audit_finishes tells.dialer tells.dialled outside.dialer outside.dialer_now port asked ending came.1 still
       finishes (Read reads) came = λ sound. read_finishes reads outside.input ending came.1 sound (sorts reads outside.input ending came.1)

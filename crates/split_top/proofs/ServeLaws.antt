@@ -1,5 +1,5 @@
 -- What holds of the words of `serve`.
-use Rattle.std.proofs.Common.{◌≡◌, ◌⊎◌, ◌≤◌, ℕ, List, [], ◌∷◌, Contains, Result, Err, inl, inr, refl, sym, ⊎_elim, subst, arith}
+use Rattle.std.proofs.Common.{◌≡◌, ◌⊎◌, ℕ, List, [], ◌∷◌, Contains, Result, Err, inl, inr, refl, sym, ⊎_elim, subst, arith}
 use Rattle.command_results.specs.Endings.{owed}
 use Rattle.command_results.specs.ObjectUse.{Ends, HasWritten}
 use Rattle.command_results.specs.declared.stop.Stop.{Stop}
@@ -8,7 +8,7 @@ use Rattle.gate_log.specs.declared.fault.LogFault.{LogFault}
 use Rattle.gate_log.specs.declared.fault.LogFault.TheVariants as fault
 use Rattle.host_commands.specs.Files.{stop_of}
 use Rattle.host_commands.specs.Headline.{HasHeadline, HasNoRun}
-use Rattle.host_commands.specs.Serves.{IsOpened, IsUnopened, Serves, served_line}
+use Rattle.host_commands.specs.Serves.{IsOpened, IsUnopened, RunEnds, Serves, served_line}
 use Rattle.split_top.specs.Causes.{IsServed}
 use Rattle.split_top.specs.Commands.{Names}
 use Rattle.split_top.specs.Outside.{Outside}
@@ -46,13 +46,20 @@ module _ {D P L C X M : Type 0} (tells : OutsideTells D P L C X M) (outside : Ou
   no_zero text status (inl w) zero = let eight = w.0 in omega (arith, eight, zero)
   no_zero text status (inr w) zero = let six = w.0 in omega (arith, six, zero)
 
-  wrote_number : (number : ℕ) (ending : Result (List ℕ) Stop) (status : ℕ) → IsOpened number ending → EndsBy status ending → status ≡ 0 → HasWritten outside.output (served_line number)
-  wrote_number number ending status (inl is) ends zero = told_number (served_line number) status (subst (EndsBy status) is ends) zero
-  wrote_number number ending status (inr is) ends zero = absurd (no_zero (owed (Err PortFault)).text status (subst (EndsBy status) is ends) zero)
+  abbrev IsOpenedSo : ℕ → ℕ → ℕ → Result (List ℕ) Stop → Type 0
+  IsOpenedSo port count number ending = IsOpened tells.port port outside.port outside.port_now count number ending
+
+  no_number : (number : ℕ) (ending : Result (List ℕ) Stop) (status : ℕ) → ending ≡ Err PortFault → EndsBy status ending → status ≡ 0 → HasWritten outside.output (served_line number)
+  no_number number ending status is ends zero = absurd (no_zero (owed (Err PortFault)).text status (subst (EndsBy status) is ends) zero)
+
+  wrote_number : (port count number : ℕ) (ending : Result (List ℕ) Stop) (status : ℕ) → IsOpenedSo port count number ending → EndsBy status ending → status ≡ 0 → HasWritten outside.output (served_line number)
+  wrote_number port count number ending status (IsOpened.ran heard listens (RunEnds.told is same most few)) ends zero = told_number (served_line number) status (subst (EndsBy status) is ends) zero
+  wrote_number port count number ending status (IsOpened.ran heard listens (RunEnds.cut is once most)) ends zero = no_number number ending status is ends zero
+  wrote_number port count number ending status (IsOpened.deaf is once none zero_links) ends zero = no_number number ending status is ends zero
 
   module _
       (any : (port count : ℕ) (ending : Result (List ℕ) Stop) → ServesSo port count ending
-      → (IsUnopened ending × HasNoRun outside.port outside.port_now outside.clock outside.clock_now) ⊎ ((number : ℕ) × (number ≤ count) × IsOpened number ending × HasRun number))
+      → (IsUnopened ending × HasNoRun outside.port outside.port_now outside.clock outside.clock_now) ⊎ ((number : ℕ) × IsOpenedSo port count number ending × HasRun number))
     where
       -- of the words of `serve` the file was not opened, or the headline holds
       pub is_served : (words : List (List ℕ)) (port workers count status : ℕ) → Names words (Serve port workers count) → Ran tells outside words status → IsServed tells outside port count status
@@ -65,5 +72,5 @@ module _ {D P L C X M : Type 0} (tells : OutsideTells D P L C X M) (outside : Ou
             serves = so.1;
             wrote = ends;
             holds = ⊎_elim (λ none. inl (none.0, unopened_status ending none.0, none.1))
-                (λ all. inr (all.0, all.1, all.2, all.3, λ zero. wrote_number all.0 ending status all.2 ends zero)) (any port count ending so.1);
+                (λ all. inr (all.0, all.1, all.2, λ zero. wrote_number port count all.0 ending status all.1 ends zero)) (any port count ending so.1);
           }

@@ -1,5 +1,5 @@
 -- What each status shows, and where it must come. All of it follows from the ending and the text that goes with it.
-use Rattle.std.specs.Prelude.{◌≡◌, ◌≢◌, ◌⊎◌, ℕ, ◌≤◌, List, [], ◌∷◌, Contains, Result, Err, IfSome, length, get_or}
+use Rattle.std.specs.Prelude.{◌≡◌, ◌≢◌, ◌⊎◌, ℕ, List, [], ◌∷◌, Contains, Result, Err, IfSome, length, get_or}
 use Rattle.command_results.specs.Endings.{owed}
 use Rattle.command_results.specs.ObjectUse.{Ends, HasNoFault, HasOneFault, HasWritten, IsSound}
 use Rattle.command_results.specs.declared.stop.Stop.{Stop}
@@ -60,10 +60,10 @@ abbrev pub Finishes : {D P L C X M : Type 0} → OutsideTells D P L C X M → Ou
 Finishes tells outside (Init secret) status =
     tells.disk.is_honest outside.disk → IsStill (tells.disk.faults outside.disk) (tells.disk.faults outside.disk_now) → length (tells.disk.seen outside.disk) ≡ 0 → status ≡ 0
 Finishes tells outside (Serve port workers count) status =
-    tells.disk.is_honest outside.disk → IsStill (tells.disk.faults outside.disk) (tells.disk.faults outside.disk_now)
+    tells.disk.tells outside.disk → IsStill (tells.disk.faults outside.disk) (tells.disk.faults outside.disk_now)
     → IsStill (tells.port.faults outside.port) (tells.port.faults outside.port_now) → HoldsSome (tells.disk.seen outside.disk) → Contains (0 ∷ 9 ∷ []) status
 Finishes tells outside Dump status =
-    tells.disk.is_honest outside.disk → IsStill (tells.disk.faults outside.disk) (tells.disk.faults outside.disk_now) → HoldsSome (tells.disk.seen outside.disk) → Contains (0 ∷ 9 ∷ []) status
+    tells.disk.tells outside.disk → IsStill (tells.disk.faults outside.disk) (tells.disk.faults outside.disk_now) → HoldsSome (tells.disk.seen outside.disk) → Contains (0 ∷ 9 ∷ []) status
 Finishes tells outside (Trial number workers) status = Contains (0 ∷ 9 ∷ []) status
 Finishes tells outside (Audit port asked) status = IsStill (tells.dialer.faults outside.dialer) (tells.dialer.faults outside.dialer_now) → Contains (0 ∷ 1 ∷ 3 ∷ []) status
 Finishes tells outside (Read reads) status =
@@ -76,14 +76,14 @@ IsComplete tells outside words status =
     IsSound outside.output → (AreNoRow words × (status ≡ 2)) ⊎ ((command : Command) × Names words command × Finishes tells outside command status)
 
 -- What holds of the words of `serve`, by the ending whose line was due. Where the file was not opened, that line has status 4, 7 or 9, and neither
--- the port nor the clock was called. Else the headline holds of at most COUNT links, none where the port failed to listen; the line has status 0, and
--- tells their number, or 8, where the port failed.
+-- the port nor the clock was called. Else the headline holds of so many links, at most COUNT, as `IsOpened` says: the line has status 0 and tells their
+-- number, and no call of the port failed; or 8, where one failed. Where that was the call to listen, they are none.
 pub record IsServed {D P L C X M : Type 0} (tells : OutsideTells D P L C X M) (outside : Outside D P C X) (port count status : ℕ) : Type 0 where
   pub ending : Result (List ℕ) Stop
   pub serves : Serves tells.disk tells.port tells.links tells.clock outside.disk outside.disk_now outside.port outside.port_now outside.clock outside.clock_now port count ending
   pub wrote : Ends outside.output (owed ending).text (owed ending).status status
   pub holds : (IsUnopened ending × Contains (4 ∷ 7 ∷ 9 ∷ []) (owed ending).status × HasNoRun outside.port outside.port_now outside.clock outside.clock_now)
-      ⊎ ((number : ℕ) × (number ≤ count) × IsOpened number ending
+      ⊎ ((number : ℕ) × IsOpened tells.port port outside.port outside.port_now count number ending
       × HasHeadline tells.disk tells.port tells.links tells.clock outside.disk outside.disk_now outside.port outside.port_now outside.clock outside.clock_now number
       × (status ≡ 0 → HasWritten outside.output (served_line number)))
 

@@ -1,16 +1,14 @@
 -- What the players have before any good moves.
-use Rattle.std.proofs.Common.{◌≡◌, ℕ, ◌-◌, ◌*◌, ◌<◌, ◌≤◌, ◌==◌, nat_le, cond, map, false, sum_by, arith, refl, sym, ap, ◌∙◌, ◌⊎◌, inl, inr, ⊎_elim}
+use Rattle.std.proofs.Common.{◌≡◌, ℕ, ◌-◌, ◌<◌, ◌≤◌, ◌==◌, nat_le, cond, false, sum_by, arith, refl, sym, ◌∙◌, ◌⊎◌, inl, ⊎_elim}
 use Rattle.std.specs.List.{range_with_len}
 use Rattle.std.proofs.lemmas.Bool.{cases_lt, cases_eq}
 use Rattle.std.proofs.lemmas.Bool.Decides.{nat_tests}
 use Rattle.bid_rules.specs.declared.goods.GoodsCase.{GoodsCase}
 use Rattle.bid_rules.specs.Goods.{points}
-use Rattle.winner_laws.specs.Divisions.{first_points, second_points}
 use Rattle.winner_laws.specs.Winners.{first_owner, greater_points, lesser_points, share_at_first}
 use Rattle.winner_laws.proofs.Weighted.{sum_same}
 use Rattle.winner_laws.specs.Moving.{IsRicher, gained_points, is_gone, kept_points}
-use Rattle.winner_laws.proofs.FinalMoves.{first_of, second_of}
-use Rattle.winner_laws.proofs.RicherPlayers.{greater_is, kept_numbers, left_numbers, other_owner, others_numbers, zero_numbers}
+use Rattle.winner_laws.proofs.RicherPlayers.{kept_numbers, left_numbers, other_owner, others_numbers, zero_numbers}
 
 -- nothing is gone
 none_gone : (case : GoodsCase) (player good : ℕ) → is_gone case player 0 good ≡ false

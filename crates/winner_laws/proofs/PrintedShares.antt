@@ -1,5 +1,5 @@
 -- Printed shares are those of a division, and the rules on them are the rules on its parts.
-use Rattle.std.proofs.Common.{◌≡◌, ℕ, ℤ, pos, suc, zero, ◌+◌, ◌-◌, ◌*◌, ◌<◌, ◌≤◌, ◌+ℤ◌, ◌-ℤ◌, ◌*ℤ◌, ◌<ℤ◌, ◌≤ℤ◌, nat_lt, ◌&&◌, cond, Bool, true, false, List, [], ◌∷◌, length, map, get_or, All, sum_by, unsigned_abs, arith, refl, sym, ap, ◌∙◌, ◌⊎◌, inl, inr, ⊎_elim, subst}
+use Rattle.std.proofs.Common.{◌≡◌, ℕ, ℤ, pos, suc, zero, ◌+◌, ◌-◌, ◌*◌, ◌<◌, ◌≤◌, ◌+ℤ◌, ◌-ℤ◌, ◌*ℤ◌, ◌<ℤ◌, ◌≤ℤ◌, nat_lt, ◌&&◌, cond, Bool, true, false, List, [], ◌∷◌, length, map, get_or, All, sum_by, unsigned_abs, arith, refl, sym, ap, ◌∙◌, ⊎_elim, subst}
 use Rattle.std.specs.List.{AllZip, range_with_len}
 use Rattle.std.proofs.lemmas.Bool.{cases_lt}
 use Rattle.std.proofs.lemmas.Bool.Decides.{nat_tests}
@@ -8,7 +8,7 @@ use Rattle.std.proofs.lemmas.List.{length-map, get_or-map}
 use Rattle.std.proofs.lemmas.List.Sums.{sum_by-cons}
 use Rattle.std.proofs.Math.IntN.{pos-*ℤ-pos, *ℤ_comm, zero-*ℤ}
 use Rattle.bid_rules.specs.declared.goods.GoodsCase.{GoodsCase}
-use Rattle.bid_rules.specs.Fractions.{Fraction, HasSameValue, IsQuotient, sum_of_fractions}
+use Rattle.bid_rules.specs.Fractions.{Fraction, HasSameValue, IsQuotient}
 use Rattle.bid_rules.specs.Goods.{IsValidGoodsCase, player_count, points}
 use Rattle.bid_rules.specs.Sums.{total}
 use Rattle.split_lemmas.proofs.FractionLaws.{same_value, sum_of_quotients}

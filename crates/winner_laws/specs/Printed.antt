@@ -1,5 +1,5 @@
 -- The rules by which shares, a total and weights show a division of goods between two players, in fractions as they are printed.
-use Rattle.std.specs.Prelude.{◌≡◌, ℕ, ℤ, pos, ◌*◌, ◌<◌, ◌≤◌, ◌<ℤ◌, ◌≤ℤ◌, ◌*ℤ◌, ◌-ℤ◌, List, length, map, All}
+use Rattle.std.specs.Prelude.{◌≡◌, ℕ, pos, ◌*◌, ◌<◌, ◌≤◌, ◌<ℤ◌, ◌≤ℤ◌, ◌*ℤ◌, ◌-ℤ◌, List, length, map, All}
 use Rattle.std.specs.List.{range_with_len}
 use Rattle.bid_rules.specs.declared.limits.TheConstants.{WHOLE_POINTS}
 use Rattle.bid_rules.specs.declared.goods.GoodsCase.{GoodsCase}

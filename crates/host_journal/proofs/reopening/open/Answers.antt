@@ -9,4 +9,4 @@ pub returns-clause-any_moment : goal.returns-clause-any_moment
 returns-clause-any_moment g c h s = c.open_host.ensures.any_moment h s.secret (lists_of s.kept s.waiting)
 
 pub returns-in_err-host-clause-place : goal.returns-in_err-host-clause-place
-returns-in_err-host-clause-place g c honest place is = c.open_host.ensures.not_a_log (g.met.D.Disk.honest_tells c.args.disk.now honest) place (search rules)
+returns-in_err-host-clause-place g c tells place is = c.open_host.ensures.not_a_log tells place (search rules)

@@ -6,10 +6,10 @@ use Rattle.sealed_core.proofs.Runs.{heard_alike, views_alike}
 use Rattle.sealed_core.proofs.laws.sealing_law.Goals as goal
 
 pub returns-clause-heard : goal.returns-clause-heard
-returns-clause-heard c g h id caller run others same alike = heard_alike caller id run others g h same alike
+returns-clause-heard c g h id caller run others same alike = heard_alike id caller run others g h same alike
 
 pub returns-clause-views : goal.returns-clause-views
-returns-clause-views c g h id caller run others same alike = views_alike caller id run others g h same alike
+returns-clause-views c g h id caller run others same alike = views_alike id caller run others g h same alike
 
 pub returns-clause-from_view : goal.returns-clause-from_view
 returns-clause-from_view c h t id key ask open_ = sealed h t id key ask open_

@@ -1,4 +1,4 @@
-use Rattle.std.proofs.Common.{rules, arith, suc, None, ◌≡◌, ◌-◌, refl}
+use Rattle.std.proofs.Common.{rules, arith, suc, None, ◌≡◌, ◌∙◌, ◌-◌, refl}
 use Rattle.serving.specs.declared.limits.TheConstants.{MAX_REQUESTS}
 use Rattle.serving.proofs.Going.{going_ends, going_on, going_start}
 use Rattle.serving.proofs.Hearing.{counts_joined, none_joined}
@@ -12,7 +12,7 @@ loop-end-init g c = record {
   going = λ w stands. rw c.new-carry.ensures
       (going_start (host_service g.D.Disk) MAX_REQUESTS g.C.Clock.gives g.C.Clock.faults c.args.clock.now (link_view (tells_of g.L.Source g.L.Sink) c.args.link.now)
       (StandsAt g.D.Disk c.args.serving.now c.args.disk.now) w stands);
-  counts = (refl, refl);
+  counts = (refl, refl, refl);
   more = search rules;
   clock = search rules;
   disk = search rules;
@@ -34,6 +34,11 @@ returns-in-Some-clause-counts g c =
     let tells = tells_of g.L.Source g.L.Sink in
     let (ending, is_end, counts) = c.in-Some.ensures.counts in
     (ending, is_end, counts_joined (link_view tells c.args.link.now) (link_view tells c.loop-end.link) (link_view tells c.serve_head.new.link) ending c.loop-end.invariant.counts counts)
+
+pub returns-in-Some-clause-empty : goal.returns-in-Some-clause-empty
+returns-in-Some-clause-empty g c =
+    let (ending, is_end, counts) = c.in-Some.ensures.counts in
+    counts.2 ∙ c.loop-end.invariant.counts.2
 
 pub loop-end-preserved : goal.loop-end-preserved
 loop-end-preserved g c = record {

@@ -19,7 +19,7 @@ pub returns-in-Err-clause-run : goal.returns-in-Err-clause-run
 returns-in-Err-clause-run g c w stands = (
   c.loop-served.served,
   omega (arith, c.loop-served.auto),
-  inr refl,
+  inr (refl, omega (arith, c.loop-served-test.true)),
   ports_stay (host_service g.D.Disk) (tells_of g.P.Link.Source g.P.Link.Sink) _ _ _ _ _ _ _ _ _ w _ c.accept.result (c.loop-served.invariant.so_far w stands) c.accept.ensures.next (inr (c.in-Err.field-0, c.in-Err.is)) c.accept.ensures.back,
 )
 

@@ -24,6 +24,7 @@ loop-piece-preserved g c =
         flat_map_next (λ p. p.now) c.args.pieces.now c.loop-piece.piece-index _ c.loop-piece-test.true ∙ held_more _ _ _ _ _ _ so_far.2 more.2,
       );
       count = search rules;
+      empty = search rules;
       beside = search rules;
     }
 

@@ -1,5 +1,5 @@
-use Rattle.std.proofs.Common.{◌≡◌, ◌+◌, ◌<◌, ◌≤◌, ◌++◌, [], length, map, take, refl, sym, ap, ◌∙◌, subst, arith, List, ℕ}
-use Rattle.std.proofs.lemmas.List.{append-nil, length-map}
+use Rattle.std.proofs.Common.{◌++◌, map, take, sym, ap, ◌∙◌, subst, arith, List, ℕ}
+use Rattle.std.proofs.lemmas.List.{append-nil}
 use Rattle.sealed_core.specs.Host.{instance_view}
 use Rattle.split_reports.specs.DumpBetween.{IsBetweenRows}
 use Rattle.split_reports.specs.DumpRows.{header_line, rows_from}

@@ -1,5 +1,4 @@
-use Rattle.std.proofs.Common.{length, ◌≡◌, ◌+◌, ◌-◌, ◌*◌, ◌/◌, ◌++◌, [], ◌∷◌, get_or, sym, ap, ◌∙◌, refl, subst, arith}
-use Rattle.split_reports.specs.TrialSpreads.{share_upto, shares}
+use Rattle.std.proofs.Common.{length, ◌+◌, get_or, sym, ap, ◌∙◌, refl, arith}
 use Rattle.split_reports.proofs.Spreading.{next_sum, share_at, share_none, share_rises, shares_more, shares_none}
 use Rattle.split_reports.proofs.spread.spread_by.Goals as goal
 

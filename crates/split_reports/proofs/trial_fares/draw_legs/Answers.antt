@@ -1,4 +1,4 @@
-use Rattle.std.proofs.Common.{length, ◌≡◌, ◌+◌, sym, ap, ◌∙◌, refl, arith}
+use Rattle.std.proofs.Common.{length, sym, ap, ◌∙◌, arith}
 use Rattle.split_reports.specs.TrialDraws.{after}
 use Rattle.split_reports.specs.Trials.{others}
 use Rattle.split_reports.proofs.Drawing.{after_none, leg_draws_more, table_none, table_step}

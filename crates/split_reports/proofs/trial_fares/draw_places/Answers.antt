@@ -1,4 +1,4 @@
-use Rattle.std.proofs.Common.{length, ◌≡◌, ◌+◌, ◌%◌, ◌++◌, [], ◌∷◌, sym, ap, ◌∙◌, refl, arith}
+use Rattle.std.proofs.Common.{length, sym, ap, ◌∙◌, arith}
 use Rattle.split_reports.specs.TrialDraws.{next}
 use Rattle.split_reports.proofs.Drawing.{after_more, after_none, places_more, places_none}
 use Rattle.split_reports.proofs.trial_fares.draw_places.Goals as goal

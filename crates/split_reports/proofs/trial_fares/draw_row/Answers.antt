@@ -1,4 +1,4 @@
-use Rattle.std.proofs.Common.{length, ◌≡◌, ◌+◌, ◌++◌, ◌==◌, ◌%◌, [], ◌∷◌, sym, ap, ◌∙◌, refl, cond, arith}
+use Rattle.std.proofs.Common.{length, ◌+◌, ◌++◌, ◌==◌, ◌%◌, [], ◌∷◌, sym, ap, ◌∙◌, refl, cond, arith}
 use Rattle.split_reports.specs.TrialDraws.{next}
 use Rattle.split_reports.specs.Trials.{legs_drawn}
 use Rattle.split_reports.specs.declared.limits.TheConstants.{LEAST_LEG, LEG_COUNT}

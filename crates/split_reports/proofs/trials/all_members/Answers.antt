@@ -1,4 +1,4 @@
-use Rattle.std.proofs.Common.{◌≡◌, ◌+◌, ◌++◌, [], ◌∷◌, sym, ap, ◌∙◌, arith}
+use Rattle.std.proofs.Common.{◌+◌, ◌++◌, [], ◌∷◌, sym, ap, ◌∙◌, arith}
 use Rattle.split_lemmas.proofs.RangeSteps.{range_next}
 use Rattle.split_reports.proofs.trials.all_members.Goals as goal
 

@@ -1,5 +1,5 @@
-use Rattle.std.proofs.Common.{length, ◌≡◌, ◌+◌, ◌*◌, ◌≤◌, sym, ap, ◌∙◌, refl, arith, sum}
-use Rattle.split_reports.specs.TrialDraws.{after, weights_behind}
+use Rattle.std.proofs.Common.{length, ◌≡◌, ◌*◌, sym, ap, ◌∙◌, arith, sum}
+use Rattle.split_reports.specs.TrialDraws.{after}
 use Rattle.split_reports.proofs.Drawing.{after_none, row_draws, rows_none, rows_step}
 use Rattle.split_reports.proofs.WeightSums.{weights_high, weights_low}
 use Rattle.split_reports.specs.TrialSpreads.{spread}

@@ -1,4 +1,4 @@
-use Rattle.std.proofs.Common.{arith, ◌≡◌, sym, ◌↔◌, List, ℕ, subst, reverse}
+use Rattle.std.proofs.Common.{arith, sym, ◌↔◌, subst, reverse}
 use Rattle.goods_rules.specs.Ahead.{FinishesAt, FinishesBehind, FinishesTree}
 use Rattle.goods_rules.specs.Rules.{leaf_rule}
 use Rattle.goods_rules.proofs.PathNodes.{path_next, path_same}

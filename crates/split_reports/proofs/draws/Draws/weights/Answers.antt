@@ -1,4 +1,4 @@
-use Rattle.std.proofs.Common.{length, ◌≡◌, ◌+◌, ◌%◌, ◌++◌, [], ◌∷◌, sym, ap, ◌∙◌, refl, arith}
+use Rattle.std.proofs.Common.{length, sym, ap, ◌∙◌, arith}
 use Rattle.split_reports.specs.TrialDraws.{next}
 use Rattle.split_reports.proofs.Drawing.{after_more, after_none, weights_more, weights_none}
 use Rattle.split_reports.proofs.draws.Draws.weights.Goals as goal
