@@ -31,8 +31,8 @@ abbrev pub LeavesSome : ℕ → List ℕ → Option (List ℕ) → Type 0
 LeavesSome count rest left =
     count ≤ length rest → (part more after : List ℕ) × (0 < length more) × (take count rest ≡ part ++ more) × (left ≡ Some (more ++ after))
 
--- The bytes begin with a head whose body is to be judged, and some of the body is still to come. The second is said where the count of failed reads is below
--- its greatest value: at that it tells of no read whether it failed.
+-- The bytes begin with a head whose body is to be judged, and some of the body is still to come. The second is said where all of the body is to come, and the
+-- count of failed reads is below its greatest value: at that it tells of no read whether it failed.
 pub record IsInBody (bytes : List ℕ) (left : Option (List ℕ)) (reads_now : ℕ) : Type 0 where
   pub rest : List ℕ
   pub count : ℕ
@@ -40,7 +40,7 @@ pub record IsInBody (bytes : List ℕ) (left : Option (List ℕ)) (reads_now : �
   pub some : reads_now < 2 ^ 64 - 1 → LeavesSome count rest left
 
 -- What came of a reply settles no answer. Of the bytes that were to come these are left, and those that came begin with no head, the parser asks for more of
--- them, and they are fewer than a head may have; or a head came, and less than its body, which is to be judged.
+-- them, and they are fewer than a head may have; or the bytes to come begin with a head whose body is to be judged, and some of it is still to come.
 pub data IsUnsettled (ahead left : Option (List ℕ)) (reads_now : ℕ) : Type 0 where
   in_head : (come : List ℕ) → Consumes ahead left come → IsOpen IsText AsksMore come → IsUnsettled ahead left reads_now
   in_body : IfSome ahead (λ bytes. IsInBody bytes left reads_now) → IsUnsettled ahead left reads_now

@@ -34,9 +34,9 @@ use split_base::{Failed, Link, Source, sides_law, write_all};
 ///    of it.
 ///
 /// `LinkFault` comes for one failed call. Where it was a write, the count of failed writes goes up by one, and a first part of the request was written, but not
-/// all of it. Where it was a read, that of failed reads does, the whole request was written, and what came settles no answer: no head, and the parser asks for
-/// more, or less than a body that is to be judged (the last is told where the count is below 2^64 - 1). Any other answer leaves both counts as they are, after
-/// the whole request.
+/// all of it. Where it was a read, that of failed reads does, the whole request was written, and what came settles no answer: no head came, and the parser asks
+/// for more; or a body is to be judged, and some of it is still to come. That some is, is said of a body that comes whole, while the count is below 2^64 - 1.
+/// Any other answer leaves both counts as they are, after the whole request.
 pub fn fetch<L: Link>(link: &mut L, words: &Words) -> Result<Verdict, FetchEnd>
     ensures says { FetchSays (L.Source.left link.old) result }
     ensures best { result ≡ Ok Verdict.Yes → IfSome (L.Source.left link.old) (λ bytes. (body : List ℕ) × IsReplyOf bytes body × PrintsBest body) }
