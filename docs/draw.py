@@ -1,12 +1,15 @@
 #!/usr/bin/env python3
-"""Draws what the program wrote, as text: the envy table of a report, and the tree of a certificate of goods.
+"""Draws what the program wrote, as text: the envy table of a report, and the tree of a certificate of goods. And the chart of SEARCH.md.
 
-draw.py            writes docs/pictures anew, from the files of examples/
+draw.py            writes docs/pictures anew, from the files of examples/ and the tables of how many estates were answered
 draw.py --check    tells whether they are as they would be written
 draw.py FILE       draws one report or certificate to the standard output
 """
 import os
 import sys
+
+sys.dont_write_bytecode = True
+from chart import chart
 
 HERE = os.path.dirname(os.path.abspath(__file__))
 PICTURES = [
@@ -88,8 +91,9 @@ def main(words):
         sys.stdout.write(picture(words[0]))
         return 0
     wrong = 0
-    for source, target in PICTURES:
-        drawn = picture(os.path.join(HERE, '..', 'examples', source))
+    sources = [(source, target, lambda source=source: picture(os.path.join(HERE, '..', 'examples', source))) for source, target in PICTURES]
+    for source, target, draws in [*sources, ('the tables', 'goods-answered.svg', chart)]:
+        drawn = draws()
         path = os.path.join(HERE, 'pictures', target)
         if not words:
             with open(path, 'w', encoding='utf-8') as file:

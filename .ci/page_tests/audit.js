@@ -1,7 +1,7 @@
 // Runs in a page, whose width is arguments[0]: what is wrong with it for people who see little, use keys alone or have it read aloud (WCAG 2.2 AA, as far
 // as a script can tell). Answers the faults, and of how many texts the contrast was looked at.
 const faults = [];
-const visible = (e) => e.getClientRects().length && getComputedStyle(e).visibility !== 'hidden' && !e.closest('.sr, .skip');
+const visible = (e) => e.getClientRects().length && (e.checkVisibility?.() ?? true) && getComputedStyle(e).visibility !== 'hidden' && !e.closest('.sr, .skip');
 const head = (e) => e.outerHTML.slice(0, 90);
 const own = (e) => (e.innerText || e.getAttribute('alt') || '').trim();
 const label = (e) => (e.getAttribute('aria-label') || (e.labels && [...e.labels].map((l) => l.innerText).join(' ')) || own(e) || '').trim();

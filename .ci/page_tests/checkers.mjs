@@ -1,10 +1,13 @@
-// Rung (b) of .ci/page, with node: the page's own checker against `fairsplit check`, on certificates of drawn cases of the three kinds and on forged ones.
+// Rung (b) of .ci/page, with node: the page's own checker against `fairsplit check`, on certificates of drawn cases of the three kinds and on forged ones;
+// and whatever the page works out from a certificate against `fairsplit report`.
 // node checkers.mjs PROGRAM SEED COUNT
 import { spawn } from 'node:child_process';
 import { readFileSync, readdirSync } from 'node:fs';
 import { dirname, join } from 'node:path';
 import { fileURLToPath } from 'node:url';
-import { judging } from '../../page/js/check.js';
+import { judging, lineOf } from '../../page/js/check.js';
+import { exact } from '../../page/js/fractions.js';
+import { adjustedWinner, fareShares, goodsShares, rentShares } from '../../page/js/shares.js';
 
 const [program, seed, count] = [process.argv[2], Number(process.argv[3]), Number(process.argv[4])];
 const EXAMPLES = join(dirname(fileURLToPath(import.meta.url)), '../../examples');
@@ -100,18 +103,41 @@ const tally = {};
 let differ = 0;
 async function compare(kind, text) {
   const theirs = (await run(['check'], text)).trim();
-  const found = judge(text);
-  const ours = found.verdict === 'yes' ? 'yes' : found.verdict === 'no' ? `no ${found.rule}` : `refused: ${found.line === 'too long' ? '' : 'line '}${found.line}`;
+  const ours = lineOf(judge(text));
   const key = `${kind} ${theirs.replace(/line .*/, 'line')}`;
   tally[key] = (tally[key] ?? 0) + 1;
   if (theirs !== ours && ++differ < 6) console.log(`checkers: ${theirs} and here ${ours}:\n${text}`);
 }
 
+/** What the page works out from a certificate, as texts in the order of a report. */
+const WORKED_OUT = {
+  rent(said) { const { pays, gain, room } = rentShares(said); return { pays, utility: room.map((at, m) => exact(gain(m, at))) }; },
+  goods(said) { return { points: goodsShares(said).points }; },
+  fares(said) { const { pays, alone } = fareShares(said); return { pays, alone, fare: said.fares.map(exact) }; },
+};
+
+/** Compares what follows from a certificate with the report of the same case, and with the program's adjusted winner. */
+async function compareReport(kind, input, text) {
+  const [report, winner] = [await run(['report', '1'], input), kind === 'goods' ? await run(['winner'], input) : ''];
+  const { said } = judge(text);
+  const mine = Object.entries(WORKED_OUT[kind](said)).map(([word, list]) => [word, list.map(String)]);
+  const theirs = mine.map(([word]) => [word, report.split('\n').filter((line) => /^\d+ /.test(line)).map((line) => new RegExp(`, ${word} (-?[\\d/]+)`).exec(line)[1])]);
+  if (winner.startsWith('fairsplit pair')) {
+    const { shares, total } = adjustedWinner(said.values);
+    mine.push([...shares.map(exact), exact(total)]);
+    theirs.push([.../^shares (.*)$/m.exec(winner)[1].split(' '), /^total (.*)$/m.exec(winner)[1]]);
+  }
+  if (JSON.stringify(mine) !== JSON.stringify(theirs) && ++differ < 6) console.log(`checkers: ${JSON.stringify(theirs)} and here ${JSON.stringify(mine)}:\n${text}`);
+}
+
 const certificates = readdirSync(EXAMPLES).filter((name) => name.endsWith('.txt') && !/\.(report|winner|weigh)\.txt$/.test(name)).map((name) => readFileSync(join(EXAMPLES, name), 'utf8')).filter((text) => text.startsWith('fairsplit 1'));
 for (let i = 0; i < count; i++) {
   const kind = Object.keys(DRAWN)[i % 3];
-  const text = await run(['solve', '1'], JSON.stringify({ kind, title: 'x', ...DRAWN[kind]() }));
-  if (text.startsWith('fairsplit 1')) certificates.push(text);
+  const input = JSON.stringify({ kind, title: 'x', ...DRAWN[kind]() });
+  const text = await run(['solve', '1'], input);
+  if (!text.startsWith('fairsplit 1')) continue;
+  certificates.push(text);
+  await compareReport(kind, input, text);
 }
 const tries = certificates.flatMap((text) => [text, ...allNear(text), ...list(FORGED, () => forge(text)), forge(forge(text))].map((tried) => [/^kind (\w+)$/m.exec(text)[1], tried]));
 for (let i = 0; i < tries.length; i += AT_ONCE) await Promise.all(tries.slice(i, i + AT_ONCE).map(([kind, text]) => compare(kind, text)));

@@ -26,7 +26,8 @@ FOCUSED = '''const e = document.activeElement;
 const s = getComputedStyle(e);
 return {id: e.id, tag: e.tagName, text: e.innerText, href: e.getAttribute("href") || "", seen: s.outlineStyle !== "none" && parseFloat(s.outlineWidth) > 0}'''
 VALUES = 'return [...document.querySelectorAll(arguments[0])].map((e) => arguments[1] === "value" ? e.value : e.getAttribute(arguments[1]))'
-NOT_TOLD = (' status of 4', ' status of 50', 'Failed to load resource')  # refusals, and replies that were lost on purpose
+# Refusals, replies that were lost on purpose, and a question at leaving that no click came before.
+NOT_TOLD = (' status of 4', ' status of 50', 'Failed to load resource', 'Blocked attempt to show a')
 
 
 SLOWNESS = 3  # how much longer than usual a busy machine may take
@@ -153,7 +154,9 @@ class Browser:
     def press(self, words):
         """Clicks the button that begins with these words."""
         self.until(lambda: self.run(FIND_BUTTON, words), 20, f'there is no button {words!r} in {self.texts("main button")}')
-        self.ask('POST', f'/element/{self.run(FIND_BUTTON, words)[ELEMENT]}/click')
+        element = self.run(FIND_BUTTON, words)
+        self.run('arguments[0].scrollIntoView({block: "center"})', element)
+        self.ask('POST', f'/element/{element[ELEMENT]}/click')
 
     def enabled(self, words):
         return self.run(FIND_BUTTON + '?.disabled === false', words)
@@ -168,6 +171,11 @@ class Browser:
         """Puts a value into a field at once, and leaves it."""
         self.one(selector)
         self.run(PUT, selector, value)
+
+    def speak(self, code):
+        """Chooses a language as a person does: in the list."""
+        self.one('#languages select')
+        self.run('const list = document.querySelector("#languages select"); list.value = arguments[0]; list.dispatchEvent(new Event("change"))', code)
 
     def keys(self, words):
         """Keys to whatever has the focus."""

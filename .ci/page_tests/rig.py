@@ -41,12 +41,14 @@ def policy():
 
 class Lossy(threading.Thread):
     """Between nginx and the host: sends one request a connection on. `lose` replies to POSTs are lost behind the host, `refuse` requests before it, and
-    while `deaf` no reply comes to any."""
+    while `deaf` no reply comes to any; each takes `slow` seconds more. `alter` makes another body of that of a reply, or another status and body, by the first line of its request."""
 
     def __init__(self, host_port):
         super().__init__(daemon=True)
         self.lose = self.refuse = 0
         self.deaf = False
+        self.slow = 0
+        self.alter = None
         self.seen = []
         self.host_port = host_port
         self.listener = socket.create_server(('127.0.0.1', 0))
@@ -71,6 +73,17 @@ class Lossy(threading.Thread):
             body += client.recv(65536)
         return head, body
 
+    def altered(self, first, reply):
+        """The reply with another body, where there is to be one."""
+        head, body = reply.split(b'\r\n\r\n', 1)
+        other = self.alter(first, body)
+        if other is None or b' 200 ' not in head.split(b'\r\n')[0]:
+            return reply
+        status, *lines = [line for line in head.split(b'\r\n') if not line.lower().startswith(b'content-length')]
+        if isinstance(other, tuple):
+            status, other = other
+        return b'\r\n'.join([status, *lines, b'Content-Length: %d' % len(other)]) + b'\r\n\r\n' + other
+
     def serve(self, client):
         client.settimeout(90)
         try:
@@ -81,6 +94,7 @@ class Lossy(threading.Thread):
             if self.deaf or (post and self.refuse > 0):
                 self.refuse -= post and not self.deaf
                 return
+            time.sleep(self.slow)
             lines = [line for line in head.split(b'\r\n') if not line.lower().startswith(b'connection')] + [b'Connection: close']
             reply = b''
             with socket.create_connection(('127.0.0.1', self.host_port), 90) as host:
@@ -90,7 +104,7 @@ class Lossy(threading.Thread):
             if post and self.lose > 0:
                 self.lose -= 1
                 return
-            client.sendall(reply)
+            client.sendall(self.altered(first, reply) if self.alter else reply)
         except OSError:
             pass
         finally:
@@ -180,7 +194,7 @@ http {{
         location {path} {{
             alias {os.path.realpath(PAGE)}/;
             gzip on;
-            gzip_types text/css application/javascript image/svg+xml;
+            gzip_types text/css application/javascript application/wasm image/svg+xml;
             {lines['/']}
         }}'''
 

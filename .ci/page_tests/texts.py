@@ -1,4 +1,5 @@
 """Rung (a) of .ci/page, by Python's standard library alone: the bytes of the page against themselves, the documents and the proxies' files."""
+import colorsys
 import gzip
 import json
 import os
@@ -8,14 +9,22 @@ import sys
 
 TOP = os.path.realpath(os.path.join(os.path.dirname(os.path.abspath(__file__)), '../..'))
 PAGE = os.path.join(TOP, 'page')
-UNLOADED = ('try', 'make_check', 'policy.txt')  # no browser loads these
-OF_CHECK = ('check.html', 'js/alone.js')  # the file that is handed out, and what is in it alone
-MOST_BYTES = 140_000
-MOST_FOR_A_BID = 25_000
+UNLOADED = ('try', 'make_check', 'make_divide', 'single_file.py', 'policy.txt')  # no browser loads these
+OF_FILES = ('check.html', 'divide.html', 'js/alone.js', 'js/divide_alone.js', 'js/carried_alone.js')  # the files that are handed out, and what is in them alone
+# Loaded only where something is checked, or divided without a server; counted apart, as judge/ and the languages are.
+OF_CHECKS = [f'js/{name}.js' for name in ('carried', 'check', 'judges', 'judge_task', 'judge_worker', 'verdict')]
+OF_DIVISIONS = [f'js/{name}.js' for name in ('demo', 'divide', 'divide_form', 'solver', 'solve_task', 'solve_worker')]
+MOST_BYTES = 200_000
+MOST_APART = 60_000
+MOST_FOR_A_BID = 32_000
 MOST_OF_A_PICTURE = 60_000
-BID = ['index.html', 'style.css', 'icon.svg'] + [f'js/{name}.js' for name in ('main', 'dom', 'language', 'link', 'round', 'api', 'money', 'bid', 'rules')]
-LANGUAGES = ['words', 'words.de']
-PROXIES = ['hosting/nginx.conf', 'hosting/Caddyfile', 'hosting/haproxy.cfg']
+BID = ['index.html', 'style.css', 'icon.svg'] + [f'js/{name}.js' for name in (
+    'main', 'dom', 'language', 'link', 'round', 'api', 'money', 'money_field', 'bid', 'value_fields', 'rules', 'seen', 'store')]
+with open(os.path.join(PAGE, 'js/language.js'), encoding='utf-8') as language_file:
+    LANGUAGES = re.findall(r"load: \(\) => import\('\./(words[.\w]*)\.js'\)", language_file.read())
+FORMS = {'zero', 'one', 'two', 'few', 'many', 'other'}  # of a plural; node tells which a language needs
+MORE = {words: words.replace('words', 'words.more') for words in LANGUAGES}  # what nobody needs to bid
+PROXIES = ['hosting/nginx.site', 'hosting/Caddyfile', 'hosting/haproxy.cfg']
 # Codes that no person meets: of proxies and programs, or told by sentences of their own.
 UNMET = {'no_key', 'role', 'open', 'bad_head', 'bad_host', 'framing', 'bad_length', 'length_missing', 'no_route', 'method', 'bad_json', 'bad_field', 'turn',
          'no_audit', 'void', 'not_two', 'step_limit'}
@@ -41,18 +50,23 @@ def files():
     """The files that a browser may load, by their names in page/."""
     found = {}
     for folder, folders, names in os.walk(PAGE):
-        folders[:] = [name for name in folders if name != '__pycache__']
+        folders[:] = [name for name in folders if name not in ('__pycache__', 'judge')]  # the modules are counted apart
         for name in names:
             path = os.path.join(folder, name)
             check(f'{path} is a symbolic link', not os.path.islink(path))
-            found[os.path.relpath(path, PAGE)] = open(path, encoding='utf-8').read()
-    return {name: text for name, text in found.items() if name not in UNLOADED}
+            found[os.path.relpath(path, PAGE)] = path
+    texts = [name for name in found if name not in UNLOADED and not name.startswith('judge/')]
+    return {name: open(found[name], encoding='utf-8').read() for name in texts}
 
 
 def weigh(texts):
     """The page weighs no more than it may."""
-    whole = sum(len(text.encode()) for name, text in texts.items() if name not in OF_CHECK)
+    others = [f'js/{words}.js' for words in [*MORE, *MORE.values()]]
+    size = {name: len(text.encode()) for name, text in texts.items() if name not in OF_FILES and name not in others}
+    apart = sum(size[name] for name in OF_CHECKS + OF_DIVISIONS)
+    whole = sum(size.values()) - apart
     check(f'the page has {whole} bytes, above {MOST_BYTES}', whole <= MOST_BYTES)
+    check(f'checks and divisions have {apart} bytes, above {MOST_APART}', apart <= MOST_APART)
     least = []
     for words in LANGUAGES:
         bid = sum(len(gzip.compress(texts[name].encode(), 6)) for name in BID + [f'js/{words}.js'])
@@ -64,7 +78,7 @@ def weigh(texts):
 def look_for_danger(texts):
     """No markup is parsed, nothing is run from text, nothing comes from elsewhere."""
     for name, text in texts.items():
-        if name == 'check.html':
+        if name.endswith('.html') and name != 'index.html':
             continue
         for word in FORBIDDEN:
             check(f'{word} stands in {name}', word not in text)
@@ -83,8 +97,8 @@ def imports_of(module, dynamic):
 
 
 def reached():
-    """The modules that a member's bid loads, but for the words."""
-    found, todo = set(), ['main', 'round', 'bid']
+    """The modules that a member's bid on a rent, which has most, needs before it can be sent, but for the words."""
+    found, todo = set(), ['main', 'round', 'bid', 'value_fields']
     while todo:
         module = todo.pop()
         if module not in found:
@@ -103,7 +117,9 @@ def follow_imports(texts):
             for name in filter(None, (word.strip() for word in names.split(','))):
                 check(f'{module}.js takes {name} of {needed}.js, which has none', re.search(rf'^export (?:async )?(?:const|let|class|function\*?) {name}\b', texts[f'js/{needed}.js'], re.M))
                 check(f'{module}.js takes {name} and does not use it', len(re.findall(rf'\b{name}\b', texts[f'js/{module}.js'])) > 1)
-    check('a module that nobody uses', used | {'main', 'alone'} == set(modules))
+    workers = set(re.findall(r"'js/(\w+)\.js'", texts['js/carried.js']))
+    begun = {'main', 'alone', 'divide_alone', 'carried_alone'} | workers
+    check(f'a module that nobody uses: {sorted((used | begun) ^ set(modules))}', used | begun == set(modules))
 
 
 def policy():
@@ -120,7 +136,7 @@ def policy():
 def compare_policies():
     lines = policy()
     csp = lines['/']['Content-Security-Policy']
-    check('the policy is not strict', 'unsafe' not in csp and csp.startswith("default-src 'none'") and 'http' not in csp)
+    check('the policy is not strict', 'unsafe' not in csp.replace("'wasm-unsafe-eval'", '') and csp.startswith("default-src 'none'") and 'http' not in csp)
     seen = []
     for name in PROXIES:
         if not os.path.exists(os.path.join(TOP, name)):
@@ -156,16 +172,30 @@ def keys_of(words):
     return found
 
 
+def sentences_of(words):
+    """The sentences of a language by their keys, each with its forms: one, or those of a plural."""
+    table, found = {**keys_of(words), **keys_of(MORE[words])}, {}
+    beside = {}
+    for key in table:
+        beside.setdefault(key.rpartition('.')[0], set()).add(key.rpartition('.')[2])
+    for key, text in table.items():
+        above = key.rpartition('.')[0]
+        found.setdefault(above if 'other' in beside[above] <= FORMS else key, []).append(text)
+    return found
+
+
 def compare_words(texts):
     """Each language has each sentence, with the same parts to be put in, and each that the code asks for."""
-    tables = {words: keys_of(words) for words in LANGUAGES}
+    tables = {words: sentences_of(words) for words in LANGUAGES}
+    check(f'these languages are there: {LANGUAGES}', len(LANGUAGES) >= 6)
     first = tables[LANGUAGES[0]]
     for words, table in tables.items():
         check(f'{words} has other sentences: {sorted(set(first) ^ set(table))}', set(first) == set(table))
         for key in set(first) & set(table):
-            check(f'{words} puts other things into {key}', set(re.findall(r'\{\w+\}', first[key])) == set(re.findall(r'\{\w+\}', table[key])))
-            check(f'{words} has an empty {key}, or a straight apostrophe', table[key] and "'" not in table[key] and table[key].count('*') % 2 == 0)
-    whole = {re.sub(r'\.(one|other)$', '', key) for key in first}
+            parts = {part for form in first[key] for part in re.findall(r'\{\w+\}', form)}
+            check(f'{words} puts other things into {key}', all(set(re.findall(r'\{\w+\}', form)) == parts for form in table[key]))
+            check(f'{words} has an empty {key}, or a straight apostrophe', all(form and "'" not in form and form.count('*') % 2 == 0 for form in table[key]))
+    whole = set(first)
     code = '\n'.join(text for name, text in texts.items() if name.startswith('js/') and not name.startswith('js/words'))
     asked = set(re.findall(r"'([a-z]\w*(?:\.\w+)+|[a-z]\w+)'", code))
     made = re.findall(r'`((?:[a-z]\w*\.)+(?:\$\{[^`]*?\}|[\w.])*)`', code)
@@ -215,7 +245,7 @@ def compare_hosts(texts):
 
 def compare_answers():
     """The table of how likely goods have an answer is the same in the page and in the documents."""
-    table = texts_of_table(text_of('page/js/rules.js').split('ANSWERED = {')[1].split('};')[0])
+    table = texts_of_table(text_of('page/js/odds.js').split('ANSWERED = {')[1].split('};')[0])
     rows = ['| ' + ' | '.join([str(people)] + [f'{a}, {b}' for a, b in zip(some, coarse)]) + ' |' for people, some, coarse in zip(table['people'], table['any'], table['stepped'])]
     for name in ('docs/SEARCH.md',):
         for row in rows:
@@ -224,14 +254,14 @@ def compare_answers():
 
 # What ORGANISERS.md says of sizes: for so many people and so many things, from how many to how many had an answer, first with any points.
 SIZES = [
-    ('2 to 6 people, up to 10 things', range(2, 7), range(4, 11)), ('2 to 6 people, 12 things', range(2, 7), [12]), ('2 to 6 people, 14 things', range(2, 7), [14]),
-    ('2 people, 24 things', [2], [24]), ('3 to 6 people, 20 things', range(3, 7), [20]),
+    ('2 to 6 people, up to 10 items', range(2, 7), range(4, 11)), ('2 to 6 people, 12 items', range(2, 7), [12]), ('2 to 6 people, 14 items', range(2, 7), [14]),
+    ('2 people, 24 items', [2], [24]), ('3 to 6 people, 20 items', range(3, 7), [20]),
 ]
 
 
 def compare_sizes():
     """The table of sizes in ORGANISERS.md is that of the page, shortened."""
-    table = texts_of_table(text_of('page/js/rules.js').split('ANSWERED = {')[1].split('};')[0])
+    table = texts_of_table(text_of('page/js/odds.js').split('ANSWERED = {')[1].split('};')[0])
     told = text_of('docs/ORGANISERS.md')
     cells = lambda key, people, things: [some for n, row in zip(table['people'], table[key]) for m, some in zip(table['goods'], row) if n in people and m in things]
     span = lambda found: f'{min(found)} to {max(found)}' if min(found) < max(found) else f'{found[0]}'
@@ -239,11 +269,30 @@ def compare_sizes():
         row = f"| {words} | {span(cells('any', people, things))} | {span(cells('stepped', people, things))} |"
         check(f'ORGANISERS lacks the row {row}', row in told)
     none = [cells(key, [people], things) for key in ('any', 'stepped') for people, things in ((10, [8]), (12, [6, 8, 10]))]
-    check('ORGANISERS has another row of sizes without an answer', '| 10 people, 8 things; 12 people, 6 to 10 things | 0 | 0 |' in told and not any(map(sum, none)))
+    check('ORGANISERS has another row of sizes without an answer', '| 10 people, 8 items; 12 people, 6 to 10 items | 0 | 0 |' in told and not any(map(sum, none)))
 
 
 def texts_of_table(text):
     return {key: json.loads(re.search(key + r': (\[\[.*?\]\]|\[[^\]]*\])', text, re.S)[1]) for key in ('people', 'goods', 'any', 'stepped')}
+
+
+def luminance(red, green, blue):
+    linear = [part / 12.92 if part <= 0.04045 else ((part + 0.055) / 1.055) ** 2.4 for part in (red, green, blue)]
+    return sum(part * weight for part, weight in zip(linear, (0.2126, 0.7152, 0.0722)))
+
+
+def measure_bars():
+    """The bar of each of twelve people has a contrast of 3:1 against its track, light and dark."""
+    style = text_of('page/style.css')
+    papers, levels = re.findall(r'--paper: #(\w{6})', style), re.findall(r'--full-l: (\d+)%', style)
+    check('bars and tracks have a light and a dark form', len(papers) == len(levels) == 2)
+    for paper, level in zip(papers, levels):
+        track = luminance(*(int(paper[at:at + 2], 16) / 255 for at in (0, 2, 4)))
+        for member in range(12):
+            hue = (member * 137 + 168) % 360
+            bar = luminance(*colorsys.hls_to_rgb(hue / 360, int(level) / 100, 0.55))
+            contrast = (max(bar, track) + 0.05) / (min(bar, track) + 0.05)
+            check(f'the bar of member {member + 1} has a contrast of {contrast:.2f} on #{paper}', contrast >= 3)
 
 
 def outside_of_proof():
@@ -255,8 +304,6 @@ def outside_of_proof():
     check('README does not open with a picture', pictures and text_of('README.md').index(pictures[0]) < text_of('README.md').index('\n## '))
     for picture in pictures:
         check(f'{picture} is above {MOST_OF_A_PICTURE} bytes', os.path.getsize(os.path.join(TOP, picture)) <= MOST_OF_A_PICTURE)
-    words = len(text_of('README.md').split())
-    check(f'README has {words} words', words <= 1200)
 
 
 def main():
@@ -270,8 +317,10 @@ def main():
     compare_hosts(texts)
     compare_answers()
     compare_sizes()
+    measure_bars()
     outside_of_proof()
-    check('check.html is stale', subprocess.run([sys.executable, os.path.join(PAGE, 'make_check'), '--check'], check=False).returncode == 0)
+    for make in ('make_check', 'make_divide'):
+        check(f'{make} would write another file', subprocess.run([sys.executable, os.path.join(PAGE, make), '--check'], check=False).returncode == 0)
     print(f'texts: {right} right, {wrong} wrong; {weight}; {policies}')
     sys.exit(wrong > 0)
 

@@ -1,11 +1,14 @@
 // The page that checks certificates as a file of its own, check.html: it works from a disk, with no host and no network.
-import { byId, fill } from './dom.js';
-import { languageSwitch, learn, text } from './language.js';
-import { checkView } from './proof.js';
+import { action, byId, fill } from './dom.js';
+import { help } from './help.js';
+import { languageSwitch, learn, learnMore, t, text } from './language.js';
+import { checkView } from './checkview.js';
 
-function show() {
+async function show() {
+  await learnMore();
   document.title = text('check.link');
-  fill(byId('languages'), languageSwitch(show));
+  byId('main').dataset.view = 'check';
+  fill(byId('languages'), action({ class: 'language', click: help }, t('help')), languageSwitch(show));
   checkView(byId('main'), true);
 }
 

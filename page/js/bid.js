@@ -1,193 +1,169 @@
 // One's own bid: the form, and what stands.
-import { action, announce, box, faultLine, fill, h, keep, name, showFault } from './dom.js';
-import { t, text } from './language.js';
-import { LIMITS, STEP, THINGS, odds, scale } from './rules.js';
-import { cents, money, plain, whole } from './money.js';
-import { get, isOpen, post, sentence } from './api.js';
+import { action, announce, box, fill, h, name, p, showFault } from './dom.js';
+import { shortMoment, t, text } from './language.js';
+import { LIMITS, THINGS } from './rules.js';
+import { money } from './money.js';
+import { SLOW, get, hostNow, isOpen, post, sentence } from './api.js';
+import { askBeforeLeaving, bidDraft } from './store.js';
+import { seeBid } from './seen.js';
 
-// A slider of money has at most 200 stops.
-const STOPS = [1, 5, 10, 50, 100, 500, 1000, 2500, 5000, 10_000, 50_000, 100_000];
-let unsent = null; // what stood in a form that was drawn anew in another language
-
-/** What this browser sent last, so that the certificate can be compared with it. */
-const remember = (round, bid) => keep(`sent.${round.id}.${round.you}`, { title: round.title, ...bid });
-
-/** The places, to pick one. */
-function placeFields(round, bid) {
-  const set = h('fieldset', { class: 'plain' }, h('legend', {}, t('bid.place')),
-    h('div', { class: 'places', id: 'place' }, round.places.map((place, p) => h('label', { class: 'place' },
-      h('input', { type: 'radio', name: 'place', value: p + 1, checked: (unsent ?? bid.place) === p + 1 }),
-      h('span', {}, h('strong', {}, name(place)), h('small', {}, t('bid.alone', { amount: money(round.flag + round.legs[0][p]) })))))),
-    faultLine('place'));
-  const place = () => Number(set.querySelector('input:checked')?.value ?? 0);
-  const wrong = () => (place() ? '' : text('bid.noPlace'));
-  const complain = (says) => { showFault('place', says); set.querySelector('input').focus(); };
-  return { set, said: () => ({ place: place() }), raw: place, wrong, complain };
-}
-
-/** Fields and sliders whose numbers must add up: what each room is worth, or points for each thing. */
-function valueFields(round, bid, { message, alive, calm }) {
-  const rent = round.kind === 'rent';
-  const things = round[THINGS[round.kind]];
-  const total = rent ? round.rent : LIMITS.points;
-  const step = rent ? STOPS.find((s) => total / s <= 200) : STEP;
-  const asText = (v) => (rent ? plain(v) : String(v));
-  const asNumber = (typed) => (typed.trim() === '' ? 0 : rent ? cents(typed) : whole(typed));
-  const shown = (v) => (rent ? money(v) : text('points', { n: v }));
-  const rest = h('p', { class: 'rest', id: 'values' });
-  const cost = h('p', { class: 'hint', id: 'cost' });
-  const meter = h('div', { class: 'meter', 'aria-hidden': 'true' }, h('span', {}));
-  const fields = [];
-  let speaking = 0;
-
-  const now = () => fields.map((field) => asNumber(field.input.value));
-  const sum = (all) => all.reduce((a, b) => a + (b || 0), 0);
-  const put = (numbers) => { numbers.forEach((v, i) => { fields[i].input.value = asText(v); }); count(); };
-
-  function restText(all, over) {
-    if (all.some(Number.isNaN)) return text('bid.noNumber');
-    if (over === 0) return text('bid.spread', { all: shown(total) });
-    return over < 0 ? text('bid.left', { left: shown(-over), all: shown(total) }) : text('bid.over', { over: shown(over), all: shown(total) });
-  }
-
-  /** What it costs that points are no round ones. */
-  function costText(all) {
-    const chance = odds(round.members.length, things.length);
-    if (rent || chance.stepped <= chance.any || all.every((v) => Number.isNaN(v) || v % STEP === 0)) return '';
-    return t('bid.cost', { step: STEP, ...chance });
-  }
-
-  /** Draws anew what follows from the numbers. */
-  function count() {
-    const all = now();
-    const over = sum(all) - total;
-    fields.forEach(({ slider, fit }, i) => {
-      const bad = Number.isNaN(all[i]);
-      if (!bad) slider.value = all[i];
-      slider.setAttribute('aria-valuetext', bad ? text('bid.noNumber') : shown(all[i]));
-      showFault(`value-${i}`, bad ? text(rent ? 'bid.writeAmount' : 'bid.writePoints') : '');
-      fit.disabled = over === 0 || bad || all[i] - over < 0;
-    });
-    const mood = over === 0 ? 'good' : over > 0 ? 'bad' : '';
-    rest.textContent = restText(all, over);
-    rest.className = `rest ${mood}`;
-    meter.className = `meter ${mood}`;
-    meter.firstChild.style.setProperty('--part', Math.min(1, sum(all) / total));
-    fill(cost, costText(all));
-    calm();
-    clearTimeout(speaking);
-    speaking = setTimeout(() => { if (alive() && set.contains(document.activeElement)) announce(rest.textContent); }, 900);
-  }
-
-  function line(thing, i) {
-    const input = h('input', { id: `value-${i}`, inputmode: rent ? 'decimal' : 'numeric', autocomplete: 'off', value: unsent?.[i] ?? asText(bid.values?.[i] ?? 0), 'aria-describedby': `value-${i}-fault values`, input: count, focus: () => input.select() });
-    const slider = h('input', { type: 'range', min: 0, max: total, step, 'aria-label': text('bid.slider', { thing }), value: 0, input: () => { input.value = asText(Number(slider.value)); count(); } });
-    const fit = action({ class: 'small', 'aria-label': text('bid.fitOf', { thing }), click: () => {
-      const all = now();
-      input.value = asText(total - sum(all.filter((_, j) => j !== i)));
-      count();
-      input.focus();
-    } }, t('bid.fit'));
-    fields.push({ input, slider, fit });
-    return h('li', {}, h('label', { for: `value-${i}` }, name(thing)), slider, h('span', { class: 'amount' }, input, fit), faultLine(`value-${i}`));
-  }
-
-  /** All numbers scaled so that they add up; points to steps. */
-  function scaled() {
-    const unit = rent ? 1 : STEP;
-    put(scale(now().map((v) => v || 0), total / unit).map((v) => v * unit));
-  }
-
-  const set = h('fieldset', { class: 'plain' }, h('legend', {}, t(rent ? 'bid.rent' : 'bid.goods')),
-    h('p', { class: 'hint' }, t(rent ? 'bid.rentHow' : 'bid.goodsHow', { all: shown(total) })),
-    h('ul', { class: 'values' }, things.map(line)), meter, rest, cost,
-    h('p', { class: 'row' }, action({ click: scaled }, t('bid.scale')), action({ click: () => put(now().map(() => 0)) }, t('bid.zero'))));
-  queueMicrotask(count);
-  const wrong = () => (now().some(Number.isNaN) || sum(now()) !== total ? rest.textContent : '');
-  const complain = (says) => {
-    announce(says);
-    fill(message, box('bad', says));
-    (fields.find(({ input }) => Number.isNaN(asNumber(input.value))) ?? fields[0]).input.focus();
-  };
-  return { set, said: () => ({ values: now() }), raw: () => fields.map(({ input }) => input.value), wrong, complain };
-}
+const TURNS_TOLD = 15; // from so many on it is told how many are left
 
 /** What stands, as a line. */
 function standing(round, bid) {
   if (round.kind === 'fares') return t('bid.getOff', { place: name(round.places[bid.place - 1]) });
   const things = round[THINGS[round.kind]];
-  return bid.values.map((v, i) => [i ? ' · ' : '', name(things[i]), '\u00a0', h('strong', {}, round.kind === 'rent' ? money(v) : v)]);
+  const shown = (value) => h('strong', {}, round.kind === 'rent' ? money(value) : value);
+  return bid.values.map((value, i) => [i ? ' · ' : '', name(things[i]), '\u00a0', shown(value)]);
 }
 
-/** Shows the form. Returns what keeps its content for a form that is drawn in its place. */
-export function bidForm(place, { link, path, round, bid, tick, reload, alive }) {
-  const stands = h('div', { id: 'stands', 'aria-live': 'polite' });
-  const message = h('div', { id: 'message' });
-  let open = null; // what was sent and not answered, to be sent again as it is
-  /** What was wrong is told until something is changed. */
-  const calm = () => { showFault('place', ''); if (!open && message.querySelector('.bad')) fill(message); };
-  const { set, said, raw, wrong, complain } = round.kind === 'fares' ? placeFields(round, bid) : valueFields(round, bid, { message, alive, calm });
-  unsent = null;
-  const send = h('button', { class: 'main' });
-  const back = action({ click: () => ask('withdraw') }, t('bid.takeBack'));
-  const form = h('form', { class: 'card', novalidate: true, input: calm, submit: (event) => { event.preventDefault(); ask('bids'); } },
-    stands, set, message, h('p', { class: 'row' }, send, back), h('p', { class: 'hint' }, t('bid.sealed')));
-  fill(place, form);
-  drawStands();
-  return () => { unsent = raw(); };
+/** The form of a bid, and what stands. */
+class BidForm {
+  /** `fieldsOf` makes the fields of the kind. */
+  constructor(view, fieldsOf) {
+    const { round, bid, alive, link } = view;
+    Object.assign(this, { view, bid, open: null }); // open: what was sent and not answered, to be sent again as it is
+    this.typed = bidDraft(link);
+    this.stands = h('div', { id: 'stands', 'aria-live': 'polite' });
+    this.along = h('div', {});
+    this.earlier = h('div', {});
+    this.message = h('div', { id: 'message' });
+    const calm = () => this.calm();
+    this.fields = fieldsOf(round, bid, { message: this.message, alive, calm });
+    this.send = h('button', { class: 'main' });
+    this.back = action({ click: () => this.ask('withdraw') }, t('bid.takeBack'));
+    this.remember = h('div', {});
+    this.form = this.drawn();
+    this.restore();
+  }
 
-  function drawStands() {
+  drawn() {
+    const { fields, stands, along, earlier, message, send, back, remember } = this;
+    const submit = (event) => { event.preventDefault(); this.ask('bids'); };
+    const input = () => { this.calm(); this.typed.put(fields.raw); };
+    fields.set.addEventListener('input', input);
+    return h('form', { class: 'card', novalidate: true, submit }, stands, along, earlier, fields.set, message,
+      h('div', { class: 'bar' }, fields.sum, h('p', { class: 'row' }, send, back)),
+      remember, h('p', { class: 'hint' }, t('bid.sealed')));
+  }
+
+  /** What was typed before and not sent is there again. */
+  restore() {
+    const raw = this.typed.get();
+    if (raw === null) return;
+    this.fields.raw = raw;
+    askBeforeLeaving(true);
+    fill(this.message, box('note', t('bid.draft')));
+  }
+
+  /** What was wrong is told until something is changed. */
+  calm() {
+    showFault('place', '');
+    if (!this.open && this.message.querySelector('.bad')) fill(this.message);
+  }
+
+  draw() {
+    const { bid, open } = this;
+    const { round } = this.view;
     const has = Boolean(bid.values ?? bid.place);
     const used = bid.turn >= LIMITS.turns;
-    fill(stands, h('h2', {}, t(has ? 'bid.stands' : bid.turn ? 'bid.tookBack' : 'bid.yours')),
+    this.stands.setAttribute('data-turn', bid.turn);
+    fill(this.stands, h('h2', {}, t(has ? 'bid.stands' : bid.turn ? 'bid.tookBack' : 'bid.yours')),
       has && h('p', { class: 'standing' }, standing(round, bid)),
-      bid.turn > 0 && h('p', { class: 'hint' }, t(used ? 'bid.turnsUsed' : 'bid.turns', { turn: bid.turn, of: LIMITS.turns })));
-    fill(send, t(open ? 'bid.sendAgain' : has ? 'bid.change' : 'bid.send'));
-    back.hidden = !has || Boolean(open);
-    set.disabled = Boolean(open);
-    send.disabled = back.disabled = used;
+      has && p(t('bid.resultAfter', { time: this.end() })),
+      bid.turn >= TURNS_TOLD && h('p', { class: 'hint' },
+        t(used ? 'bid.turnsUsed' : 'bid.turns', { n: LIMITS.turns - bid.turn, of: LIMITS.turns })));
+    fill(this.send, t(open ? 'bid.sendAgain' : has ? 'bid.change' : 'bid.send'));
+    this.back.hidden = !has || Boolean(open);
+    this.fields.set.disabled = Boolean(open);
+    this.send.disabled = this.back.disabled = used;
+    this.more(has).catch(() => {}); // not loaded: a bid needs none of it
+  }
+
+  end() { return shortMoment(this.view.round.deadline * 1000, hostNow()); }
+
+  /** What can come later: the tick that remembers the round, what to take along, and a bid from an earlier round. */
+  async more(has) {
+    const { round } = this.view;
+    this.remembers ??= (await import('./remember.js')).rememberBid(this.remember, this.view);
+    if (has && !this.along.firstChild) fill(this.along, (await import('./after_bid.js')).takeAlong(this.view));
+    if (!has) fill(this.along);
+    const isNew = round.kind === 'goods' && this.bid.turn === 0;
+    if (isNew && !this.earlier.firstChild) {
+      (await import('./old_bid.js')).offerOld(this.earlier, round, (points) => this.fields.put(points));
+    } else if (!isNew) fill(this.earlier);
   }
 
   /** What is to be sent, or null where something is wrong or the member thought better of it. */
-  function prepared(what) {
-    const says = what === 'bids' ? wrong() : '';
-    if (says) { complain(says); return null; }
-    if (what === 'withdraw' && bid.turn === LIMITS.turns - 1 && !confirm(text('bid.lastTurn'))) return null;
-    const bidSaid = { turn: bid.turn + 1, ...(what === 'bids' && said()) };
-    return { what, said: bidSaid, body: JSON.stringify(bidSaid) };
+  prepared(what) {
+    const says = what === 'bids' ? this.fields.wrong() : '';
+    if (says) { this.fields.complain(says); return null; }
+    if (what === 'withdraw' && this.bid.turn === LIMITS.turns - 1 && !confirm(text('bid.lastTurn'))) return null;
+    const said = { turn: this.bid.turn + 1, ...(what === 'bids' && this.fields.said()) };
+    return { what, said, body: JSON.stringify(said) };
   }
 
   /** Sends a bid or a withdrawal with the next turn, or what is open once more. */
-  async function ask(what) {
-    open ??= prepared(what);
-    if (!open) return;
-    send.disabled = back.disabled = set.disabled = true;
-    fill(send, t('bid.sending'));
+  async ask(what) {
+    const { path, link, alive, reload } = this.view;
+    this.open ??= this.prepared(what);
+    if (!this.open) return;
+    this.send.disabled = this.back.disabled = this.fields.set.disabled = true;
+    fill(this.send, t('bid.sending'));
+    const slow = setTimeout(() => fill(this.message, box('note', t('noReply.slowSent'))), SLOW);
     try {
-      await post(`${path}/${open.what}`, link.key, open.body);
-      const taken = open.what === 'withdraw';
-      bid = open.said;
-      open = null;
-      remember(round, bid);
-      fill(message, box('good', t(taken ? 'bid.taken' : bid.turn < LIMITS.turns ? 'bid.kept' : 'bid.keptLast')));
-      announce(message.textContent);
-      tick(true);
+      await post(`${path}/${this.open.what}`, link.key, this.open.body);
+      this.taken();
     } catch (refused) {
       if (!alive()) return;
       if (refused.code === 'closed') { reload(); return; }
-      await refusedBy(refused);
-    }
-    drawStands();
+      await this.refused(refused);
+    } finally { clearTimeout(slow); }
+    this.draw();
+  }
+
+  /** The server has what was sent. */
+  taken() {
+    const { link, round, tick } = this.view;
+    const isBack = this.open.what === 'withdraw';
+    this.bid = this.open.said;
+    this.open = null;
+    this.typed.drop();
+    seeBid(link, round, this.bid);
+    this.remembers?.();
+    const says = isBack ? 'bid.taken' : this.bid.turn < LIMITS.turns ? 'bid.kept' : 'bid.keptLast';
+    fill(this.message, box('good', t(says, { time: this.end() })));
+    announce(this.message.textContent);
+    tick(true);
   }
 
   /** Tells a refusal; where the turn was another one, what stands is asked for, and nothing is sent by itself. */
-  async function refusedBy(refused) {
-    if (isOpen(refused)) { fill(message, box('bad', sentence(refused))); return; }
-    open = null;
+  async refused(refused) {
+    if (isOpen(refused)) { fill(this.message, box('bad', sentence(refused))); return; }
+    this.open = null;
     if (['turn', 'no_bid', 'turns_used'].includes(refused.code)) {
-      try { bid = await get(`${path}/bid`, link.key); } catch { /* what stood is shown on */ }
+      try { this.bid = await get(`${this.view.path}/bid`, this.view.link.key); } catch { /* what stood is shown on */ }
     }
     if (refused.body?.field === 'place') showFault('place', sentence(refused));
-    else fill(message, box('bad', refused.code === 'turn' ? t('bid.elsewhere') : sentence(refused)));
+    else fill(this.message, box('bad', refused.code === 'turn' ? t('bid.elsewhere') : sentence(refused)));
   }
+}
+
+/** What makes the fields of a kind. */
+async function fieldsOf(kind) {
+  if (kind === 'fares') {
+    const { PlaceField } = await import('./place_field.js');
+    return (round, bid) => new PlaceField(round, bid);
+  }
+  const { ValueFields } = await import('./value_fields.js');
+  return (round, bid, around) => new ValueFields(round, bid, around);
+}
+
+/** Shows the form. */
+export async function bidForm(place, view) {
+  const make = await fieldsOf(view.round.kind);
+  if (!view.alive()) return;
+  const form = new BidForm(view, make);
+  fill(place, form.form);
+  form.draw();
 }

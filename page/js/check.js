@@ -1,5 +1,5 @@
-// A second checker of certificates, by the rules of docs/CERTIFICATES.md, with exact arithmetic. Pure, and not proved: the proved one is
-// `fairsplit check`, with which it shares no code. Each rule is [its sentence in words.js, whether it holds].
+// The second checker of certificates, by the rules of docs/CERTIFICATES.md, with exact arithmetic. Pure, and not proved: the proved one is
+// in judge/, and shares no code with it. Each rule is [its sentence in words.js, whether it holds].
 import { frac, same, total } from './fractions.js';
 
 const MOST_BYTES = 4_000_000;
@@ -13,8 +13,8 @@ const compare = (a, b) => { for (let i = 0; i < a.length; i++) if (a[i] !== b[i]
 
 class BadLine extends Error { constructor(line) { super(`line ${line}`); this.line = line; } }
 
-/** Reads a certificate: what its lines say, as BigInts. Throws BadLine at the first line that cannot stand. */
-function read(text) {
+/** Reads a certificate: what its lines say, as BigInts. Throws at the first line that is not valid. */
+export function read(text) {
   if (new TextEncoder().encode(text).length > MOST_BYTES) throw new BadLine('too long');
   const lines = text.split('\n');
   let at = 0;
@@ -221,14 +221,12 @@ function* walkTree({ n, g, values, owners, tree }) {
 function goodsCase(said, walk) {
   const c = { ...said, walk };
   const has = (player, other, without) => sum(c.owners.map((o, good) => (Number(o) === other + 1 && good !== without ? c.values[player][good] : 0n)));
-  c.points = (player) => has(player, player);
-  c.envy = (player, other) => has(player, other) - has(player, player);
-  c.facts = () => [['facts.envyOne', range(c.n).every((p) => range(c.n).every((q) => c.envy(p, q) <= 0n || c.owners.some((o, good) => Number(o) === q + 1 && has(p, q, good) <= has(p, p))))]];
+  c.facts = () => [['facts.envyOne', range(c.n).every((p) => range(c.n).every((q) => has(p, q) <= has(p, p) || c.owners.some((o, good) => Number(o) === q + 1 && has(p, q, good) <= has(p, p))))]];
   return c;
 }
 
 /** Judges a certificate: a generator that yields while it walks a long tree, and returns
-    { verdict: 'yes' | 'no' | 'refused', rule, line, rules: [[text, holds]], facts: [[text, holds]], said }. */
+    { verdict: 'yes' | 'no' | 'refused', rule, line, rules: [[text, holds]], facts: [[text, holds]] }, and what the lines say as `said`. */
 export function* judging(text) {
   let said;
   try { said = read(text); } catch (fault) { if (fault instanceof BadLine) return { verdict: 'refused', line: fault.line, rules: [], facts: [] }; throw fault; }
@@ -243,5 +241,11 @@ export function* judging(text) {
     rules.push([says, ok]);
     if (!ok) rule = rules.length;
   }
-  return { verdict: rule ? 'no' : 'yes', rule, rules, facts: rule ? [] : c.facts(), said: c };
+  return { verdict: rule ? 'no' : 'yes', rule, rules, facts: rule ? [] : c.facts(), said };
+}
+
+/** A verdict as the line that `fairsplit check` writes. */
+export function lineOf({ verdict, rule, line }) {
+  if (verdict !== 'refused') return verdict === 'no' ? `no ${rule}` : 'yes';
+  return line === 'too long' ? 'refused: too long' : `refused: line ${line}`;
 }

@@ -1,218 +1,283 @@
 // The form that makes a round.
-import { action, announce, box, byId, faultLine, field, fill, h, heading, name, p, showFault } from './dom.js';
-import { table } from './parts.js';
+import { announce, box, byId, faultLine, field, fill, h, heading, p, showFault } from './dom.js';
 import { locale, names, t, text } from './language.js';
-import { LIMITS, STEP, THINGS, odds } from './rules.js';
-import { doubles, faults } from './faults.js';
-import { CURRENCIES, cents, plain, setCurrency } from './money.js';
+import { LIMITS, STEP, THINGS } from './rules.js';
+import { odds } from './odds.js';
+import { doubles, faults, rowsThatCount } from './faults.js';
+import { money, plain, setCurrency } from './money.js';
+import { SUGGESTED, codeOf, currencyOf } from './currencies.js';
 import { hostNow, isOpen, sentence } from './api.js';
 import { make, newTag, pending } from './creation.js';
+import { formDraft } from './store.js';
+import { MoneyField } from './money_field.js';
+import { NameList } from './name_list.js';
+import { Ways } from './ways.js';
+import { rememberTick } from './remember.js';
 
-const KINDS = ['rent', 'goods', 'fares'];
-const PLAIN = ['title', 'rent', 'flag', 'deadline']; // fields of one value
-const WEEK = 7 * 86_400_000;
+const HOUR = 3_600_000;
+const WEEK = 168 * HOUR;
 const SMALL = 6; // so few people are no trouble with fewer things
+const SAMPLE = 145_050;
 
 /** A moment as a field for a local date and time has it. */
 const local = (ms) => new Date(ms - new Date(ms).getTimezoneOffset() * 60_000).toISOString().slice(0, 16);
 
-/** The first view: which kind? */
-export function choose(root) {
-  const kind = (which) => h('li', {}, h('a', { href: `#new-${which}`, class: `kind ${which}` }, h('strong', {}, t(`kinds.${which}.title`)), h('span', {}, t(`kinds.${which}.about`))));
-  fill(root, heading(t('start.title')), h('p', { class: 'lead' }, t('start.lead')),
-    h('ul', { class: 'kinds' }, KINDS.map(kind)),
-    h('p', { class: 'hint' }, t('start.private')), h('p', { class: 'hint' }, t('link.lost')));
+/** When a round of a kind is to end where nobody said otherwise: a taxi comes soon. */
+export const usualEnd = (kind, now) => (
+  kind === 'fares' ? now + HOUR : new Date(now + WEEK).setHours(20, 0, 0, 0));
+
+/** Begins a new round with the people and things of an old one. */
+export function again({ kind, title, members, rent, flag, legs, currency, ...more }) {
+  formDraft(kind).put({ title, people: members, things: more[THINGS[kind]], rent, flag, ways: { legs }, currency });
+  location.hash = `new-${kind}`;
 }
 
-let draft = null; // what the next form begins with
-let holder = null;
-/** Begins a new round with the people and things of an old one. */
-export function again(round) { draft = round; location.hash = `new-${round.kind}`; }
-/** Keeps what stands in the form, for the one that is drawn next. */
-export const hold = () => { draft = holder?.() ?? null; };
-
-const amount = (v) => (v === undefined ? '' : typeof v === 'number' ? plain(v) : v);
-const typed = (value, inputmode) => h('input', { value, inputmode, autocomplete: 'off', required: true });
+const shown = (value) => (value === undefined ? '' : typeof value === 'number' ? plain(value) : value);
 
 /** The id of a field of the form, by its name in a creation and the place in it. */
 const idOf = (of, at = '') => `${Object.values(THINGS).includes(of) ? 'things' : of}${at === '' ? '' : `-${at}`}`;
-
-/** A sentence for the id of each field that is wrong. */
-const wrongIn = (creation) => new Map(faults(creation, hostNow()).map(({ field: of, at, says: [path, given] }) => (
-  [idOf(of, at), text(path, given?.least === undefined ? given : { least: plain(given.least), most: plain(given.most) })])));
 
 /** How likely an answer is for so many people and things. */
 function chanceOf(people, things) {
   const { any, stepped, of } = odds(people, things);
   const scarce = things < people && people > SMALL; // which the table does not tell
-  return h('p', { class: scarce || stepped < of ? 'box note' : 'hint' }, scarce ? t('form.more')
-    : [t(any === of ? 'form.sure' : 'form.chance', { people, things, any, stepped, of, step: STEP }), stepped < of && [' ', t('form.fewer')]]);
+  if (scarce) return h('p', { class: 'box note' }, t('form.more'));
+  const says = t(any === of ? 'form.sure' : 'form.chance', { people, things, any, stepped, of, step: STEP });
+  return h('p', { class: stepped < of ? 'box note' : 'hint' }, says, stepped < of && [' ', t('form.fewer')]);
 }
 
-/** A field for a name, with a button to take it away where that can be. */
-function nameLine(which, one, list, i, { renamed, add, remove }) {
-  const [id, label] = [`${which}-${i}`, `${one} ${i + 1}`];
-  const input = h('input', { id, value: list[i], autocomplete: 'off', 'aria-label': label, 'aria-describedby': `${id}-fault`, placeholder: label,
-    input: () => { list[i] = input.value.trim(); renamed(); },
-    keydown: (event) => { // Enter goes to the next name, and makes one behind the last
-      if (event.key !== 'Enter') return;
-      event.preventDefault();
-      const next = byId(`${which}-${i + 1}`);
-      if (next) next.focus(); else add?.();
-    } });
-  return h('div', { class: 'item' }, h('span', { class: 'number', 'aria-hidden': 'true' }, i + 1), input,
-    add && action({ class: 'small', 'aria-label': text('form.remove', { what: label }), disabled: !remove, click: remove }, '×'), faultLine(id));
+class CreationForm {
+  constructor(kind) {
+    Object.assign(this, { kind, touched: new Set(), isSent: false, saved: formDraft(kind) });
+    const start = this.saved.get() ?? {};
+    this.currency = h('input', { value: start.currency ?? currencyOf(locale()), list: 'currencies', maxlength: 3,
+      autocomplete: 'off', autocapitalize: 'characters', spellcheck: 'false', input: () => this.recur() });
+    setCurrency(codeOf(this.currency.value) ?? '', locale());
+    this.fields(start);
+    this.lists(start);
+    this.ways = kind === 'fares' ? new Ways(start.ways ?? { isBoth: true }, this.things, () => this.check()) : null;
+    this.summary = h('div', { id: 'summary' });
+    this.notes = h('div', { 'aria-live': 'polite' });
+    this.chance = h('div', { id: 'chance' });
+    this.button = h('button', { class: 'main' }, t('form.make'));
+    this.remember = rememberTick(start.remembers);
+    this.form = this.drawn();
+    this.people.draw();
+    this.things.draw();
+  }
+
+  fields(start) {
+    const check = () => this.check();
+    const typed = { autocomplete: 'off', required: true };
+    this.title = h('input', { value: start.title ?? '', ...typed });
+    this.rent = new MoneyField({ value: shown(start.rent), required: true }, check);
+    this.flag = new MoneyField({ value: shown(start.flag), required: true }, check);
+    const end = start.until ?? local(usualEnd(this.kind, hostNow()));
+    this.deadline = h('input', { type: 'datetime-local', value: end, min: local(hostNow()), required: true });
+  }
+
+  lists({ people = ['', ''], things }) {
+    const { kind } = this;
+    const label = (which) => text(`kinds.${kind}.${which}`);
+    const renamed = () => this.ways?.label();
+    const few = kind === 'goods' ? ['', '', ''] : ['', ''];
+    this.people = new NameList({
+      id: 'members', label: label('person'), names: [...people], least: 2, renamed,
+      most: LIMITS[kind === 'fares' ? 'riders' : 'members'][1],
+      drawn: () => this.follow(),
+      removed: (i) => { this.forget('members'); if (kind === 'rent') this.things.names.splice(i, 1); },
+    });
+    this.things = new NameList({
+      id: 'things', label: label('thing'), names: [...(things ?? few)], least: 1, renamed,
+      most: LIMITS[kind === 'goods' ? 'goods' : 'places'][1], isFixed: kind === 'rent', // as many rooms as people
+      drawn: () => { this.ways?.draw(); this.check(); },
+      removed: (i) => { this.forget('things'); this.ways?.without(i); },
+    });
+  }
+
+  /** Rows moved, so what was left or not is not known any more. */
+  forget(which) { for (const id of [...this.touched]) if (id.startsWith(which)) this.touched.delete(id); }
+
+  /** Of a rent, as many rooms as people. */
+  follow() {
+    if (!this.things.rows.firstChild) return; // not drawn yet
+    if (this.kind === 'rent') {
+      while (this.things.names.length < this.people.names.length) this.things.names.push('');
+      this.things.draw();
+    } else this.check();
+  }
+
+  drawn() {
+    const { kind } = this;
+    const zone = Intl.DateTimeFormat().resolvedOptions().timeZone;
+    return h('form', { novalidate: true, submit: (event) => this.send(event), keydown: (event) => this.next(event),
+      focusout: ({ target }) => this.leave(target), input: () => { this.save(); this.check(); },
+      click: ({ target }) => { if (target.closest('.item, .add')) this.save(); } }, // a row came or went
+    this.summary, field('title', t('form.title'), this.title, t(`kinds.${kind}.example`)),
+    this.group(this.people), this.group(this.things, t(`kinds.${kind}.thingsHint`)), kind === 'goods' && this.chance,
+    kind === 'rent' && this.amounts('rent', t('form.rentHint', { example: plain(SAMPLE) })),
+    kind === 'fares' && [this.amounts('flag', t('form.flagHint')), this.ways.set],
+    field('deadline', t('form.deadline'), this.deadline,
+      [t(kind === 'rent' ? 'endsRent' : 'ends'), ' ', t('form.deadlineHint', { zone })]),
+    this.notes, this.remember.tick, h('p', { class: 'row' }, this.button, this.afresh()));
+  }
+
+  group({ id, rows }, hint) {
+    return h('fieldset', { id }, h('legend', {}, t(`kinds.${this.kind}.${id}`)),
+      hint && h('p', { class: 'hint' }, hint), rows, faultLine(id));
+  }
+
+  /** The amount of a kind, and its currency. */
+  amounts(id, hint) {
+    const sum = field(id, t(`form.${id}`), this[id].input, hint);
+    this[id].input.after(this[id].beside);
+    const codes = h('datalist', { id: 'currencies' }, SUGGESTED.map((code) => h('option', { value: code })));
+    const currency = field('currency', t('form.currency'), this.currency, t('form.currencyHint'));
+    return h('div', { class: 'two' }, sum, currency, codes);
+  }
+
+  /** The button that empties the form, where something of an earlier visit stands in it. */
+  afresh() {
+    const empty = () => { this.saved.drop(); this.redraw(); };
+    return this.saved.get() && h('button', { type: 'button', click: empty }, t('form.afresh'));
+  }
+
+  recur() {
+    setCurrency(codeOf(this.currency.value) ?? '', locale());
+    this.rent.look();
+    this.flag.look();
+  }
+
+  save() {
+    const { title, rent, flag, people, things, ways, deadline, currency, remember } = this;
+    this.saved.put({ title: title.value, rent: rent.input.value, flag: flag.input.value, people: people.names,
+      things: things.names, ways: ways?.draft, until: deadline.value, currency: currency.value,
+      remembers: remember.isTicked() });
+  }
+
+  leave({ id, value }) {
+    if (id && value) { this.touched.add(id); this.check(); }
+  }
+
+  /** Enter goes to the next field; only on a button it presses it. */
+  next(event) {
+    if (event.key !== 'Enter' || event.target.tagName !== 'INPUT' || event.isComposing) return;
+    const isNext = (input) => input.type !== 'checkbox' && !input.disabled;
+    const inputs = [...this.form.querySelectorAll('input')].filter(isNext);
+    event.preventDefault();
+    (inputs[inputs.indexOf(event.target) + 1] ?? this.button).focus();
+  }
+
+  /** What was typed, as a creation; empty rows are left out. `rows` has the places of the others in the form. */
+  read() {
+    const { kind, people, things } = this;
+    const rows = { members: rowsThatCount(people.names, 2) };
+    rows.things = rowsThatCount(things.names, kind === 'rent' ? rows.members.length : 1);
+    const named = ({ names: list }, which) => rows[which].map((row) => list[row].trim());
+    const own = {
+      rent: () => ({ rent: this.rent.cents }), goods: () => ({ limit: LIMITS.steps }),
+      fares: () => ({ flag: this.flag.cents, legs: this.ways.between(rows.things) }),
+    }[kind]();
+    const end = new Date(this.deadline.value);
+    const deadline = Number.isNaN(end.getTime()) ? '' : end.toISOString().replace(/\.\d+/, '');
+    return { rows, creation: { kind, title: this.title.value.trim(), members: named(people, 'members'),
+      [THINGS[kind]]: named(things, 'things'), ...own, deadline } };
+  }
+
+  /** The id of a field that is wrong, by its place in the creation. */
+  fieldOf(rows, of, at) {
+    if (of === 'legs') {
+      const [from, to] = at.split('-').map(Number);
+      return idOf(of, `${from ? rows.things[from - 1] + 1 : 0}-${rows.things[to]}`);
+    }
+    const row = rows[of === 'members' ? 'members' : 'things'];
+    return at === '' ? idOf(of) : idOf(of, row[at]);
+  }
+
+  /** A sentence for the id of each field that is wrong. */
+  wrong({ rows, creation }) {
+    const says = ([path, given]) => text(path, given?.least === undefined ? given
+      : { least: money(given.least), most: money(given.most) });
+    const found = new Map(faults(creation, hostNow()).map(({ field: of, at, says: why }) => {
+      const id = this.fieldOf(rows, of, at);
+      const field = { rent: this.rent, flag: this.flag, legs: this.ways }[of];
+      return [id, field ? field.fault(says(why), ...id.split('-').slice(1)) : says(why)];
+    }));
+    if (this.kind === 'rent') {
+      const given = { rooms: rows.things.length, people: rows.members.length };
+      for (const row of rows.things.slice(given.people)) found.set(`things-${row}`, text('faults.moreRooms', given));
+    }
+    if (codeOf(this.currency.value) === null) found.set('currency', text('faults.currency'));
+    return found;
+  }
+
+  /** Shows what is wrong at the fields that were left, or at all once the form was sent; answers it. */
+  check() {
+    const read = this.read();
+    const wrong = this.wrong(read);
+    const says = (id) => (this.isSent || this.touched.has(id) ? wrong.get(id) ?? '' : '');
+    const rowsOf = ({ id, names: list }) => list.map((_, i) => `${id}-${i}`);
+    const ids = ['title', 'rent', 'flag', 'deadline', 'currency', ...rowsOf(this.people), ...rowsOf(this.things)];
+    for (const id of ids) showFault(id, says(id));
+    this.ways?.mark(says);
+    const twice = [...doubles(this.people.names), ...doubles(this.things.names)];
+    fill(this.notes, twice.length > 0 && box('note', t('form.twice', { names: names(twice) })));
+    this.summarise(this.isSent ? wrong : new Map());
+    const count = (which) => read.rows[which].length;
+    if (this.kind === 'goods') fill(this.chance, chanceOf(count('members'), count('things')));
+    return wrong;
+  }
+
+  /** All that is wrong, on top, with the way to each; and the word for it in the title. */
+  summarise(wrong) {
+    document.title = [wrong.size > 0 && text('form.error'), text(`kinds.${this.kind}.title`), '–', text('site')]
+      .filter(Boolean).join(' ');
+    const to = (id) => (event) => { event.preventDefault(); byId(id)?.focus(); };
+    const line = ([id, says]) => h('li', {},
+      h('a', { href: location.hash, click: to(id) }, this.labelOf(id), ': ', says));
+    fill(this.summary, wrong.size > 0 && h('div', { class: 'box bad', tabindex: -1 },
+      h('h2', {}, t('form.mend', { n: wrong.size })), h('ul', {}, [...wrong].map(line))));
+  }
+
+  labelOf(id) {
+    const [which, ...at] = id.split('-');
+    if (which === 'legs') return this.ways.way(...at.map(Number));
+    if (which === 'members') return `${this.people.label} ${Number(at[0]) + 1}`;
+    return which === 'things' ? `${this.things.label} ${Number(at[0]) + 1}` : text(`form.${which}`);
+  }
+
+  async send(event) {
+    event.preventDefault();
+    this.isSent = true;
+    const wrong = this.check();
+    if (wrong.size > 0) {
+      this.summary.firstChild.focus();
+      announce(text('form.mend', { n: wrong.size }));
+      return;
+    }
+    this.button.disabled = true;
+    fill(this.button, t('form.making'));
+    const { creation } = this.read();
+    const refused = await make(JSON.stringify({ ...creation, tag: newTag() }),
+      { currency: codeOf(this.currency.value), remembers: this.remember.isTicked() });
+    this.button.disabled = false;
+    fill(this.button, t('form.make'));
+    if (refused) this.tell(refused);
+  }
+
+  /** A refusal stands beside its field, where it has one. */
+  tell(refused) {
+    const id = idOf(refused.code === 'bad_field' ? refused.body.field : '');
+    if (showFault(id, sentence(refused))) byId(id)?.focus();
+    else fill(this.notes, box('bad', sentence(refused)), isOpen(refused) && pending());
+  }
 }
 
 /** The form of a kind. */
 export function create(root, kind) {
-  setCurrency('', locale());
-  const start = draft?.kind === kind ? draft : {};
-  draft = null;
-  const people = [...(start.members ?? ['', ''])];
-  const things = [...(start[THINGS[kind]] ?? (kind === 'goods' ? ['', '', ''] : ['', '']))];
-  const touched = new Set();
-  let sent = false;
-  const ways = kind === 'fares' ? wayTable(start.legs?.map((row) => row.map(amount)) ?? [], things) : null;
-
-  const title = typed(start.title ?? '');
-  const rent = typed(amount(start.rent), 'decimal');
-  const flag = typed(amount(start.flag), 'decimal');
-  const deadline = h('input', { type: 'datetime-local', value: start.until ?? local(new Date(hostNow() + WEEK).setHours(20, 0, 0, 0)), min: local(hostNow()), required: true });
-  const currency = h('select', {}, h('option', { value: '' }, t('form.noSign')), CURRENCIES.map((code) => h('option', { value: code, selected: code === (start.currency ?? 'EUR') }, code)));
-  const chance = h('div', { id: 'chance' });
-  const notes = h('div', { 'aria-live': 'polite' });
-  const button = h('button', { class: 'main' }, t('form.make'));
-  const lists = { members: h('div', { class: 'list' }), things: h('div', { class: 'list' }) };
-  const most = { members: LIMITS[kind === 'fares' ? 'riders' : 'members'][1], things: LIMITS[kind === 'goods' ? 'goods' : 'places'][1] };
-  const least = { members: 2, things: 1 };
-
-  holder = () => ({ kind, title: title.value, members: people, [THINGS[kind]]: things, rent: rent.value, flag: flag.value, legs: ways?.legs, until: deadline.value, currency: currency.value });
-
-  /** Draws a list of names anew, and goes to the one at `focus`. */
-  function drawList(which, focus) {
-    const list = which === 'members' ? people : things;
-    const fixed = kind === 'rent' && which === 'things'; // as many rooms as people
-    const one = text(`kinds.${kind}.${which === 'members' ? 'person' : 'thing'}`);
-    const add = fixed ? null : () => { if (list.length < most[which]) { list.push(''); redraw(which, list.length - 1); } };
-    const remove = (i) => {
-      list.splice(i, 1);
-      if (kind === 'rent') things.splice(i, 1);
-      if (which === 'things') ways?.without(i);
-      for (const id of [...touched]) if (id.startsWith(which)) touched.delete(id);
-      redraw(which, Math.max(0, i - 1));
-    };
-    const renamed = () => { if (which === 'things') ways?.label(); };
-    fill(lists[which], list.map((_, i) => nameLine(which, one, list, i, { renamed, add, remove: list.length > least[which] && (() => remove(i)) })),
-      add && action({ class: 'add', disabled: list.length >= most[which], click: add }, '+ ', one));
-    byId(`${which}-${focus}`)?.focus();
-  }
-
-  /** Draws a list and what goes by its length. */
-  function redraw(which, focus) {
-    drawList(which, focus);
-    if (kind === 'rent' && which === 'members') {
-      while (things.length < people.length) things.push('');
-      drawList('things');
-    }
-    if (which === 'things') ways?.draw();
-    check();
-  }
-
-  function read() {
-    const end = new Date(deadline.value);
-    const own = kind === 'rent' ? { rent: cents(rent.value) } : kind === 'goods' ? { limit: LIMITS.steps } : { flag: cents(flag.value), legs: ways.legs.map((row) => row.map(cents)) };
-    return { kind, title: title.value.trim(), members: people, [THINGS[kind]]: things, ...own, deadline: Number.isNaN(end.getTime()) ? '' : end.toISOString().replace(/\.\d+/, '') };
-  }
-
-  /** Shows what is wrong at the fields that were left, or at all once the form was sent; answers the ids of all wrong fields. */
-  function check(all = sent) {
-    const wrong = wrongIn(read());
-    const shown = (id) => (all || touched.has(id) ? wrong.get(id) ?? '' : '');
-    for (const id of [...PLAIN, ...people.map((_, i) => `members-${i}`), ...things.map((_, i) => `things-${i}`)]) showFault(id, shown(id));
-    ways?.mark(shown);
-    const twice = [...doubles(people), ...doubles(things)];
-    fill(notes, twice.length > 0 && box('note', t('form.twice', { names: names(twice) })), all && wrong.size > 0 && h('p', { class: 'fault' }, t('form.mend', { n: wrong.size })));
-    if (kind === 'goods') fill(chance, chanceOf(people.length, things.length));
-    return [...wrong.keys()];
-  }
-
-  async function send(event) {
-    event.preventDefault();
-    sent = true;
-    const wrong = check();
-    if (wrong.length) {
-      byId(wrong[0])?.focus();
-      announce(text('form.mend', { n: wrong.length }));
-      return;
-    }
-    button.disabled = true;
-    fill(button, t('form.making'));
-    const refused = await make(JSON.stringify({ ...read(), tag: newTag() }), currency.value);
-    button.disabled = false;
-    fill(button, t('form.make'));
-    if (refused) tell(refused);
-  }
-
-  /** A refusal stands beside its field, where it has one. */
-  function tell(refused) {
-    const id = idOf(refused.code === 'bad_field' ? refused.body.field : '');
-    if (showFault(id, sentence(refused))) byId(id)?.focus();
-    else fill(notes, box('bad', sentence(refused)), isOpen(refused) && pending());
-  }
-
-  const group = (id, hint) => h('fieldset', { id }, h('legend', {}, t(`kinds.${kind}.${id}`)), hint && h('p', { class: 'hint' }, hint), lists[id], faultLine(id));
-  const money = kind !== 'goods' && field('currency', t('form.currency'), currency, t('form.currencyHint'));
-  const form = h('form', { novalidate: true, submit: send, focusout: ({ target: { id, value } }) => { if (id && value) { touched.add(id); check(); } }, input: () => check() },
-    field('title', t('form.title'), title, t(`kinds.${kind}.example`)),
-    group('members'), group('things', t(`kinds.${kind}.thingsHint`)), kind === 'goods' && chance,
-    kind === 'rent' && h('div', { class: 'two' }, field('rent', t('form.rent'), rent, t('form.rentHint', { example: plain(145050) })), money),
-    kind === 'fares' && [h('div', { class: 'two' }, field('flag', t('form.flag'), flag, t('form.flagHint')), money), ways.tick, ways.grid],
-    field('deadline', t('form.deadline'), deadline, t('form.deadlineHint', { zone: Intl.DateTimeFormat().resolvedOptions().timeZone })),
-    notes, button);
-  fill(root, p(h('a', { href: '#' }, '← ', t('toStart'))), heading(t(`kinds.${kind}.title`)), h('p', { class: 'lead' }, t(`kinds.${kind}.about`)), form);
-  drawList('members');
-  redraw('things');
-}
-
-/** What each way costs: a row from the start and one from each place, as it was typed. */
-function wayTable(given, places) {
-  const grid = h('div', {});
-  let legs = given;
-  let both = legs.slice(1).every((row, i) => row.every((leg, j) => leg === legs[j + 1]?.[i])); // there and back at one price
-  const tick = h('label', { class: 'tick' }, h('input', { type: 'checkbox', checked: both, change: (event) => { both = event.target.checked; } }), ` ${text('form.both')}`);
-  const called = (i) => places[i] || `${text('kinds.fares.thing')} ${i + 1}`;
-  const from = (row) => (row ? called(row - 1) : text('form.origin'));
-  const way = (row, to) => text('form.way', { from: from(row), to: called(to) });
-  const cellAt = (row, to) => byId(`legs-${row}-${to}`);
-
-  function cell(leg, row, to) {
-    return h('input', { id: `legs-${row}-${to}`, value: leg, inputmode: 'decimal', autocomplete: 'off', 'aria-describedby': 'legs-fault', input: ({ target: { value } }) => {
-      legs[row][to] = value;
-      if (both && row > 0) { legs[to + 1][row - 1] = value; cellAt(to + 1, row - 1).value = value; }
-    } });
-  }
-  function draw() {
-    const n = places.length;
-    legs = Array.from({ length: n + 1 }, (_, row) => Array.from({ length: n }, (_, to) => (row === to + 1 ? '0' : legs[row]?.[to] ?? '')));
-    fill(grid, table(text('form.ways'), [t('form.fromTo'), places.map((_, to) => h('th', { scope: 'col', class: `place-${to}` }))],
-      legs.map((legsOf, row) => h('tr', {}, h('th', { scope: 'row', class: row ? `place-${row - 1}` : '' }, row ? '' : t('form.origin')),
-        legsOf.map((leg, to) => h('td', {}, row === to + 1 ? h('span', { 'aria-hidden': 'true' }, '–') : cell(leg, row, to))))), { class: 'grid' }), faultLine('legs'));
-    label();
-  }
-  function label() {
-    places.forEach((_, i) => grid.querySelectorAll(`.place-${i}`).forEach((th) => fill(th, name(called(i)))));
-    legs.forEach((legsOf, row) => legsOf.forEach((_, to) => cellAt(row, to)?.setAttribute('aria-label', way(row, to))));
-  }
-  function mark(shown) {
-    let first = '';
-    legs.forEach((legsOf, row) => legsOf.forEach((_, to) => {
-      const says = shown(`legs-${row}-${to}`);
-      if (says) first ||= `${way(row, to)}: ${says}`;
-      if (says) cellAt(row, to)?.setAttribute('aria-invalid', 'true'); else cellAt(row, to)?.removeAttribute('aria-invalid');
-    }));
-    showFault('legs', first);
-  }
-  const without = (place) => { legs = legs.filter((_, row) => row !== place + 1).map((legsOf) => legsOf.filter((_, to) => to !== place)); };
-  return { get legs() { return legs; }, grid, tick, draw, label, mark, without };
+  const view = new CreationForm(kind);
+  view.redraw = () => create(root, kind);
+  fill(root, p(h('a', { href: '#' }, '← ', t('toStart'))), heading(t(`kinds.${kind}.title`)),
+    h('p', { class: 'lead' }, t(`kinds.${kind}.about`)), view.form);
+  view.check();
 }

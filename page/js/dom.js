@@ -1,10 +1,12 @@
 // Builds the page from elements and text alone. No markup is ever parsed, so a name can never be code.
 
-function build(node, attributes, children) {
+export function build(node, attributes, children) {
   for (const [key, value] of Object.entries(attributes ?? {})) {
     if (value === null || value === undefined || value === false) continue;
     if (typeof value === 'function') node.addEventListener(key, value);
-    else if (key === 'vars') for (const [property, to] of Object.entries(value)) node.style.setProperty(`--${property}`, String(to));
+    else if (key === 'vars') {
+      for (const [property, to] of Object.entries(value)) node.style.setProperty(`--${property}`, String(to));
+    }
     else if (key === 'value') node.value = value;
     else node.setAttribute(key, value === true ? '' : value);
   }
@@ -52,7 +54,8 @@ export function announce(text) {
 export function field(id, label, control, hint) {
   control.id = id;
   control.setAttribute('aria-describedby', `${id}-fault${hint ? ` ${id}-hint` : ''}`);
-  return h('div', { class: 'field' }, h('label', { for: id }, label), hint && h('p', { class: 'hint', id: `${id}-hint` }, hint), control, faultLine(id));
+  return h('div', { class: 'field' }, h('label', { for: id }, label),
+    hint && h('p', { class: 'hint', id: `${id}-hint` }, hint), control, faultLine(id));
 }
 
 /** The place for what is wrong with a field. */
@@ -70,24 +73,11 @@ export function showFault(id, text) {
 }
 
 /** A message: its kind is good, bad or note. */
-export const box = (kind, ...children) => h('div', { class: `box ${kind}`, role: kind === 'bad' ? 'alert' : null }, ...children);
+export const box = (kind, ...children) => (
+  h('div', { class: `box ${kind}`, role: kind === 'bad' ? 'alert' : null }, ...children));
 
 /** Loads the style of tables and pictures, once: a bid has none. */
 export const tableStyle = () => new Promise((done) => {
   if (document.querySelector('link[href="tables.css"]')) done();
   else document.head.append(h('link', { rel: 'stylesheet', href: 'tables.css', load: done, error: done }));
 });
-
-// Hosts that share one name by their paths keep what is theirs apart, but for the language.
-const scope = location.pathname.replace(/[^/]*$/, '');
-const slot = (key) => `fairsplit${key === 'language' ? '/' : scope}${key}`;
-
-/** Keeps a value in this browser; in a window where that is forbidden nothing is kept. */
-export function keep(key, value) {
-  try { localStorage.setItem(slot(key), JSON.stringify(value)); } catch { /* not kept */ }
-}
-
-/** A value that was kept, or null. */
-export function kept(key) {
-  try { return JSON.parse(localStorage.getItem(slot(key))); } catch { return null; }
-}

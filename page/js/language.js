@@ -1,9 +1,14 @@
-// Which language the page speaks, and how a sentence of words.js becomes text and elements. A translation is one more file, and one more line here.
-import { action, h, keep, kept, name } from './dom.js';
+// Which language the page speaks, and how a sentence of words.js becomes text and elements. A translation is one more pair of files, and one more line here.
+import { h, name } from './dom.js';
+import { keep, kept } from './store.js';
 
 const LANGUAGES = {
-  en: { called: 'English', load: () => import('./words.js') },
-  de: { called: 'Deutsch', load: () => import('./words.de.js') },
+  en: { called: 'English', load: () => import('./words.js'), more: () => import('./words.more.js') },
+  de: { called: 'Deutsch', load: () => import('./words.de.js'), more: () => import('./words.more.de.js') },
+  es: { called: 'Español', load: () => import('./words.es.js'), more: () => import('./words.more.es.js') },
+  fr: { called: 'Français', load: () => import('./words.fr.js'), more: () => import('./words.more.fr.js') },
+  it: { called: 'Italiano', load: () => import('./words.it.js'), more: () => import('./words.more.it.js') },
+  pl: { called: 'Polski', load: () => import('./words.pl.js'), more: () => import('./words.more.pl.js') },
 };
 
 let words = {};
@@ -15,17 +20,29 @@ export const locale = () => navigator.languages.find((tag) => tag.split('-')[0] 
 
 /** Loads the sentences: of the language that was chosen here before, else of the first that the browser wants and the page has. */
 export async function learn(wanted = kept('language') ?? navigator.languages.map((tag) => tag.split('-')[0]).find((tag) => tag in LANGUAGES)) {
-  spoken = wanted in LANGUAGES ? wanted : 'en';
-  ({ words } = await LANGUAGES[spoken].load());
+  const code = wanted in LANGUAGES ? wanted : 'en';
+  ({ words } = await LANGUAGES[code].load());
+  spoken = code;
   plural = new Intl.PluralRules(spoken);
   document.documentElement.lang = spoken;
 }
 
-/** The switch: a button for each other language. `redraw` shows the view anew. */
-export function languageSwitch(redraw) {
-  return Object.entries(LANGUAGES).filter(([code]) => code !== spoken).map(([code, { called }]) => action({
-    class: 'language', lang: code, click: async () => { keep('language', code); await learn(code); redraw(); },
-  }, called));
+/** Loads the sentences that nobody needs to bid: of results, checks, and divisions without a server. */
+export async function learnMore() {
+  const code = spoken;
+  const { words: more } = await LANGUAGES[code].more();
+  if (code === spoken) words = { ...words, ...more };
+}
+
+/** The list of languages to choose from. `redraw` shows the view anew; `failed` says that a language did not load. */
+export function languageSwitch(redraw, failed = () => {}) {
+  const change = async ({ currentTarget: list }) => {
+    try { await learn(list.value); } catch { list.value = spoken; failed(); return; }
+    keep('language', spoken);
+    redraw();
+  };
+  return h('select', { class: 'language', 'aria-label': text('language'), change }, Object.entries(LANGUAGES)
+    .map(([code, { called }]) => h('option', { value: code, lang: code, selected: code === spoken }, called)));
 }
 
 const find = (path) => path.split('.').reduce((at, step) => at?.[step], words);
@@ -41,7 +58,7 @@ function parts(template, given) {
   });
 }
 
-/** A sentence as texts and elements. Where it has forms for one and for others, `n` decides. */
+/** A sentence as texts and elements. Where it has the forms of a language's plural, `n` decides. */
 export function t(path, given = {}) {
   const found = find(path) ?? path;
   return parts(typeof found === 'string' ? found : found[plural.select(Number(given.n))] ?? found.other, given);
@@ -55,3 +72,13 @@ export const names = (list) => new Intl.ListFormat(locale()).formatToParts(list)
 
 /** A whole number as it is written in this language. */
 export const number = (n, digits = 0) => n.toLocaleString(locale(), { maximumFractionDigits: digits });
+
+const DAY = 86_400_000;
+const LONG = { weekday: 'long', day: 'numeric', month: 'long', year: 'numeric', hour: '2-digit', minute: '2-digit' };
+
+/** A moment with its date. */
+export const moment = (ms) => new Date(ms).toLocaleString(locale(), LONG);
+
+/** A moment that is near by its day of the week. */
+export const shortMoment = (ms, now) => (ms - now < 6 * DAY
+  ? new Date(ms).toLocaleString(locale(), { weekday: 'long', hour: '2-digit', minute: '2-digit' }) : moment(ms));

@@ -8,12 +8,8 @@ export function parse(hash) {
 }
 
 /** The fragment of a link. */
-export const fragment = ({ id, key, currency = '', tag = '' }) => `#${id}.${key}${currency || tag ? `.${currency}` : ''}${tag ? `.${tag}` : ''}`;
+export const fragment = ({ id, key, currency = '', tag = '' }) => (
+  `#${id}.${key}${currency || tag ? `.${currency}` : ''}${tag ? `.${tag}` : ''}`);
 
 /** The link as an address. */
 export const address = (link) => location.origin + location.pathname + fragment(link);
-
-const FIELDS = ['kind', 'title', 'members', 'rooms', 'rent', 'goods', 'limit', 'places', 'flag', 'legs', 'deadline', 'tag'];
-
-/** The creation of a round, as the round tells it: under the tag in the organiser's link, it gets the members' keys again. */
-export const creationOf = (round, tag) => JSON.stringify({ ...round, deadline: new Date(round.deadline * 1000).toISOString().replace('.000', ''), tag }, FIELDS);

@@ -1,48 +1,60 @@
-// Which view is shown goes by the fragment: nothing, #new-KIND, #check, or the link of a round. Each view is loaded when it is needed.
-import { box, byId, fill, h, heading, p, tableStyle } from './dom.js';
+// Which view is shown goes by the fragment: nothing, #new-KIND, #check, or the link of a round.
+import { action, announce, box, byId, fill, h, heading, p, tableStyle } from './dom.js';
 import { languageSwitch, learn, t, text } from './language.js';
 import { parse } from './link.js';
+import { askBeforeLeaving } from './store.js';
 
 const root = byId('main');
 let moved = false; // whether a view was shown before, so that the focus has to go to the new one
-let view = null; // the view that is shown, as the module of a round or of a form
+let view = null; // the round that is shown, as its module
+
+/** A part of the page did not load: said above what is there, or in its place. */
+function notLoaded(isAll) {
+  const again = action({ class: 'main', click: () => location.reload() }, t('again'));
+  const says = box('bad', p(t('load.why')), h('p', { class: 'row' }, again));
+  if (isAll) fill(root, heading(t('load.title')), says);
+  else root.prepend(says);
+  announce(text('load.why'));
+}
+
+/** The help of a view is loaded when somebody opens it. */
+const openHelp = () => import('./help.js').then(({ help }) => help()).catch(() => notLoaded(false));
 
 /** The words around the view. */
 function frame() {
-  document.title = text('site');
   byId('skip').textContent = text('skip');
   fill(byId('home'), h('img', { src: 'icon.svg', alt: '', width: 28, height: 28 }), ` ${text('site')}`);
-  fill(byId('languages'), languageSwitch(() => { view?.hold?.(); show(); }));
-  fill(byId('foot'), p(h('a', { href: '#check' }, t('check.link')), ' · ', h('a', { href: 'check.html', download: 'fairsplit-check.html' }, t('check.file'))), p(t('foot')));
+  fill(byId('languages'), action({ class: 'language', click: openHelp }, t('help')),
+    languageSwitch(show, () => notLoaded(false)));
+  const check = h('a', { href: '#check' }, t('check.link'));
+  const file = h('a', { href: 'check.html', download: 'fairsplit-check.html' }, t('check.file'));
+  fill(byId('foot'), p(check, ' · ', file), p(t('foot')), h('div', { id: 'device' }));
 }
 
 async function show() {
   const { hash } = location;
-  const made = /^#new-(rent|goods|fares)$/.exec(hash);
   const link = parse(hash);
-  view?.stop?.();
+  view?.stop();
   view = null;
+  delete root.dataset.view;
+  askBeforeLeaving(false);
   frame();
-  if (link) {
-    const round = await import('./round.js');
-    if (hash !== location.hash) return;
-    view = round;
-    round.show(root, link);
-  } else {
-    const [{ choose, create, hold }, { pending }] = await Promise.all([import('./create.js'), import('./creation.js'), tableStyle()]);
-    if (hash !== location.hash) return;
-    if (made) { view = { hold }; create(root, made[1]); }
-    else if (hash === '#check') (await import('./proof.js')).checkView(root);
-    else if (hash === '' || hash === '#') choose(root);
-    else fill(root, heading(t('link.broken')), box('bad', t('link.brokenWhy')), p(t('link.lost')), p(h('a', { href: '#' }, t('toStart'))));
-    const open = pending();
-    if (open) root.prepend(open);
-  }
+  try {
+    if (link) {
+      const round = await import('./round.js');
+      if (hash !== location.hash) return;
+      view = round;
+      round.show(root, link, () => notLoaded(true));
+    } else {
+      const [{ showOwn }] = await Promise.all([import('./views.js'), tableStyle()]);
+      await showOwn(root, hash);
+    }
+  } catch { notLoaded(true); }
   if (moved) { window.scrollTo(0, 0); root.querySelector('h1')?.focus(); }
   moved = true;
+  import('./device.js').then(({ tellDevice }) => tellDevice(root, show), () => {}); // nobody needs it at once
 }
 
 byId('skip').addEventListener('click', (event) => { event.preventDefault(); root.querySelector('h1')?.focus(); });
 window.addEventListener('hashchange', show);
-await learn();
-show();
+learn().then(show, () => root.querySelector('.boot')?.classList.remove('boot')); // without words, those of the file

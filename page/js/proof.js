@@ -1,97 +1,129 @@
-// "Check it yourself": what a certificate is, the check in this browser, and the view that checks any certificate.
-import { action, announce, box, fill, h, heading, name, p } from './dom.js';
+// "Check it yourself": the checks in this browser, what they found, and how to check a certificate elsewhere.
+import { action, fill, h, name, p } from './dom.js';
 import { download, sign } from './parts.js';
-import { number, t, text } from './language.js';
-import { judging } from './check.js';
-import { centPlan, exact, same, toFrac } from './fractions.js';
+import { names, number, t, text } from './language.js';
+import { listedBid } from './compare.js';
 import { money } from './money.js';
+import { savedFile } from './saved.js';
 
-/** Judges a text in small pieces, so that the page goes on meanwhile. */
-export async function judgeSlowly(certificate, progress = () => {}) {
-  const steps = judging(certificate);
-  for (;;) {
-    const { done, value } = steps.next();
-    if (done) return value;
-    progress(value);
-    await new Promise((go) => { setTimeout(go); });
-  }
+const ruleLine = ([path, holds]) => h('li', { class: holds ? 'yes' : 'no' }, sign(holds ? '✓ ' : '✗ '),
+  h('span', { class: 'sr' }, t(holds ? 'check.holds' : 'check.fails'), ' '), t(path));
+
+/** The verdict, in a sentence. */
+function judged({ verdict, rule, line, by }, differ) {
+  if (verdict === 'yes' && differ.length) return t('check.beside');
+  if (verdict === 'yes') return t(by === 'script' ? 'check.yesUnproved' : 'check.yes');
+  if (verdict === 'no') return t('check.no', { rule });
+  if (verdict === 'differ') return t('judge.differ');
+  if (verdict === 'none') return t('judge.none');
+  return line === 'too long' ? t('check.tooLong') : t('check.badLine', { line });
 }
 
-const ruleLine = ([path, holds]) => h('li', { class: holds ? 'yes' : 'no' }, sign(holds ? '✓ ' : '✗ '), h('span', { class: 'sr' }, t(holds ? 'check.holds' : 'check.fails'), ' '), t(path));
+/** Who has judged, and what the second check said. */
+function judgedBy({ verdict, by, proved, script, isLowered, isOver }) {
+  if (verdict === 'none') return [];
+  if (verdict === 'differ') return t('judge.differWhy', { proved: h('code', {}, proved), script: h('code', {}, script) });
+  if (by === 'script') return t('judge.script');
+  const second = by === 'both' ? 'judge.agrees' : isOver ? 'judge.failed' : 'judge.again';
+  return [t(isLowered ? 'judge.lowered' : 'judge.proved'), ' ', t(second)];
+}
 
-/** What the check found: the rules one by one, and what follows from them in plain words; `more` are facts beside the certificate. */
-export function findings(found, more = []) {
-  if (found.verdict === 'refused') return box('bad', found.line === 'too long' ? t('check.tooLong') : t('check.badLine', { line: found.line }));
-  const good = found.verdict === 'yes' && more.every(([, holds]) => holds);
-  const verdict = found.verdict === 'yes' ? (good ? 'check.yes' : 'check.beside') : 'check.no';
-  const facts = [...found.facts, ...more];
+/** The verdict, in one box with whatever it depends on. `differ` are sentences on what this browser saw otherwise, and
+    `names` says whose word the names are. */
+export function verdictBox(found, differ = [], whose = null) {
+  const good = found.verdict === 'yes' && differ.length === 0;
+  return h('div', {
+    class: `verdict ${good ? 'good' : 'bad'}`, id: 'verdict', role: good ? null : 'alert',
+    'data-verdict': found.verdict, 'data-rule': found.rule ?? 0, 'data-differ': differ.length,
+  }, h('p', {}, h('strong', {}, judged(found, differ))),
+  differ.length > 0 && h('ul', { class: 'differ' }, differ.map((says) => h('li', {}, says))),
+  h('p', { id: 'judges', 'data-by': found.by }, judgedBy(found)),
+  found.verdict === 'yes' && whose && p(whose));
+}
+
+/** Where there is no certificate, this stands in the place of the verdict. */
+export const nothingChecked = (why) => h('div',
+  { class: 'verdict bad', id: 'verdict', role: 'alert', 'data-verdict': 'none' },
+  h('p', {}, h('strong', {}, t('check.nothing'))), p(why));
+
+/** What the second check looked at: facts in plain words, then the rules one by one. */
+export function findings({ verdict, by, second }) {
+  if (verdict === 'refused' || verdict === 'none') return [];
+  if (!second) return by === 'proved' ? h('p', { id: 'branches' }, t('judge.again')) : [];
   return [
-    h('p', { class: `verdict ${good ? 'good' : 'bad'}`, id: 'verdict', 'data-verdict': found.verdict, 'data-rule': found.rule }, t(verdict, { rule: found.rule })),
-    facts.length > 0 && h('ul', { class: 'rules' }, facts.map(ruleLine)),
-    h('details', { open: !good }, h('summary', {}, t('check.rules', { n: found.rules.length })), h('ol', { class: 'rules' }, found.rules.map(ruleLine))),
+    second.facts.length > 0 && h('ul', { class: 'rules' }, second.facts.map(ruleLine)),
+    h('details', { open: second.verdict === 'no' }, h('summary', {}, t('check.rules', { n: second.rules.length })),
+      h('ol', { class: 'rules' }, second.rules.map(ruleLine))),
   ];
 }
 
-/** What the host told beside the certificate, held against it. */
-function beside({ found, division, round }) {
-  if (found.verdict !== 'yes' || round.kind === 'goods') return [];
-  const { said } = found;
-  const byMember = round.kind === 'rent' ? said.rooms.map((room) => said.prices[Number(room) - 1]) : said.fares;
-  const paid = centPlan(byMember, round.kind === 'rent' ? said.rent : said.total);
-  return [['facts.cents', paid.every((cents, i) => Number(cents) === division.pays[i])],
-    ['facts.told', (division.prices ?? division.fares).every((price, i) => same(toFrac(price), (said.prices ?? said.fares)[i]))]];
+/** Tells how much of a long tree the second check has read. */
+export function tellBranches(root, count) {
+  const place = root.querySelector('#branches');
+  if (place) fill(place, t('check.branches', { count: number(count) }));
 }
 
-/** The bid that the certificate prints for this member, or null. */
-function printedBid({ said }, round) {
-  const place = said && round.you > 0 ? (round.kind === 'rent' ? round.you - 1 : said.who.findIndex((who) => Number(who) === round.you)) : -1;
-  if (place < 0) return null;
-  return round.kind === 'fares' ? [Number(said.at[place])] : said.values[place].map(Number);
+/** The second check has ended, and the verdict stands: its words and its findings are added. */
+function settle(root, found) {
+  fill(root.querySelector('#judges'), judgedBy(found)).setAttribute('data-by', found.by);
+  const place = root.querySelector('.second');
+  if (place) fill(place, findings(found));
 }
 
-/** The card at the end of a result. */
-export function panel({ found, certificate, division, round, sent, file }) {
-  const printed = printedBid(found, round);
-  const last = sent && (sent.values ?? (sent.place ? [sent.place] : null));
-  const shown = printed && (round.kind === 'fares' ? name(round.places[printed[0] - 1]) : printed.map((v) => (round.kind === 'rent' ? money(v) : v)).join(' · '));
-  const equal = last && printed && String(last) === String(printed);
+/** Shows a verdict by `show`, and what the second check adds to it when that has ended. */
+export async function showVerdicts(root, { first, last }, show) {
+  const found = await first;
+  show(found);
+  const shown = root.querySelector('#verdict');
+  const all = await last;
+  if (!shown || root.querySelector('#verdict') !== shown) return; // something else is shown now
+  if (all.verdict === found.verdict && all.rule === found.rule) settle(root, all);
+  else show(all);
+}
+
+/** A bid as numbers, for people. */
+export function bidText(kind, things, bid) {
+  if (kind === 'fares') return name(things[bid[0] - 1] ?? String(bid[0]));
+  return bid.map((v) => (kind === 'rent' ? money(v) : v)).join(' · ');
+}
+
+/** What each difference says; `things` are the names of what was divided. */
+export function differenceText({ what, then, now, from, to }, { kind, members, things }) {
+  const show = {
+    title: name, rent: money, flag: money, leg: (cents) => (cents === undefined ? '—' : money(cents)),
+    members: names, things: names,
+    you: (number) => (members[number - 1] === undefined ? text('links.organiser') : name(members[number - 1])),
+    bid: (bid) => (bid ? bidText(kind, things, bid) : t('differ.noBid')),
+  }[what];
+  if (!show) return t(`differ.${what}`);
+  const given = { then: h('strong', {}, show(then)), now: h('strong', {}, show(now)) };
+  const trip = what === 'leg' && { from: from ? name(things[from - 1]) : t('form.origin'), to: name(things[to]) };
+  return t(`differ.${what}`, { ...given, ...trip });
+}
+
+/** The bid that the certificate lists for whoever looks. */
+function listed(said, { things, you }) {
+  const bid = listedBid(said, you);
+  if (!bid) return t('proof.printedNone');
+  return t('proof.printed', { bid: h('strong', { id: 'printed' }, bidText(said.kind, things, bid)) });
+}
+
+/** The card at the end of a result that holds. */
+export function panel({ found, scene, certificate, file }) {
+  const { names: known, said } = scene;
+  const click = () => download(`${file}.json`, savedFile(known, certificate));
+  const page = h('a', { href: 'check.html', download: 'fairsplit-check.html' }, t('check.file'));
+  const bare = `${file}-certificate.txt`;
   return [
     p(t('proof.what')),
-    h('ol', {}, h('li', {}, t('proof.download'), ' ', action({ click: () => download(`${file}-certificate.txt`, certificate) }, t('proof.downloadButton'))),
-      h('li', {}, t('proof.judge', { program: h('code', {}, 'fairsplit'), command: h('kbd', {}, `fairsplit check < ${file}-certificate.txt`), yes: h('code', {}, 'yes') })),
-      h('li', {}, t('proof.file', { link: h('a', { href: 'check.html', download: 'fairsplit-check.html' }, t('check.file')) })),
-      h('li', {}, printed ? t('proof.printed', { bid: h('strong', { id: 'printed' }, shown) }) : t('proof.printedNone'),
-        last && printed && h('span', { class: equal ? 'yes' : 'no' }, sign(equal ? ' ✓ ' : ' ✗ '), t(equal ? 'proof.asSent' : 'proof.notAsSent')))),
+    h('ol', {}, h('li', {}, t('proof.download'), ' ', action({ click }, t('proof.downloadButton'))),
+      h('li', {}, t('proof.file', { link: page })),
+      h('li', {}, t('proof.judge', {
+        program: h('code', {}, 'fairsplit'), yes: h('code', {}, 'yes'),
+        command: h('kbd', {}, `fairsplit check < ${bare}`),
+      })),
+      h('li', {}, listed(said, known))),
     h('h3', {}, t('proof.here')), h('p', { class: 'hint' }, t('proof.hereHow')),
-    h('div', { id: 'findings' }, findings(found, beside({ found, division, round }))),
+    h('div', { id: 'findings', class: 'second' }, findings(found)),
   ];
-}
-
-/** What a certificate says, in a line. */
-function summary({ kind, prices, fares, owners }) {
-  return t(`check.says.${kind}`, { list: kind === 'goods' ? owners.join(', ') : (prices ?? fares).map(exact).join(', ') });
-}
-
-/** The view that checks a certificate which somebody has. `alone` is the file that is handed out, which has no other view. */
-export function checkView(root, alone = false) {
-  const area = h('textarea', { id: 'text', rows: 12, spellcheck: 'false', autocomplete: 'off', placeholder: 'fairsplit 1\nkind rent\n…' });
-  const out = h('div', { 'aria-live': 'polite', id: 'findings' });
-  const button = action({ class: 'main', click: run }, t('check.button'));
-  async function run() {
-    button.disabled = true;
-    fill(out, p(t('check.checking')));
-    const found = await judgeSlowly(area.value.endsWith('\n') ? area.value : `${area.value}\n`, (at) => { out.textContent = text('check.branches', { count: number(at) }); });
-    const { said } = found;
-    fill(out, said && p(t(`check.of.${said.kind}`, { n: said.n })), findings(found), found.verdict === 'yes' && p(summary(said)));
-    announce(out.querySelector('.verdict, .box').textContent);
-    button.disabled = false;
-  }
-  const open = async (event) => {
-    const [file] = event.target.files;
-    if (file) { area.value = await file.text(); run(); }
-  };
-  fill(root, !alone && p(h('a', { href: '#' }, '← ', t('toStart'))), heading(t('check.link')),
-    h('p', { class: 'lead' }, t('check.lead', { command: h('kbd', {}, 'fairsplit check') })),
-    h('div', { class: 'card' }, h('label', { for: 'text' }, t('check.label')), area,
-      h('p', { class: 'row' }, button, h('label', { class: 'file' }, t('check.open'), ' ', h('input', { type: 'file', accept: '.txt,text/plain', change: open }))), out));
 }

@@ -6,7 +6,7 @@ ghost use Rattle.adapters.specs.Answers.{IsAnswered};
 use split_base::Failed;
 
 /// Counts a fault, up to 2^64 - 1.
-pub(crate) fn fault(faults: &mut u64) -> Failed
+pub fn fault(faults: &mut u64) -> Failed
     ensures count { faults.new ≡ counted faults.old }
     ensures risen { HasRisen faults.old faults.new }
     ensures never_falls { faults.old ≤ faults.new }
@@ -16,7 +16,7 @@ pub(crate) fn fault(faults: &mut u64) -> Failed
 }
 
 /// What was found, or a counted fault where nothing was.
-pub(crate) fn answered<T: Drop>(found: Option<T>, faults: &mut u64) -> Result<T, Failed>
+pub fn answered<T: Drop>(found: Option<T>, faults: &mut u64) -> Result<T, Failed>
     ensures cause { HasCause faults.old faults.new result }
     ensures count { IsCounted faults.old faults.new result }
     ensures answer { IsAnswered found result }

@@ -1,37 +1,30 @@
-//! The real outside: streams, arguments, the journal's file, a TCP port with many clients, a dialer, and the clock. It also keeps files
-//! and sockets from the three standard descriptors.
+//! The real outside: streams, arguments, the journal's file, a TCP dialer, and the clock. It also keeps files and sockets from the three
+//! standard descriptors.
 //!
 //! Each call that fails counts as one fault, and no other does. They tell nothing of what a real
-//! file, socket, clock or stream holds, so nothing on crashes is proved of a real disk. Which
-//! client comes next, who is dropped and after how long are limits of this crate, of which no
-//! clause speaks. That a sync after a failed one writes again what waits is shown by no test, since
+//! file, socket, clock or stream holds, so nothing on crashes is proved of a real disk. After how long a link fails is a limit of this
+//! crate, of which no clause speaks. That a sync after a failed one writes again what waits is shown by no test, since
 //! a device that loses nothing can't show it.
 #![tactic(auto)]
 
 mod arguments;
-mod clients;
 mod clocks;
-mod counts;
-mod crowd;
+pub mod counts;
+mod dialers;
 mod files;
 mod held;
 pub mod limits;
 mod links;
-mod pool;
-mod ports;
-mod purse;
 mod standard;
 mod streams;
-mod turns;
 mod words;
 
 pub use arguments::{Arguments, Started};
 pub use clocks::SystemClock;
+pub use dialers::TcpDialer;
 pub use files::JournalFile;
-pub use limits::{LinkLimits, PortLimits};
+pub use limits::LinkLimits;
 pub use links::TcpLink;
-pub use ports::{TcpDialer, TcpPort};
 pub use standard::StandardDescriptors;
 pub use streams::{Reading, Writing};
-pub use turns::TurnLink;
 pub use words::words_of;

@@ -22,21 +22,6 @@ pub const LINK_SECONDS: u64 = 600;
 /// How long a client that is closed has to close its end, in seconds.
 pub const CLOSING_SECONDS: u64 = 1;
 
-/// The most clients of a port at once.
-pub const MOST_CLIENTS: usize = 1_000;
-
-/// How long a client may stay without a whole request, or take for what is kept for it, in seconds.
-pub const IDLE_SECONDS: u64 = 600;
-
-/// For how long clients may hold others between two of their requests, in seconds and in all.
-pub const PURSE_SECONDS: u64 = 1;
-
-/// The most bytes that are kept to be sent to one client. No reply is longer.
-pub const MOST_KEPT_OF_ONE: usize = 4_194_304;
-
-/// The most bytes that are kept to be sent to all clients.
-pub const MOST_KEPT_OF_ALL: usize = 16_000_000;
-
 /// The limits of time of a link.
 #[derive(Clone, Copy, Debug)]
 pub struct LinkLimits {
@@ -55,37 +40,6 @@ impl LinkLimits {
             call: Duration::from_secs(CALL_SECONDS),
             link: Duration::from_secs(LINK_SECONDS),
             closing: Duration::from_secs(CLOSING_SECONDS),
-        }
-    }
-}
-
-/// The limits of a port.
-#[derive(Clone, Copy, Debug)]
-pub struct PortLimits {
-    /// The most clients at once. One more drops the one that has been longest without a whole request.
-    pub clients: usize,
-    /// How long a client may stay without a whole request.
-    pub idle: Duration,
-    /// How long a client that is closed has to close its end.
-    pub closing: Duration,
-    /// For how long clients may hold others between two of their requests, in all. A hundredth of the time that passes comes back.
-    pub purse: Duration,
-    /// The most bytes that are kept to be sent to one client. Where a reply has more its connection fails.
-    pub kept_of_one: usize,
-    /// The most bytes that are kept to be sent to all. Beyond them the client is dropped for which some are kept longest.
-    pub kept_of_all: usize,
-}
-
-impl PortLimits {
-    /// The limits of the program's port.
-    pub fn usual() -> PortLimits {
-        PortLimits {
-            clients: MOST_CLIENTS,
-            idle: Duration::from_secs(IDLE_SECONDS),
-            closing: Duration::from_secs(CLOSING_SECONDS),
-            purse: Duration::from_secs(PURSE_SECONDS),
-            kept_of_one: MOST_KEPT_OF_ONE,
-            kept_of_all: MOST_KEPT_OF_ALL,
         }
     }
 }

@@ -129,7 +129,7 @@ impl<'r, S: Read + Write + OpenStream + Drop, C: Clock> Sink for TcpLink<'r, S, 
 
     ghost faults = { λ link. link.write_faults };
 
-    ghost beside = { λ link. (None, link.read_faults) };
+    ghost beside = { λ link. (None, link.read_faults, 0) };
 
     fn write(&mut self, piece: &[u8]) -> Result<usize, Failed> {
         let count = self.write_now(piece);

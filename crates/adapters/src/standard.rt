@@ -1,9 +1,13 @@
 // The three standard descriptors, kept from files and sockets.
 use split_base::Failed;
-use std::fs::{File, Files};
+use std::fs::{File, Files, OpenOptions};
+use std::os::fd::AsRawFd;
 
-/// The device that gives nothing to a reader.
+/// The device that gives nothing to a reader, and takes all from a writer.
 const NULL_DEVICE: &str = "/dev/null";
+
+/// The descriptor of the standard input.
+const STANDARD_INPUT: i32 = 0;
 
 /// Descriptors 0, 1 and 2, taken for as long as this lives: by the streams that the program was started with, or by the null
 /// device.
@@ -21,16 +25,30 @@ pub struct StandardDescriptors {
 impl StandardDescriptors {
     /// Opens the null device three times, which takes whichever of the three descriptors are free.
     ///
-    /// It is opened to be read alone: a closed input is then an empty one, and a write to a closed output fails.
+    /// What takes the place of the input is open only for writing, and what takes that of an output only for reading. So a read of a closed
+    /// input fails, and so does a write to a closed output.
     ///
     /// `Failed` comes where the null device can't be opened.
     pub fn take<R: Files<File = File>>(files: &R) -> Result<Self, Failed> {
         Ok(StandardDescriptors {
-            _first: null_device(files)?,
+            _first: in_place_of_input(files)?,
             _second: null_device(files)?,
             _third: null_device(files)?,
         })
     }
+}
+
+// The null device, to be written where it takes the place of the standard input, and else to be read.
+fn in_place_of_input<R: Files<File = File>>(files: &R) -> Result<File, Failed> {
+    let written = OpenOptions::new()
+        .write(true)
+        .open(files, NULL_DEVICE)
+        .map_err(|_| Failed)?;
+    if written.as_raw_fd() == STANDARD_INPUT {
+        return Ok(written);
+    }
+    drop(written);
+    null_device(files)
 }
 
 // The null device, to be read.

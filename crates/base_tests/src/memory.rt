@@ -1,4 +1,6 @@
 // Clocks, ports and dialers in memory.
+ghost use Rattle.std.specs.Prelude.{◌≡◌, IsTrue};
+
 use split_base::{
     Asked, Clock, Dial, Failed, MemClock, MemDial, MemLink, MemPort, MemSink, MemSource, Port,
     Sink, Source,
@@ -15,7 +17,10 @@ fn link_of(rt: &impl Abort, alloc: Global, byte: u8) -> MemLink {
 }
 
 /// A port with two links, whose first and fourth call fail.
-fn port_of(rt: &impl Abort, alloc: Global) -> MemPort {
+fn port_of(rt: &impl Abort, alloc: Global) -> MemPort
+    ensures out { result.out ≡ 0 }
+    ensures goes_on { IsTrue result.is_over → ⊥ }
+{
     let mut links = Vec::new(alloc);
     links.push(link_of(rt, alloc, b'0')).expect(rt, "no memory");
     links.push(link_of(rt, alloc, b'1')).expect(rt, "no memory");
@@ -33,8 +38,29 @@ fn dialer_of(rt: &impl Abort, alloc: Global) -> MemDial {
 }
 
 /// The next link of a port, which has one.
-fn next_of(rt: &impl Abort, port: &mut MemPort) -> MemLink {
-    port.accept().expect(rt, "a fault").expect(rt, "no link")
+fn next_of(rt: &impl Abort, port: &mut MemPort) -> MemLink
+    requires none_out { port.old.out ≡ 0 }
+    requires goes_on { IsTrue port.old.is_over → ⊥ }
+    ensures out { port.new.out ≡ 1 }
+    ensures goes_on { IsTrue port.new.is_over → ⊥ }
+{
+    match port.accept() {
+        Ok(Some(link)) => link,
+        _ => panic!(rt; "no link"),
+    }
+}
+
+/// Asks for a link by a call that fails.
+fn fails_to_hand_out(rt: &impl Abort, port: &mut MemPort)
+    requires none_out { port.old.out ≡ 0 }
+    requires goes_on { IsTrue port.old.is_over → ⊥ }
+    ensures out { port.new.out ≡ 0 }
+    ensures goes_on { IsTrue port.new.is_over → ⊥ }
+{
+    match port.accept() {
+        Err(Failed) => {}
+        Ok(_) => panic!(rt; "no fault"),
+    }
 }
 
 /// Reads the byte of the link, and writes it back.
@@ -54,26 +80,22 @@ fn clock_repeats_its_last_moment(rt: HostRuntime) {
     }
 }
 
-/// Gives two links back, and one for which there is no place.
-fn give_back(rt: &impl Abort, alloc: Global, port: &mut MemPort, first: MemLink, second: MemLink) {
-    port.done(first);
-    port.done(second);
-    port.done(link_of(rt, alloc, b'2'));
-}
-
 #[test]
 fn port_hands_out_its_links(rt: HostRuntime) {
     let mut port = port_of(&rt, rt.alloc());
     assert!(rt; port.listen(8080).is_err());
     assert!(rt; port.listen(8080).is_ok());
     let mut first = next_of(&rt, &mut port);
-    assert!(rt; port.accept().is_err());
-    let second = next_of(&rt, &mut port);
     echo(&rt, &mut first);
-    give_back(&rt, rt.alloc(), &mut port, second, first);
+    port.done(first);
+    fails_to_hand_out(&rt, &mut port);
+    let second = next_of(&rt, &mut port);
+    port.done(second);
+    // There is no place for a third one.
+    port.done(link_of(&rt, rt.alloc(), b'2'));
     assert!(rt; port.accept().is_ok_and(|next| next.is_none()));
     let back = port.finished();
-    assert!(rt; back.len() == 2 && back[1].output().bytes() == b"0".as_slice());
+    assert!(rt; back.len() == 2 && back[0].output().bytes() == b"0".as_slice());
     assert!(rt;
         port.asked()
             == Asked {

@@ -1,5 +1,8 @@
 // A TCP port and its clients, all on this machine.
-use adapters::{LinkLimits, PortLimits, TcpDialer, TcpPort};
+ghost use Rattle.std.specs.Prelude.{◌≡◌};
+
+use adapters::{LinkLimits, TcpDialer};
+use client_port::{PortLimits, TcpPort};
 use split_base::{Dial, Failed, Port, Sink, Source};
 use std::process::Abort;
 use std::time::Duration;
@@ -8,7 +11,10 @@ use std::time::Duration;
 const ASK: &[u8] = b"GET / HTTP/1.1\r\nHost: a\r\n\r\n";
 
 /// The first number from this one on at which the port can listen.
-fn listening<P: Port>(port: &mut P, first: u16) -> u16 {
+fn listening<P: Port>(port: &mut P, first: u16) -> u16
+    ensures out { P.out port.new ≡ P.out port.old }
+    ensures over { P.is_over port.new → P.is_over port.old }
+{
     for number in first..u16::MAX {
         if port.listen(number).is_ok() {
             return number;
@@ -25,8 +31,16 @@ fn asking<D: Dial>(rt: &impl Abort, dialer: &mut D, number: u16, bytes: &[u8]) -
 }
 
 /// The port's end of the next turn.
-fn turn_of<P: Port>(rt: &impl Abort, port: &mut P) -> P::Link {
-    port.accept().expect(rt, "a fault").expect(rt, "no client")
+fn turn_of<P: Port>(rt: &impl Abort, port: &mut P) -> P::Link
+    requires none_out { P.out port.old ≡ 0 }
+    requires goes_on { P.is_over port.old → ⊥ }
+    ensures out { P.out port.new ≡ 1 }
+    ensures goes_on { P.is_over port.new → ⊥ }
+{
+    match port.accept() {
+        Ok(Some(link)) => link,
+        _ => panic!(rt; "no client"),
+    }
 }
 
 #[test]

@@ -4,7 +4,7 @@ ghost use Rattle.std.specs.Io.KnownBytes.{Consumes};
 ghost use Rattle.cert_checker.specs.Judged.{IsCertificate, IsJudgement, PrintsBest};
 ghost use Rattle.cert_checker.specs.Lines.{IsGoneOn, IsUpTo};
 ghost use Rattle.cert_reader.specs.Ends.{OfAnswer};
-ghost use Rattle.cert_reader.specs.Stream.{faults_after};
+ghost use Rattle.cert_reader.specs.Stream.{ends_at, ends_before, faults_after};
 ghost use Rattle.cert_reader.specs.declared.limits.TheConstants.{MOST_BYTES};
 ghost use Rattle.split_base.specs.Faults.{HasRisen};
 
@@ -15,7 +15,7 @@ use rule_verdicts::Verdict;
 use split_base::Source;
 
 /// Reads certificate text to the end of the input, in one pass and in fixed memory, and judges it: whether all rules of its kind hold, or the first
-/// that does not.
+/// that does not. Once a read has met the end it does not read again.
 ///
 /// - `NotText` comes exactly where the input has at most 4,000,000 bytes and is no certificate text, with its first broken line. It was read to its end.
 /// - `TooLong` comes exactly where it has more, whatever its lines. 4,000,001 bytes were read.
@@ -24,6 +24,7 @@ pub fn judge_text<S: Source>(source: &mut S) -> Result<Verdict, TextEnd>
     ensures judged { (taken : List ℕ) × Consumes (S.left source.old) (S.left source.new) taken × IsJudgement (S.left source.new) taken result }
     ensures best { result ≡ Ok Verdict.Yes → (taken : List ℕ) × Consumes (S.left source.old) (S.left source.new) taken × IsCertificate taken × PrintsBest taken }
     ensures faults { S.faults source.new ≡ faults_after (S.faults source.old) result }
+    ensures empty { S.empty_reads source.new ≤ ends_at (S.empty_reads source.old) result }
     ensures fault { IsErrOf result TextEnd.ReadFault → HasRisen (S.faults source.old) (S.faults source.new) }
     ensures count { S.faults source.old ≤ S.faults source.new }
     ensures beside { S.beside source.new ≡ S.beside source.old }
@@ -62,6 +63,7 @@ pub fn judge<S: Source>(source: &mut S) -> Result<Verdict, ReadEnd>
     ensures best { result ≡ Ok Verdict.Yes → (taken : List ℕ) × Consumes (S.left source.old) (S.left source.new) taken × IsCertificate taken × PrintsBest taken }
     ensures memory { IsErrOf result ReadEnd.NoMemory → ⊥ }
     ensures faults { OfAnswer (λ answer. S.faults source.new ≡ faults_after (S.faults source.old) answer) result }
+    ensures empty { OfAnswer (λ answer. S.empty_reads source.new ≤ ends_at (S.empty_reads source.old) answer) result }
     ensures fault { IsErrOf result ReadEnd.ReadFault → HasRisen (S.faults source.old) (S.faults source.new) }
     ensures count { S.faults source.old ≤ S.faults source.new }
     ensures beside { S.beside source.new ≡ S.beside source.old }
@@ -82,6 +84,7 @@ fn take_marks<S: Source>(
     ensures later { OnOk result (pieces.old.given ≤ pieces.new.given) }
     ensures few { pieces.new.given ≤ MOST_BYTES }
     ensures faults { S.faults source.new ≡ faults_after (S.faults source.old) result }
+    ensures empty { S.empty_reads source.new ≤ ends_before (S.empty_reads source.old) result }
     ensures fault { IsErrOf result TextEnd.ReadFault → HasRisen (S.faults source.old) (S.faults source.new) }
     ensures count { S.faults source.old ≤ S.faults source.new }
     ensures beside { S.beside source.new ≡ S.beside source.old }

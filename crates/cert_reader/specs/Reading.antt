@@ -12,6 +12,7 @@ use Rattle.cert_reader.specs.Forms.{AreCountsOf, Certificates, Series, Tree, for
 use Rattle.cert_reader.specs.Kinds.{TellsKind}
 use Rattle.cert_reader.specs.Gathered.{Gathered}
 use Rattle.cert_reader.specs.Order.{AgreeUpTo, form_in}
+use Rattle.cert_reader.specs.Stream.{ended}
 use Rattle.cert_reader.specs.Text.{CanSayAll, IsBrokenTextOf, IsText, IsTextOf, Marks, Numbers, Said, text_of}
 use Rattle.cert_reader.specs.Views.{says}
 
@@ -88,6 +89,14 @@ IsPiece old new left taken said (Line numbers) =
 IsPiece old new left taken said (Mark mark) = (0 < old.lines) × (new.counts ≡ old.counts) × IsRead new taken (with_mark said mark)
 IsPiece old new left taken said Done =
     (old.lines + 1 ≡ length (forms_of new.counts)) × AgreeUpTo old.lines old.counts new.counts × IsText taken new.counts (said ++ says [] ∷ []) × (length taken ≤ MOST_BYTES) × IsAtEnd left
+
+-- what the source's count of reads that gave nothing is at most after a piece: one more where the text is done, since the end was met, and else the same
+abbrev pub ends_by_piece : ℕ → Result Piece TextEnd → ℕ
+ends_by_piece before (Ok (Kind kind)) = before
+ends_by_piece before (Ok (Line numbers)) = before
+ends_by_piece before (Ok (Mark mark)) = before
+ends_by_piece before (Ok Done) = before + 1
+ends_by_piece before (Err stop) = ended before stop
 
 -- the answer is the next piece, or why the bytes are no certificate
 abbrev pub IsAnswer : Reading → Reading → Option (List ℕ) → List ℕ → List Said → Result Piece TextEnd → Type 0

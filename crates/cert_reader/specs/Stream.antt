@@ -1,5 +1,5 @@
 -- What comes between a source and the lines read from it.
-use Rattle.std.specs.Prelude.{◌≡◌, ◌≢◌, ℕ, ◌+◌, ◌<◌, ◌≤◌, List, [], ◌∷◌, ◌++◌, length, take, slice_index, Option, Result, Ok, Err}
+use Rattle.std.specs.Prelude.{◌≡◌, ◌≢◌, ℕ, ◌+◌, ◌<◌, ◌≤◌, List, [], ◌∷◌, ◌++◌, length, take, slice_index, Option, None, Some, Result, Ok, Err}
 use Rattle.std.specs.Io.KnownBytes.{Consumes, IsAtEnd}
 use Rattle.split_base.specs.Faults.{counted}
 use Rattle.cert_reader.specs.declared.limits.TheConstants.{LONGEST_LINE, MOST_BYTES}
@@ -43,6 +43,47 @@ faults_after before (Ok answer) = before
 faults_after before (Err ReadFault) = counted before
 faults_after before (Err TooLong) = before
 faults_after before (Err (NotText line)) = before
+
+-- how often the end was met where the reading stopped for this reason: once where the text is none
+abbrev pub ends_met : TextEnd → ℕ
+ends_met (NotText line) = 1
+ends_met ReadFault = 0
+ends_met TooLong = 0
+
+-- what the source's count of reads that gave nothing is at most after this reason to stop. A count that is higher by one at most tells that nothing was read
+-- once the end was met
+abbrev pub ended : ℕ → TextEnd → ℕ
+ended before stop = before + ends_met stop
+
+-- and after an answer that comes before the end
+abbrev pub ends_before : {T : Type 0} → ℕ → Result T TextEnd → ℕ
+ends_before before (Ok answer) = before
+ends_before before (Err stop) = ended before stop
+
+-- and after an answer that comes at the end
+abbrev pub ends_at : {T : Type 0} → ℕ → Result T TextEnd → ℕ
+ends_at before (Ok answer) = before + 1
+ends_at before (Err stop) = ended before stop
+
+-- and after a byte, or none at the end
+abbrev pub ends_by_byte : ℕ → Result (Option ℕ) TextEnd → ℕ
+ends_by_byte before (Ok None) = before + 1
+ends_by_byte before (Ok (Some byte)) = before
+ends_by_byte before (Err stop) = ended before stop
+
+-- and after a line, or what is at the end without an LF
+abbrev pub ends_by_cut : ℕ → Result Cut TextEnd → ℕ
+ends_by_cut before (Ok Line) = before
+ends_by_cut before (Ok Long) = before
+ends_by_cut before (Ok Unended) = before + 1
+ends_by_cut before (Err stop) = ended before stop
+
+-- and after the front of some bytes
+abbrev pub ends_by_front : ℕ → Result Front TextEnd → ℕ
+ends_by_front before (Ok Whole) = before
+ends_by_front before (Ok Other) = before
+ends_by_front before (Ok Ended) = before + 1
+ends_by_front before (Err stop) = ended before stop
 
 -- the text has no LF
 pub record IsPlain (text : List ℕ) : Type 0 where

@@ -7,7 +7,7 @@ ghost use Rattle.cert_reader.specs.declared.limits.TheConstants.{MOST_BYTES};
 ghost use Rattle.cert_reader.specs.Forms.{Pairs, forms_of};
 ghost use Rattle.cert_reader.specs.Pairs.{IsReadPair};
 ghost use Rattle.cert_reader.specs.Reading.{GoesOf, IsFinished, IsLineRead, IsOpen, IsReadOf};
-ghost use Rattle.cert_reader.specs.Stream.{faults_after};
+ghost use Rattle.cert_reader.specs.Stream.{ends_at, ends_before, faults_after};
 
 use crate::ends::TextEnd;
 use crate::forms::Counts;
@@ -80,6 +80,7 @@ impl PairLines {
         ensures lines { OnOk result (self.new.lines ≡ self.old.lines + 1) }
         ensures within { self.new.lines ≤ length (forms_of self.new.counts) }
         ensures faults { S.faults source.new ≡ faults_after (S.faults source.old) result }
+        ensures empty { S.empty_reads source.new ≤ ends_before (S.empty_reads source.old) result }
         ensures fault { IsErrOf result TextEnd.ReadFault → HasRisen (S.faults source.old) (S.faults source.new) }
         ensures count { S.faults source.old ≤ S.faults source.new }
         ensures beside { S.beside source.new ≡ S.beside source.old }
@@ -100,6 +101,7 @@ impl PairLines {
         ensures finish { GoesOf Pairs self.old (S.left source.old) (S.left source.new) (λ taken said. IsFinished Pairs self.new (S.left source.new) taken said result) }
         ensures same { self.new.counts ≡ self.old.counts }
         ensures faults { S.faults source.new ≡ faults_after (S.faults source.old) result }
+        ensures empty { S.empty_reads source.new ≤ ends_at (S.empty_reads source.old) result }
         ensures fault { IsErrOf result TextEnd.ReadFault → HasRisen (S.faults source.old) (S.faults source.new) }
         ensures count { S.faults source.old ≤ S.faults source.new }
         ensures beside { S.beside source.new ≡ S.beside source.old }
@@ -120,6 +122,7 @@ impl PairLines {
 pub fn read_pair<S: Source>(source: &mut S) -> Result<PairText, TextEnd>
     ensures read { (taken : List ℕ) × Consumes (S.left source.old) (S.left source.new) taken × IsReadPair (S.left source.new) taken result }
     ensures faults { S.faults source.new ≡ faults_after (S.faults source.old) result }
+    ensures empty { S.empty_reads source.new ≤ ends_at (S.empty_reads source.old) result }
     ensures fault { IsErrOf result TextEnd.ReadFault → HasRisen (S.faults source.old) (S.faults source.new) }
     ensures count { S.faults source.old ≤ S.faults source.new }
     ensures beside { S.beside source.new ≡ S.beside source.old }

@@ -6,8 +6,8 @@ ghost use Rattle.cert_reader.specs.Ends.{OfAnswer};
 ghost use Rattle.cert_reader.specs.Forms.{Certificates, Tree, forms_of};
 ghost use Rattle.cert_reader.specs.Kinds.{kind_of};
 ghost use Rattle.cert_reader.specs.Order.{AgreeUpTo, form_in};
-ghost use Rattle.cert_reader.specs.Reading.{Goes, IsAnswer, IsEnd, IsLineRead, IsFinished, IsMarkRead, IsOpen, IsRead, IsTreeRead};
-ghost use Rattle.cert_reader.specs.Stream.{IsPlain, faults_after, taken_count};
+ghost use Rattle.cert_reader.specs.Reading.{Goes, IsAnswer, IsEnd, IsLineRead, IsFinished, IsMarkRead, IsOpen, IsRead, IsTreeRead, ends_by_piece};
+ghost use Rattle.cert_reader.specs.Stream.{IsPlain, ends_at, ends_before, faults_after, taken_count};
 ghost use Rattle.cert_reader.specs.Text.{Numbers, Said};
 ghost use Rattle.cert_reader.specs.declared.limits.TheConstants.{MOST_BYTES};
 
@@ -141,6 +141,7 @@ impl Pieces {
         ensures few { self.new.given ≤ MOST_BYTES }
         ensures held { self.new.given + length self.new.ahead ≤ MOST_BYTES }
         ensures faults { S.faults source.new ≡ faults_after (S.faults source.old) result }
+        ensures empty { S.empty_reads source.new ≤ ends_before (S.empty_reads source.old) result }
         ensures fault { IsErrOf result TextEnd.ReadFault → HasRisen (S.faults source.old) (S.faults source.new) }
         ensures count { S.faults source.old ≤ S.faults source.new }
         ensures beside { S.beside source.new ≡ S.beside source.old }
@@ -164,6 +165,7 @@ impl Pieces {
         ensures few { self.new.given ≤ MOST_BYTES }
         ensures held { self.new.given + length self.new.ahead ≤ MOST_BYTES }
         ensures faults { S.faults source.new ≡ faults_after (S.faults source.old) result }
+        ensures empty { S.empty_reads source.new ≤ ends_at (S.empty_reads source.old) result }
         ensures fault { IsErrOf result TextEnd.ReadFault → HasRisen (S.faults source.old) (S.faults source.new) }
         ensures count { S.faults source.old ≤ S.faults source.new }
         ensures beside { S.beside source.new ≡ S.beside source.old }
@@ -185,6 +187,7 @@ impl Pieces {
         ensures few { self.new.given ≤ MOST_BYTES }
         ensures held { self.new.given + length self.new.ahead ≤ MOST_BYTES }
         ensures faults { S.faults source.new ≡ faults_after (S.faults source.old) result }
+        ensures empty { S.empty_reads source.new ≤ ends_before (S.empty_reads source.old) result }
         ensures fault { IsErrOf result TextEnd.ReadFault → HasRisen (S.faults source.old) (S.faults source.new) }
         ensures count { S.faults source.old ≤ S.faults source.new }
         ensures beside { S.beside source.new ≡ S.beside source.old }
@@ -211,6 +214,7 @@ impl Pieces {
         ensures few { self.new.given ≤ MOST_BYTES }
         ensures held { self.new.given + length self.new.ahead ≤ MOST_BYTES }
         ensures faults { S.faults source.new ≡ faults_after (S.faults source.old) result }
+        ensures empty { S.empty_reads source.new ≤ ends_before (S.empty_reads source.old) result }
         ensures fault { IsErrOf result TextEnd.ReadFault → HasRisen (S.faults source.old) (S.faults source.new) }
         ensures count { S.faults source.old ≤ S.faults source.new }
         ensures beside { S.beside source.new ≡ S.beside source.old }
@@ -240,6 +244,7 @@ impl Pieces {
         ensures few { self.new.given ≤ MOST_BYTES }
         ensures held { self.new.given + length self.new.ahead ≤ MOST_BYTES }
         ensures faults { S.faults source.new ≡ faults_after (S.faults source.old) result }
+        ensures empty { S.empty_reads source.new ≤ ends_before (S.empty_reads source.old) result }
         ensures fault { IsErrOf result TextEnd.ReadFault → HasRisen (S.faults source.old) (S.faults source.new) }
         ensures count { S.faults source.old ≤ S.faults source.new }
         ensures beside { S.beside source.new ≡ S.beside source.old }
@@ -264,6 +269,7 @@ impl Pieces {
         ensures few { self.new.given ≤ MOST_BYTES }
         ensures held { self.new.given + length self.new.ahead ≤ MOST_BYTES }
         ensures faults { S.faults source.new ≡ faults_after (S.faults source.old) result }
+        ensures empty { S.empty_reads source.new ≤ ends_by_piece (S.empty_reads source.old) result }
         ensures fault { IsErrOf result TextEnd.ReadFault → HasRisen (S.faults source.old) (S.faults source.new) }
         ensures count { S.faults source.old ≤ S.faults source.new }
         ensures beside { S.beside source.new ≡ S.beside source.old }
@@ -304,6 +310,7 @@ impl Pieces {
         ensures few { self.new.given ≤ MOST_BYTES }
         ensures held { self.new.given + length self.new.ahead ≤ MOST_BYTES }
         ensures faults { S.faults source.new ≡ faults_after (S.faults source.old) result }
+        ensures empty { S.empty_reads source.new ≤ ends_by_piece (S.empty_reads source.old) result }
         ensures fault { IsErrOf result TextEnd.ReadFault → HasRisen (S.faults source.old) (S.faults source.new) }
         ensures count { S.faults source.old ≤ S.faults source.new }
         ensures beside { S.beside source.new ≡ S.beside source.old }
@@ -330,6 +337,7 @@ impl Pieces {
         ensures held { self.new.given + length self.new.ahead ≤ MOST_BYTES }
         ensures memory { IsErrOf result ReadEnd.NoMemory → ⊥ }
         ensures faults { OfAnswer (λ answer. S.faults source.new ≡ faults_after (S.faults source.old) answer) result }
+        ensures empty { OfAnswer (λ answer. S.empty_reads source.new ≤ ends_by_piece (S.empty_reads source.old) answer) result }
         ensures fault { IsErrOf result ReadEnd.ReadFault → HasRisen (S.faults source.old) (S.faults source.new) }
         ensures count { S.faults source.old ≤ S.faults source.new }
         ensures beside { S.beside source.new ≡ S.beside source.old }

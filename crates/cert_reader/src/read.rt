@@ -1,8 +1,8 @@
 // A whole certificate, read from a source.
-ghost use Rattle.std.specs.Prelude.{◌≡◌, ◌≤◌, ℕ, List, length, IsErrOf};
+ghost use Rattle.std.specs.Prelude.{◌≡◌, ◌+◌, ◌≤◌, ℕ, List, length, IsErrOf};
 ghost use Rattle.std.specs.Io.KnownBytes.{Consumes};
 ghost use Rattle.split_base.specs.Faults.{HasRisen};
-ghost use Rattle.cert_reader.specs.Stream.{faults_after};
+ghost use Rattle.cert_reader.specs.Stream.{ends_at, faults_after};
 ghost use Rattle.cert_reader.specs.Ends.{OfReading};
 ghost use Rattle.cert_reader.specs.Whole.{IsReadWhole};
 ghost use Rattle.cert_reader.specs.declared.limits.TheConstants.{MOST_BYTES};
@@ -23,6 +23,7 @@ use std::alloc::Global;
 pub fn read_certificate<S: Source>(alloc: Global, source: &mut S) -> Result<Certificate, ReadEnd>
     ensures read { (taken : List ℕ) × Consumes (S.left source.old) (S.left source.new) taken × OfReading (IsReadWhole (S.left source.new) taken) (length taken ≤ MOST_BYTES) result }
     ensures faults { OfReading (λ answer. S.faults source.new ≡ faults_after (S.faults source.old) answer) (S.faults source.new ≡ S.faults source.old) result }
+    ensures empty { OfReading (λ answer. S.empty_reads source.new ≤ ends_at (S.empty_reads source.old) answer) (S.empty_reads source.new ≤ S.empty_reads source.old + 1) result }
     ensures fault { IsErrOf result ReadEnd.ReadFault → HasRisen (S.faults source.old) (S.faults source.new) }
     ensures count { S.faults source.old ≤ S.faults source.new }
     ensures beside { S.beside source.new ≡ S.beside source.old }

@@ -4,7 +4,7 @@ ghost use Rattle.split_base.specs.Faults.{HasRisen};
 ghost use Rattle.cert_reader.specs.Forms.{AreInRange, Tree, forms_of};
 ghost use Rattle.cert_reader.specs.Order.{form_in};
 ghost use Rattle.cert_reader.specs.Steps.{IsRefused, IsSettled};
-ghost use Rattle.cert_reader.specs.Stream.{faults_after, taken_count};
+ghost use Rattle.cert_reader.specs.Stream.{ended, ends_before, faults_after, taken_count};
 ghost use Rattle.cert_reader.specs.declared.limits.TheConstants.{MOST_BYTES};
 
 use crate::ends::TextEnd;
@@ -19,6 +19,7 @@ pub(crate) fn refuse<S: Source>(bytes: &mut Bytes, source: &mut S, line: u32) ->
     ensures end { IsRefused bytes.old bytes.new (S.left source.old) (S.left source.new) line (λ _. Unit {0}) result }
     ensures few { taken_count bytes.new ≤ MOST_BYTES }
     ensures faults { S.faults source.new ≡ faults_after {T = ℕ} (S.faults source.old) (Err result) }
+    ensures empty { S.empty_reads source.new ≤ ended (S.empty_reads source.old) result }
     ensures fault { result ≡ TextEnd.ReadFault → HasRisen (S.faults source.old) (S.faults source.new) }
     ensures count { S.faults source.old ≤ S.faults source.new }
     ensures beside { S.beside source.new ≡ S.beside source.old }
@@ -42,6 +43,7 @@ pub(crate) fn next_settled<S: Source>(
     ensures line { IsSettled bytes.old bytes.new (S.left source.old) (S.left source.new) index known result }
     ensures few { taken_count bytes.new ≤ MOST_BYTES }
     ensures faults { S.faults source.new ≡ faults_after (S.faults source.old) result }
+    ensures empty { S.empty_reads source.new ≤ ends_before (S.empty_reads source.old) result }
     ensures fault { IsErrOf result TextEnd.ReadFault → HasRisen (S.faults source.old) (S.faults source.new) }
     ensures count { S.faults source.old ≤ S.faults source.new }
     ensures beside { S.beside source.new ≡ S.beside source.old }

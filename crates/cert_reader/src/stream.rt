@@ -1,9 +1,9 @@
 // The bytes of a source one by one, and its lines, in fixed memory.
-ghost use Rattle.std.specs.Prelude.{◌≡◌, ℕ, List, ◌+◌, ◌≤◌, length, IfOk, IfErr, IfNone, OnOk, IsErrOf, MatchOption, [], ◌∷◌, option_to_list, ◌++◌};
+ghost use Rattle.std.specs.Prelude.{◌≡◌, ℕ, List, ◌+◌, ◌<◌, ◌≤◌, length, IfOk, IfErr, IfNone, OnOk, IsErrOf, MatchOption, [], ◌∷◌, option_to_list, ◌++◌};
 ghost use Rattle.std.specs.Bool.{MatchBool};
 ghost use Rattle.std.specs.Io.KnownBytes.{Consumes, IsAtEnd};
 ghost use Rattle.split_base.specs.Faults.{HasRisen};
-ghost use Rattle.cert_reader.specs.Stream.{Hands, IsCut, IsFrontTaken, IsStopped, faults_after, taken_count};
+ghost use Rattle.cert_reader.specs.Stream.{Hands, IsCut, IsFrontTaken, IsStopped, ends_at, ends_by_byte, ends_by_cut, ends_by_front, faults_after, taken_count};
 ghost use Rattle.cert_reader.specs.declared.limits.TheConstants.{LONGEST_LINE, MOST_BYTES};
 
 use crate::ends::TextEnd;
@@ -79,11 +79,13 @@ impl Bytes {
         requires { self.old.ahead ≡ [] }
         ensures bytes { OnOk result (Consumes (S.left source.old) (S.left source.new) self.new.ahead) }
         ensures end { OnOk result (self.new.ahead ≡ [] → IsAtEnd (S.left source.new)) }
+        ensures some { OnOk result (0 < length self.new.ahead → S.empty_reads source.new ≤ S.empty_reads source.old) }
         ensures given { OnOk result (self.new.given ≡ self.old.given) }
         ensures line { OnOk result (self.new.line ≡ self.old.line) }
         ensures few { taken_count self.new ≤ MOST_BYTES }
         ensures stopped { IfErr result (λ stop. IsStopped self.old (S.left source.old) (S.left source.new) stop) }
         ensures faults { S.faults source.new ≡ faults_after (S.faults source.old) result }
+        ensures empty { S.empty_reads source.new ≤ ends_at (S.empty_reads source.old) result }
         ensures fault { IsErrOf result TextEnd.ReadFault → HasRisen (S.faults source.old) (S.faults source.new) }
         ensures count { S.faults source.old ≤ S.faults source.new }
         ensures beside { S.beside source.new ≡ S.beside source.old }
@@ -125,6 +127,7 @@ impl Bytes {
         ensures few { taken_count self.new ≤ MOST_BYTES }
         ensures stopped { IfErr result (λ stop. IsStopped self.old (S.left source.old) (S.left source.new) stop) }
         ensures faults { S.faults source.new ≡ faults_after (S.faults source.old) result }
+        ensures empty { S.empty_reads source.new ≤ ends_by_byte (S.empty_reads source.old) result }
         ensures fault { IsErrOf result TextEnd.ReadFault → HasRisen (S.faults source.old) (S.faults source.new) }
         ensures count { S.faults source.old ≤ S.faults source.new }
         ensures beside { S.beside source.new ≡ S.beside source.old }
@@ -169,6 +172,7 @@ impl Bytes {
         ensures few { taken_count self.new ≤ MOST_BYTES }
         ensures stopped { IfErr result (λ stop. IsStopped self.old (S.left source.old) (S.left source.new) stop) }
         ensures faults { S.faults source.new ≡ faults_after (S.faults source.old) result }
+        ensures empty { S.empty_reads source.new ≤ ends_by_cut (S.empty_reads source.old) result }
         ensures fault { IsErrOf result TextEnd.ReadFault → HasRisen (S.faults source.old) (S.faults source.new) }
         ensures count { S.faults source.old ≤ S.faults source.new }
         ensures beside { S.beside source.new ≡ S.beside source.old }
@@ -201,6 +205,7 @@ impl Bytes {
         ensures few { 1 ≤ length front.now → taken_count self.new ≤ MOST_BYTES }
         ensures stopped { IfErr result (λ stop. IsStopped self.old (S.left source.old) (S.left source.new) stop) }
         ensures faults { S.faults source.new ≡ faults_after (S.faults source.old) result }
+        ensures empty { S.empty_reads source.new ≤ ends_by_front (S.empty_reads source.old) result }
         ensures fault { IsErrOf result TextEnd.ReadFault → HasRisen (S.faults source.old) (S.faults source.new) }
         ensures count { S.faults source.old ≤ S.faults source.new }
         ensures beside { S.beside source.new ≡ S.beside source.old }
@@ -225,6 +230,7 @@ impl Bytes {
         ensures few { taken_count self.new ≤ MOST_BYTES }
         ensures stopped { IfErr result (λ stop. IsStopped self.old (S.left source.old) (S.left source.new) stop) }
         ensures faults { S.faults source.new ≡ faults_after (S.faults source.old) result }
+        ensures empty { S.empty_reads source.new ≤ ends_at (S.empty_reads source.old) result }
         ensures fault { IsErrOf result TextEnd.ReadFault → HasRisen (S.faults source.old) (S.faults source.new) }
         ensures count { S.faults source.old ≤ S.faults source.new }
         ensures beside { S.beside source.new ≡ S.beside source.old }

@@ -1,7 +1,7 @@
 // The line of a tree, character by character from a source.
 ghost use Rattle.std.specs.Prelude.{◌≡◌, ◌↔◌, ◌≤◌, IsErrOf, IsTrue};
 ghost use Rattle.split_base.specs.Faults.{HasRisen};
-ghost use Rattle.cert_reader.specs.Stream.{faults_after, taken_count};
+ghost use Rattle.cert_reader.specs.Stream.{ends_before, faults_after, taken_count};
 ghost use Rattle.cert_reader.specs.Text.{IsMark};
 ghost use Rattle.cert_reader.specs.TreeLines.{IsFirstMark, IsNextMark, tree_front};
 ghost use Rattle.cert_reader.specs.declared.limits.TheConstants.{MOST_BYTES};
@@ -35,6 +35,7 @@ pub(crate) fn next_mark<S: Source>(
     ensures mark { IsNextMark bytes.old bytes.new (S.left source.old) (S.left source.new) line result }
     ensures few { taken_count bytes.new ≤ MOST_BYTES }
     ensures faults { S.faults source.new ≡ faults_after (S.faults source.old) result }
+    ensures empty { S.empty_reads source.new ≤ ends_before (S.empty_reads source.old) result }
     ensures fault { IsErrOf result TextEnd.ReadFault → HasRisen (S.faults source.old) (S.faults source.new) }
     ensures count { S.faults source.old ≤ S.faults source.new }
     ensures beside { S.beside source.new ≡ S.beside source.old }
@@ -63,6 +64,7 @@ pub(crate) fn first_mark<S: Source>(
     ensures mark { IsFirstMark bytes.old bytes.new (S.left source.old) (S.left source.new) line result }
     ensures few { taken_count bytes.new ≤ MOST_BYTES }
     ensures faults { S.faults source.new ≡ faults_after (S.faults source.old) result }
+    ensures empty { S.empty_reads source.new ≤ ends_before (S.empty_reads source.old) result }
     ensures fault { IsErrOf result TextEnd.ReadFault → HasRisen (S.faults source.old) (S.faults source.new) }
     ensures count { S.faults source.old ≤ S.faults source.new }
     ensures beside { S.beside source.new ≡ S.beside source.old }

@@ -1,4 +1,4 @@
-pub mod MarkRuns
+pub mod Puts
 pub mod TreeMarks
 pub mod TreeSizes
 pub mod BestAnswer

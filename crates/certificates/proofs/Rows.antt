@@ -1,5 +1,5 @@
 -- Rows of numbers, as they are written.
-use Rattle.std.proofs.Common.{◌≡◌, ℕ, ℤ, pos, List, [], ◌∷◌, ◌++◌, length, map, flat_map, replicate, refl, sym, ap, ◌∙◌, append_assoc, arith}
+use Rattle.std.proofs.Common.{◌≡◌, ℕ, ℤ, pos, List, [], ◌∷◌, ◌++◌, length, map, flat_map, replicate, refl, sym, ap, ◌∙◌, append_assoc, append-nil, arith}
 use Rattle.std.specs.Fmt.{decimal}
 use Rattle.std.proofs.lemmas.List.{length-map, length-replicate}
 use Rattle.cert_reader.specs.declared.forms.Word.{Word}
@@ -45,3 +45,8 @@ rows_then word count n row rows forms tail long =
     ap (λ text. text ++ text_of forms tail) (sym (rows_text word count row rows))
     ∙ sym (text-append (replicate (length rows) (numbers_of word count)) forms (map says (map row rows)) tail same)
     ∙ ap (λ (k : ℕ). text_of (replicate k (numbers_of word count) ++ forms) (map says (map row rows) ++ tail)) long
+
+-- twelve pieces, joined from both sides
+pub twelve : (a b d e v r l t w k p f : List ℕ)
+    → (((a ++ (b ++ (d ++ e))) ++ v) ++ (r ++ (l ++ t))) ++ (w ++ (k ++ (p ++ f))) ≡ a ++ (b ++ (d ++ (e ++ (v ++ (r ++ (l ++ (t ++ (w ++ (k ++ (p ++ (f ++ [])))))))))))
+twelve a b d e v r l t w k p f = simp (append_assoc, append-nil) refl

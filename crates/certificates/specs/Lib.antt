@@ -1,7 +1,8 @@
 pub mod GoodsLines
 pub mod Marks
 pub mod Nodes
-pub mod Waiting
+pub mod Puts
+pub mod FareDivisions
 pub mod FareLines
 pub mod RentLines
 pub mod Division

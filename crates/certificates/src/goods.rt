@@ -1,5 +1,5 @@
-// The canonical certificate of goods.
-ghost use Rattle.std.specs.Prelude.{◌≡◌, ◌++◌, [], ◌∷◌, flat_map, map, pos, OnOk, string_bytes};
+// The canonical certificate of goods, in a buffer.
+ghost use Rattle.std.specs.Prelude.{◌≡◌, ◌++◌, [], ◌∷◌, flat_map, map, pos};
 ghost use Rattle.bid_rules.specs.Goods.{IsValidGoodsCase};
 ghost use Rattle.cert_reader.specs.declared.forms.Word.TheVariants as word;
 ghost use Rattle.cert_reader.specs.Forms.{Tree};
@@ -8,78 +8,82 @@ ghost use Rattle.cert_reader.specs.Views.{OfGoods};
 ghost use Rattle.certificates.specs.Canonical.{text_saying};
 ghost use Rattle.certificates.specs.Lines.{number_line};
 ghost use Rattle.certificates.specs.GoodsLines.{canonical_goods, canonical_tree};
+ghost use Rattle.certificates.specs.Puts.{Puts};
 ghost use Rattle.nash_search.specs.Division.{IsGoodsDivision};
 
-use crate::lines::{push_amounts, push_rows, push_small, push_text};
-use crate::push_marks;
+use crate::lines::{put_amounts, put_rows, put_small};
+use crate::marks::put_marks;
+use crate::room::put;
 use bid_rules::{Goods, GoodsCase};
 use cert_reader::Word;
 use nash_bounds::players;
 use nash_search::GoodsDivision;
-use split_base::NoMemory;
 
-/// Appends the lines before the players.
-fn push_head(text: &mut String, players: u8, facts: &Goods) -> Result<(), NoMemory>
-    ensures { OnOk result (string_bytes text.new ≡ string_bytes text.old
-        ++ (number_line word.Fairsplit (wholes (pos 1 ∷ [])) ++ (number_line word.KindGoods []
+/// Puts the lines before the players.
+fn put_head(text: &mut [u8], used: usize, players: u8, facts: &Goods) -> usize
+    ensures { Puts (number_line word.Fairsplit (wholes (pos 1 ∷ [])) ++ (number_line word.KindGoods []
         ++ (number_line word.Players (wholes (pos players ∷ [])) ++ (number_line word.Goods (wholes (pos facts.now.goods ∷ []))
-        ++ number_line word.Limit (wholes (pos facts.now.limit ∷ []))))))) }
+        ++ number_line word.Limit (wholes (pos facts.now.limit ∷ [])))))) used text.old text.new result }
 {
-    push_small(text, Word::Fairsplit, &[1])?;
-    push_small(text, Word::KindGoods, &[])?;
-    push_small(text, Word::Players, &[players])?;
-    push_small(text, Word::Goods, &[facts.goods])?;
-    push_amounts(text, Word::Limit, &[facts.limit])?;
-    Ok(())
+    let used = put_small(text, used, Word::Fairsplit, &[1]);
+    let used = put_small(text, used, Word::KindGoods, &[]);
+    let used = put_small(text, used, Word::Players, &[players]);
+    let used = put_small(text, used, Word::Goods, &[facts.goods]);
+    put_amounts(text, used, Word::Limit, &[facts.limit])
 }
 
-/// Appends the members who are the players, and their points.
-fn push_players(text: &mut String, case: &GoodsCase) -> Result<(), NoMemory>
-    ensures { OnOk result (string_bytes text.new ≡ string_bytes text.old ++ (number_line word.Who (wholes (map pos case.now.who.items))
-        ++ flat_map (λ row. number_line word.Values (wholes (map pos row.items))) case.now.values.items)) }
+/// Puts the line of the members who are the players.
+fn put_who(text: &mut [u8], used: usize, case: &GoodsCase) -> usize
+    ensures { Puts (number_line word.Who (wholes (map pos case.now.who.items))) used text.old text.new result }
 {
-    push_small(text, Word::Who, case.who.as_slice())?;
-    push_rows(text, Word::Values, case.values.as_slice())?;
-    Ok(())
+    put_small(text, used, Word::Who, case.who.as_slice())
 }
 
-/// Appends who has each good, and the step count.
-fn push_division(text: &mut String, division: &GoodsDivision) -> Result<(), NoMemory>
-    ensures { OnOk result (string_bytes text.new ≡ string_bytes text.old
-        ++ (number_line word.Owners (wholes (map pos division.now.owners.items)) ++ number_line word.Steps (wholes (pos division.now.steps ∷ [])))) }
+/// Puts the lines of their points.
+fn put_points(text: &mut [u8], used: usize, case: &GoodsCase) -> usize
+    ensures { Puts (flat_map (λ row. number_line word.Values (wholes (map pos row.items))) case.now.values.items) used text.old text.new result }
 {
-    push_small(text, Word::Owners, division.owners.as_slice())?;
-    push_amounts(text, Word::Steps, &[division.steps])?;
-    Ok(())
+    put_rows(text, used, Word::Values, case.values.as_slice())
 }
 
-/// Appends the line of the tree.
-fn push_tree(text: &mut String, case: &GoodsCase, division: &GoodsDivision) -> Result<(), NoMemory>
+/// Puts the lines of who has each good, and of the step count.
+fn put_division(text: &mut [u8], used: usize, division: &GoodsDivision) -> usize
+    ensures { Puts (number_line word.Owners (wholes (map pos division.now.owners.items)) ++ number_line word.Steps (wholes (pos division.now.steps ∷ [])))
+        used text.old text.new result }
+{
+    let used = put_small(text, used, Word::Owners, division.owners.as_slice());
+    put_amounts(text, used, Word::Steps, &[division.steps])
+}
+
+/// Puts the line of the tree.
+fn put_tree_line(text: &mut [u8], used: usize, case: &GoodsCase, division: &GoodsDivision) -> usize
     requires case { IsValidGoodsCase case.now }
     requires division { IsGoodsDivision case.now division.now }
-    ensures { OnOk result (string_bytes text.new ≡ string_bytes text.old ++ said_text Tree (Marks (canonical_tree case.now division.now))) }
+    ensures { Puts (said_text Tree (Marks (canonical_tree case.now division.now))) used text.old text.new result }
 {
-    push_text(text, Word::Tree.as_str())?;
-    push_text(text, " ")?;
-    push_marks(text, case, division)?;
-    push_text(text, "\n")?;
-    Ok(())
+    let behind_word = put(text, used, Word::Tree.as_str().as_bytes());
+    let behind_space = put(text, behind_word, b" ");
+    let behind_marks = put_marks(text, behind_space, case, division);
+    put(text, behind_marks, b"\n")
 }
 
-/// Appends the canonical certificate of goods.
-pub(crate) fn push_goods(
-    text: &mut String,
-    case: &GoodsCase,
-    division: &GoodsDivision,
-) -> Result<(), NoMemory>
+/// Puts the last line.
+fn put_end(text: &mut [u8], used: usize) -> usize
+    ensures { Puts (number_line word.End []) used text.old text.new result }
+{
+    put_small(text, used, Word::End, &[])
+}
+
+/// Puts the canonical certificate of goods at the front of the text.
+pub fn put_goods(text: &mut [u8], case: &GoodsCase, division: &GoodsDivision) -> usize
     requires case { IsValidGoodsCase case.now }
     requires division { IsGoodsDivision case.now division.now }
-    ensures { OnOk result (string_bytes text.new ≡ string_bytes text.old ++ text_saying (OfGoods (canonical_goods case.now division.now))) }
+    ensures { Puts (text_saying (OfGoods (canonical_goods case.now division.now))) 0 text.old text.new result }
 {
-    push_head(text, players(case), &case.facts)?;
-    push_players(text, case)?;
-    push_division(text, division)?;
-    push_tree(text, case, division)?;
-    push_small(text, Word::End, &[])?;
-    Ok(())
+    let head = put_head(text, 0, players(case), &case.facts);
+    let who = put_who(text, head, case);
+    let points = put_points(text, who, case);
+    let shown = put_division(text, points, division);
+    let tree = put_tree_line(text, shown, case, division);
+    put_end(text, tree)
 }

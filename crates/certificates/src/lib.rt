@@ -4,6 +4,10 @@
 //! at most one (`certificate_law`). One of goods or fares counts no members, so it prints the case
 //! with as many as there may be. What each member pays of a rent is the cent plan of the members'
 //! exact prices (`rent_pays`).
+//!
+//! Lines are put into a slice, and what has no room is only counted (`put_rent`, `put_goods` and
+//! `put_fares`), so the writer takes no memory and can't fail. `write_certificate` counts a text
+//! first, and then puts it into memory that it takes once.
 #![tactic(auto)]
 
 mod division;
@@ -20,15 +24,18 @@ mod node;
 mod payments;
 mod rent;
 mod rent_lines;
+mod room;
 mod sets;
 mod write;
 
 pub use division::Division;
 pub use division_laws::division_law;
 pub use fare_lines::fare_lines_law;
+pub use fares::put_fares;
+pub use goods::put_goods;
 pub use goods_lines::goods_lines_law;
 pub use laws::certificate_law;
-pub use marks::push_marks;
 pub use payments::rent_pays;
+pub use rent::put_rent;
 pub use rent_lines::rent_lines_law;
 pub use write::write_certificate;

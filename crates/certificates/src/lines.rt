@@ -1,70 +1,125 @@
-// The lines of a certificate, as they are appended to its text.
-ghost use Rattle.std.specs.Prelude.{◌≡◌, ◌++◌, flat_map, map, pos, OnOk, string_bytes};
+// Lines of a certificate, as they are put into a buffer.
+ghost use Rattle.std.specs.Prelude.{◌≡◌, ◌++◌, ◌∷◌, flat_map, map, pos};
+ghost use Rattle.std.specs.Fmt.{decimal, signed_decimal};
 ghost use Rattle.cert_reader.specs.Text.{wholes};
 ghost use Rattle.certificates.specs.Lines.{number_line};
-ghost use Rattle.split_frac.specs.Frac.{fraction_of};
+ghost use Rattle.certificates.specs.Puts.{Puts};
+ghost use Rattle.split_frac.specs.Frac.{frac_text, fraction_of};
+ghost use Rattle.split_frac.specs.Texts.{line, spaced};
 
+use crate::room::put;
 use arrayvec::ArrayVec;
 use cert_reader::Word;
-use split_base::NoMemory;
-use split_frac::{Frac, number_law, push_numbers};
+use itoa::{Buffer, Integer};
+use split_frac::{Frac, number_law};
 
-/// Appends some text.
-pub(crate) fn push_text(text: &mut String, more: &str) -> Result<(), NoMemory>
-    ensures { OnOk result (string_bytes text.new ≡ string_bytes text.old ++ more.now) }
+/// Puts a number and a space before it.
+fn put_number<I: Integer>(text: &mut [u8], used: usize, number: I) -> usize
+    ensures { Puts (32 ∷ I.text number) used text.old text.new result }
 {
-    match text.push_str(more) {
-        Ok(()) => Ok(()),
-        Err(_) => Err(NoMemory),
+    let end = put(text, used, b" ");
+    let mut buffer = Buffer::new();
+    put(text, end, buffer.format(number).as_bytes())
+}
+
+/// Puts numbers, and a space before each.
+fn put_spaced<I: Integer>(text: &mut [u8], used: usize, numbers: &[I]) -> usize
+    ensures { Puts (spaced (map I.text numbers.now)) used text.old text.new result }
+{
+    let mut end = used;
+    for number in numbers {
+        end = put_number(text, end, *number);
     }
+    end
 }
 
-/// Appends a line of small numbers, as those of members, places and riders.
-pub(crate) fn push_small(text: &mut String, word: Word, numbers: &[u8]) -> Result<(), NoMemory>
-    ensures { OnOk result (string_bytes text.new ≡ string_bytes text.old ++ number_line word (wholes (map pos numbers.now))) }
+/// Puts a slash and a denominator.
+fn put_denominator(text: &mut [u8], used: usize, number: u64) -> usize
+    ensures { Puts (47 ∷ decimal number) used text.old text.new result }
+{
+    let end = put(text, used, b"/");
+    let mut buffer = Buffer::new();
+    put(text, end, buffer.format(number).as_bytes())
+}
+
+/// Puts a fraction and a space before it.
+#[tactic(auto, unfolding(split_frac::specs::Frac::pair_text))]
+fn put_fraction(text: &mut [u8], used: usize, number: Frac) -> usize
+    ensures { Puts (32 ∷ frac_text number) used text.old text.new result }
+{
+    let end = put_number(text, used, number.num);
+    if number.den == 1 {
+        return end;
+    }
+    put_denominator(text, end, number.den)
+}
+
+/// Puts fractions, and a space before each.
+fn put_spaced_fractions(text: &mut [u8], used: usize, numbers: &[Frac]) -> usize
+    ensures { Puts (spaced (map frac_text numbers.now)) used text.old text.new result }
+{
+    let mut end = used;
+    for number in numbers {
+        end = put_fraction(text, end, *number);
+    }
+    end
+}
+
+/// Puts a line of a word and numbers.
+fn put_line<I: Integer>(text: &mut [u8], used: usize, word: &str, numbers: &[I]) -> usize
+    ensures { Puts (line (word.now ++ spaced (map I.text numbers.now))) used text.old text.new result }
+{
+    let behind_word = put(text, used, word.as_bytes());
+    let behind_numbers = put_spaced(text, behind_word, numbers);
+    put(text, behind_numbers, b"\n")
+}
+
+/// Puts a line of small numbers.
+pub(crate) fn put_small(text: &mut [u8], used: usize, word: Word, numbers: &[u8]) -> usize
+    ensures { Puts (number_line word (wholes (map pos numbers.now))) used text.old text.new result }
 {
     number_law();
-    push_numbers(text, word.as_str(), numbers)
+    put_line(text, used, word.as_str(), numbers)
 }
 
-/// Appends a line of amounts, as of cents, points and steps.
-pub(crate) fn push_amounts(text: &mut String, word: Word, amounts: &[u32]) -> Result<(), NoMemory>
-    ensures { OnOk result (string_bytes text.new ≡ string_bytes text.old ++ number_line word (wholes (map pos amounts.now))) }
+/// Puts a line of amounts.
+pub(crate) fn put_amounts(text: &mut [u8], used: usize, word: Word, numbers: &[u32]) -> usize
+    ensures { Puts (number_line word (wholes (map pos numbers.now))) used text.old text.new result }
 {
     number_law();
-    push_numbers(text, word.as_str(), amounts)
+    put_line(text, used, word.as_str(), numbers)
 }
 
-/// Appends a line of amounts for each row.
-pub(crate) fn push_rows<const N: usize>(
-    text: &mut String,
+/// Puts a line of whole numbers.
+pub(crate) fn put_signed(text: &mut [u8], used: usize, word: Word, numbers: &[i128]) -> usize
+    ensures { Puts (number_line word (wholes numbers.now)) used text.old text.new result }
+{
+    number_law();
+    put_line(text, used, word.as_str(), numbers)
+}
+
+/// Puts a line of fractions.
+pub(crate) fn put_fractions(text: &mut [u8], used: usize, word: Word, numbers: &[Frac]) -> usize
+    ensures { Puts (number_line word (map fraction_of numbers.now)) used text.old text.new result }
+{
+    number_law();
+    let behind_word = put(text, used, word.as_str().as_bytes());
+    let behind_numbers = put_spaced_fractions(text, behind_word, numbers);
+    put(text, behind_numbers, b"\n")
+}
+
+/// Puts a line of amounts for each row.
+pub(crate) fn put_rows<const N: usize>(
+    text: &mut [u8],
+    used: usize,
     word: Word,
     rows: &[ArrayVec<u32, N>],
-) -> Result<(), NoMemory>
-    ensures { OnOk result (string_bytes text.new ≡ string_bytes text.old ++ flat_map (λ row. number_line word (wholes (map pos row.items))) rows.now) }
+) -> usize
+    ensures { Puts (flat_map (λ row. number_line word (wholes (map pos row.items))) rows.now) used text.old text.new result }
 {
+    let mut end = used;
     for row in rows {
-        push_amounts(text, word, row.as_slice())?;
+        end = put_amounts(text, end, word, row.as_slice());
     }
-    Ok(())
-}
-
-/// Appends a line of whole numbers.
-pub(crate) fn push_signed(text: &mut String, word: Word, numbers: &[i128]) -> Result<(), NoMemory>
-    ensures { OnOk result (string_bytes text.new ≡ string_bytes text.old ++ number_line word (wholes numbers.now)) }
-{
-    number_law();
-    push_numbers(text, word.as_str(), numbers)
-}
-
-/// Appends a line of fractions.
-pub(crate) fn push_fractions(
-    text: &mut String,
-    word: Word,
-    fractions: &[Frac],
-) -> Result<(), NoMemory>
-    ensures { OnOk result (string_bytes text.new ≡ string_bytes text.old ++ number_line word (map fraction_of fractions.now)) }
-{
-    number_law();
-    push_numbers(text, word.as_str(), fractions)
+    end
 }

@@ -1,24 +1,24 @@
 // The table of a certificate of fares: what the routes of all sets of riders cost.
-ghost use Rattle.std.specs.Prelude.{◌≡◌, ◌++◌, ◌∷◌, ◌<◌, ◌≤◌, ◌^◌, flat_map, length, map, pos, OnOk, string_bytes};
+ghost use Rattle.std.specs.Prelude.{◌≡◌, ◌∷◌, ◌<◌, ◌≤◌, ◌^◌, flat_map, length, map, pos};
 ghost use Rattle.bid_rules.specs.declared.limits.TheConstants.{MOST_RIDERS};
 ghost use Rattle.cert_reader.specs.declared.forms.Word.TheVariants as word;
 ghost use Rattle.cert_reader.specs.Sets.{sets_of};
 ghost use Rattle.cert_reader.specs.Text.{wholes};
 ghost use Rattle.certificates.specs.Lines.{number_line};
 ghost use Rattle.certificates.specs.FareLines.{cost_line};
+ghost use Rattle.certificates.specs.Puts.{Puts};
 
-use crate::lines::push_amounts;
+use crate::lines::put_amounts;
 use arrayvec::ArrayVec;
 use cert_reader::Word;
-use fare_routes::Costs;
 use fare_rules::{START_ROOM, starts_law, starts_of};
-use split_base::NoMemory;
+use set_costs::SetCosts;
 
 /// Room for the number of a set and an entry a start.
 const SET_LINE_ROOM: usize = START_ROOM + 1;
 
 /// The numbers of the line of a set: its own number, and what its route costs from each of its starts.
-fn set_numbers(costs: &Costs, count: u8, set: u16) -> ArrayVec<u32, SET_LINE_ROOM>
+fn set_numbers(costs: &SetCosts<'_>, count: u8, set: u16) -> ArrayVec<u32, SET_LINE_ROOM>
     requires count { count ≡ length costs.now.at.items }
     requires few { count ≤ MOST_RIDERS }
     requires set { set < 2 ^ count }
@@ -34,15 +34,27 @@ fn set_numbers(costs: &Costs, count: u8, set: u16) -> ArrayVec<u32, SET_LINE_ROO
     numbers
 }
 
-/// Appends a line for each set of riders, by the numbers of the sets.
-pub(crate) fn push_sets(text: &mut String, costs: &Costs, count: u8) -> Result<(), NoMemory>
+/// Puts the line of a set.
+fn put_set(text: &mut [u8], used: usize, costs: &SetCosts<'_>, count: u8, set: u16) -> usize
     requires count { count ≡ length costs.now.at.items }
     requires few { count ≤ MOST_RIDERS }
-    ensures { OnOk result (string_bytes text.new ≡ string_bytes text.old ++ flat_map (λ set. number_line word.Set (wholes (pos set ∷ cost_line costs.now set))) (sets_of count)) }
+    requires set { set < 2 ^ count }
+    ensures { Puts (number_line word.Set (wholes (pos set ∷ cost_line costs.now set))) used text.old text.new result }
 {
-    let end: u16 = 1 << count;
-    for set in 1..end {
-        push_amounts(text, Word::Set, set_numbers(costs, count, set).as_slice())?;
+    let numbers = set_numbers(costs, count, set);
+    put_amounts(text, used, Word::Set, numbers.as_slice())
+}
+
+/// Puts a line for each set of riders, by the numbers of the sets.
+pub(crate) fn put_sets(text: &mut [u8], used: usize, costs: &SetCosts<'_>, count: u8) -> usize
+    requires count { count ≡ length costs.now.at.items }
+    requires few { count ≤ MOST_RIDERS }
+    ensures { Puts (flat_map (λ set. number_line word.Set (wholes (pos set ∷ cost_line costs.now set))) (sets_of count)) used text.old text.new result }
+{
+    let last: u16 = 1 << count;
+    let mut end = used;
+    for set in 1..last {
+        end = put_set(text, end, costs, count, set);
     }
-    Ok(())
+    end
 }

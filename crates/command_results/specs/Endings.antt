@@ -1,5 +1,5 @@
 -- The endings of a command: each with its status and its text.
-use Rattle.std.specs.Prelude.{ℕ, List, [], ◌∷◌, ◌++◌, Result, Ok, Err, map, codes}
+use Rattle.std.specs.Prelude.{ℕ, List, [], ◌∷◌, ◌++◌, ⊤, Result, Ok, Err, map, codes}
 use Rattle.std.specs.Fmt.{decimal}
 use Rattle.std.specs.Result.{result_map_both}
 use Rattle.case_fields.specs.declared.fields.BodyFault.{BodyFault}
@@ -23,6 +23,10 @@ text_bytes (Brief line) = line.items
 -- an ending, its text by its bytes
 abbrev pub ending_of : Result Text Stop → Result (List ℕ) Stop
 ending_of ending = result_map_both text_bytes (λ stop. stop) ending
+
+-- the ending of a judge: its yes as a line, or why it says no
+abbrev pub verdict_ending : Result ⊤ Stop → Result (List ℕ) Stop
+verdict_ending verdict = result_map_both (λ _. yes_line) (λ stop. stop) verdict
 
 -- the line that refuses a body
 abbrev pub fault_line : BodyFault → List ℕ

@@ -1,13 +1,14 @@
 //! The program: the commands over the journal's file, TCP, the system's clock and the standard streams.
 //!
 //! `main` has no contract: it hands the outside to `run` and ends with its status. Where there is
-//! no memory for the words it ends with 9, and writes `no memory` where it can.
+//! no memory for the words it ends with 9, and writes `no memory` where it can. Only a program has a `main`, so it is a crate of its own.
 #![tactic(auto)]
 
 use adapters::{
-    JournalFile, LinkLimits, PortLimits, Reading, StandardDescriptors, Started, SystemClock,
-    TcpDialer, TcpPort, Writing, words_of,
+    JournalFile, LinkLimits, Reading, StandardDescriptors, Started, SystemClock, TcpDialer,
+    Writing, words_of,
 };
+use client_port::{PortLimits, TcpPort};
 use split_base::{NoMemory, Quiet, write_all};
 use split_top::{Stop, run};
 use std::io;

@@ -32,7 +32,7 @@ impl Model for Costs {
 
 impl Costs {
     /// The same costs, borrowed.
-    fn borrowed(&self) -> SetCosts<'_>
+    pub fn borrowed(&self) -> SetCosts<'_>
         ensures { result ≡ self.now }
     {
         SetCosts::new(&self.case, &self.rows)

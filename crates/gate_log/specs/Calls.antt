@@ -1,5 +1,5 @@
--- How a call on a journal changes the disk's count of faults.
-use Rattle.std.specs.Prelude.{ℕ, Result, Ok, Err}
+-- How a call on a journal changes the disk's count of faults, and what it answers where the file has a fault.
+use Rattle.std.specs.Prelude.{◌≡◌, ℕ, Result, Ok, Err}
 use Rattle.split_base.specs.Faults.{counted}
 use Rattle.gate_log.specs.declared.fault.LogFault.{LogFault}
 use Rattle.gate_log.specs.declared.fault.LogFault.TheVariants.{Disk, NotALog, NoMemory}
@@ -14,3 +14,14 @@ counted_by before NoMemory = before
 abbrev pub faults_after : {T : Type 0} → ℕ → Result T LogFault → ℕ
 faults_after before (Ok value) = before
 faults_after before (Err fault) = counted_by before fault
+
+-- why a call ended, where the file has its first fault at this place: that fault, or one that kept it from being found
+abbrev pub IsReasonAt : ℕ → LogFault → Type 0
+IsReasonAt place Disk = Unit {0}
+IsReasonAt place (NotALog at) = at ≡ place
+IsReasonAt place NoMemory = Unit {0}
+
+-- the answer where the file has its first fault at this place: it is told, unless a call of the disk failed or memory ran out
+abbrev pub TellsFault : {T : Type 0} → ℕ → Result T LogFault → Type 0
+TellsFault place (Ok value) = ⊥
+TellsFault place (Err fault) = IsReasonAt place fault

@@ -23,13 +23,14 @@ pub fn create_log<D: Disk>(disk: &mut D, secret: &[u8; SECRET_SIZE]) -> Result<(
     ensures faults { D.faults disk.new ≡ faults_after (D.faults disk.old) result }
     ensures no_memory { result ≢ Err LogFault.NoMemory }
     ensures place { (place : ℕ) → result ≡ Err (LogFault.NotALog place) → place ≡ 0 }
-    ensures filled { D.is_honest disk.old → (place : ℕ) → result ≡ Err (LogFault.NotALog place) → 0 < length (D.seen disk.old) }
+    ensures filled { D.tells disk.old → (place : ℕ) → result ≡ Err (LogFault.NotALog place) → 0 < length (D.seen disk.old) }
     ensures kept { D.is_honest disk.old → (place : ℕ) → result ≡ Err (LogFault.NotALog place) → Rests D.seen D.images D.moment D.left_since disk.old disk.new }
 
     // Where the file isn't empty, no byte of it changes, whatever the answer.
+    ensures still { D.tells disk.old → 0 < length (D.seen disk.old) → D.tells disk.new × (D.seen disk.new ≡ D.seen disk.old) }
     ensures untouched { D.is_honest disk.old → 0 < length (D.seen disk.old) → Rests D.seen D.images D.moment D.left_since disk.old disk.new }
     ensures no_write { D.is_honest disk.old → 0 < length (D.seen disk.old) → D.moment disk.new ≡ D.moment disk.old }
-    ensures empty { D.is_honest disk.old → OnOk result (length (D.seen disk.old) ≡ 0) }
+    ensures empty { D.tells disk.old → OnOk result (length (D.seen disk.old) ≡ 0) }
     ensures honest { D.is_honest disk.old ↔ D.is_honest disk.new }
 
     // After Ok there is one image: 50 bytes, of version 2, with the secret and no bodies.

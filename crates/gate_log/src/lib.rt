@@ -19,7 +19,7 @@ pub use create::create_log;
 pub use fault::LogFault;
 pub use laws::{beginning_law, journal_law};
 pub use limits::{
-    BODY_LEAST, BODY_MOST, EMPTY_SIZE, FIRST_GATE, FRONT_SIZE, GATE_SIZE, LENGTH_SIZE, LINE_SIZE,
-    SECRET_SIZE, VERSION_GATE,
+    BODY_LEAST, BODY_MOST, BODY_ROOM, Body, EMPTY_SIZE, FIRST_GATE, FRONT_SIZE, GATE_SIZE,
+    LENGTH_SIZE, LINE_SIZE, SECRET_SIZE, VERSION_GATE,
 };
 pub use log::Log;

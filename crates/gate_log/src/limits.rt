@@ -1,5 +1,7 @@
 // Places and sizes of a journal's parts, in bytes.
 
+use arrayvec::ArrayVec;
+
 /// The length of the start line, and so the place of the secret.
 pub const LINE_SIZE: usize = 16;
 
@@ -29,6 +31,12 @@ pub const BODY_LEAST: u32 = 1;
 
 /// The greatest length of a body.
 pub const BODY_MOST: u32 = 4096;
+
+/// The room for a body of any length.
+pub const BODY_ROOM: usize = BODY_MOST as usize;
+
+/// A body, in room that takes no memory.
+pub type Body = ArrayVec<u8, BODY_ROOM>;
 
 // The greatest length of a record with the gate after it: a gate, a length, a body and a gate.
 pub(crate) const RECORD_MOST: usize = FRONT_SIZE + BODY_MOST as usize + GATE_SIZE;

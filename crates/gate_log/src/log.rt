@@ -1,19 +1,21 @@
 // The log of a journal: reading its records in turn, and appending after the last one.
-ghost use Rattle.std.specs.Prelude.{◌≡◌, ◌≢◌, ◌⊎◌, ◌<◌, ◌≤◌, ◌↔◌, ◌+◌, ◌-◌, ◌^◌, ◌++◌, [], ◌∷◌, List, ℕ, true, false, length, take, drop, IfOk, IfErr, OnOk, OnErr, MatchResult, IsTrue, IsFalse, Ok, Err};
+ghost use Rattle.std.specs.Prelude.{◌≡◌, ◌≢◌, ◌⊎◌, ◌<◌, ◌≤◌, ◌↔◌, ◌+◌, ◌-◌, ◌^◌, ◌++◌, [], ◌∷◌, List, ℕ, true, false, length, take, drop, IfOk, IfErr, OnOk, OnErr, MatchResult, IsTrue, IsFalse, Ok, Err, vec_capacity, vec_len};
 ghost use Rattle.split_base.specs.Faults.{HasCause, HasRisen, IsCounted};
 ghost use Rattle.split_base.specs.Disk.{Each, Only, Rests, LeavesOnly, IsWritten, Tears};
 ghost use Rattle.gate_log.specs.Records.{Stands, HoldsRecords, IsBeforeOrAfter, IsBody, IsAppended, MayBeAppending, behind_gate};
 ghost use Rattle.gate_log.specs.Faults.{IsHeaderFault, IsFaultAfter};
-ghost use Rattle.gate_log.specs.Calls.{faults_after};
+ghost use Rattle.gate_log.specs.Calls.{TellsFault, faults_after};
 ghost use Rattle.gate_log.specs.Log.{LogView, IsLogOf, IsReading, IsAhead, with_ahead, closed, past};
 ghost use Rattle.gate_log.specs.Gate.{Shows};
-ghost use Rattle.gate_log.specs.declared.limits.TheConstants.{RECORD_MOST, FRONT_SIZE, FIRST_GATE, VERSION_GATE};
+ghost use Rattle.gate_log.specs.declared.limits.TheConstants.{BODY_ROOM, RECORD_MOST, FRONT_SIZE, FIRST_GATE, VERSION_GATE};
 
 use crate::LogFault;
 use crate::ahead::Ahead;
 use crate::gate::{AtGate, look};
 use crate::header::{read_secret, read_version};
-use crate::limits::{BEHIND_MOST, FIRST_GATE, FRONT_SIZE, RECORD_MOST, SECRET_SIZE, VERSION_GATE};
+use crate::limits::{
+    BEHIND_MOST, BODY_ROOM, Body, FIRST_GATE, FRONT_SIZE, RECORD_MOST, SECRET_SIZE, VERSION_GATE,
+};
 use arrayvec::ArrayVec;
 use split_base::{Disk, Failed, NoMemory, write_synced};
 use std::marker::Model;
@@ -65,6 +67,7 @@ impl Log {
         ensures one { D.is_honest disk.old → IfOk result (λ _. Only (D.seen disk.new) (D.images disk.new)) }
         ensures reading { D.tells disk.old → IfOk result (λ begun. IsReading (D.seen disk.new) begun.0 begun.1 []) }
         ensures not_a_log { D.tells disk.old → (place : ℕ) → result ≡ Err (LogFault.NotALog place) → IsHeaderFault place (D.seen disk.new) }
+        ensures exactly { D.tells disk.old → (place : ℕ) → IsHeaderFault place (D.seen disk.old) → TellsFault place result }
     {
         disk.sync()?;
         let size = disk.size()?;
@@ -108,11 +111,11 @@ impl Log {
     ///
     /// - `Disk` comes only where the disk's count of faults has risen.
     /// - `NotALog` comes exactly where the record there has a fault, with the place of the fault.
-    /// - `NoMemory` comes when there is no memory for the body. `body` may hold anything then.
     ///
-    /// A refusal leaves the log at its gate, so after `NoMemory` the call can be made again. After
-    /// `Disk` the disk's count has risen by one, and else not at all.
-    pub fn next<D: Disk>(&mut self, disk: &mut D, body: &mut Vec<u8>) -> Result<bool, LogFault>
+    /// It takes no memory. A refusal leaves the log at its gate. After `Disk` the disk's count has
+    /// risen by one, and else not at all.
+    pub fn next_body<D: Disk>(&mut self, disk: &mut D, body: &mut Body) -> Result<bool, LogFault>
+        ensures no_memory { result ≢ Err LogFault.NoMemory }
         ensures count { D.faults disk.old ≤ D.faults disk.new }
         ensures disk { result ≡ Err LogFault.Disk → HasRisen (D.faults disk.old) (D.faults disk.new) }
         ensures faults { D.faults disk.new ≡ faults_after (D.faults disk.old) result }
@@ -147,7 +150,7 @@ impl Log {
                 Ok(false)
             }
             AtGate::Record { length } => {
-                replace(body, self.body_ahead(length))?;
+                replace(body, self.body_ahead(length));
                 self.pass(length);
                 Ok(true)
             }
@@ -156,6 +159,50 @@ impl Log {
             }),
             AtGate::Short => Err(LogFault::NotALog { place: self.size() }),
         }
+    }
+
+    /// Gives the body of the record at the log's place in `body` and moves past it, or answers
+    /// false exactly where the gate there is closed; the log is at its end then.
+    ///
+    /// - `Disk` comes only where the disk's count of faults has risen.
+    /// - `NotALog` comes exactly where the record there has a fault, with the place of the fault.
+    /// - `NoMemory` comes when there is no memory for the body. `body` may hold anything then.
+    ///
+    /// A refusal leaves the log at its gate, so after `NoMemory` the call can be made again. After
+    /// `Disk` the disk's count has risen by one, and else not at all.
+    pub fn next<D: Disk>(&mut self, disk: &mut D, body: &mut Vec<u8>) -> Result<bool, LogFault>
+        ensures count { D.faults disk.old ≤ D.faults disk.new }
+        ensures disk { result ≡ Err LogFault.Disk → HasRisen (D.faults disk.old) (D.faults disk.new) }
+        ensures faults { D.faults disk.new ≡ faults_after (D.faults disk.old) result }
+        ensures still { D.tells disk.old → D.tells disk.new × (D.seen disk.new ≡ D.seen disk.old) }
+        ensures honest { D.is_honest disk.old ↔ D.is_honest disk.new }
+        ensures tick { D.is_honest disk.old → D.moment disk.new ≡ D.moment disk.old }
+        ensures rests { D.is_honest disk.old → Rests D.seen D.images D.moment D.left_since disk.old disk.new }
+        ensures version { self.new.version ≡ self.old.version }
+        ensures refused { OnErr result (self.new ≡ with_ahead self.old self.new.ahead) }
+        ensures again { D.tells disk.old → (secret : List ℕ) (bodies : List (List ℕ)) → IsReading (D.seen disk.old) self.old secret bodies
+            → OnErr result (IsReading (D.seen disk.new) self.new secret bodies) }
+        ensures moves { IfOk result (λ more. IsTrue more → (self.new.place ≡ self.old.place + FRONT_SIZE + length body.new.items) × (self.new.place < 2 ^ 63)) }
+        ensures goes_on { IfOk result (λ more. IsTrue more → self.new.at_end ≡ self.old.at_end) }
+        ensures at_end { IfOk result (λ more. IsFalse more → IsTrue self.new.at_end) }
+        ensures at_gate { IfOk result (λ more. IsFalse more → self.new.place ≡ self.old.place) }
+        ensures stays { IsTrue self.old.at_end → (result ≡ Ok false) × (self.new ≡ self.old) }
+        ensures body { IfOk result (λ more. IsTrue more → IsBody body.new.items) }
+        ensures record { D.tells disk.old → (secret : List ℕ) (bodies : List (List ℕ)) → IsReading (D.seen disk.old) self.old secret bodies
+            → IfOk result (λ more. IsTrue more → IsReading (D.seen disk.new) self.new secret (bodies ++ body.new.items ∷ [])) }
+        ensures end { D.tells disk.old → (secret : List ℕ) (bodies : List (List ℕ)) → IsReading (D.seen disk.old) self.old secret bodies
+            → IfOk result (λ more. IsFalse more → Stands self.new.version secret bodies (D.seen disk.new)) }
+        ensures not_a_log { D.tells disk.old → (secret : List ℕ) (bodies : List (List ℕ)) → IsReading (D.seen disk.old) self.old secret bodies
+            → (place : ℕ) → result ≡ Err (LogFault.NotALog place) → IsFaultAfter self.old.version secret bodies place (D.seen disk.new) }
+    {
+        if self.at_end {
+            return Ok(false);
+        }
+        reserve_body(body)?;
+        let mut bytes = Body::new();
+        let more = self.next_body(disk, &mut bytes)?;
+        fill_reserved(body, &bytes);
+        Ok(more)
     }
 
     /// Appends a record with this body: four calls of the disk, which write the length, the body and
@@ -286,14 +333,31 @@ impl Log {
 }
 
 // Puts other bytes in the place of the old ones.
-fn replace(body: &mut Vec<u8>, bytes: &[u8]) -> Result<(), NoMemory>
-    ensures { OnOk result (body.new.items ≡ bytes.now) }
+fn replace(body: &mut Body, bytes: &[u8])
+    requires { length bytes.now ≤ BODY_ROOM }
+    ensures { body.new.items ≡ bytes.now }
 {
     body.clear();
-    match body.extend_from_slice(bytes) {
+    let _ = body.try_extend_from_slice(bytes);
+}
+
+// Takes memory for a body of any length.
+fn reserve_body(body: &mut Vec<u8>) -> Result<(), NoMemory>
+    ensures { OnOk result (vec_len body.new + BODY_ROOM ≤ vec_capacity body.new) }
+{
+    match body.reserve(BODY_ROOM) {
         Ok(()) => Ok(()),
         Err(_) => Err(NoMemory),
     }
+}
+
+// Puts other bytes in the place of the old ones, in memory that was taken.
+fn fill_reserved(body: &mut Vec<u8>, bytes: &[u8])
+    requires { length bytes.now ≤ vec_capacity body.old }
+    ensures { body.new.items ≡ bytes.now }
+{
+    body.clear();
+    let _ = body.extend_from_slice(bytes);
 }
 
 // What is written after a gate: the length, the body, and the closed gate of the next record.

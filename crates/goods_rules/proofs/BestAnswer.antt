@@ -1,17 +1,18 @@
 -- What the rules on leaves give: the answer is best.
-use Rattle.std.proofs.Common.{refl, ◌≡◌, ◌∙◌, ap, sym, ◌<◌, ◌≤◌, ◌↔◌, ◌++◌, ◌∷◌, [], List, ℕ, subst, length, take, true, false, Bool, ◌⊎◌, inl, inr, ⊎_elim, Ordering}
+use Rattle.std.proofs.Common.{arith, refl, ◌≡◌, ◌∙◌, ap, sym, ◌<◌, ◌≤◌, ◌↔◌, ◌++◌, ◌∷◌, [], List, ℕ, subst, length, take, true, false, Bool, ◌⊎◌, inl, inr, ⊎_elim, Ordering}
 use Rattle.std.specs.Cmp.Lexicographic.{slice_cmp}
 use Rattle.std.specs.Ordering.{nat_cmp, ordering_then, ordering_reverse}
 use Rattle.std.specs.declared.cmp.Ordering.TheVariants.{Less, Equal, Greater}
 use Rattle.std.proofs.lemmas.Bool.{cases_lt}
 use Rattle.std.proofs.lemmas.Cmp.{nat_list_cmp_total}
+use Rattle.std.proofs.lemmas.List.{take-append-le, take_all}
 use Rattle.bid_rules.specs.declared.goods.GoodsCase.{GoodsCase}
 use Rattle.bid_rules.specs.declared.pair.Pair.{Pair}
 use Rattle.bid_rules.specs.Goods.{GoodsBest, IsAllocation, IsBehind, IsValidGoodsCase, pair_of, player_count}
 use Rattle.bid_rules.specs.Pairs.{IsAtMost, IsLess, is_less}
 use Rattle.nash_bounds.specs.LeftOut.{may_be_left}
 use Rattle.nash_bounds.specs.Prefixes.{prefix_bound}
-use Rattle.split_lemmas.proofs.PairOrder.{at_most_less, less-from, not_less, same_from_at_most}
+use Rattle.split_lemmas.proofs.PairOrder.{at_most_less, less-from, less_not, not_less, same_from_at_most}
 use Rattle.goods_rules.specs.Rules.{IsRuledTree, leaf_rule}
 use Rattle.goods_rules.specs.Tree.{IsTree}
 use Rattle.goods_rules.proofs.RulesTogether.{Both, subtree_both}
@@ -42,6 +43,10 @@ less_or_same a b most = split (is_less a b) refl
 not_before : (xs : List ℕ) → slice_cmp nat_cmp xs xs ≡ Less → ⊥
 not_before xs h = let e : Less ≡ Greater = sym h ∙ nat_list_cmp_total.antisymm xs xs ∙ ap ordering_reverse h in cc
 
+-- nothing is after itself
+not_after : (xs : List ℕ) → slice_cmp nat_cmp xs xs ≡ Greater → ⊥
+not_after xs h = let e : Greater ≡ Less = sym h ∙ nat_list_cmp_total.antisymm xs xs ∙ ap ordering_reverse h in cc
+
 -- when a prefix may be left out, in the words of the law of `nash_bounds`
 abbrev pub MayBeLeft : GoodsCase → List ℕ → List ℕ → Type 0
 MayBeLeft case answer owners =
@@ -59,6 +64,20 @@ below_behind case answer front rest most h = ⊎_elim
     (λ (e : pair_of case (front ++ rest) ≡ pair_of case answer). inr (e, λ less. let f : Less ≡ Greater = sym less ∙ after in cc))
     (less_or_same (pair_of case (front ++ rest)) (pair_of case answer) (subst (IsAtMost (pair_of case (front ++ rest))) same.0 most)))
     h
+
+-- the front of the answer itself may not be left out
+pub front_not_left : (case : GoodsCase) (answer front rest : List ℕ) → answer ≡ front ++ rest → IsAtMost (pair_of case (front ++ rest)) (prefix_bound case front) → MayBeLeft case answer front → ⊥
+front_not_left case answer front rest is most h = ⊎_elim
+    (λ (less : IsLess (prefix_bound case front) (pair_of case answer)).
+    less_not (prefix_bound case front) (pair_of case answer) less (subst (λ xs. IsAtMost (pair_of case xs) (prefix_bound case front)) (sym is) most))
+    (λ (same : (prefix_bound case front ≡ pair_of case answer) × (slice_cmp nat_cmp front (take (length front) answer) ≡ Greater)).
+    let own : take (length front) answer ≡ front = ap (take (length front)) is ∙ take-append-le (length front) front rest (at_most (length front)) ∙ take_all (length front) front (at_most (length front)) in
+    let itself : slice_cmp nat_cmp front front ≡ Greater = subst (λ xs. slice_cmp nat_cmp front xs ≡ Greater) own same.1 in
+    not_after front itself)
+    h
+  where
+    at_most : (n : ℕ) → n ≤ n
+    at_most n = omega arith
 
 -- the three rules on leaves together
 abbrev Leaves : GoodsCase → List ℕ → List ℕ → ℕ → Type 0

@@ -5,4 +5,5 @@ pub mod PathSteps
 pub mod PrintedNumbers
 pub mod RulesTogether
 pub mod TreeCovers
+pub mod TreeLeaves
 pub mod WalkedTrees

@@ -1,4 +1,5 @@
 pub mod Ahead
+pub mod Leaves
 pub mod Path
 pub mod Printed
 pub mod Rules

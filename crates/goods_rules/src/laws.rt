@@ -1,9 +1,11 @@
 // What the rules give.
-ghost use Rattle.std.specs.Prelude.{◌≡◌};
-ghost use Rattle.bid_rules.specs.Goods.{GoodsBest, IsValidGoodsCase, owners_by_good};
+ghost use Rattle.std.specs.Prelude.{◌≡◌, ◌↔◌, ℕ, List};
+ghost use Rattle.bid_rules.specs.Goods.{GoodsBest, IsAllocation, IsValidGoodsCase, owners_by_good};
+ghost use Rattle.cert_reader.specs.declared.marks.TheConstants.{ANSWER_LEAF};
 ghost use Rattle.cert_reader.specs.GoodsViews.{GoodsView};
+ghost use Rattle.goods_rules.specs.Leaves.{BeginsWithOneLeaf, HasLeaf, IsLeafMark};
 ghost use Rattle.goods_rules.specs.Printed.{printed_answer, printed_case, printed_owners};
-ghost use Rattle.goods_rules.specs.Rules.{rules_of_goods};
+ghost use Rattle.goods_rules.specs.Rules.{HasTree, goods_rule, leaf_rule, rules_of_goods};
 ghost use Rattle.rule_verdicts.specs.declared.verdict.Verdict.{Verdict};
 ghost use Rattle.rule_verdicts.specs.declared.verdict.Verdict.TheVariants.{Yes};
 ghost use Rattle.rule_verdicts.specs.Verdicts.{IsVerdictOf};
@@ -21,4 +23,23 @@ pub fn goods_certificate_law()
     bound_law();
     open_prefixes_law();
     owners_by_good_law();
+}
+
+/// The leaves of a tree of marks, and what the rules on the tree ask of them. If the marks are one tree, each allocation begins with exactly one leaf, and each
+/// leaf is a `-`, or a `=` where all goods are given. Rules 4, 5 and 6 hold exactly if the marks are one tree and what the rule asks holds of each leaf; for
+/// rule 6 that is that a `=` is the answer. If all rules hold, the answer has its leaf, with a `=`, and no other leaf has one.
+pub fn goods_tree_law()
+    ensures one { (view : GoodsView) (allocation : List ℕ) → goods_rule view 3 → IsAllocation (printed_case view) allocation
+        → BeginsWithOneLeaf (printed_case view) view.marks allocation }
+    ensures marks { (view : GoodsView) (owners : List ℕ) (mark : ℕ) → goods_rule view 3 → HasLeaf (printed_case view) view.marks owners mark
+        → IsLeafMark (printed_case view) owners mark }
+    ensures rules { (view : GoodsView) (number : ℕ) → HasTree view number ↔ goods_rule view 3
+        × ((owners : List ℕ) (mark : ℕ) → HasLeaf (printed_case view) view.marks owners mark → leaf_rule (printed_case view) (printed_answer view) number owners mark) }
+    ensures answer { (view : GoodsView) → goods_rule view 6 ↔ goods_rule view 3
+        × ((owners : List ℕ) → HasLeaf (printed_case view) view.marks owners ANSWER_LEAF → owners ≡ printed_answer view) }
+    ensures own { (view : GoodsView) → IsVerdictOf (rules_of_goods view) Yes → HasLeaf (printed_case view) view.marks (printed_answer view) ANSWER_LEAF }
+{
+    goods_certificate_law();
+    bound_law();
+    open_prefixes_law();
 }

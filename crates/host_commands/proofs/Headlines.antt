@@ -1,31 +1,31 @@
 -- The main theorem, from the laws of whole runs.
-use Rattle.std.proofs.Common.{◌≡◌, ◌⊎◌, ℕ, ◌≤◌, zero, suc, List, [], ◌∷◌, Option, None, Some, Result, Ok, refl, sym, ap, ◌∙◌, subst, inl, inr, ⊎_elim, le_trans, take, append-nil, Contains}
+use Rattle.std.proofs.Common.{◌≡◌, ◌⊎◌, ℕ, ◌≤◌, zero, suc, List, [], ◌∷◌, Option, None, Some, Result, Ok, refl, sym, ap, ◌∙◌, subst, inl, inr, ⊎_elim, le_trans, take, map, append-nil, Contains, IsNone, IsTrue, option_map, rules}
 use Rattle.command_results.specs.declared.stop.Stop.{Stop}
 use Rattle.gate_log.specs.declared.fault.LogFault.TheVariants as fault
-use Rattle.host_journal.specs.Journal.{HasEvents}
+use Rattle.gate_log.specs.Records.{Stands}
+use Rattle.host_journal.specs.Journal.{AreKept, HasEvents}
+use Rattle.host_journal.specs.Spelling.{spelling}
 use Rattle.host_journal.specs.declared.serving.Serving.{Serving}
-use Rattle.host_journal.specs.States.{HasState, IsFile, Passes, State, lists_of}
+use Rattle.host_journal.specs.States.{HasState, IsFile, IsFileOf, Passes, State, lists_of}
 use Rattle.serving.specs.Exchanges.{Answered, Exchange, IsExchange}
 use Rattle.serving.specs.Ports.{GivesBack, HandsOut, PortServed}
 use Rattle.serving.specs.Served.{LinkTells}
 use Rattle.sealed_core.specs.declared.commands.What.{What}
-use Rattle.sealed_core.specs.Host.{EventView}
+use Rattle.sealed_core.specs.declared.events.Event.{Event}
+use Rattle.sealed_core.specs.Host.{EventView, event_view}
 use Rattle.serving.specs.Serving.{StandsAt, host_service}
 use Rattle.serving_laws.specs.Accepting.{Accepts}
-use Rattle.serving_laws.specs.Answering.{HasAnswer}
 use Rattle.serving_laws.specs.Crashes.{Acknowledges, IsFileOfOne, Since}
+use Rattle.serving_laws.specs.Handling.{AreHandled}
 use Rattle.serving_laws.specs.Heard.{Taken, TakesSteps, WaitsByStep}
-use Rattle.serving_laws.specs.Moving.{Moves}
-use Rattle.serving_laws.specs.Refusing.{RefusesQuietly}
-use Rattle.serving_laws.specs.Sealing.{IsSealedReply}
+use Rattle.serving_laws.specs.Integrity.{KeepsIntegrity}
 use Rattle.split_base.specs.Clocks.{ClockRun}
 use Rattle.split_base.specs.declared.clock.Clock.{Ghosts as ClockSide}
 use Rattle.split_base.specs.declared.disk.Disk.{Ghosts}
 use Rattle.split_base.specs.declared.port.Port.{Ghosts as PortSide}
 use Rattle.split_base.specs.Disk.{Each}
 use Rattle.host_commands.specs.Files.{Opens, state_of}
-use Rattle.host_commands.specs.Headline.{HasHeadline, HasNoRun, Headline}
-use Rattle.host_commands.specs.Links.{Every}
+use Rattle.host_commands.specs.Headline.{HasHeadline, HasNoRun, Headline, HoldsState}
 use Rattle.host_commands.specs.Publishing.{AsksFor, Publishes}
 use Rattle.host_commands.specs.Serves.{HasNoLink, IsOpened, IsUnopened, RunEnds, Runs, Serves, ServesOpened, served_line}
 use Rattle.host_commands.proofs.Links.{Afterwards, Exchanges, Joined, every_step, links_answered, one_machine}
@@ -44,11 +44,22 @@ pub record RunLaws {D : Type 0} (d : Ghosts D) : Type 0 where
   pub crash : (w : D × State) (run : List (Exchange (D × State))) (new : D × State) → Answered (host_service d) w run new → d.is_honest w.0 → Each (d.images w.0) (IsFile w.1) → Since d new.0 w run
   pub acknowledged : (w : D × State) (run : List (Exchange (D × State))) (new : D × State) → Answered (host_service d) w run new → d.is_honest w.0 → Each (d.images w.0) (IsFile w.1) → Acknowledges d new.0 w run
   pub accepted : (w : D × State) (run : List (Exchange (D × State))) (new : D × State) → Answered (host_service d) w run new → d.is_honest w.0 → Accepts run w.1 new.1
-  pub answered : (x : Exchange (D × State)) → IsExchange (host_service d) x → HasAnswer d x
-  pub moved : (x : Exchange (D × State)) → IsExchange (host_service d) x → Moves d x
-  pub refused : (x : Exchange (D × State)) → IsExchange (host_service d) x → RefusesQuietly d x
-  pub sealed : (x : Exchange (D × State)) → IsExchange (host_service d) x → IsSealedReply d x
-  pub takes : (w : D × State) (run : List (Exchange (D × State))) (new : D × State) → Answered (host_service d) w run new → d.is_honest w.0 → WaitsByStep w.1 → (steps : List Taken) × TakesSteps run steps
+  pub integrity : (w : D × State) (run : List (Exchange (D × State))) (new : D × State) → Answered (host_service d) w run new → d.is_honest w.0 → w.1.waiting ≡ None → KeepsIntegrity run w.1 new.1
+  pub handled : (w : D × State) (run : List (Exchange (D × State))) (new : D × State) → Answered (host_service d) w run new
+      → (states : List State) × AreHandled d run states × (d.is_honest w.0 → WaitsByStep w.1 → (steps : List Taken) × TakesSteps run states steps)
+
+-- an image of a journal whose log is of version 2
+ready_file : {D : Type 0} (d : Ghosts D) (serving : Serving) (disk : D) (s : State) (waiting : Option EventView) (given : Option Event) → option_map event_view given ≡ waiting → waiting ≡ None
+    → (IsNone given → IsTrue serving.log.at_end × (serving.log.version ≡ 2)) → IsFileOf (d.images disk) serving.log serving.host.content s.secret s.kept waiting
+    → Each (d.images disk) (HasEvents 2 s.secret s.kept)
+ready_file d serving disk s None None same none ready journal file now =
+    let two = (ready (search rules)).1 in
+    record {
+      stands = subst (λ (v : ℕ). Stands v s.secret (map spelling s.kept) file) two (journal.is_log.each file now);
+      kept = subst (λ (v : ℕ). AreKept v s.secret s.kept) two journal.kept;
+    }
+ready_file d serving disk s None (Some e) same none ready journal file now = absurd (cc)
+ready_file d serving disk s (Some e) given same none ready journal file now = absurd (cc)
 
 -- what a crash since an earlier moment might have left it might have left before the run, or it is a file of one of its states
 before_run : {D : Type 0} (d : Ghosts D) (w : D × State) (run : List (Exchange (D × State))) (new : D × State) → Answered (host_service d) w run new → d.is_honest w.0 → (t : ℕ) → t ≤ d.moment w.0
@@ -85,11 +96,15 @@ module _ {D P L C : Type 0} (d : Ghosts D) (p : PortSide P L) (tells : LinkTells
         let one = laws.one_meaning v other opens.opened.secret s.secret opens.opened.kept events (d.seen disk) has holds in
         (one.1, subst (λ (l : List EventView). Contains (lists_of s.kept s.waiting) l) (sym one.2) among)
 
-    -- what holds of each request holds of all of the run
-    each : (P : Exchange (D × State) → Type 0) → ((x : Exchange (D × State)) → IsExchange (host_service d) x → P x) → (run : List (Exchange (D × State))) (new : D × State)
-        → Answered (host_service d) (between, state_of opens.opened) run new → Every P run
-    each P is run new machine =
-        every_step (host_service d) (λ (w : D × State). Unit {0}) P (λ x step good. tt) (λ x step good. is x step) (between, state_of opens.opened) run new machine tt
+    -- the disk is left with a file of the last state
+    holds : HoldsState d after runs.served.new.1
+    holds =
+        let stands = runs.served.serving.1 in record {
+          may_apply = stands.host.may_apply;
+          next = stands.next;
+          file = laws.files runs.serving after runs.served.new.1 stands;
+          ready = λ h none. ready_file d runs.serving after runs.served.new.1 runs.served.new.1.waiting runs.serving.waiting stands.waiting none runs.serving.ready (stands.file h);
+        }
 
     -- no event waits where the file was opened
     none_waits : WaitsByStep (state_of opens.opened)
@@ -100,6 +115,7 @@ module _ {D P L C : Type 0} (d : Ghosts D) (p : PortSide P L) (tells : LinkTells
         let served = runs.served in
         let (run, written) = links_answered (host_service d) laws.exchanges laws.joined laws.afterwards tells served.links served.answers (between, state_of opens.opened) served.new served.run in
         let machine = one_machine (host_service d) laws.exchanges laws.joined laws.afterwards tells served.links served.answers (between, state_of opens.opened) run served.new written in
+        let (states, handled, takes) = laws.handled (between, state_of opens.opened) run served.new machine in
         record {
           links = served.links;
           answers = served.answers;
@@ -112,15 +128,15 @@ module _ {D P L C : Type 0} (d : Ghosts D) (p : PortSide P L) (tells : LinkTells
           machine = machine;
           written = written;
           ready = refl;
+          read = opens.opened.read;
           found = opens.opened.file;
           begins = begins;
-          serving = runs.serving;
-          stands = served.serving;
-          moved = each (Moves d) laws.moved run served.new machine;
-          taken = λ h. laws.takes (between, state_of opens.opened) run served.new machine (opens.honest.0 h) none_waits;
-          refused = each (RefusesQuietly d) laws.refused run served.new machine;
-          sealed = each (IsSealedReply d) laws.sealed run served.new machine;
-          replied = each (HasAnswer d) laws.answered run served.new machine;
+          last = served.serving.0;
+          holds = holds;
+          states = states;
+          handled = handled;
+          taken = λ h. takes (opens.honest.0 h) none_waits;
+          integrity = λ h. laws.integrity (between, state_of opens.opened) run served.new machine (opens.honest.0 h) refl;
           accepted = λ h. laws.accepted (between, state_of opens.opened) run served.new machine (opens.honest.0 h);
           published = every_step (host_service d) (λ (w : D × State). IsSound w.1)
               (λ (x : Exchange (D × State)). (asked : What) → AsksFor x asked → x.due.said.status ≡ 200 → Publishes x asked)

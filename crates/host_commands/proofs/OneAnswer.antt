@@ -125,14 +125,12 @@ module _ {D : Type 0} (d : Ghosts D) (laws : OneWay) (head : Head) (body : List 
   goes_no_further (Settles.store_fault e waits up torn is so) = not_waiting w.1 e ready waits
   goes_no_further (Settles.damaged e place waits same first never is so) = not_waiting w.1 e ready waits
   goes_no_further (Settles.opened e secret kept waits same told can is so) = absurd (cc)
-  goes_no_further (Settles.memory e waits same rests is so) = not_waiting w.1 e ready waits
 
   at_once_ready : (between : D) (settled : State) → Settles d w.0 between w.1 settled None → (settled ≡ w.1) × (between ≡ w.0)
   at_once_ready between settled (Settles.ready none same is so) = (is, same)
   at_once_ready between settled (Settles.store_fault e waits up torn is so) = absurd (cc)
   at_once_ready between settled (Settles.damaged e place waits same first never is so) = absurd (cc)
   at_once_ready between settled (Settles.opened e secret kept waits same told can is so) = absurd (not_waiting w.1 e ready waits)
-  at_once_ready between settled (Settles.memory e waits same rests is so) = absurd (cc)
 
   module _ (route : Route) (routed : IsRouted head.verb head.path (Ok route)) where
     abbrev asks : CommandView
@@ -161,7 +159,7 @@ module _ {D : Type 0} (d : Ghosts D) (laws : OneWay) (head : Head) (body : List 
   answers_so (Responds.stepped route between settled routed settles one steps two) =
       let (same, rest) = at_once_ready between settled settles in
       from_step route routed between rest (subst (λ (s : State). Steps d between new.0 moment (command_of route.place route.id head.key body) s new.1 said) same steps)
-  answers_so (Responds.memory same is so) = absurd (lacks_none said plain so)
+  answers_so (Responds.memory way led reads same is so) = absurd (lacks_none said plain so)
 
 module _ (laws : OneWay) (s : State) (head : Head) (body : List ℕ) (moment : ℕ) (new other : State) (said told : SaidView) where
   same_answers : Answers s new head body moment said → Answers s other head body moment told → (new ≡ other) × (said ≡ told)

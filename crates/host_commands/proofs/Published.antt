@@ -122,12 +122,6 @@ settles_other d disk after s new said success (Settles.store_fault e waits fault
 settles_other d disk after s new said success (Settles.damaged e place waits faults first never same is) =
     let one : said ≡ refused_said (service.StoreDamaged place) = cc in said_other said (service.StoreDamaged place) refl one success
 settles_other d disk after s new said success (Settles.opened e secret kept waits faults settled can same is) = absurd (cc)
-settles_other d disk after s new said success (Settles.memory e waits faults rests same is) =
-    let one : said.status ≡ (service_row service.Memory).status = ap (λ (o : Option SaidView). status_in o) is in not_refused said.status service.Memory refl one success
-  where
-    status_in : Option SaidView → ℕ
-    status_in None = 0
-    status_in (Some x) = x.status
 
 -- a request has one place, and that says what it asks for
 one_place : (verb : Verb) (path : Option (List ℕ)) (a b : Route) → IsRouted verb path (Ok a) → IsRouted verb path (Ok b) → a.place ≡ b.place
@@ -234,4 +228,4 @@ module _ (laws : CaseLaws) where
         (asks_at route.place route.id other.id x.head.key x.body asked command) in
         told_publishes other led
         (steps_tell laws.refusals laws.one_more laws.shut d between x.after.0 x.moment (command_of other.place other.id x.head.key x.body) settled x.after.1 x.due.said other.id x.head.key asked asked_there success steps)
-    publishes asks (Responds.memory still same so) = absurd (not_refused x.due.said.status service.Memory refl (ap (λ (s : SaidView). s.status) so) success)
+    publishes asks (Responds.memory way led reads still same so) = absurd (not_refused x.due.said.status service.Memory refl (ap (λ (s : SaidView). s.status) so) success)

@@ -104,7 +104,6 @@ module _ {D : Type 0} (d : Ghosts D) where
   sound_settled disk after s new result (Settles.store_fault e waits faults torn same is) sound = still_sound s new same sound
   sound_settled disk after s new result (Settles.damaged e place waits faults first never same is) sound = still_sound s new same sound
   sound_settled disk after s new result (Settles.opened e secret kept waits faults settled can same is) sound = subst IsSound (sym same) can
-  sound_settled disk after s new result (Settles.memory e waits faults rests same is) sound = still_sound s new same sound
 
   pub sound_step : (disk after : D) (moment : ℕ) (command : CommandView) (s new : State) (said : SaidView) → Steps d disk after moment command s new said → IsSound s → IsSound new
   sound_step disk after moment command s new said (Steps.no_event told none still replies same so) sound = still_sound s new same sound
@@ -120,7 +119,7 @@ module _ {D : Type 0} (d : Ghosts D) where
   sound_response x (Responds.stepped route between settled routed settles one steps two) sound =
       sound_step between x.after.0 x.moment (command_of route.place route.id x.head.key x.body) settled x.after.1 x.due.said steps
       (sound_settled x.before.0 between x.before.1 settled None settles sound)
-  sound_response x (Responds.memory still same so) sound = still_sound x.before.1 x.after.1 same sound
+  sound_response x (Responds.memory way led reads still same so) sound = still_sound x.before.1 x.after.1 same sound
 
 found_if : (none : Bool) (instances : List InstanceView) (p : ℕ) (i : InstanceView) → (if none then None else slice_get instances p) ≡ Some i → AreCheckedInstances instances → IsCheckedInstance i
 found_if true instances p i is sound = absurd (true≢false (sym (ap is_some is)))

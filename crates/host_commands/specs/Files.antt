@@ -3,7 +3,7 @@ use Rattle.std.specs.Prelude.{◌≡◌, ◌≢◌, ◌↔◌, ℕ, ◌+◌, ◌
 use Rattle.split_reports.specs.DumpRows.{dump_text}
 use Rattle.command_results.specs.declared.stop.Stop.{Stop}
 use Rattle.command_results.specs.declared.stop.Stop.TheVariants as stop
-use Rattle.gate_log.specs.Calls.{faults_after}
+use Rattle.gate_log.specs.Calls.{TellsFault, faults_after}
 use Rattle.gate_log.specs.declared.fault.LogFault.{LogFault}
 use Rattle.gate_log.specs.declared.fault.LogFault.TheVariants as fault
 use Rattle.gate_log.specs.declared.limits.TheConstants.{EMPTY_SIZE, VERSION_GATE}
@@ -25,6 +25,11 @@ pub record LeavesFile {D : Type 0} (d : Ghosts D) (disk after : D) : Type 0 wher
   pub rests : Rests d.seen d.images d.moment d.left_since disk after
   pub no_write : d.moment after ≡ d.moment disk
 
+-- the disk tells its bytes as before, and they are the same
+pub record IsSameFile {D : Type 0} (d : Ghosts D) (disk after : D) : Type 0 where
+  pub tells : d.tells after
+  pub same : d.seen after ≡ d.seen disk
+
 -- The file was empty and is now a journal of version 2 with this secret and no events, of 50 bytes. A crash leaves this and nothing else.
 pub record IsMade {D : Type 0} (d : Ghosts D) (disk after : D) (secret : List ℕ) : Type 0 where
   pub empty : length (d.seen disk) ≡ 0
@@ -34,14 +39,15 @@ pub record IsMade {D : Type 0} (d : Ghosts D) (disk after : D) (secret : List �
   pub one : Only (d.seen after) (d.images after)
   pub calls : d.moment after ≡ d.moment disk + 2
 
--- A journal is made, and nothing is written out; or the file is not empty, which is told with place 0; or a call of the disk failed. A file
--- with bytes stays as it is, whatever the ending.
+-- A journal is made of an empty file, and nothing is written out; or the file is not empty, which is told with place 0; or a call of the disk
+-- failed. A file with bytes stays as it is, whatever the ending.
 pub data Makes {D : Type 0} (d : Ghosts D) (disk after : D) (secret : List ℕ) (ending : Result (List ℕ) Stop) : Type 0 where
-  made : ending ≡ Ok [] → d.faults after ≡ d.faults disk → (d.is_honest disk → IsMade d disk after secret) → Makes d disk after secret ending
-  filled : ending ≡ Err (stop.BadJournal 0) → d.faults after ≡ d.faults disk → (d.is_honest disk → (0 < length (d.seen disk)) × LeavesFile d disk after)
+  made : ending ≡ Ok [] → d.faults after ≡ d.faults disk → (d.tells disk → length (d.seen disk) ≡ 0) → (d.is_honest disk → IsMade d disk after secret)
       → Makes d disk after secret ending
-  failed : ending ≡ Err stop.StoreFault → FailedOnce (d.faults disk) (d.faults after) → (d.is_honest disk → 0 < length (d.seen disk) → LeavesFile d disk after)
-      → Makes d disk after secret ending
+  filled : ending ≡ Err (stop.BadJournal 0) → d.faults after ≡ d.faults disk → (d.tells disk → (0 < length (d.seen disk)) × IsSameFile d disk after)
+      → (d.is_honest disk → (0 < length (d.seen disk)) × LeavesFile d disk after) → Makes d disk after secret ending
+  failed : ending ≡ Err stop.StoreFault → FailedOnce (d.faults disk) (d.faults after) → (d.tells disk → 0 < length (d.seen disk) → IsSameFile d disk after)
+      → (d.is_honest disk → 0 < length (d.seen disk) → LeavesFile d disk after) → Makes d disk after secret ending
 
 -- why a command ends that could not make or open its file
 abbrev pub stop_of : LogFault → Stop
@@ -49,8 +55,8 @@ stop_of fault.Disk = stop.StoreFault
 stop_of (fault.NotALog place) = stop.BadJournal place
 stop_of fault.NoMemory = stop.NoMemory
 
--- The file of a host is opened, or why it isn't: a call of the disk failed; the file is no journal, with the place of its first fault wherever the
--- disk tells its bytes; or there was no memory. No byte but the version gate may be torn, and after the last two no byte changed. What was a file of
+-- The file of a host is opened, or why it isn't: a call of the disk failed; the file is no journal, which is told with the place of its first fault
+-- exactly where the disk tells bytes that have one; or there was no memory. No byte but the version gate may be torn, and after the last two no byte changed. What was a file of
 -- a state before is one at each moment, and after.
 pub record Opens {D : Type 0} (d : Ghosts D) (disk after : D) (answer : Result Serving LogFault) : Type 0 where
   pub opened : IfOk answer (Opened d disk after)
@@ -59,6 +65,7 @@ pub record Opens {D : Type 0} (d : Ghosts D) (disk after : D) (answer : Result S
   pub failed : answer ≡ Err fault.Disk → FailedOnce (d.faults disk) (d.faults after)
   pub honest : d.is_honest disk ↔ d.is_honest after
   pub place : d.tells disk → (place : ℕ) → answer ≡ Err (fault.NotALog place) → IsFirstFault place (d.seen disk)
+  pub exactly : d.tells disk → (place : ℕ) → IsFirstFault place (d.seen disk) → TellsFault place answer
   pub kept : d.is_honest disk → IfErr answer (λ e. e ≢ fault.Disk → Rests d.seen d.images d.moment d.left_since disk after)
   pub writes : d.is_honest disk → LeavesOnly d.moment d.left_since disk after (Tears (d.images disk) VERSION_GATE 1)
   pub torn : d.is_honest disk → Each (d.images after) (Tears (d.images disk) VERSION_GATE 1)

@@ -1,20 +1,21 @@
 -- The main theorem: what holds of a whole run of the host, whatever its port, its links and its clock gave.
-use Rattle.std.specs.Prelude.{◌≡◌, ◌⊎◌, ℕ, List, Option, None, length, map, take, Contains}
+use Rattle.std.specs.Prelude.{◌≡◌, ◌⊎◌, ℕ, List, Option, None, IfSome, length, map, take, Contains}
 use Rattle.host_journal.specs.Calls.{IsFound}
-use Rattle.host_journal.specs.declared.serving.Serving.{Serving}
-use Rattle.host_journal.specs.States.{IsFile, State, lists_of}
+use Rattle.host_journal.specs.Journal.{HasEvents, HoldsEvents}
+use Rattle.host_journal.specs.States.{IsFile, State, host_in, lists_of}
 use Rattle.serving.specs.Exchanges.{Answered, Exchange}
 use Rattle.serving.specs.Ports.{GivesBack, HandsOut}
 use Rattle.serving.specs.Served.{LinkTells}
 use Rattle.sealed_core.specs.declared.commands.What.{What}
-use Rattle.serving.specs.Serving.{StandsAt, host_service}
+use Rattle.sealed_core.specs.Host.{CanApply}
+use Rattle.sealed_core.specs.Runs.{CanApplyAll}
+use Rattle.sealed_core.specs.Sealed.{empty}
+use Rattle.serving.specs.Serving.{host_service}
 use Rattle.serving_laws.specs.Accepting.{Accepts}
-use Rattle.serving_laws.specs.Answering.{HasAnswer}
 use Rattle.serving_laws.specs.Crashes.{Acknowledges, IsFileOfOne, Since}
+use Rattle.serving_laws.specs.Handling.{AreHandled}
 use Rattle.serving_laws.specs.Heard.{Taken, TakesSteps}
-use Rattle.serving_laws.specs.Moving.{Moves}
-use Rattle.serving_laws.specs.Refusing.{RefusesQuietly}
-use Rattle.serving_laws.specs.Sealing.{IsSealedReply}
+use Rattle.serving_laws.specs.Integrity.{KeepsIntegrity}
 use Rattle.split_base.specs.Clocks.{ClockRun}
 use Rattle.split_base.specs.declared.clock.Clock.{Ghosts as ClockSide}
 use Rattle.split_base.specs.declared.disk.Disk.{Ghosts}
@@ -22,6 +23,14 @@ use Rattle.split_base.specs.declared.port.Port.{Ghosts as PortSide}
 use Rattle.split_base.specs.Disk.{Each}
 use Rattle.host_commands.specs.Links.{Every, LinksAnswered}
 use Rattle.host_commands.specs.Publishing.{AsksFor, Publishes}
+
+-- The events of a state may be applied one after another, and the one that waits, if one does, after them. On an honest disk each image is a file of the
+-- state; and of version 2 where none waits.
+pub record HoldsState {D : Type 0} (d : Ghosts D) (disk : D) (s : State) : Type 0 where
+  pub may_apply : CanApplyAll (empty s.secret) s.kept
+  pub next : IfSome s.waiting (CanApply (host_in s))
+  pub file : d.is_honest disk → Each (d.images disk) (IsFile s)
+  pub ready : d.is_honest disk → s.waiting ≡ None → Each (d.images disk) (HasEvents 2 s.secret s.kept)
 
 -- For every list of connections, bytes and clock moments, the host writes the bytes of one machine of accepted commands: each published division
 -- is best for its rule among all divisions of the bids kept, least among equals and the same for every number of workers, its printed certificate
@@ -46,25 +55,26 @@ pub record Headline {D P L C : Type 0} (d : Ghosts D) (p : PortSide P L) (tells 
   pub machine : Answered (host_service d) begun run ended
   pub written : LinksAnswered (host_service d) tells links answers begun run ended
   -- the machine begins with the events of the file and no other, and none waits: where the file was one of a state, with those that this state keeps, or
-  -- with the one more for which it waits; and the host that serves is that of its last state
+  -- with the one more for which it waits; and the disk is left with the file of its last state
   pub ready : begun.1.waiting ≡ None
+  pub read : d.tells disk → HoldsEvents begun.1.secret begun.1.kept (d.seen disk)
   pub found : d.is_honest disk → IsFound d disk begun.0 begun.1.secret begun.1.kept
   pub begins : d.is_honest disk → (s : State) → Each (d.images disk) (IsFile s) → (begun.1.secret ≡ s.secret) × Contains (lists_of s.kept s.waiting) begun.1.kept
-  pub serving : Serving
-  pub stands : StandsAt d serving after ended
-  -- each request changes the state by at most one event, which one step of the machine makes, kept after those of the state at which it is answered:
-  -- the state before it, or the one that the file of a waiting host gives when it is opened. In all the machine takes these steps in order, and no
-  -- others. Each request has the reply of its step, or a refusal of its path or method, or it is told that memory ran out, that a call of the disk
-  -- failed in it, or that its file is no journal, which is never so on an honest disk
-  pub moved : Every (Moves d) run
-  pub taken : d.is_honest disk → (steps : List Taken) × TakesSteps run steps
-  pub replied : Every (HasAnswer d) run
-  -- a request that is refused changes nothing, except by the Close of an instance whose deadline has passed
-  pub refused : Every (RefusesQuietly d) run
+  pub last : ended.0 ≡ after
+  pub holds : HoldsState d after ended.1
+  -- Each request is answered at one state: the one before it, or the one that the file of a waiting host gives when it is opened. All that `IsHandled`
+  -- says of the request is said of that state. The request changes it by at most one event, which one step of the machine makes. It has the reply of
+  -- that step, or a refusal of its path or method, or it is told that memory ran out, that a call of the disk failed in it, or that its file is no
+  -- journal, which is never so on an honest disk. One that is refused changes nothing, except by the Close of an instance whose deadline has passed.
+  -- Bids are sealed: a reply tells no more of an instance that isn't closed than what its caller may know. In all the machine takes these steps in
+  -- order, from these same states, and no others
+  pub states : List State
+  pub handled : AreHandled d run states
+  pub taken : d.is_honest disk → (steps : List Taken) × TakesSteps run states steps
   -- of accepted commands: each event that is kept was made by a command of this run, in one step
   pub accepted : d.is_honest disk → Accepts run begun.1 ended.1
-  -- bids are sealed: a reply tells no more of an instance that isn't closed than what its caller may know
-  pub sealed : Every (IsSealedReply d) run
+  -- and of nobody else's: each bid and each withdrawal that is kept came from a request under that member's key, in this run, or was in the file before
+  pub integrity : d.is_honest disk → KeepsIntegrity run begun.1 ended.1
   -- each published division is best for its rule among all divisions of the bids kept, least among equals and the same for every number of workers,
   -- and its printed certificate passes the checker: this is so of each request for what is published whose reply has status 200, whatever the disk
   pub published : Every (λ x. (asked : What) → AsksFor x asked → x.due.said.status ≡ 200 → Publishes x asked) run

@@ -14,8 +14,7 @@ use reply_texts::refusal_status_law;
 use sealed_core::{machine_law, publication_law};
 use serving::link_law;
 use serving_laws::{
-    accepted_law, acknowledged_law, answered_law, crash_law, ends_law, moved_law, refused_law,
-    sealed_law, sealed_runs_law,
+    accepted_law, acknowledged_law, crash_law, ends_law, handled_law, integrity_law,
 };
 use split_base::{Clock, Disk, Port};
 
@@ -39,7 +38,6 @@ pub fn headline_law<D: Disk, P: Port, C: Clock>()
 {
     accepted_law::<D>();
     acknowledged_law::<D>();
-    answered_law::<D>();
     case_law();
     certificate_law();
     certificate_verdict_law();
@@ -47,14 +45,12 @@ pub fn headline_law<D: Disk, P: Port, C: Clock>()
     ends_law::<D>();
     events_law();
     files_law::<D>();
+    handled_law::<D>();
     instance_law();
+    integrity_law::<D>();
     link_law::<D>();
     machine_law();
-    moved_law::<D>();
     one_publication_law();
     publication_law();
     refusal_status_law();
-    refused_law::<D>();
-    sealed_law::<D>();
-    sealed_runs_law::<D>();
 }

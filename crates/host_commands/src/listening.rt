@@ -19,7 +19,8 @@ use std::alloc::Global;
 use std::thread::Threads;
 
 /// Opens the file of a host, listens at the port of this number, and serves `count` links, or fewer only where no link comes any more. The text
-/// tells how many were served. Each link is given back, whatever its end.
+/// tells how many were served. Each link is given back, whatever its end, before the port is asked for the next one, and the port is not asked again once it has
+/// answered that none comes. So it must have no link out at the start, and must not have answered that yet.
 ///
 /// - `BadJournal` comes exactly where the file is no journal, with the place of its first fault.
 /// - `StoreFault` comes only where the disk's count of faults has risen, by one, in the opening. A fault of the disk within a request is that
@@ -41,10 +42,13 @@ pub fn serve_port<D: Disk, P: Port, C: Clock, R: Threads + Sync, G: Gate + Sync>
     count: u64,
     gate: &G,
 ) -> Result<Text, Stop>
-    requires { (1 ≤ workers) × (workers ≤ MOST_WORKERS) }
+    requires workers { (1 ≤ workers) × (workers ≤ MOST_WORKERS) }
+    requires none_out { P.out port.old ≡ 0 }
+    requires goes_on { P.is_over port.old → ⊥ }
     ensures serves { Serves D.Disk P.Port (tells_of P.Link.Source P.Link.Sink) C.Clock disk.old disk.new port.old port.new clock.old clock.new number count (ending_of result) }
     ensures disk { D.faults disk.old ≤ D.faults disk.new }
     ensures honest { D.is_honest disk.old ↔ D.is_honest disk.new }
+    ensures out { P.out port.new ≡ 0 }
     ensures port { P.faults port.old ≤ P.faults port.new }
     ensures clock { C.faults clock.old ≤ C.faults clock.new }
 {
@@ -74,12 +78,15 @@ fn serve_opened<D: Disk, P: Port, C: Clock, R: Threads + Sync, G: Gate + Sync>(
     count: u64,
     gate: &G,
 ) -> Result<Text, Stop>
-    requires { (1 ≤ workers) × (workers ≤ MOST_WORKERS) }
+    requires workers { (1 ≤ workers) × (workers ≤ MOST_WORKERS) }
+    requires none_out { P.out port.old ≡ 0 }
+    requires goes_on { P.is_over port.old → ⊥ }
     ensures serves { (w : D × State) → StandsAt D.Disk serving disk.old w
         → ServesOpened D.Disk P.Port (tells_of P.Link.Source P.Link.Sink) C.Clock w disk.new port.old port.new clock.old clock.new number count (ending_of result) }
     ensures asked { P.asked port.new ≡ asked_again number (P.asked port.old) }
     ensures disk { D.faults disk.old ≤ D.faults disk.new }
     ensures honest { D.is_honest disk.old ↔ D.is_honest disk.new }
+    ensures out { P.out port.new ≡ 0 }
     ensures port { P.faults port.old ≤ P.faults port.new }
     ensures clock { C.faults clock.old ≤ C.faults clock.new }
 {

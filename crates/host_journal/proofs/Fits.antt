@@ -1,8 +1,8 @@
 -- What the types of an event say, and what may be applied, make an event with a spelling.
-use Rattle.std.proofs.Common.{◌≡◌, ◌∙◌, ap, sym, map, Result, Ok, Err, ℕ, ◌+◌, ◌<◌, ◌^◌, List, [], ◌∷◌, ◌++◌, length, take, get_or, append_assoc}
+use Rattle.std.proofs.Common.{◌≡◌, ◌∙◌, ap, sym, map, ℕ, ◌+◌, ◌<◌, ◌^◌, List, [], ◌∷◌, ◌++◌, length, take, get_or, append_assoc}
 use Rattle.std.proofs.lemmas.List.{append-nil, map-append, take_more}
 use Rattle.std.proofs.lemmas.List.Concat.{flat_map-append, flat_map-cons}
-use Rattle.std.specs.Prelude.{All, OnOk, flat_map}
+use Rattle.std.specs.Prelude.{All, flat_map}
 use Rattle.std.specs.Str.{IsUtf8}
 use Rattle.std.proofs.lemmas.List.Elements.{All-map}
 use Rattle.arrayvec.specs.ArrayString.{ArrayString}
@@ -12,10 +12,9 @@ use Rattle.host_journal.specs.Reading.{KeepsRules}
 use Rattle.host_journal.specs.Spelling.{FitsTypes, IsEvent, text_bytes}
 
 -- a creation of the code fits the types of its fields
-pub creation_fits : {T E : Type 0} (r : Result T E) (moment : ℕ) (c : Creation) → moment < 2 ^ 64 → c.deadline < 2 ^ 64 → OnOk r (IsUtf8 (text c.title)) → OnOk r (All (λ name. IsUtf8 (text name)) c.members.items)
-    → OnOk r (All (λ name. IsUtf8 (text name)) c.items.items) → OnOk r (FitsTypes (Created moment (creation_view c)))
-creation_fits (Ok x) moment c now dated title members items = (now, dated, title, All-map IsUtf8 text c.members.items members, All-map IsUtf8 text c.items.items items)
-creation_fits (Err e) moment c now dated title members items = tt
+pub creation_fits : (moment : ℕ) (c : Creation) → moment < 2 ^ 64 → c.deadline < 2 ^ 64 → IsUtf8 (text c.title) → All (λ name. IsUtf8 (text name)) c.members.items
+    → All (λ name. IsUtf8 (text name)) c.items.items → FitsTypes (Created moment (creation_view c))
+creation_fits moment c now dated title members items = (now, dated, title, All-map IsUtf8 text c.members.items members, All-map IsUtf8 text c.items.items items)
 
 -- what fits its types and keeps its rules has a spelling
 pub fits_rules : (e : EventView) → FitsTypes e → KeepsRules e → IsEvent e
@@ -55,11 +54,6 @@ fits_event h (Created moment c) fits can =
 fits_event h (BidKept moment id member turn given) fits can = fits
 fits_event h (Closed moment id) fits can = fits
 fits_event h (Withdrawn moment id member turn) fits can = fits
-
--- what holds holds after Ok
-pub ok_any : {T E : Type 0} (P : Type 0) (r : Result T E) → P → OnOk r P
-ok_any P (Ok x) p = p
-ok_any P (Err e) p = tt
 
 -- the names after a front, with one more
 pub names_more : (front : List ℕ) (names : List ArrayString) (i : ℕ) (name : ArrayString) → i < length names → name ≡ get_or names i name

@@ -81,23 +81,3 @@ module _ {D T : Type 0} (d : Ghosts D) (serving now : Serving) (disk after : D) 
         };
         is = Keeps.failed is faults refl;
       }
-
--- there was no memory
-pub was_refused : {D T : Type 0} (d : Ghosts D) → ((disk : D) (file : List ℕ) → d.is_honest disk → d.left_since disk (d.moment disk) file → d.images disk file)
-    → (serving now : Serving) (disk after : D) (s : State) → HasState d serving disk s → (event : EventView) (result : Result T LogFault)
-    → result ≡ Err fault.NoMemory → after ≡ disk → now.host.content ≡ serving.host.content → now.log ≡ serving.log → now.waiting ≡ serving.waiting
-    → Leads d now disk after s (λ new. Keeps d disk after event s new result)
-was_refused {D} d only serving now disk after s stands event result is same unchanged log waiting =
-    let at_disk : HasState d now disk s = record {
-      host = record { may_apply = stands.host.may_apply; is_host = unchanged ∙ stands.host.is_host };
-      waiting = ap (option_map event_view) waiting ∙ stands.waiting;
-      next = stands.next;
-      file = λ h. subst (λ l. IsFileOf (d.images disk) l now.host.content s.secret s.kept s.waiting) (sym log)
-          (subst (λ host. IsFileOf (d.images disk) serving.log host s.secret s.kept s.waiting) (sym unchanged) (stands.file h));
-    } in
-    record {
-      new = s;
-      stands = subst (λ (x : D). HasState d now x s) (sym same) at_disk;
-      passes = passes_none d only serving disk after s stands same;
-      is = Keeps.memory is same refl;
-    }

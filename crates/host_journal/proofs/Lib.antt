@@ -2,6 +2,7 @@ mod Appending
 mod Events
 mod FileSize
 mod Fields
+mod FirstFaults
 mod Fits
 mod Kept
 mod Loop

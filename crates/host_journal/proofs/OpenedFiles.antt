@@ -2,13 +2,13 @@
 use Rattle.std.proofs.Common.{◌≡◌, ◌≢◌, ◌⊎◌, ◌↔◌, ℕ, ◌≤◌, List, [], ◌∷◌, ◌++◌, Option, None, Some, Result, Err, refl, sym, ap, ◌∙◌, subst, inl, inr, ⊎_elim, IsOk, Contains, option_map, arith, IsSome}
 use Rattle.std.proofs.lemmas.List.Elements.{Contains-push_cases}
 use Rattle.split_base.specs.declared.disk.Disk.{Ghosts}
-use Rattle.split_base.specs.Disk.{Each, LeavesOnly, Only, Rests, Tears}
+use Rattle.split_base.specs.Disk.{Each, LeavesOnly, Only, Tears}
 use Rattle.split_lemmas.proofs.Moments.{weaker}
 use Rattle.gate_log.specs.Calls.{counted_by}
 use Rattle.gate_log.specs.declared.fault.LogFault.{LogFault}
 use Rattle.gate_log.specs.declared.fault.LogFault.TheVariants as fault
 use Rattle.gate_log.specs.declared.limits.TheConstants.{VERSION_GATE}
-use Rattle.host_journal.specs.Journal.{HasEvents, HasOpened, HasRaised, HoldsEvents, HoldsOne, IsFirstFault, IsHostOfFile, LeftAlone}
+use Rattle.host_journal.specs.Journal.{HasEvents, HasOpened, HasRaised, HoldsEvents, HoldsOne, IsFirstFault, IsHostOfFile, IsToldOf, LeftAlone}
 use Rattle.sealed_core.specs.declared.events.Event.{Event}
 use Rattle.sealed_core.specs.Host.{EventView, event_view}
 use Rattle.host_journal.specs.Calls.{Leads, Reopens}
@@ -61,7 +61,7 @@ module _ {D T : Type 0} (d : Ghosts D) (serving : Serving) (disk after : D) (s :
       → (d.is_honest disk → Only (d.seen after) (d.images after))
       → (d.is_honest disk → LeftAlone d.seen d.moment disk after ⊎ HasRaised d.seen d.moment disk after)
       → (secret : List ℕ) × (kept : List EventView) × IsHostOfFile now.host.content secret kept
-      (d.is_honest disk → HasOpened (d.seen disk) (d.seen after) (d.images after) now.log now.host.content secret kept)
+      (IsToldOf (d.tells disk) (d.is_honest disk) (d.seen disk) secret kept (HasOpened (d.seen disk) (d.seen after) (d.images after) now.log now.host.content secret kept))
       → Leads d now disk after s (λ new. Reopens d disk after s new result)
   was_opened law now ok faults ready one calls (secret, kept, made) =
       let new : State = ready_with secret kept in
@@ -69,35 +69,39 @@ module _ {D T : Type 0} (d : Ghosts D) (serving : Serving) (disk after : D) (s :
         host = made.of_events;
         waiting = ap (option_map event_view) ready;
         next = tt;
-        file = λ h. (made.of_file (honest.1 h)).journal;
+        file = λ h. (made.of_file.holds (honest.1 h)).journal;
       } in
       record {
         new = new;
         stands = stands_now;
         passes = record { count = count; honest = honest; any_moment = moments new; left = files_of d now after new stands_now };
         is = Reopens.opened event secret kept waits ok faults
-            (λ h. let seen_now = events_seen law secret kept (made.of_file h).before h in record {
-              secret_stays = seen_now.0;
-              either = seen_now.1;
-              file = record { before = (made.of_file h).before; now = (made.of_file h).after; one = one h; calls = calls h };
+            (record {
+              read = made.of_file.read;
+              settled = λ h. let opened = made.of_file.holds h in let seen_now = events_seen law secret kept opened.before h in record {
+                secret_stays = seen_now.0;
+                either = seen_now.1;
+                file = record { before = opened.before; now = opened.after; one = one h; calls = calls h };
+              };
             })
             refl;
       }
 
-  stays : HasState d serving after s
-  stays = record {
-    host = stands.host;
-    waiting = stands.waiting;
+  -- where the host stays as it is
+  stays : (now : Serving) → now.host.content ≡ serving.host.content → now.waiting ≡ serving.waiting → HasState d now after s
+  stays now same wait = record {
+    host = record { may_apply = stands.host.may_apply; is_host = same ∙ stands.host.is_host };
+    waiting = ap (option_map event_view) wait ∙ stands.waiting;
     next = stands.next;
-    file = λ h. subst (IsFileOf (d.images after) serving.log serving.host.content s.secret s.kept) (sym waits)
+    file = λ h. subst (IsFileOf (d.images after) now.log now.host.content s.secret s.kept) (sym waits)
         (subst (λ (o : Option EventView). Each (d.images after) (HoldsOne s.secret (lists_of s.kept o))) waits (left (honest.1 h) s.secret (lists_of s.kept s.waiting) (files (honest.1 h))));
   }
 
-  was_closed : Reopens d disk after s s result → Leads d serving disk after s (λ new. Reopens d disk after s new result)
-  was_closed case = record {
+  was_closed : (now : Serving) → now.host.content ≡ serving.host.content → now.waiting ≡ serving.waiting → Reopens d disk after s s result → Leads d now disk after s (λ new. Reopens d disk after s new result)
+  was_closed now same wait case = record {
     new = s;
-    stands = stays;
-    passes = record { count = count; honest = honest; any_moment = moments s; left = files_of d serving after s stays };
+    stands = stays now same wait;
+    passes = record { count = count; honest = honest; any_moment = moments s; left = files_of d now after s (stays now same wait) };
     is = case;
   }
 
@@ -108,12 +112,12 @@ module _ {D T : Type 0} (d : Ghosts D) (serving : Serving) (disk after : D) (s :
       law v place s.secret events (d.seen disk) has (damaged h)
 
   -- each fault of the opening
-  pub was_faulty : NoFault → (d.is_honest disk → d.tells disk) → (f : LogFault) → result ≡ Err f → d.faults after ≡ counted_by (d.faults disk) f
+  pub was_faulty : (now : Serving) → now.host.content ≡ serving.host.content → now.waiting ≡ serving.waiting → NoFault → (d.is_honest disk → d.tells disk) → (f : LogFault) → result ≡ Err f → d.faults after ≡ counted_by (d.faults disk) f
       → (d.is_honest disk → Each (d.images after) (Tears (d.images disk) VERSION_GATE 1))
       → (d.tells disk → (place : ℕ) → f ≡ fault.NotALog place → IsFirstFault place (d.seen disk))
-      → (d.is_honest disk → f ≢ fault.Disk → Rests d.seen d.images d.moment d.left_since disk after)
-      → Leads d serving disk after s (λ new. Reopens d disk after s new result)
-  was_faulty law tells fault.Disk is faults torn damaged rests = was_closed (Reopens.failed event waits is faults torn refl)
-  was_faulty law tells (fault.NotALog place) is faults torn damaged rests =
-      was_closed (Reopens.damaged event place waits is faults (λ t. damaged t place refl) (no_damage law place (λ h. damaged (tells h) place refl)) refl)
-  was_faulty law tells fault.NoMemory is faults torn damaged rests = was_closed (Reopens.memory event waits is faults (λ h. rests h (λ e. cc)) refl)
+      → f ≢ fault.NoMemory
+      → Leads d now disk after s (λ new. Reopens d disk after s new result)
+  was_faulty now same wait law tells fault.Disk is faults torn damaged memory = was_closed now same wait (Reopens.failed event waits is faults torn refl)
+  was_faulty now same wait law tells (fault.NotALog place) is faults torn damaged memory =
+      was_closed now same wait (Reopens.damaged event place waits is faults (λ t. damaged t place refl) (no_damage law place (λ h. damaged (tells h) place refl)) refl)
+  was_faulty now same wait law tells fault.NoMemory is faults torn damaged memory = absurd (memory refl)

@@ -1,7 +1,7 @@
 -- What each call of a host on its journal leads to.
 use Rattle.std.specs.Prelude.{◌≡◌, ◌⊎◌, ℕ, ◌+◌, List, [], ◌∷◌, ◌++◌, Some, Result, Err, IsOk}
 use Rattle.split_base.specs.declared.disk.Disk.{Ghosts}
-use Rattle.split_base.specs.Disk.{Each, Only, Rests, Tears}
+use Rattle.split_base.specs.Disk.{Each, Only, Tears}
 use Rattle.split_base.specs.Faults.{counted}
 use Rattle.gate_log.specs.declared.fault.LogFault.{LogFault}
 use Rattle.gate_log.specs.declared.fault.LogFault.TheVariants as fault
@@ -23,12 +23,11 @@ pub record IsAppended {D : Type 0} (d : Ghosts D) (disk after : D) (secret : Lis
   pub calls : d.moment after ≡ d.moment disk + 4
   pub holds : Each (d.images after) (HoldsEvents secret events)
 
--- An event was kept; or a call of the disk failed, and the host waits with the event; or there was no memory, and no call was made.
+-- An event was kept; or a call of the disk failed, and the host waits with the event.
 pub data Keeps {D T : Type 0} (d : Ghosts D) (disk after : D) (event : EventView) (s new : State) (result : Result T LogFault) : Type 0 where
   kept : IsOk result → d.faults after ≡ d.faults disk → (d.is_honest disk → IsAppended d disk after s.secret (s.kept ++ event ∷ []))
       → new ≡ ready_with s.secret (s.kept ++ event ∷ []) → Keeps d disk after event s new result
   failed : result ≡ Err fault.Disk → d.faults after ≡ counted (d.faults disk) → new ≡ waits_with s event → Keeps d disk after event s new result
-  memory : result ≡ Err fault.NoMemory → after ≡ disk → new ≡ s → Keeps d disk after event s new result
 
 -- A file that was opened: what a read gave held just these events, and now holds them in version 2, which is the one image.
 -- It was left alone, or raised from version 1.
@@ -44,22 +43,27 @@ pub record IsSettled {D : Type 0} (d : Ghosts D) (disk after : D) (s : State) (e
   pub either : (kept ≡ s.kept) ⊎ (kept ≡ s.kept ++ event ∷ [])
   pub file : IsFound d disk after secret kept
 
+-- what is known of the file as which a host that waits was opened: where the disk tells its bytes, a read gave just these events; and where it is
+-- honest, they are those kept before, with the one more or without it
+pub record IsOpenedAs {D : Type 0} (d : Ghosts D) (disk after : D) (s : State) (event : EventView) (secret : List ℕ) (kept : List EventView) : Type 0 where
+  pub read : d.tells disk → HoldsEvents secret kept (d.seen disk)
+  pub settled : d.is_honest disk → IsSettled d disk after s event secret kept
+
 -- The file of a host that waits was opened, and the host is that of its events. Or a call of the disk failed, and no byte but the version
--- gate may be torn. Or the file is no journal, which is never so on an honest disk, and the place of its first fault is told. Or there was no
--- memory, and no byte changed.
+-- gate may be torn. Or the file is no journal, which is never so on an honest disk, and the place of its first fault is told.
 pub data Reopens {D T : Type 0} (d : Ghosts D) (disk after : D) (s new : State) (result : Result T LogFault) : Type 0 where
   opened : (event : EventView) (secret : List ℕ) (kept : List EventView) → s.waiting ≡ Some event → IsOk result → d.faults after ≡ d.faults disk
-      → (d.is_honest disk → IsSettled d disk after s event secret kept) → new ≡ ready_with secret kept → Reopens d disk after s new result
+      → IsOpenedAs d disk after s event secret kept → new ≡ ready_with secret kept → Reopens d disk after s new result
   failed : (event : EventView) → s.waiting ≡ Some event → result ≡ Err fault.Disk → d.faults after ≡ counted (d.faults disk)
       → (d.is_honest disk → Each (d.images after) (Tears (d.images disk) VERSION_GATE 1)) → new ≡ s → Reopens d disk after s new result
   damaged : (event : EventView) (place : ℕ) → s.waiting ≡ Some event → result ≡ Err (fault.NotALog place) → d.faults after ≡ d.faults disk
       → (d.tells disk → IsFirstFault place (d.seen disk)) → (d.is_honest disk → ⊥) → new ≡ s → Reopens d disk after s new result
-  memory : (event : EventView) → s.waiting ≡ Some event → result ≡ Err fault.NoMemory → d.faults after ≡ d.faults disk
-      → (d.is_honest disk → Rests d.seen d.images d.moment d.left_since disk after) → new ≡ s → Reopens d disk after s new result
 
--- a journal was opened: the serving is in a state that is ready, and an honest disk's file held its events
+-- A journal was opened: the serving is in a state that is ready. Where the disk tells its bytes, a read gave just the events of that state; and where
+-- it is honest, the file holds them now.
 pub record Opened {D : Type 0} (d : Ghosts D) (disk after : D) (serving : Serving) : Type 0 where
   pub secret : List ℕ
   pub kept : List EventView
   pub stands : HasState d serving after (ready_with secret kept)
+  pub read : d.tells disk → HoldsEvents secret kept (d.seen disk)
   pub file : d.is_honest disk → IsFound d disk after secret kept

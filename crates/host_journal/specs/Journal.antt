@@ -95,6 +95,11 @@ pub record IsHostOfFile (host : HostView) (secret : List ℕ) (events : List Eve
   pub of_events : IsHostOf host secret events
   pub of_file : told
 
+-- where the disk tells its bytes, a read gave just these events; and this holds where it is honest
+pub record IsToldOf (tells honest : Type 0) (file : List ℕ) (secret : List ℕ) (events : List EventView) (is : Type 0) : Type 0 where
+  pub read : tells → HoldsEvents secret events file
+  pub holds : honest → is
+
 -- the file held these events and now holds them in version 2, and host and log are theirs
 pub record HasOpened (old new : List ℕ) (images : List ℕ → Type 0) (log : LogView) (host : HostView) (secret : List ℕ) (events : List EventView) : Type 0 where
   pub before : HoldsEvents secret events old

@@ -3,14 +3,13 @@ ghost use Rattle.std.specs.Prelude.{◌≡◌, ◌⊎◌, ◌↔◌, ◌≤◌, 
 ghost use Rattle.split_base.specs.Faults.{HasRisen};
 ghost use Rattle.split_base.specs.Disk.{Each, LeavesOnly};
 ghost use Rattle.gate_log.specs.Calls.{counted_by};
-ghost use Rattle.sealed_core.specs.Host.{CanApply, EventView, apply, event_view};
+ghost use Rattle.sealed_core.specs.Host.{CanApply, EventView, HasRoom, apply, event_view};
 ghost use Rattle.host_journal.specs.Journal.{IsJournalOf, IsBeforeOrAfter, IsHostOf};
 
-use crate::write_event;
+use crate::spell_event;
 use gate_log::{Log, LogFault};
 use sealed_core::{Event, Host, apply, reserve};
 use split_base::Disk;
-use std::alloc::Global;
 
 /// Why an event wasn't kept, and the event.
 #[derive(Debug, Drop)]
@@ -19,18 +18,18 @@ pub struct CommitFault {
     pub event: Event,
 }
 
-/// Keeps an event that may be applied, in a journal of version 2 at its end: first the memory for its
-/// body and in the host, then the record in the journal, and then the host's change. At `Ok` a crash
-/// leaves the event, and the log is at its end again.
+/// Keeps an event that may be applied, in a journal of version 2 at its end: first a spare place in
+/// the host, then the record in the journal, and then the host's change. At `Ok` a crash leaves the
+/// event, and the log is at its end again.
 ///
 /// - `Disk` comes only where the disk's count of faults has risen, by one: a call that fails is not
 ///   tried again, and the count stays with every other answer. The host is as before; the file
 ///   holds the event or doesn't. The log isn't at its end: the file is opened anew.
-/// - `NoMemory` comes when memory runs out, before the first call of the disk, which is as before.
+/// - `NoMemory` comes only where the host has no spare place and memory runs out, before the first
+///   call of the disk, which is as before.
 ///
 /// Each gives the event back; `NotALog` never comes.
 pub fn commit<D: Disk>(
-    alloc: Global,
     host: &mut Host,
     log: &mut Log,
     disk: &mut D,
@@ -45,6 +44,8 @@ pub fn commit<D: Disk>(
     ensures cause { IfErr result (λ e. (e.fault ≡ LogFault.Disk) ⊎ (e.fault ≡ LogFault.NoMemory)) }
     ensures given_back { IfErr result (λ e. event_view e.event ≡ event_view event) }
     ensures no_memory { IfErr result (λ e. e.fault ≡ LogFault.NoMemory → (disk.new ≡ disk.old) × (log.new ≡ log.old)) }
+    ensures full { IfErr result (λ e. e.fault ≡ LogFault.NoMemory → host.old.spare ≡ 0) }
+    ensures room { HasRoom host.old → HasRoom host.new }
     ensures applied { OnOk result (host.new.content ≡ apply host.old.content (event_view event)) }
     ensures unchanged { OnErr result (host.new.content ≡ host.old.content) }
     ensures at_end { OnOk result (IsTrue log.new.at_end) }
@@ -63,18 +64,13 @@ pub fn commit<D: Disk>(
     ensures after { D.is_honest disk.old → (secret : List ℕ) (events : List EventView) → IsJournalOf (D.images disk.old) log.old host.old.content secret events
         → Each (D.images disk.new) (IsBeforeOrAfter log.old.version secret events (event_view event)) }
 {
-    let Ok(body) = write_event(alloc, &event) else {
-        return Err(CommitFault {
-            fault: LogFault::NoMemory,
-            event,
-        });
-    };
     if reserve(host).is_err() {
         return Err(CommitFault {
             fault: LogFault::NoMemory,
             event,
         });
     }
+    let body = spell_event(&event);
     if let Err(fault) = log.append(disk, &body) {
         return Err(CommitFault { fault, event });
     }

@@ -8,23 +8,13 @@ use crate::{Serving, commit};
 use gate_log::LogFault;
 use sealed_core::Event;
 use split_base::Disk;
-use std::alloc::Global;
 
 /// Keeps an event that may be applied, of a host that is ready: first in its journal, by four calls of
-/// the disk, and then the host changes.
+/// the disk, and then the host changes. It takes no memory.
 ///
-/// - `Disk` comes only where the disk's count of faults has risen, by one. The host is as before, and
-///   waits with the event.
-/// - `NoMemory` comes only when memory runs out, before the first call of the disk. Nothing has changed
-///   then.
-///
-/// `NotALog` never comes.
-pub fn keep<D: Disk>(
-    alloc: Global,
-    serving: &mut Serving,
-    disk: &mut D,
-    event: Event,
-) -> Result<(), LogFault>
+/// `Disk` comes only where the disk's count of faults has risen, by one. The host is as before, and
+/// waits with the event. No other fault comes.
+pub fn keep<D: Disk>(serving: &mut Serving, disk: &mut D, event: Event) -> Result<(), LogFault>
     requires ready { serving.old.waiting ≡ None }
     requires can { CanApply serving.old.host.content (event_view event) }
     ensures kept { (s : State) → HasState D.Disk serving.old disk.old s
@@ -34,15 +24,14 @@ pub fn keep<D: Disk>(
     ensures count { D.faults disk.old ≤ D.faults disk.new }
     ensures honest { D.is_honest disk.old ↔ D.is_honest disk.new }
 {
-    match commit(alloc, &mut serving.host, &mut serving.log, disk, event) {
+    match commit(&mut serving.host, &mut serving.log, disk, event) {
         Ok(()) => Ok(()),
         Err(lost) => match lost.fault {
             LogFault::Disk => {
                 serving.waiting = Some(lost.event);
                 Err(LogFault::Disk)
             }
-            LogFault::NotALog { .. } => unreachable!(),
-            LogFault::NoMemory => Err(LogFault::NoMemory),
+            LogFault::NotALog { .. } | LogFault::NoMemory => unreachable!(),
         },
     }
 }

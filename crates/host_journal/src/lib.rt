@@ -1,6 +1,8 @@
 //! The journal of a host, and a host before a disk that may fail. Each event has one spelling as a body of the journal's records, and an event
 //! is kept in the journal before it changes the host. Where that fails the host waits until its file is opened again.
 //!
+//! A host takes all its memory when its file is opened first: after that neither a kept event nor a reopening takes any.
+//!
 //! On an honest disk a crash at any moment of a call leaves the events kept before it, with or without the call's own.
 //!
 //! No two events have one spelling (`spelling_law`), and every file has one list of events or one
@@ -30,4 +32,4 @@ pub use reading::read_event;
 pub use reopening::{open, reopen};
 pub use serving::Serving;
 pub use state_laws::{files_law, passing_law};
-pub use writing::write_event;
+pub use writing::{spell_event, write_event};

@@ -1,16 +1,18 @@
 // Opening the journal of a serving host, at the start and where it waits.
 ghost use Rattle.std.specs.Prelude.{◌≡◌, ◌≢◌, ◌≤◌, ◌↔◌, ℕ, List, None, OnOk, IfErr, IfOk, IsSome, Err};
 ghost use Rattle.split_base.specs.Disk.{Each, LeavesOnly, Rests, Tears};
-ghost use Rattle.gate_log.specs.Calls.{faults_after};
+ghost use Rattle.gate_log.specs.Calls.{TellsFault, faults_after};
 ghost use Rattle.gate_log.specs.declared.limits.TheConstants.{VERSION_GATE};
 ghost use Rattle.host_journal.specs.Journal.{IsFirstFault};
 ghost use Rattle.host_journal.specs.Calls.{Leads, Opened, Reopens};
 ghost use Rattle.host_journal.specs.States.{HasState, IsFile, State};
 
+use crate::opening::{open_in, roomy_host};
 use crate::{Serving, events_law, open_host};
 use gate_log::LogFault;
 use split_base::Disk;
 use std::alloc::Global;
+use std::mem::swap;
 
 /// Opens the file of a host that waits. At `Ok` the host is ready again, with the events that the
 /// file holds: so it is settled whether the event that waited was kept. Nothing is appended.
@@ -18,10 +20,10 @@ use std::alloc::Global;
 /// - `Disk` comes only where the disk's count of faults has risen, by one.
 /// - `NotALog` comes exactly where the file is no journal, with the place of its first fault: never on
 ///   an honest disk with a file of the host's.
-/// - `NoMemory` comes only when memory runs out.
 ///
 /// After each of these the host waits as before, and with any other answer than `Disk` the count stays.
-pub fn reopen<D: Disk>(alloc: Global, serving: &mut Serving, disk: &mut D) -> Result<(), LogFault>
+/// No other fault comes, and it takes no memory.
+pub fn reopen<D: Disk>(serving: &mut Serving, disk: &mut D) -> Result<(), LogFault>
     requires { IsSome serving.old.waiting }
     ensures reopened { (s : State) → HasState D.Disk serving.old disk.old s
         → Leads D.Disk serving.new disk.old disk.new s (λ new. Reopens D.Disk disk.old disk.new s new result) }
@@ -29,13 +31,14 @@ pub fn reopen<D: Disk>(alloc: Global, serving: &mut Serving, disk: &mut D) -> Re
 
     // Whatever state the serving is in.
     ensures place { D.tells disk.old → (place : ℕ) → result ≡ Err (LogFault.NotALog place) → IsFirstFault place (D.seen disk.old) }
+    ensures exactly { D.tells disk.old → (place : ℕ) → IsFirstFault place (D.seen disk.old) → TellsFault place result }
     ensures count { D.faults disk.old ≤ D.faults disk.new }
     ensures honest { D.is_honest disk.old ↔ D.is_honest disk.new }
 {
     events_law();
-    match open_host(alloc, disk) {
-        Ok((host, log)) => {
-            serving.host = host;
+    match open_in(&mut serving.again, disk) {
+        Ok(log) => {
+            swap(&mut serving.host, &mut serving.again);
             serving.log = log;
             serving.waiting = None;
             Ok(())
@@ -49,7 +52,8 @@ pub fn reopen<D: Disk>(alloc: Global, serving: &mut Serving, disk: &mut D) -> Re
 /// - `Disk` comes only where the disk's count of faults has risen, by one. With any other answer the
 ///   count stays.
 /// - `NotALog` comes exactly where the file has a fault, with the place of its first.
-/// - `NoMemory` comes only when memory runs out.
+/// - `NoMemory` comes only when memory runs out, before the first call of the disk. It is taken for the host and
+///   for the one into which the file is read again, each with room for all instances.
 ///
 /// After `NotALog` and `NoMemory` the file is as it was.
 pub fn open<D: Disk>(alloc: Global, disk: &mut D) -> Result<Serving, LogFault>
@@ -58,6 +62,7 @@ pub fn open<D: Disk>(alloc: Global, disk: &mut D) -> Result<Serving, LogFault>
     ensures faults { D.faults disk.new ≡ faults_after (D.faults disk.old) result }
     ensures honest { D.is_honest disk.old ↔ D.is_honest disk.new }
     ensures place { D.tells disk.old → (place : ℕ) → result ≡ Err (LogFault.NotALog place) → IsFirstFault place (D.seen disk.old) }
+    ensures exactly { D.tells disk.old → (place : ℕ) → IsFirstFault place (D.seen disk.old) → TellsFault place result }
     ensures kept { D.is_honest disk.old → IfErr result (λ e. e ≢ LogFault.Disk → Rests D.seen D.images D.moment D.left_since disk.old disk.new) }
 
     // No byte but the version gate is written, and a file of a state stays one at each moment.
@@ -66,10 +71,12 @@ pub fn open<D: Disk>(alloc: Global, disk: &mut D) -> Result<Serving, LogFault>
     ensures any_moment { D.is_honest disk.old → (s : State) → Each (D.images disk.old) (IsFile s) → LeavesOnly D.moment D.left_since disk.old disk.new (IsFile s) }
     ensures after { D.is_honest disk.old → (s : State) → Each (D.images disk.old) (IsFile s) → Each (D.images disk.new) (IsFile s) }
 {
+    let again = roomy_host(alloc)?;
     let (host, log) = open_host(alloc, disk)?;
     Ok(Serving {
         host,
         log,
         waiting: None,
+        again,
     })
 }

@@ -1,6 +1,6 @@
 -- The search for a head of a kind. `IsText` says which bytes are the whole text of a head with few enough fields, `AsksMore` for which bytes the
 -- parser asks for more, and `IsFound` where a head is.
-use Rattle.std.specs.Prelude.{◌≡◌, ◌≢◌, ℕ, ◌<◌, ◌≤◌, List, [], ◌++◌, length, Option, IfSome, ⊤}
+use Rattle.std.specs.Prelude.{◌≡◌, ◌≢◌, ℕ, ◌+◌, ◌<◌, ◌≤◌, List, [], ◌++◌, length, Option, IfSome, ⊤}
 use Rattle.httparse.specs.declared.spans.HeaderSpan.{HeaderSpan}
 use Rattle.split_base.specs.Faults.{counted}
 use Rattle.http_heads.specs.declared.limits.TheConstants.{MAX_HEAD}
@@ -55,3 +55,11 @@ faults_by before (ahead.Found spans) = before
 faults_by before ahead.Bad = before
 faults_by before ahead.End = before
 faults_by before ahead.Fault = counted before
+
+-- the most that the source's count of reads which gave nothing can be after a search: one more where the end was met, which a head or a failed read
+-- excludes
+abbrev pub ends_by : {T : Type 0} → ℕ → Ahead T → ℕ
+ends_by before (ahead.Found spans) = before
+ends_by before ahead.Bad = before + 1
+ends_by before ahead.End = before + 1
+ends_by before ahead.Fault = before

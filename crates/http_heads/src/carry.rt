@@ -2,6 +2,7 @@
 ghost use Rattle.std.specs.Prelude.{◌≡◌, ◌<◌, ◌≤◌, ◌+◌, ◌++◌, ℕ, List, [], length, drop, IfOk, OnErr};
 ghost use Rattle.std.specs.Io.KnownBytes.{Keeps, IsAtEnd, prepend_known};
 ghost use Rattle.split_base.specs.Faults.{HasCause, IsCounted};
+ghost use Rattle.split_base.specs.Streams.{CountsEmpty};
 
 use crate::limits::MAX_HEAD;
 use split_base::{Failed, Source};
@@ -70,6 +71,7 @@ impl Carry {
         ensures more { IfOk result (λ n. length self.new ≡ length self.old + n) }
         ensures end { IfOk result (λ n. n ≡ 0 → IsAtEnd (S.left source.new) × (self.new ≡ self.old)) }
         ensures failed { OnErr result (self.new ≡ self.old) }
+        ensures empty { CountsEmpty (S.empty_reads source.old) (S.empty_reads source.new) result }
         ensures cause { HasCause (S.faults source.old) (S.faults source.new) result }
         ensures count { IsCounted (S.faults source.old) (S.faults source.new) result }
         ensures beside { S.beside source.new ≡ S.beside source.old }
@@ -85,6 +87,7 @@ impl Carry {
         ensures more { IfOk result (λ n. length self.new ≡ n) }
         ensures end { IfOk result (λ n. n ≡ 0 → IsAtEnd (prepend_known self.new (S.left source.new))) }
         ensures failed { OnErr result (self.new ≡ []) }
+        ensures empty { CountsEmpty (S.empty_reads source.old) (S.empty_reads source.new) result }
         ensures cause { HasCause (S.faults source.old) (S.faults source.new) result }
         ensures count { IsCounted (S.faults source.old) (S.faults source.new) result }
         ensures beside { S.beside source.new ≡ S.beside source.old }

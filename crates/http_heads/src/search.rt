@@ -5,7 +5,7 @@ ghost use Rattle.httparse.specs.Outcome.{IfComplete, OnInvalid, OnPartial, OnToo
 ghost use Rattle.httparse.specs.declared.spans.HeaderSpan.{HeaderSpan};
 ghost use Rattle.split_base.specs.Faults.{HasRisen};
 ghost use Rattle.http_heads.specs.declared.limits.TheConstants.{MAX_FIELDS};
-ghost use Rattle.http_heads.specs.Search.{HasNone, NeverHasOne, LookSays, IsAhead, SearchSays, faults_by};
+ghost use Rattle.http_heads.specs.Search.{HasNone, NeverHasOne, LookSays, IsAhead, SearchSays, ends_by, faults_by};
 
 use crate::carry::Carry;
 use crate::limits::{MAX_FIELDS, MAX_HEAD, ROOM};
@@ -88,7 +88,8 @@ pub fn find_head<K: HeadKind>(bytes: &[u8], fields: &mut [HeaderSpan; ROOM]) -> 
     }
 }
 
-/// Reads to the end of the next head, which stays in the carry.
+/// Reads to the end of the next head, which stays in the carry. Once a read has met the end of the
+/// input it doesn't read again.
 ///
 /// - `Bad` comes where bytes are left, and no first part of them is a head of at most `MAX_HEAD`
 ///   bytes and with at most `MAX_FIELDS` fields.
@@ -109,6 +110,7 @@ pub fn look_ahead<K: HeadKind, S: Source>(
     ensures reads { S.faults source.old ≤ S.faults source.new }
     ensures cause { result ≡ Ahead.Fault → HasRisen (S.faults source.old) (S.faults source.new) }
     ensures count { S.faults source.new ≡ faults_by (S.faults source.old) result }
+    ensures empty { S.empty_reads source.new ≤ ends_by (S.empty_reads source.old) result }
     ensures beside { S.beside source.new ≡ S.beside source.old }
 {
     let mut room = MAX_HEAD - carry.len();

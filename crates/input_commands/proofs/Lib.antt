@@ -1,7 +1,9 @@
 mod Bidders
 mod KnownBytes
+mod OnBytes
 mod OneAnswer
 mod OneEnding
 mod ProposedOwners
 mod Solved
 mod StepEnds
+mod ZeroStatus

@@ -19,3 +19,8 @@ abbrev pub CallsFor : InputCommand → List ℕ → Result (List ℕ) Stop → T
 CallsFor command bytes ending =
     ((longest command < length bytes) × (ending ≡ Err TooLong))
     ⊎ ((length bytes ≤ longest command) × Answers command bytes ending)
+
+-- how a command ends on bytes in memory, which are read without a fault: as they call for; or memory ran out, of a command that takes memory
+abbrev pub EndsOnBytes : InputCommand → List ℕ → Result (List ℕ) Stop → Type 0
+EndsOnBytes command bytes (Err NoMemory) = TakesMemory command
+EndsOnBytes command bytes ending = CallsFor command bytes ending

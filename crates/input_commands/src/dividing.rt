@@ -4,6 +4,7 @@ ghost use Rattle.bid_rules.specs.Facts.{case_of};
 ghost use Rattle.certificates.specs.Division.{IsDivisionOf};
 ghost use Rattle.command_results.specs.Endings.{ending_of};
 ghost use Rattle.split_json.specs.Reading.{IsReady, case_in, shown};
+ghost use Rattle.split_solve.specs.Solving.{IsSolved};
 ghost use Rattle.input_commands.specs.Answers.{OfBody, OfCase};
 ghost use Rattle.input_commands.specs.Commands.{AreWorkers};
 ghost use Rattle.input_commands.specs.Steps.{IsTextOf, UpToMemory};
@@ -59,14 +60,23 @@ fn divide_case<R: Threads + Sync, G: Gate + Sync>(
     requires workers { AreWorkers workers }
     ensures { UpToMemory (OfCase (IsTextOf sort) (shown input.now)) (ending_of result) }
 {
-    match solve(
-        alloc,
-        rt,
-        &input.facts,
-        input.bids.as_slice(),
-        workers,
-        gate,
-    ) {
+    let bids = input.bids.as_slice();
+    let solved = solve(alloc, rt, &input.facts, bids, workers, gate);
+    solved_text(alloc, sort, input, solved)
+}
+
+/// The text of what facts and bids have: of their case and its best division, or why they have none.
+pub(crate) fn solved_text(
+    alloc: Global,
+    sort: DivisionText,
+    input: &CaseInput,
+    solved: Result<(Case, Division), SolveFault>,
+) -> Result<Text, Stop>
+    requires input { IsReady (shown input.now) }
+    requires solved { IsSolved input.now.facts input.now.bids.items solved }
+    ensures { UpToMemory (OfCase (IsTextOf sort) (shown input.now)) (ending_of result) }
+{
+    match solved {
         Ok((case, division)) => match division_text(alloc, sort, input, &case, &division) {
             Ok(text) => Ok(Text::Kept(text)),
             Err(NoMemory) => Err(Stop::NoMemory),

@@ -9,6 +9,7 @@ ghost use Rattle.winner_rules.specs.Judged.{PrintsFair};
 ghost use Rattle.input_commands.specs.Answers.{Answers};
 ghost use Rattle.input_commands.specs.Commands.{AreAlike};
 ghost use Rattle.input_commands.specs.Ends.{CallsFor, EndsOn};
+ghost use Rattle.input_commands.specs.Replies.{Replies};
 ghost use Rattle.input_commands.specs.declared.command.InputCommand.{InputCommand};
 ghost use Rattle.input_commands.specs.declared.command.InputCommand.TheVariants.{Check, CheckWinner, Solve};
 
@@ -65,4 +66,13 @@ pub fn solved_law()
     case_law();
     case_in_law();
     certificate_law();
+}
+
+/// Where a judge's status is 0, the certificate prints a valid case and its best division, and the text of adjusted winner a fair
+/// division: so the status alone shows it to a caller that is not written in Rattle.
+pub fn status_law()
+    ensures best { (bytes : List ℕ) (size : ℕ) (before after : List ℕ) → Replies Check bytes 0 size before after → PrintsBest bytes }
+    ensures fair { (bytes : List ℕ) (size : ℕ) (before after : List ℕ) → Replies CheckWinner bytes 0 size before after → PrintsFair bytes }
+{
+    yes_law();
 }

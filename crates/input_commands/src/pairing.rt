@@ -1,7 +1,7 @@
 // The commands of adjusted winner: the one that divides goods between two players, and its judge, which takes no memory.
 ghost use Rattle.std.specs.Prelude.{◌≤◌};
 ghost use Rattle.bid_rules.specs.Goods.{IsValidGoodsCase};
-ghost use Rattle.command_results.specs.Endings.{ending_of};
+ghost use Rattle.command_results.specs.Endings.{ending_of, verdict_ending};
 ghost use Rattle.command_results.specs.ObjectUse.{told};
 ghost use Rattle.split_json.specs.Proposals.{IsReadyGoods, goods_case_in};
 ghost use Rattle.split_json.specs.Reading.{shown};
@@ -63,8 +63,19 @@ pub(crate) fn check_pair<I: Source>(input: &mut I) -> Result<Text, Stop>
     ensures ending { EndsOn CheckWinner (told I.left I.faults input.old input.new) (ending_of result) }
     ensures count { I.faults input.old ≤ I.faults input.new }
 {
+    match judge_pair(input) {
+        Ok(()) => Ok(Text::yes()),
+        Err(stop) => Err(stop),
+    }
+}
+
+/// Whether `checkwinner` says yes to an input, or why not. It reaches no allocator.
+pub(crate) fn judge_pair<I: Source>(input: &mut I) -> Result<(), Stop>
+    ensures ending { EndsOn CheckWinner (told I.left I.faults input.old input.new) (verdict_ending result) }
+    ensures count { I.faults input.old ≤ I.faults input.new }
+{
     match check_pair_text(input) {
-        Ok(Verdict::Yes) => Ok(Text::yes()),
+        Ok(Verdict::Yes) => Ok(()),
         Ok(Verdict::No { rule }) => Err(Stop::BrokenRule { rule }),
         Err(TextEnd::NotText { line }) => Err(Stop::BrokenLine { line }),
         Err(TextEnd::TooLong) => Err(Stop::TooLong),

@@ -1,4 +1,6 @@
 // A run of the program over objects in memory, whose calls fail.
+ghost use Rattle.std.specs.Prelude.{◌≡◌, IsTrue};
+
 use split_base::{MemClock, MemDial, MemDisk, MemPort, MemSink, MemSource, Quiet};
 use split_top::run;
 use std::alloc::Global;
@@ -48,7 +50,10 @@ fn sink_of(rt: &impl Abort, alloc: Global, outside: Outside<'_>) -> MemSink {
 }
 
 /// A port without links whose listed calls fail.
-fn port_of(rt: &impl Abort, alloc: Global, outside: Outside<'_>) -> MemPort {
+fn port_of(rt: &impl Abort, alloc: Global, outside: Outside<'_>) -> MemPort
+    ensures out { result.out ≡ 0 }
+    ensures goes_on { IsTrue result.is_over → ⊥ }
+{
     let fails = outside.bad_ports.to_vec(alloc).expect(rt, "no memory");
     MemPort::new(alloc, Vec::new(alloc), fails).expect(rt, "no memory")
 }

@@ -1,5 +1,6 @@
 -- Texts of replies, computed.
-use Rattle.std.proofs.Common.{◌≡◌, codes, refl}
+use Rattle.std.proofs.Common.{◌≡◌, ℕ, ◌++◌, codes, refl}
+use Rattle.std.specs.Prelude.{decimal}
 use Rattle.serde_json.proofs.OnLiterals.{serde_json_on_literals}
 use Rattle.reply_texts.specs.Refusals.{of_service_refusal, service_text}
 use Rattle.reply_texts.specs.declared.refusals.ServiceRefusal.TheVariants as service
@@ -56,3 +57,8 @@ not_two_is = refl
 pub memory_is : codes "{\"code\":\"memory\"}" ≡ service_text service.Memory
 unfolding serde_json_on_literals of_service_refusal
 memory_is = refl
+
+-- the text where the file is no journal at a place
+pub damaged_is : (place : ℕ) → (codes "{\"code\":\"store_damaged\",\"place\":" ++ decimal place) ++ codes "}" ≡ service_text (service.StoreDamaged place)
+unfolding serde_json_on_literals of_service_refusal
+damaged_is place = refl

@@ -7,6 +7,7 @@
 //! No reply shows a tag, and only that to a creation shows keys (`shown_law`).
 #![tactic(auto)]
 
+mod damage;
 mod division_texts;
 mod laws;
 mod refusals;
@@ -14,6 +15,7 @@ mod replies;
 mod statuses;
 mod values;
 
+pub use damage::{DAMAGE_ROOM, DamageText, damage_text};
 pub use division_texts::division_text;
 pub use laws::{division_text_law, refusal_status_law, shown_law, telling_law, text_sealing_law};
 pub use refusals::{ServiceRefusal, constant_text, memory_text, service_refusal_text};

@@ -1,6 +1,7 @@
 mod AskedCommands
 mod Contents
 mod Leading
+mod Performed
 mod SealedReplies
 mod Settled
 mod Statuses

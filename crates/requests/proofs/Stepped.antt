@@ -13,34 +13,30 @@ use Rattle.sealed_core.specs.Step.{Answer, CommandView, step}
 use Rattle.requests.specs.Cases.{Steps}
 use Rattle.requests.specs.Keeping.{FaultSays, KeepsSaid}
 use Rattle.requests.specs.Replies.{Replies, Shows}
-use Rattle.requests.specs.Said.{SaidView, content_said, memory_said, refused_said}
+use Rattle.requests.specs.Said.{SaidView, content_said, refused_said}
 
 module _ {D T : Type 0} (d : Ghosts D) (disk after : D) (event : EventView) (due : SaidView) (s new : State) where
   pub kept_ok : (x : T) → Keeps {T = T} d disk after event s new (Ok x) → KeepsSaid d disk after event due s new due
   kept_ok x (Keeps.kept ok count appended is) = KeepsSaid.kept count appended is refl
   kept_ok x (Keeps.failed bad count is) = absurd (cc)
-  kept_ok x (Keeps.memory bad same is) = absurd (cc)
 
   kept_fault : (said : SaidView) → said ≡ refused_said service.StoreFault → Keeps {T = T} d disk after event s new (Err fault.Disk) → KeepsSaid d disk after event due s new said
   kept_fault said told (Keeps.kept ok count appended is) = absurd (cc)
   kept_fault said told (Keeps.failed was count is) = KeepsSaid.failed count is told
-  kept_fault said told (Keeps.memory bad same is) = absurd (cc)
 
   kept_not : (place : ℕ) (said : SaidView) → Keeps {T = T} d disk after event s new (Err (fault.NotALog place)) → KeepsSaid d disk after event due s new said
   kept_not place said (Keeps.kept ok count appended is) = absurd (cc)
   kept_not place said (Keeps.failed was count is) = absurd (cc)
-  kept_not place said (Keeps.memory was same is) = absurd (cc)
 
-  kept_memory : (said : SaidView) → said ≡ memory_said → Keeps {T = T} d disk after event s new (Err fault.NoMemory) → KeepsSaid d disk after event due s new said
-  kept_memory said told (Keeps.kept ok count appended is) = absurd (cc)
-  kept_memory said told (Keeps.failed was count is) = absurd (cc)
-  kept_memory said told (Keeps.memory was same is) = KeepsSaid.memory same is told
+  kept_memory : (said : SaidView) → Keeps {T = T} d disk after event s new (Err fault.NoMemory) → KeepsSaid d disk after event due s new said
+  kept_memory said (Keeps.kept ok count appended is) = absurd (cc)
+  kept_memory said (Keeps.failed was count is) = absurd (cc)
 
   -- what is said of a fault is what the case says
   pub kept_by : (f : LogFault) (said : SaidView) → FaultSays f said → Keeps {T = T} d disk after event s new (Err f) → KeepsSaid d disk after event due s new said
   kept_by fault.Disk said says p = kept_fault said says p
   kept_by (fault.NotALog place) said says p = kept_not place said p
-  kept_by fault.NoMemory said says p = kept_memory said says p
+  kept_by fault.NoMemory said says p = kept_memory said p
 
 module _ (h : HostView) (s : State) (is_host : h ≡ host_in s) (moment : ℕ) (command : CommandView) (answered : Answer) (is : answered ≡ step h moment command) where
   same_answer : answered ≡ step (host_in s) moment command
@@ -60,4 +56,3 @@ pub stepped : {D : Type 0} (d : Ghosts D) (disk after : D) (event : EventView) (
     → Steps d disk after moment command s new said
 stepped d disk after event told due s new said moment command was can replies shown (KeepsSaid.kept count appended is says) = Steps.kept told event was can count appended replies is (says ∙ shown)
 stepped d disk after event told due s new said moment command was can replies shown (KeepsSaid.failed count is says) = Steps.failed event was count is says
-stepped d disk after event told due s new said moment command was can replies shown (KeepsSaid.memory same is says) = Steps.memory same is says

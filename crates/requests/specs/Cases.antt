@@ -1,11 +1,11 @@
--- The cases of a request that was read whole, in the order in which they are tested. Memory may run out in place of any of them. Each
--- says what becomes of the state, what is said, which calls of the disk failed, and what calls were made of an honest one.
-use Rattle.std.specs.Prelude.{◌≡◌, ℕ, List, ◌∷◌, [], ◌++◌, Option, Some, None, Ok, Err}
+-- The cases of a request that was read whole, in the order in which they are tested. Memory may run out only for its body, and for what the
+-- step tells. Each says what becomes of the state, what is said, which calls of the disk failed, and what calls were made of an honest one.
+use Rattle.std.specs.Prelude.{◌≡◌, ℕ, true, List, ◌∷◌, [], ◌++◌, Option, Some, None, Ok, Err}
 use Rattle.split_base.specs.declared.disk.Disk.{Ghosts}
-use Rattle.split_base.specs.Disk.{Each, Rests, Tears}
+use Rattle.split_base.specs.Disk.{Each, Tears}
 use Rattle.split_base.specs.Faults.{counted}
 use Rattle.gate_log.specs.declared.limits.TheConstants.{VERSION_GATE}
-use Rattle.host_journal.specs.Calls.{IsAppended, IsSettled}
+use Rattle.host_journal.specs.Calls.{IsAppended, IsOpenedAs}
 use Rattle.host_journal.specs.Journal.{IsFirstFault}
 use Rattle.host_journal.specs.States.{Passes, State, host_in, ready_with, waits_with}
 use Rattle.host_results.specs.Contents.{ContentView}
@@ -19,7 +19,7 @@ use Rattle.split_http.specs.declared.replies.Allow.{Allow}
 use Rattle.split_http.specs.declared.routes.Route.{Route}
 use Rattle.split_http.specs.declared.routes.RouteFault.TheVariants.{NoRoute, Method}
 use Rattle.split_http.specs.Places.{IsRouted}
-use Rattle.requests.specs.Commands.{command_of}
+use Rattle.requests.specs.Commands.{command_of, reads_body}
 use Rattle.requests.specs.Replies.{Replies}
 use Rattle.requests.specs.Said.{SaidView, content_said, memory_said, method_said, refused_said}
 
@@ -32,12 +32,10 @@ pub data Settles {D : Type 0} (d : Ghosts D) (disk after : D) (s new : State) (r
   -- the file is no journal, and the place of its first fault is told: never on an honest disk
   damaged : (event : EventView) (place : ℕ) → s.waiting ≡ Some event → d.faults after ≡ d.faults disk → (d.tells disk → IsFirstFault place (d.seen disk)) → (d.is_honest disk → ⊥)
       → new ≡ s → result ≡ Some (refused_said (service.StoreDamaged place)) → Settles d disk after s new result
-  -- the file was opened, and the state is that of events that may be applied in turn: on an honest disk those that the file holds, which are
-  -- those kept, with the one more or without it
-  opened : (event : EventView) (secret : List ℕ) (kept : List EventView) → s.waiting ≡ Some event → d.faults after ≡ d.faults disk → (d.is_honest disk → IsSettled d disk after s event secret kept)
+  -- the file was opened, and the state is that of events that may be applied in turn: where the disk tells its bytes those that a read gave, and on
+  -- an honest one those kept, with the one more or without it
+  opened : (event : EventView) (secret : List ℕ) (kept : List EventView) → s.waiting ≡ Some event → d.faults after ≡ d.faults disk → IsOpenedAs d disk after s event secret kept
       → CanApplyAll (empty secret) kept → new ≡ ready_with secret kept → result ≡ None → Settles d disk after s new result
-  memory : (event : EventView) → s.waiting ≡ Some event → d.faults after ≡ d.faults disk → (d.is_honest disk → Rests d.seen d.images d.moment d.left_since disk after)
-      → new ≡ s → result ≡ Some memory_said → Settles d disk after s new result
 
 -- One step on a host that is ready.
 pub data Steps {D : Type 0} (d : Ghosts D) (disk after : D) (moment : ℕ) (command : CommandView) (s new : State) (said : SaidView) : Type 0 where
@@ -52,7 +50,8 @@ pub data Steps {D : Type 0} (d : Ghosts D) (disk after : D) (moment : ℕ) (comm
       → new ≡ waits_with s event → said ≡ refused_said service.StoreFault → Steps d disk after moment command s new said
   memory : after ≡ disk → new ≡ s → said ≡ memory_said → Steps d disk after moment command s new said
 
--- A request that was read whole, at a moment: its path or method is refused, or it ends with the reopening, or the step comes after that.
+-- A request that was read whole, at a moment: its path or method is refused, or there is no memory for its body, or it ends with the
+-- reopening, or the step comes after that.
 pub data Responds {D : Type 0} (d : Ghosts D) (disk after : D) (head : Head) (body : List ℕ) (moment : ℕ) (s new : State) (said : SaidView) : Type 0 where
   no_route : IsRouted head.verb head.path (Err NoRoute) → after ≡ disk → new ≡ s → said ≡ refused_said service.NoRoute → Responds d disk after head body moment s new said
   method : (allow : Allow) → IsRouted head.verb head.path (Err (Method allow)) → after ≡ disk → new ≡ s → said ≡ method_said allow → Responds d disk after head body moment s new said
@@ -62,4 +61,6 @@ pub data Responds {D : Type 0} (d : Ghosts D) (disk after : D) (head : Head) (bo
   stepped : (route : Route) (between : D) (settled : State) → IsRouted head.verb head.path (Ok route)
       → Settles d disk between s settled None → Passes d disk s between settled
       → Steps d between after moment (command_of route.place route.id head.key body) settled new said → Passes d between settled after new → Responds d disk after head body moment s new said
-  memory : after ≡ disk → new ≡ s → said ≡ memory_said → Responds d disk after head body moment s new said
+  -- there was no memory for its body, of a creation, a bid or a withdrawal
+  memory : (route : Route) → IsRouted head.verb head.path (Ok route) → reads_body route.place ≡ true → after ≡ disk → new ≡ s → said ≡ memory_said
+      → Responds d disk after head body moment s new said

@@ -1,5 +1,5 @@
 -- The command that a request is.
-use Rattle.std.specs.Prelude.{ℕ, List, Option}
+use Rattle.std.specs.Prelude.{ℕ, Bool, true, false, List, Option}
 use Rattle.sealed_core.specs.declared.commands.Ask.TheVariants as asks
 use Rattle.sealed_core.specs.declared.commands.What.TheVariants as what
 use Rattle.sealed_core.specs.Step.{CommandView, Create, To}
@@ -20,3 +20,17 @@ command_of place.Certificate id key body = To id key (asks.Publish what.Certific
 command_of place.Report id key body = To id key (asks.Publish what.Report)
 command_of place.Audit id key body = To id key (asks.Publish what.Audit)
 command_of place.Winner id key body = To id key (asks.Publish what.Winner)
+
+-- whether the body of a request to the place is read: a creation, a bid or a withdrawal
+abbrev pub reads_body : Place → Bool
+reads_body place.Instances = true
+reads_body place.Instance = false
+reads_body place.Bids = true
+reads_body place.Bid = false
+reads_body place.Withdraw = true
+reads_body place.Close = false
+reads_body place.Division = false
+reads_body place.Certificate = false
+reads_body place.Report = false
+reads_body place.Audit = false
+reads_body place.Winner = false

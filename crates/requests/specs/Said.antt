@@ -17,10 +17,11 @@ pub record SaidView : Type 0 where
   pub allow : Option Allow
   pub memory : Bool
 
--- the bytes of a text that was written or is constant
+-- the bytes of a text that was written, is constant or is short
 abbrev pub bytes_of : ReplyText → List ℕ
 bytes_of (text.Written bytes) = bytes.items
 bytes_of (text.Constant bytes) = bytes.now
+bytes_of (text.Short bytes) = bytes.items
 
 -- what a reply of the code says
 abbrev pub said_view : Said → SaidView

@@ -1,7 +1,7 @@
 // The command that a request is.
-ghost use Rattle.std.specs.Prelude.{◌≡◌, IfOk};
+ghost use Rattle.std.specs.Prelude.{◌≡◌, IfOk, OnErr, true};
 ghost use Rattle.sealed_core.specs.Step.{IsCheckedCommand, command_view};
-ghost use Rattle.requests.specs.Commands.{command_of};
+ghost use Rattle.requests.specs.Commands.{command_of, reads_body};
 
 use sealed_core::{Command, Key, What};
 use split_base::NoMemory;
@@ -18,6 +18,7 @@ pub fn command_of(
     body: &[u8],
 ) -> Result<Command, NoMemory>
     ensures command { IfOk result (λ c. command_view c ≡ command_of route.place route.id key body.now) }
+    ensures memory { OnErr result (reads_body route.place ≡ true) }
     ensures checked { IfOk result (λ c. IsCheckedCommand (command_view c)) }
 {
     let id = route.id;

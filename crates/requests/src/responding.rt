@@ -1,12 +1,12 @@
 // A request that was read whole.
-ghost use Rattle.std.specs.Prelude.{◌≡◌, ◌≤◌, ◌↔◌, None};
+ghost use Rattle.std.specs.Prelude.{◌≡◌, ◌≤◌, ◌↔◌};
 ghost use Rattle.host_journal.specs.Calls.{Leads};
 ghost use Rattle.host_journal.specs.States.{HasState, State};
 ghost use Rattle.search_workers.specs.declared.limits.TheConstants.{MOST_WORKERS};
-ghost use Rattle.requests.specs.Cases.{Responds, Steps};
+ghost use Rattle.requests.specs.Cases.{Responds};
+ghost use Rattle.sealed_core.specs.Step.{IsCheckedCommand, command_view};
 ghost use Rattle.split_http.specs.Places.{IsRouted};
-ghost use Rattle.requests.specs.Commands.{command_of as command_at};
-ghost use Rattle.requests.specs.Keeping.{unrouted_said};
+ghost use Rattle.requests.specs.Keeping.{Performs, unrouted_said};
 ghost use Rattle.requests.specs.Said.{said_view};
 
 use crate::commands::command_of;
@@ -15,7 +15,7 @@ use crate::settling::settle;
 use crate::stepping::step;
 use host_journal::{Serving, passing_law};
 use reply_texts::ServiceRefusal;
-use sealed_core::Key;
+use sealed_core::Command;
 use split_base::{Disk, Gate, NoMemory};
 use split_http::{Head, Route, RouteFault, Routes};
 use split_solve::KeptSearches;
@@ -25,13 +25,14 @@ use std::thread::Threads;
 /// What is said to a request that was read whole, at a moment.
 ///
 /// - A path that no route has and a method that the route hasn't are refused, and nothing changes.
+/// - Then its body is read. That memory ran out may be said of a creation, a bid or a withdrawal, before the host is looked at.
 /// - Then a host that waits opens its file again. Where that fails the request ends with it, and the host waits on.
 /// - Then the command is answered: its reply is made, with all of its text, and all memory is taken; its event is kept; and then the reply is
 ///   said.
 ///
 /// A store fault is said only where a call of the disk failed in this request, which is counted once and not tried again. That the file is no
-/// journal is said with the place of its first fault, wherever the disk tells its bytes, and never on an honest disk. That memory ran out may be
-/// said at any point, with no event of the request. On an honest disk a crash at any moment leaves the events kept before, with or without the
+/// journal is said with the place of its first fault, wherever the disk tells its bytes, and never on an honest disk. That memory ran out is said
+/// with no event of the request. On an honest disk a crash at any moment leaves the events kept before, with or without the
 /// one of the request. The kept searches do not change what is said.
 #[allow(clippy::too_many_arguments)]
 pub fn respond<D: Disk, R: Threads + Sync, G: Gate + Sync>(
@@ -58,10 +59,10 @@ pub fn respond<D: Disk, R: Threads + Sync, G: Gate + Sync>(
     passing_law::<D>();
     match route_of(routes, head) {
         Err(fault) => unrouted(fault),
-        Ok(route) => match settle(alloc, serving, disk) {
-            Some(said) => said,
-            None => perform(
-                alloc, rt, serving, disk, route, head.key, body, moment, searches, workers, gate,
+        Ok(route) => match command_of(alloc, route, head.key, body) {
+            Err(NoMemory) => Said::out_of_memory(),
+            Ok(command) => perform(
+                alloc, rt, serving, disk, moment, command, searches, workers, gate,
             ),
         },
     }
@@ -84,33 +85,31 @@ fn unrouted(fault: RouteFault) -> Said
     }
 }
 
-/// What a host that is ready says to a request that leads somewhere.
+/// What is said to a command: where the host waits its file is opened first.
 #[allow(clippy::too_many_arguments)]
 fn perform<D: Disk, R: Threads + Sync, G: Gate + Sync>(
     alloc: Global,
     rt: &R,
     serving: &mut Serving,
     disk: &mut D,
-    route: Route,
-    key: Option<Key>,
-    body: &[u8],
     moment: u64,
+    command: Command,
     searches: &mut KeptSearches,
     workers: u8,
     gate: &G,
 ) -> Said
-    requires ready { serving.old.waiting ≡ None }
+    requires command { IsCheckedCommand (command_view command) }
     requires workers { (1 ≤ workers) × (workers ≤ MOST_WORKERS) }
     ensures performed { (s : State) → HasState D.Disk serving.old disk.old s
-        → Leads D.Disk serving.new disk.old disk.new s (λ new. Steps D.Disk disk.old disk.new moment (command_at route.place route.id key body.now) s new (said_view result)) }
+        → Leads D.Disk serving.new disk.old disk.new s (λ new. Performs D.Disk disk.old disk.new moment (command_view command) s new (said_view result)) }
     ensures count { D.faults disk.old ≤ D.faults disk.new }
     ensures honest { D.is_honest disk.old ↔ D.is_honest disk.new }
 {
     passing_law::<D>();
-    match command_of(alloc, route, key, body) {
-        Ok(command) => step(
+    match settle(serving, disk) {
+        Some(said) => said,
+        None => step(
             alloc, rt, serving, disk, moment, command, searches, workers, gate,
         ),
-        Err(NoMemory) => Said::out_of_memory(),
     }
 }

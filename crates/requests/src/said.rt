@@ -3,6 +3,7 @@ ghost use Rattle.std.specs.Prelude.{IsTrue};
 ghost use Rattle.split_http.specs.Replies.{is_host_status};
 
 use host_results::ContentType;
+use reply_texts::DamageText;
 use split_http::Allow;
 
 /// The text of a reply.
@@ -12,6 +13,8 @@ pub enum ReplyText {
     Written(Vec<u8>),
     /// It is a constant, and takes no memory.
     Constant(&'static [u8]),
+    /// It was written for this reply, and takes no memory.
+    Short(DamageText),
 }
 
 /// What is said in reply to a request.

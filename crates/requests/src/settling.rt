@@ -9,10 +9,9 @@ use crate::said::Said;
 use crate::telling::failure;
 use host_journal::{Serving, passing_law, reopen};
 use split_base::Disk;
-use std::alloc::Global;
 
-/// Opens the file again where the host waits. Where it answers `None` the request goes on, and the host is ready.
-pub(crate) fn settle<D: Disk>(alloc: Global, serving: &mut Serving, disk: &mut D) -> Option<Said>
+/// Opens the file again where the host waits, in memory that was taken at the start. Where it answers `None` the request goes on, and the host is ready.
+pub(crate) fn settle<D: Disk>(serving: &mut Serving, disk: &mut D) -> Option<Said>
     ensures settled { (s : State) → HasState D.Disk serving.old disk.old s
         → Leads D.Disk serving.new disk.old disk.new s (λ new. Settles D.Disk disk.old disk.new s new (option_map said_view result)) }
     ensures ready { result ≡ None → serving.new.waiting ≡ None }
@@ -22,12 +21,12 @@ pub(crate) fn settle<D: Disk>(alloc: Global, serving: &mut Serving, disk: &mut D
     passing_law::<D>();
     match serving.waiting {
         None => None,
-        Some(_) => open_again(alloc, serving, disk),
+        Some(_) => open_again(serving, disk),
     }
 }
 
 /// Opens the file of a host that waits.
-fn open_again<D: Disk>(alloc: Global, serving: &mut Serving, disk: &mut D) -> Option<Said>
+fn open_again<D: Disk>(serving: &mut Serving, disk: &mut D) -> Option<Said>
     requires { IsSome serving.old.waiting }
     ensures settled { (s : State) → HasState D.Disk serving.old disk.old s
         → Leads D.Disk serving.new disk.old disk.new s (λ new. Settles D.Disk disk.old disk.new s new (option_map said_view result)) }
@@ -35,8 +34,8 @@ fn open_again<D: Disk>(alloc: Global, serving: &mut Serving, disk: &mut D) -> Op
     ensures count { D.faults disk.old ≤ D.faults disk.new }
     ensures honest { D.is_honest disk.old ↔ D.is_honest disk.new }
 {
-    match reopen(alloc, serving, disk) {
+    match reopen(serving, disk) {
         Ok(()) => None,
-        Err(fault) => Some(failure(alloc, fault)),
+        Err(fault) => Some(failure(fault)),
     }
 }

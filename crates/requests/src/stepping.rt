@@ -49,20 +49,14 @@ pub(crate) fn step<D: Disk, R: Threads + Sync, G: Gate + Sync>(
             let event = answered.event;
             match event {
                 None => said,
-                Some(event) => keep_first(alloc, serving, disk, event, said),
+                Some(event) => keep_first(serving, disk, event, said),
             }
         }
     }
 }
 
-/// Keeps an event, and says this then.
-fn keep_first<D: Disk>(
-    alloc: Global,
-    serving: &mut Serving,
-    disk: &mut D,
-    event: Event,
-    due: Said,
-) -> Said
+/// Keeps an event, and says this then. It takes no memory.
+fn keep_first<D: Disk>(serving: &mut Serving, disk: &mut D, event: Event, due: Said) -> Said
     requires ready { serving.old.waiting ≡ None }
     requires can { CanApply serving.old.host.content (event_view event) }
     ensures kept { (s : State) → HasState D.Disk serving.old disk.old s
@@ -70,8 +64,8 @@ fn keep_first<D: Disk>(
     ensures count { D.faults disk.old ≤ D.faults disk.new }
     ensures honest { D.is_honest disk.old ↔ D.is_honest disk.new }
 {
-    match keep(alloc, serving, disk, event) {
+    match keep(serving, disk, event) {
         Ok(()) => due,
-        Err(fault) => failure(alloc, fault),
+        Err(fault) => failure(fault),
     }
 }

@@ -8,11 +8,9 @@ ghost use Rattle.requests.specs.Keeping.{FaultSays};
 
 use crate::said::{ReplyText, Said};
 use gate_log::LogFault;
-use host_results::{ContentType, ReplyContent, refusal_content};
-use reply_texts::{ServiceRefusal, constant_text, memory_text};
-use split_base::NoMemory;
+use host_results::{ContentType, ReplyContent};
+use reply_texts::{ServiceRefusal, constant_text, damage_text, memory_text};
 use split_http::Allow;
-use std::alloc::Global;
 
 impl ReplyText {
     /// Its bytes.
@@ -22,6 +20,7 @@ impl ReplyText {
         match self {
             ReplyText::Written(bytes) => bytes.as_slice(),
             ReplyText::Constant(bytes) => bytes,
+            ReplyText::Short(bytes) => bytes.as_slice(),
         }
     }
 }
@@ -86,23 +85,26 @@ impl Said {
     }
 }
 
-/// What is said where the journal has failed. Among these texts only that of a place takes memory.
-pub(crate) fn failure(alloc: Global, fault: LogFault) -> Said
+/// What is said where the journal has failed. It takes no memory.
+pub(crate) fn failure(fault: LogFault) -> Said
     ensures { FaultSays fault (said_view result) }
 {
     match fault {
         LogFault::Disk => Said::refused(&ServiceRefusal::StoreFault),
-        LogFault::NotALog { place } => damage(alloc, place),
+        LogFault::NotALog { place } => damage(place),
         LogFault::NoMemory => Said::out_of_memory(),
     }
 }
 
 /// What is said where the file is no journal at this place.
-fn damage(alloc: Global, place: u64) -> Said
+fn damage(place: u64) -> Said
     ensures { FaultSays (LogFault.NotALog place) (said_view result) }
 {
-    match refusal_content(alloc, &ServiceRefusal::StoreDamaged { place }) {
-        Ok(content) => Said::told(content),
-        Err(NoMemory) => Said::out_of_memory(),
+    Said {
+        status: 503,
+        content_type: ContentType::Json,
+        text: ReplyText::Short(damage_text(place)),
+        allow: None,
+        memory: false,
     }
 }

@@ -13,6 +13,7 @@ pub mod Origin
 pub mod Publishing
 pub mod Quiet
 pub mod Refusals
+pub mod Room
 pub mod Runs
 pub mod SameEvents
 pub mod Sealing

@@ -39,7 +39,7 @@ pub sound_push : (instances : List InstanceView) (i : InstanceView) → AreCheck
 sound_push instances i sound own few = let size = length_push instances i in record { each = All-push IsCheckedInstance instances i sound.each own; few = omega (arith, size, few) }
 
 -- a change at a place leaves the length
-length-changed : (f : InstanceView → InstanceView) (instances : List InstanceView) (p : ℕ) → length (changed f instances p) ≡ length instances
+pub length-changed : (f : InstanceView → InstanceView) (instances : List InstanceView) (p : ℕ) → length (changed f instances p) ≡ length instances
 length-changed f [] p = refl
 length-changed f (i ∷ instances) zero = refl
 length-changed f (i ∷ instances) (suc p) = ap suc (length-changed f instances p)

@@ -27,6 +27,10 @@ pub record Holding : Type 0 where
   pub content : HostView
   pub spare : ℕ
 
+-- there are more spare places than instances that may still come
+abbrev pub HasRoom : Holding → Type 0
+HasRoom h = (MOST_INSTANCES - length h.content.instances) < h.spare
+
 -- an event: a creation, a kept bid, a close or a withdrawal, each with its moment
 pub data EventView : Type 0 where
   Created : (moment : ℕ) → CreationView → EventView

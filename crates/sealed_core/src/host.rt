@@ -3,9 +3,10 @@ ghost use Rattle.std.specs.Prelude.{◌+◌, ◌-◌, IfSome, IsSome, IsSomeAnd,
 ghost use Rattle.bid_rules.specs.Facts.{IsCheckedBid};
 ghost use Rattle.sealed_core.specs.declared.limits.TheConstants.{MOST_INSTANCES};
 ghost use Rattle.bid_rules.specs.declared.limits.TheConstants.{MEMBER_ROOM};
-ghost use Rattle.sealed_core.specs.Host.{CanApply, Created, IsCheckedCreation, IsNextTurn, IsCheckedInstance, apply, as_closed, change, creation_view, event_view, fresh, instance_at, instance_view, with_turn};
+ghost use Rattle.sealed_core.specs.Host.{CanApply, Created, HasRoom, IsCheckedCreation, IsNextTurn, IsCheckedInstance, apply, as_closed, change, creation_view, event_view, fresh, instance_at, instance_view, with_turn};
 
 use crate::Event;
+use crate::limits::MOST_INSTANCES;
 use arrayvec::ArrayVec;
 use bid_rules::Bid;
 use bid_rules::limits::MEMBER_ROOM;
@@ -81,6 +82,27 @@ impl Host {
         ensures few { length self.now.content.instances ≤ MOST_INSTANCES }
     {
         &self.instances
+    }
+
+    /// Makes it the empty host with this secret, in the memory that it has.
+    pub fn clear(&mut self, secret: [u8; 32])
+        ensures content { self.new.content ≡ record { secret = secret; moment = 0; instances = [] } }
+        ensures spare { self.new.spare ≡ self.old.spare + length self.old.content.instances }
+        ensures room { HasRoom self.old → HasRoom self.new }
+    {
+        self.secret = secret;
+        self.moment = 0;
+        self.instances.clear();
+    }
+
+    fn reserve_all(&mut self) -> Result<(), NoMemory>
+        ensures content { self.new.content ≡ self.old.content }
+        ensures room { OnOk result (HasRoom self.new) }
+    {
+        match self.instances.reserve(MOST_INSTANCES + 1) {
+            Ok(()) => Ok(()),
+            Err(_) => Err(NoMemory),
+        }
     }
 
     fn reserve_one(&mut self) -> Result<(), NoMemory>
@@ -182,17 +204,27 @@ pub fn reserve(host: &mut Host) -> Result<(), NoMemory>
     ensures content { host.new.content ≡ host.old.content }
     ensures room { OnOk result (1 ≤ host.new.spare) }
     ensures kept { host.old.spare ≤ host.new.spare }
+    ensures all { HasRoom host.old → HasRoom host.new }
     ensures full { OnErr result (host.old.spare ≡ 0) }
 {
     host.reserve_one()
 }
 
-/// Applies an event that may be applied, in memory that `reserve` took.
+/// Makes spare places for all the instances that a host may have, and one more, so that `apply` never wants one.
+pub fn reserve_all(host: &mut Host) -> Result<(), NoMemory>
+    ensures content { host.new.content ≡ host.old.content }
+    ensures room { OnOk result (HasRoom host.new) }
+{
+    host.reserve_all()
+}
+
+/// Applies an event that may be applied, in memory that `reserve` took. It takes no other.
 pub fn apply(host: &mut Host, event: Event)
     requires can { CanApply host.old.content (event_view event) }
     requires room { 1 ≤ host.old.spare }
     ensures content { host.new.content ≡ apply host.old.content (event_view event) }
-    ensures spare { host.old.spare ≤ host.new.spare + 1 }
+    ensures spare { host.new.spare + length host.new.content.instances ≡ host.old.spare + length host.old.content.instances }
+    ensures room { HasRoom host.old → HasRoom host.new }
 {
     match event {
         Event::Create { moment, creation } => host.create(moment, creation),

@@ -27,7 +27,7 @@ pub use case_fields::{
 };
 pub use commands::{Ask, Command, What};
 pub use events::{Event, can_apply};
-pub use host::{Host, Instance, apply, reserve};
+pub use host::{Host, Instance, apply, reserve, reserve_all};
 pub use keys::{Key, key_of};
 pub use laws::{key_law, machine_law, publication_law, sameness_law, sealing_law};
 pub use lookups::{bid_of, instance_at, turn_of};

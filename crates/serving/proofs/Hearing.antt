@@ -139,14 +139,14 @@ module _ (link mid now : LinkView) (asked : List (Option ℕ) → Type 0) (head 
         (found.0 ++ rest, told_back link.ahead mid.ahead found.0 rest found.2 (told_kept mid.ahead now.ahead rest kept told), Refuses.stated found.0 head moment row refl found.1 refl refused refl is);
   }
 
-  pub heard_no_room : head.refused ≡ None → Keeps mid.ahead now.ahead → now.written ≡ mid.written → CountsStay mid now → (bodiless : Bool) → bodiless ≡ is_head head.verb
+  pub heard_no_room : head.refused ≡ None → 0 < head.length → Keeps mid.ahead now.ahead → now.written ≡ mid.written → CountsStay mid now → (bodiless : Bool) → bodiless ≡ is_head head.verb
       → HeardRefused link now asked refusals.Memory (Some moment) bodiless
-  heard_no_room accepted kept still none bodiless is = record {
+  heard_no_room accepted some kept still none bodiless is = record {
     clock = clock;
     wrote = appends_none link.written now.written (still ∙ same);
     counts = none_joined link mid now counts none;
     refuses = λ rest told.
-        (found.0 ++ rest, told_back link.ahead mid.ahead found.0 rest found.2 (told_kept mid.ahead now.ahead rest kept told), Refuses.body_memory found.0 head moment refl found.1 refl accepted refl is);
+        (found.0 ++ rest, told_back link.ahead mid.ahead found.0 rest found.2 (told_kept mid.ahead now.ahead rest kept told), Refuses.body_memory found.0 head moment refl found.1 refl accepted some refl is);
   }
 
   pub heard_request : (body : List ℕ) → head.refused ≡ None → length body ≡ head.length → Consumes mid.ahead now.ahead body → Appends mid.written now.written (interim_of head.expects) → CountsStay mid now

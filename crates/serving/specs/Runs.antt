@@ -25,7 +25,7 @@ abbrev pub SaysHead : List ℕ → Head → Type 0
 SaysHead text head = (h : RequestHead) × IsHead h × IsHeadOf (text_of h) head × (text ≡ print_request h)
 
 -- Why the bytes that are left get a reply that closes the connection, at an answer of the clock, before any body is read: they begin with no
--- head; the clock failed; what the head says is refused; or there was no memory, for the head, which is still there, or for its body. And
+-- head; the clock failed; what the head says is refused; or there was no memory, for the head, which is still there, or for its body, of one byte or more. And
 -- whether the reply is bodiless, as one to HEAD is. The rest is left then.
 pub data Refuses (all rest : List ℕ) (answer : Option ℕ) (refusal : HeadRefusal) (bodiless : Bool) : Type 0 where
   bad_head : IsBad all → refusal ≡ refusals.BadHead → bodiless ≡ false → Refuses all rest answer refusal bodiless
@@ -33,7 +33,7 @@ pub data Refuses (all rest : List ℕ) (answer : Option ℕ) (refusal : HeadRefu
       → Refuses all rest answer refusal bodiless
   stated : (text : List ℕ) (head : Head) (moment row : ℕ) → all ≡ text ++ rest → SaysHead text head → answer ≡ Some moment → head.refused ≡ Some row → refusal ≡ refusals.Stated row
       → bodiless ≡ is_head head.verb → Refuses all rest answer refusal bodiless
-  body_memory : (text : List ℕ) (head : Head) (moment : ℕ) → all ≡ text ++ rest → SaysHead text head → answer ≡ Some moment → head.refused ≡ None → refusal ≡ refusals.Memory
+  body_memory : (text : List ℕ) (head : Head) (moment : ℕ) → all ≡ text ++ rest → SaysHead text head → answer ≡ Some moment → head.refused ≡ None → 0 < head.length → refusal ≡ refusals.Memory
       → bodiless ≡ is_head head.verb → Refuses all rest answer refusal bodiless
   head_memory : (verb : Verb) → HasHeadOf verb all → refusal ≡ refusals.Memory → bodiless ≡ is_head verb → Refuses all rest answer refusal bodiless
 

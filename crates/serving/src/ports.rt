@@ -36,7 +36,9 @@ fn serve_link<D: Disk, P: Port, C: Clock, R: Threads + Sync, G: Gate + Sync>(
         → LinkGone (host_service D.Disk) (tells_of P.Link.Source P.Link.Sink) link
         (P.given_back port.old) (P.given_back port.new) (P.places port.old) (ClockRun C.gives C.faults clock.old clock.new) (StandsAt D.Disk serving.new disk.new) w }
     ensures come { P.to_come port.new ≡ P.to_come port.old }
+    ensures out { P.out port.new ≡ P.out port.old - 1 }
     ensures stays { P.has_ended port.old ↔ P.has_ended port.new }
+    ensures over { P.is_over port.old ↔ P.is_over port.new }
     ensures places { P.places port.new ≡ P.places port.old - 1 }
     ensures asked { P.asked port.new ≡ P.asked port.old }
     ensures faults { P.faults port.new ≡ P.faults port.old }
@@ -51,7 +53,8 @@ fn serve_link<D: Disk, P: Port, C: Clock, R: Threads + Sync, G: Gate + Sync>(
 }
 
 /// Serves `count` links, or fewer only where the port has ended or a call of it failed. It answers their number. Each link is given back,
-/// whatever its end. It takes no memory but what a request may be refused for.
+/// whatever its end, before the port is asked for the next one, and the port is not asked again once it has answered that none comes. It takes no memory but
+/// what a request may be refused for.
 ///
 /// `Failed` comes only where the port's count of faults has risen, by one, and before `count` links were served; no link is asked for again then.
 /// `Ok` leaves the count as it is.
@@ -69,13 +72,16 @@ pub fn serve<D: Disk, P: Port, C: Clock, R: Threads + Sync, G: Gate + Sync>(
     workers: u8,
     gate: &G,
 ) -> Result<u64, Failed>
-    requires { (1 ≤ workers) × (workers ≤ MOST_WORKERS) }
+    requires workers { (1 ≤ workers) × (workers ≤ MOST_WORKERS) }
+    requires none_out { P.out port.old ≡ 0 }
+    requires goes_on { P.is_over port.old → ⊥ }
     ensures run { (w : D × State) → StandsAt D.Disk serving.old disk.old w → (number : ℕ) × (number ≤ count) × (result ≡ Ok number ⊎ (IsErr result × (number < count)))
         × PortServed (host_service D.Disk) (tells_of P.Link.Source P.Link.Sink)
         (P.to_come port.old) (P.to_come port.new) (P.given_back port.old) (P.given_back port.new) (P.places port.old)
         (ClockRun C.gives C.faults clock.old clock.new) (StandsAt D.Disk serving.new disk.new) w number }
     ensures few { IfOk result (λ number. number < count → P.has_ended port.new) }
     ensures most { IfOk result (λ number. number ≤ count) }
+    ensures out { P.out port.new ≡ 0 }
     ensures asked { P.asked port.new ≡ P.asked port.old }
     ensures cause { HasCause (P.faults port.old) (P.faults port.new) result }
     ensures counted { IsCounted (P.faults port.old) (P.faults port.new) result }

@@ -57,14 +57,13 @@ module _ {W : Type 0} (run : List (Exchange W)) (first : State) where
   settles_come d disk after s new result honest waits (Settles.store_fault e a up torn is c) = comes_none s new is waits
   settles_come d disk after s new result honest waits (Settles.damaged e place a same first never is c) = comes_none s new is waits
   settles_come d disk after s new result honest waits (Settles.opened e secret kept a same told can is c) =
-      let settled = told honest in
+      let settled = told.settled honest in
       let one : new.secret ≡ s.secret = ap (λ (x : State). x.secret) is ∙ settled.secret_stays in
       let ready : Waits new = subst Waits (sym is) (ready_waits secret kept) in
       ⊎_elim
       (λ (still : kept ≡ s.kept). record { secret = one; more = []; kept = ap (λ (x : State). x.kept) is ∙ still ∙ sym (append-nil s.kept); made = tt; waits = ready })
       (λ (grown : kept ≡ s.kept ++ e ∷ []). record { secret = one; more = e ∷ []; kept = ap (λ (x : State). x.kept) is ∙ grown; made = (waits e a, tt); waits = ready })
       settled.either
-  settles_come d disk after s new result honest waits (Settles.memory e a same rests is c) = comes_none s new is waits
 
   module _ (x : Exchange W) (among : Contains run x) (route : Route) (routed : IsRouted x.head.verb x.head.path (Ok route)) where
     steps_come : {D : Type 0} (d : Ghosts D) (disk after : D) (s new : State) (said : SaidView) → Waits s
@@ -94,7 +93,7 @@ module _ {W : Type 0} (run : List (Exchange W)) (first : State) where
   responds_come d x among disk after s new said honest waits (Responds.stepped route between settled a settles one steps two) =
       let begun = settles_come d disk between s settled None honest waits settles in
       comes_join s settled new begun (steps_come x among route a d between after settled new said begun.waits steps)
-  responds_come d x among disk after s new said honest waits (Responds.memory a is b) = comes_none s new is waits
+  responds_come d x among disk after s new said honest waits (Responds.memory way led reads a is b) = comes_none s new is waits
 
 -- the requests of which these are the last
 run_comes : {D : Type 0} (d : Ghosts D) (before : List (Exchange (D × State))) (first : State) (w : D × State) (run : List (Exchange (D × State))) (new : D × State) → Answered (host_service d) w run new

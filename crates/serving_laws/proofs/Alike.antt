@@ -169,7 +169,7 @@ module _ {W : Type 0} (service : Service W) where
         Element.headed rest head (text, at, says) (Headed.timed moment later (asked ∙ ap (λ a. a ∷ later) came) (Timed.stated row refused
         (subst (λ (a : Option ℕ). Closes (refused_due service (refusals.Stated row) a (is_head head.verb)) later w out new end) came
         (subst (λ (b : Bool). Closes (refused_due service (refusals.Stated row) answer b) later w out new end) full (subst (λ r. Closes (refused_due service r answer bodiless) later w out new end) is c)))))
-    refused_element n last all rest answer answers later w out new end refusal bodiless asked done c (Refuses.body_memory text head moment at says came accepted is full) =
+    refused_element n last all rest answer answers later w out new end refusal bodiless asked done c (Refuses.body_memory text head moment at says came accepted some is full) =
         absurd (out_of_memory lacks answer bodiless later w out new end done (subst (λ r. Closes (refused_due service r answer bodiless) later w out new end) is c))
     refused_element n last all rest answer answers later w out new end refusal bodiless asked done c (Refuses.head_memory verb found is full) =
         absurd (out_of_memory lacks answer bodiless later w out new end done (subst (λ r. Closes (refused_due service r answer bodiless) later w out new end) is c))

@@ -6,13 +6,12 @@ use Rattle.split_base.specs.Faults.{HasRisen, counted}
 use Rattle.split_base.specs.declared.disk.Disk.{Ghosts}
 use Rattle.host_journal.specs.States.{State}
 use Rattle.serving.specs.Exchanges.{Exchange}
-use Rattle.requests.specs.Cases.{Responds, Settles, Steps}
+use Rattle.requests.specs.Cases.{Settles, Steps}
 use Rattle.requests.specs.Commands.{command_of}
 use Rattle.split_http.specs.declared.routes.Route.{Route}
 use Rattle.split_http.specs.Places.{IsRouted}
 use Rattle.serving_laws.specs.Answering.{HasAnswer}
-use Rattle.serving_laws.specs.Moving.{IsAnsweredAt}
-use Rattle.serving_laws.proofs.Moved.{answered_at}
+use Rattle.serving_laws.proofs.OwnSteps.{asked, kept_step, plain_step}
 
 pub counted_rises : (n : ℕ) → HasRisen n (counted n)
 counted_rises n =
@@ -29,24 +28,15 @@ later_rises n m now least is =
 
 module _ {D : Type 0} (d : Ghosts D) (x : Exchange (D × State)) where
   -- the reply where the request goes no further
-  settled_has : Settles d x.before.0 x.after.0 x.before.1 x.after.1 (Some x.due.said) → HasAnswer d x
-  settled_has (Settles.ready a same is c) = absurd (cc)
-  settled_has (Settles.store_fault e a up torn is c) = HasAnswer.store_fault (subst (λ m. HasRisen (d.faults x.before.0) m) (sym up) (counted_rises (d.faults x.before.0))) (cc c)
-  settled_has (Settles.damaged e place a same first never is c) = HasAnswer.damaged e place a first never (cc c)
-  settled_has (Settles.opened e secret kept a same told can is c) = absurd (cc)
-  settled_has (Settles.memory e a same rests is c) = HasAnswer.memory (cc c)
+  pub settled_has : (settled : State) → Settles d x.before.0 x.after.0 x.before.1 x.after.1 (Some x.due.said) → HasAnswer d x settled
+  settled_has settled (Settles.ready a same is c) = absurd (cc)
+  settled_has settled (Settles.store_fault e a up torn is c) = HasAnswer.store_fault (subst (λ m. HasRisen (d.faults x.before.0) m) (sym up) (counted_rises (d.faults x.before.0))) (cc c)
+  settled_has settled (Settles.damaged e place a same first never is c) = HasAnswer.damaged e place a first never (cc c)
+  settled_has settled (Settles.opened e secret kept a same told can is c) = absurd (cc)
 
-  stepped_has : (route : Route) (between : D) (settled : State) → IsRouted x.head.verb x.head.path (Ok route) → IsAnsweredAt d x settled → d.faults x.before.0 ≤ d.faults between
-      → Steps d between x.after.0 x.moment (command_of route.place route.id x.head.key x.body) settled x.after.1 x.due.said → HasAnswer d x
-  stepped_has route between settled routed at least (Steps.no_event told a b r is c) = HasAnswer.answered route settled told routed at r c
-  stepped_has route between settled routed at least (Steps.kept told e a can same appended r is c) = HasAnswer.answered route settled told routed at r c
-  stepped_has route between settled routed at least (Steps.failed e a up is c) = HasAnswer.store_fault (later_rises (d.faults x.before.0) (d.faults between) (d.faults x.after.0) least up) c
-  stepped_has route between settled routed at least (Steps.memory a is c) = HasAnswer.memory c
-
-  pub has_answer : Responds d x.before.0 x.after.0 x.head x.body x.moment x.before.1 x.after.1 x.due.said → HasAnswer d x
-  has_answer (Responds.no_route a b is c) = HasAnswer.no_route a c
-  has_answer (Responds.method allow a b is c) = HasAnswer.method allow a c
-  has_answer (Responds.at_once route a settles) = settled_has settles
-  has_answer (Responds.stepped route between settled a settles one steps two) =
-      stepped_has route between settled a (answered_at d x between settled None settles) one.count steps
-  has_answer (Responds.memory a is c) = HasAnswer.memory c
+  pub stepped_has : (route : Route) (between : D) (settled : State) → IsRouted x.head.verb x.head.path (Ok route) → d.faults x.before.0 ≤ d.faults between
+      → Steps d between x.after.0 x.moment (command_of route.place route.id x.head.key x.body) settled x.after.1 x.due.said → HasAnswer d x settled
+  stepped_has route between settled routed least (Steps.no_event told a b r is c) = HasAnswer.answered (asked x route) (plain_step x route routed settled told a r is c)
+  stepped_has route between settled routed least (Steps.kept told e a can same appended r is c) = HasAnswer.answered (asked x route) (kept_step x route routed settled told e a r is c)
+  stepped_has route between settled routed least (Steps.failed e a up is c) = HasAnswer.store_fault (later_rises (d.faults x.before.0) (d.faults between) (d.faults x.after.0) least up) c
+  stepped_has route between settled routed least (Steps.memory a is c) = HasAnswer.memory c

@@ -32,13 +32,12 @@ settles_grows d disk after s new result honest (Settles.ready a b is c) = grows_
 settles_grows d disk after s new result honest (Settles.store_fault e a up torn is c) = grows_none s new is
 settles_grows d disk after s new result honest (Settles.damaged e place a same first never is c) = grows_none s new is
 settles_grows d disk after s new result honest (Settles.opened e secret kept a same told can is c) =
-    let settled = told honest in
+    let settled = told.settled honest in
     let one : new.secret ≡ s.secret = ap (λ (x : State). x.secret) is ∙ settled.secret_stays in
     ⊎_elim
     (λ (still : kept ≡ s.kept). record { secret = one; more = []; kept = ap (λ (x : State). x.kept) is ∙ still ∙ sym (append-nil s.kept) })
     (λ (grown : kept ≡ s.kept ++ e ∷ []). record { secret = one; more = e ∷ []; kept = ap (λ (x : State). x.kept) is ∙ grown })
     settled.either
-settles_grows d disk after s new result honest (Settles.memory e a same rests is c) = grows_none s new is
 
 steps_grow : {D : Type 0} (d : Ghosts D) (disk after : D) (moment : ℕ) (command : CommandView) (s new : State) (said : SaidView) → Steps d disk after moment command s new said → Grows s new
 steps_grow d disk after moment command s new said (Steps.no_event told a b r is c) = grows_none s new is
@@ -55,7 +54,7 @@ responds_grows d disk after head body moment s new said honest (Responds.method 
 responds_grows d disk after head body moment s new said honest (Responds.at_once route a settles) = settles_grows d disk after s new (Some said) honest settles
 responds_grows d disk after head body moment s new said honest (Responds.stepped route between settled a settles one steps two) =
     grows_join s settled new (settles_grows d disk between s settled None honest settles) (steps_grow d between after moment _ settled new said steps)
-responds_grows d disk after head body moment s new said honest (Responds.memory a is b) = grows_none s new is
+responds_grows d disk after head body moment s new said honest (Responds.memory way led reads a is b) = grows_none s new is
 
 pub grows : {D : Type 0} (d : Ghosts D) (w : D × State) (run : List (Exchange (D × State))) (new : D × State) → Answered (host_service d) w run new → d.is_honest w.0 → Grows w.1 new.1
 grows {D} d w [] new same honest = grows_none w.1 new.1 (ap (λ (x : D × State). x.1) same)

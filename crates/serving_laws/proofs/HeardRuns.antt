@@ -23,7 +23,7 @@ use Rattle.split_http.specs.Places.{IsRouted}
 use Rattle.serving_laws.specs.Heard.{Finds, HasKept, IsStepAt, IsStep, IsUnrouted, Taken, Takes, TakesSteps, WaitsByStep, asked_of, got_all, is_own, replied_of}
 use Rattle.serving_laws.specs.Sealing.{TellsNoStep, got}
 use Rattle.serving_laws.proofs.Answered.{not_counted}
-use Rattle.serving_laws.proofs.Sealed.{at_once_tells}
+use Rattle.serving_laws.proofs.OwnSteps.{asked, kept_step, plain_step}
 
 -- the host of events and one more is that after it
 abbrev OneMore : Type 0
@@ -79,12 +79,14 @@ module _ (one_more : OneMore) where
       ∙ applied_is one_more settled.secret settled.kept (step (host_in settled) a.moment a.command).event in
       subst (λ (l : List Taken). AreTold (host_in settled) (l ++ tail)) (sym is) ((at.told, at.replies, at.said), subst (λ (g : HostView). AreTold g tail) goes rest)
 
-  are_told : {D : Type 0} (d : Ghosts D) (h : HostView) (w : D × State) (run : List (Exchange (D × State))) (steps : List Taken) (new : D × State)
-      → Answered (host_service d) w run new → host_in w.1 ≡ h → TakesSteps run steps → AreTold h steps
-  are_told d h w [] steps new answered same none = subst (AreTold h) (sym none) tt
-  are_told {D} d h w (x ∷ run) steps new answered same (settled, found, own, later, is, finds, takes, rest) =
+  are_told : {D : Type 0} (d : Ghosts D) (h : HostView) (w : D × State) (run : List (Exchange (D × State))) (states : List State) (steps : List Taken) (new : D × State)
+      → Answered (host_service d) w run new → host_in w.1 ≡ h → TakesSteps run states steps → AreTold h steps
+  are_told d h w [] [] steps new answered same none = subst (AreTold h) (sym none) tt
+  are_told d h w [] (settled ∷ states) steps new answered same never = absurd never
+  are_told d h w (x ∷ run) [] steps new answered same never = absurd never
+  are_told {D} d h w (x ∷ run) (settled ∷ states) steps new answered same (found, own, later, is, finds, takes, rest) =
       let at : host_in x.before.1 ≡ h = ap (λ (y : D × State). host_in y.1) answered.0 ∙ same in
-      let behind : AreTold (host_in x.after.1) later = are_told d (host_in x.after.1) x.after run later new answered.2 refl rest in
+      let behind : AreTold (host_in x.after.1) later = are_told d (host_in x.after.1) x.after run states later new answered.2 refl rest in
       subst (AreTold h) (sym is) (found_told h x.before.1 settled found (own ++ later) at finds (own_steps_told x settled own later takes behind))
 
 -- ---- what the caller gets of them
@@ -125,9 +127,9 @@ module _ (sends : SendsTold) (id : ℕ) (caller : Caller) where
       (own_got h s.asked s.said one) (got_shown (next h s.asked) steps rest)
 
   -- what a caller gets in a run follows from its steps, and from which of them have replies
-  pub got_told : {D : Type 0} (d : Ghosts D) (one_more : OneMore) (w : D × State) (run : List (Exchange (D × State))) (steps : List Taken) (new : D × State)
-      → Answered (host_service d) w run new → TakesSteps run steps → got_all (host_in w.1) id caller steps ≡ shown (replied_of steps) (told_all (host_in w.1) id caller (asked_of steps))
-  got_told d one_more w run steps new answered takes = got_shown (host_in w.1) steps (are_told one_more d (host_in w.1) w run steps new answered refl takes)
+  pub got_told : {D : Type 0} (d : Ghosts D) (one_more : OneMore) (w : D × State) (run : List (Exchange (D × State))) (states : List State) (steps : List Taken) (new : D × State)
+      → Answered (host_service d) w run new → TakesSteps run states steps → got_all (host_in w.1) id caller steps ≡ shown (replied_of steps) (told_all (host_in w.1) id caller (asked_of steps))
+  got_told d one_more w run states steps new answered takes = got_shown (host_in w.1) steps (are_told one_more d (host_in w.1) w run states steps new answered refl takes)
 
 pub same_shown : (bs cs : List Bool) (all others : List (Option Told)) → bs ≡ cs → all ≡ others → shown bs all ≡ shown cs others
 same_shown bs cs all others same alike = λ i. shown (same i) (alike i)
@@ -145,21 +147,12 @@ settled_still d disk between s settled ready (Settles.ready a same is c) = (is, 
 settled_still d disk between s settled ready (Settles.store_fault e a up torn is c) = absurd (cc)
 settled_still d disk between s settled ready (Settles.damaged e place a same first never is c) = absurd (cc)
 settled_still d disk between s settled ready (Settles.opened e secret kept a same told can is c) = absurd (never_waits s.waiting e ready a)
-settled_still d disk between s settled ready (Settles.memory e a same rests is c) = absurd (cc)
 
 never_at_once : {D : Type 0} (d : Ghosts D) (disk after : D) (s new : State) (said : SaidView) → s.waiting ≡ None → Settles d disk after s new (Some said) → ⊥
 never_at_once d disk after s new said ready (Settles.ready a same is c) = absurd (cc)
 never_at_once d disk after s new said ready (Settles.store_fault e a up torn is c) = never_waits s.waiting e ready a
 never_at_once d disk after s new said ready (Settles.damaged e place a same first never is c) = never_waits s.waiting e ready a
 never_at_once d disk after s new said ready (Settles.opened e secret kept a same told can is c) = absurd (cc)
-never_at_once d disk after s new said ready (Settles.memory e a same rests is c) = never_waits s.waiting e ready a
-
-at_once_still : {D : Type 0} (d : Ghosts D) (disk after : D) (s new : State) (said : SaidView) → Settles d disk after s new (Some said) → new ≡ s
-at_once_still d disk after s new said (Settles.ready a same is c) = is
-at_once_still d disk after s new said (Settles.store_fault e a up torn is c) = is
-at_once_still d disk after s new said (Settles.damaged e place a same first never is c) = is
-at_once_still d disk after s new said (Settles.opened e secret kept a same told can is c) = absurd (cc)
-at_once_still d disk after s new said (Settles.memory e a same rests is c) = is
 
 has_kept : (s t : State) → s ≡ t → HasKept s t.secret t.kept
 has_kept s t is = (ap (λ (x : State). x.secret) is, ap (λ (x : State). x.kept) is)
@@ -175,90 +168,57 @@ finds_at d disk between s settled honest waits (Settles.ready none same is c) = 
 finds_at d disk between s settled honest waits (Settles.store_fault e a up torn is c) = absurd (cc)
 finds_at d disk between s settled honest waits (Settles.damaged e place a same first never is c) = absurd (cc)
 finds_at d disk between s settled honest waits (Settles.opened e secret kept a same told can is c) =
-    let file = told honest in
+    let file = told.settled honest in
     let secret_is : settled.secret ≡ s.secret = ap (λ (x : State). x.secret) is ∙ file.secret_stays in
     let kept_is : settled.kept ≡ kept = ap (λ (x : State). x.kept) is in
     let ready : settled.waiting ≡ None = ap (λ (x : State). x.waiting) is in
     let by = waits e a in
     ⊎_elim (λ (still : kept ≡ s.kept). ([], Finds.nothing (secret_is, kept_is ∙ still) refl, ready))
     (λ (grown : kept ≡ s.kept ++ e ∷ []). (record { asked = by.0; said = None } ∷ [], Finds.found by.0 e a by.1 (secret_is, kept_is ∙ grown) refl, ready)) file.either
-finds_at d disk between s settled honest waits (Settles.memory e a same rests is c) = absurd (cc)
 
 module _ {D : Type 0} (d : Ghosts D) (x : Exchange (D × State)) where
   module _ (route : Route) (routed : IsRouted x.head.verb x.head.path (Ok route)) where
-    abbrev asked : Asked
-    asked = record { moment = x.moment; command = command_of route.place route.id x.head.key x.body }
-
-    abbrev event_at : State → Option EventView
-    event_at s = (step (host_in s) x.moment (command_of route.place route.id x.head.key x.body)).event
-
-    step_at : (s : State) (content : ContentView) (o : Option EventView) → event_at s ≡ o → Replies (host_in s) x.moment (command_of route.place route.id x.head.key x.body) content
-        → x.due.said ≡ content_said content → x.after.1.secret ≡ s.secret → x.after.1.kept ≡ s.kept ++ option_to_list o → IsStepAt x s asked
-    step_at s content o event replies said secret kept = record {
-      route = route;
-      told = content;
-      routed = routed;
-      moment = refl;
-      command = refl;
-      replies = replies;
-      said = said;
-      secret = secret;
-      kept = kept ∙ ap (λ (p : Option EventView). s.kept ++ option_to_list p) (sym event);
-    }
-
-    -- the step without an event, and the one whose event was kept
-    plain_step : (settled : State) (content : ContentView) → event_at settled ≡ None → Replies (host_in settled) x.moment (command_of route.place route.id x.head.key x.body) content
-        → x.after.1 ≡ settled → x.due.said ≡ content_said content → IsStepAt x settled asked
-    plain_step settled content event replies is said =
-        step_at settled content None event replies said (ap (λ (y : State). y.secret) is) (ap (λ (y : State). y.kept) is ∙ sym (append-nil settled.kept))
-
-    kept_step : (settled : State) (content : ContentView) (e : EventView) → event_at settled ≡ Some e → Replies (host_in settled) x.moment (command_of route.place route.id x.head.key x.body) content
-        → x.after.1 ≡ ready_with settled.secret (settled.kept ++ e ∷ []) → x.due.said ≡ content_said content → IsStepAt x settled asked
-    kept_step settled content e event replies is said = step_at settled content (Some e) event replies said (ap (λ (y : State). y.secret) is) (ap (λ (y : State). y.kept) is)
-
     takes_at : (between : D) (settled : State) → settled.waiting ≡ None → Steps d between x.after.0 x.moment (command_of route.place route.id x.head.key x.body) settled x.after.1 x.due.said
         → (own : List Taken) × Takes x settled own × WaitsByStep x.after.1
     takes_at between settled ready (Steps.no_event content event a r is c) = (
-      record { asked = asked; said = Some x.due.said } ∷ [],
-      Takes.one asked (plain_step settled content event r is c) refl,
+      record { asked = asked x route; said = Some x.due.said } ∷ [],
+      Takes.one (asked x route) (plain_step x route routed settled content event r is c) refl,
       subst WaitsByStep (sym is) (ready_waits settled ready),
     )
     takes_at between settled ready (Steps.kept content e event can count appended r is c) = (
-      record { asked = asked; said = Some x.due.said } ∷ [],
-      Takes.one asked (kept_step settled content e event r is c) refl,
+      record { asked = asked x route; said = Some x.due.said } ∷ [],
+      Takes.one (asked x route) (kept_step x route routed settled content e event r is c) refl,
       subst WaitsByStep (sym is) (ready_waits (ready_with settled.secret (settled.kept ++ e ∷ [])) refl),
     )
     takes_at between settled ready (Steps.failed e event up is c) =
-        let waits : WaitsByStep (waits_with settled e) = λ other some. (asked, event ∙ some) in
+        let waits : WaitsByStep (waits_with settled e) = λ other some. (asked x route, event ∙ some) in
         ([], Takes.nothing (TellsNoStep.store_fault c) (has_kept x.after.1 (waits_with settled e) is) refl, subst WaitsByStep (sym is) waits)
     takes_at between settled ready (Steps.memory a is c) =
         ([], Takes.nothing (TellsNoStep.memory c) (has_kept x.after.1 settled is) refl, subst WaitsByStep (sym is) (ready_waits settled ready))
 
     steps_go : (between : D) (settled : State) → (HasRisen (d.faults x.before.0) (d.faults x.after.0) → ⊥) → x.due.said.memory ≡ false → between ≡ x.before.0
-        → Steps d between x.after.0 x.moment (command_of route.place route.id x.head.key x.body) settled x.after.1 x.due.said → IsStepAt x settled asked
-    steps_go between settled none plain still (Steps.no_event content event a r is c) = plain_step settled content event r is c
-    steps_go between settled none plain still (Steps.kept content e event can count appended r is c) = kept_step settled content e event r is c
+        → Steps d between x.after.0 x.moment (command_of route.place route.id x.head.key x.body) settled x.after.1 x.due.said → IsStepAt x settled (asked x route)
+    steps_go between settled none plain still (Steps.no_event content event a r is c) = plain_step x route routed settled content event r is c
+    steps_go between settled none plain still (Steps.kept content e event can count appended r is c) = kept_step x route routed settled content e event r is c
     steps_go between settled none plain still (Steps.failed e event up is c) =
         absurd (not_counted (d.faults x.before.0) (d.faults x.after.0) none (subst (λ (y : D). d.faults x.after.0 ≡ counted (d.faults y)) still up))
     steps_go between settled none plain still (Steps.memory a is c) = absurd (not_memory x.due.said plain c)
 
-  abbrev Goes : Type 0
-  Goes = (settled : State) × (found own : List Taken) × Finds x.before.1 settled found × Takes x settled own × WaitsByStep x.after.1
+  -- the steps of the request, from the state at which it is answered
+  abbrev pub GoesAt : State → Type 0
+  GoesAt settled = (found own : List Taken) × Finds x.before.1 settled found × Takes x settled own × WaitsByStep x.after.1
 
-  goes_nowhere : WaitsByStep x.before.1 → x.after.1 ≡ x.before.1 → TellsNoStep x.due.said → Goes
+  pub goes_nowhere : WaitsByStep x.before.1 → x.after.1 ≡ x.before.1 → TellsNoStep x.due.said → GoesAt x.before.1
   goes_nowhere waits is tells =
-      (x.before.1, [], [], Finds.nothing (refl, refl) refl, Takes.nothing tells (has_kept x.after.1 x.before.1 is) refl, subst WaitsByStep (sym is) waits)
+      ([], [], Finds.nothing (refl, refl) refl, Takes.nothing tells (has_kept x.after.1 x.before.1 is) refl, subst WaitsByStep (sym is) waits)
 
-  goes : d.is_honest x.before.0 → WaitsByStep x.before.1 → Responds d x.before.0 x.after.0 x.head x.body x.moment x.before.1 x.after.1 x.due.said → Goes
-  goes honest waits (Responds.no_route a b is c) = goes_nowhere waits is (TellsNoStep.no_route c)
-  goes honest waits (Responds.method allow a b is c) = goes_nowhere waits is (TellsNoStep.method allow c)
-  goes honest waits (Responds.at_once route a settles) =
-      goes_nowhere waits (at_once_still d x.before.0 x.after.0 x.before.1 x.after.1 x.due.said settles) (at_once_tells d x.before.0 x.after.0 x.before.1 x.after.1 x.due.said honest settles)
-  goes honest waits (Responds.stepped route between settled routed settles one steps two) =
+  pub goes_on : (route : Route) (between : D) (settled : State) → IsRouted x.head.verb x.head.path (Ok route) → d.is_honest x.before.0 → WaitsByStep x.before.1
+      → Settles d x.before.0 between x.before.1 settled None
+      → Steps d between x.after.0 x.moment (command_of route.place route.id x.head.key x.body) settled x.after.1 x.due.said → GoesAt settled
+  goes_on route between settled routed honest waits settles steps =
       let (found, finds, ready) = finds_at d x.before.0 between x.before.1 settled honest waits settles in
       let (own, takes, after) = takes_at route routed between settled ready steps in
-      (settled, found, own, finds, takes, after)
-  goes honest waits (Responds.memory a is c) = goes_nowhere waits is (TellsNoStep.memory c)
+      (found, own, finds, takes, after)
 
   pub goes_by_step : (HasRisen (d.faults x.before.0) (d.faults x.after.0) → ⊥) → x.due.said.memory ≡ false → x.before.1.waiting ≡ None
       → Responds d x.before.0 x.after.0 x.head x.body x.moment x.before.1 x.after.1 x.due.said → IsUnrouted x ⊎ ((a : Asked) × IsStep x a)
@@ -267,15 +227,5 @@ module _ {D : Type 0} (d : Ghosts D) (x : Exchange (D × State)) where
   goes_by_step none plain ready (Responds.at_once route a settles) = absurd (never_at_once d x.before.0 x.after.0 x.before.1 x.after.1 x.due.said ready settles)
   goes_by_step none plain ready (Responds.stepped route between settled routed settles one steps two) =
       let (same, still) = settled_still d x.before.0 between x.before.1 settled ready settles in
-      inr (asked route routed, subst (λ (s : State). IsStepAt x s (asked route routed)) same (steps_go route routed between settled none plain still steps))
-  goes_by_step none plain ready (Responds.memory a is c) = absurd (not_memory x.due.said plain c)
-
--- each run goes by steps of the machine
-pub takes_steps : {D : Type 0} (d : Ghosts D) (w : D × State) (run : List (Exchange (D × State))) (new : D × State) → Answered (host_service d) w run new → d.is_honest w.0 → WaitsByStep w.1
-    → (steps : List Taken) × TakesSteps run steps
-takes_steps d w [] new answered honest waits = ([], refl)
-takes_steps {D} d w (x ∷ run) new (at, is, rest) honest waits =
-    let here : d.is_honest x.before.0 = subst (λ (y : D × State). d.is_honest y.0) (sym at) honest in
-    let (settled, found, own, finds, takes, after) = goes d x here (subst (λ (y : D × State). WaitsByStep y.1) (sym at) waits) is.responds.0 in
-    let (steps, later) = takes_steps d x.after run new rest (is.responds.1.honest.0 here) after in
-    (found ++ (own ++ steps), (settled, found, own, steps, refl, finds, takes, later))
+      inr (asked x route, subst (λ (s : State). IsStepAt x s (asked x route)) same (steps_go route routed between settled none plain still steps))
+  goes_by_step none plain ready (Responds.memory way led reads a is c) = absurd (not_memory x.due.said plain c)

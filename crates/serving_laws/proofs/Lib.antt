@@ -12,3 +12,6 @@ mod Unfailing
 mod Alike
 mod Sealed
 mod HeardRuns
+mod OwnSteps
+mod Handled
+mod Integral

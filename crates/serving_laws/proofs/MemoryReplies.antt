@@ -24,7 +24,6 @@ settles_memory d disk after s new said says (Settles.ready a b is c) = absurd (c
 settles_memory d disk after s new said says (Settles.store_fault e a up torn is c) = never_says said _ says (some_same said _ c) refl
 settles_memory d disk after s new said says (Settles.damaged e place a same first never is c) = never_says said _ says (some_same said _ c) refl
 settles_memory d disk after s new said says (Settles.opened e secret kept a same told can is c) = absurd (cc)
-settles_memory d disk after s new said says (Settles.memory e a same rests is c) = some_same said _ c
 
 steps_memory : {D : Type 0} (d : Ghosts D) (disk after : D) (moment : ℕ) (command : CommandView) (s new : State) (said : SaidView) → said.memory ≡ true → Steps d disk after moment command s new said → said ≡ memory_said
 steps_memory d disk after moment command s new said says (Steps.no_event told a b r is c) = never_says said _ says c refl
@@ -38,7 +37,7 @@ responds_memory d disk after head body moment s new said says (Responds.no_route
 responds_memory d disk after head body moment s new said says (Responds.method allow a b is c) = never_says said _ says c refl
 responds_memory d disk after head body moment s new said says (Responds.at_once route a settles) = settles_memory d disk after s new said says settles
 responds_memory d disk after head body moment s new said says (Responds.stepped route between settled a settles one steps two) = steps_memory d between after moment _ settled new said says steps
-responds_memory d disk after head body moment s new said says (Responds.memory a is c) = c
+responds_memory d disk after head body moment s new said says (Responds.memory way led reads a is c) = c
 
 refusal_memory : (refusal : HeadRefusal) → (refusal_said refusal).memory ≡ true → refusal_said refusal ≡ memory_said
 refusal_memory refusals.BadHead is = absurd (cc)

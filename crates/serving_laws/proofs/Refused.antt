@@ -5,7 +5,7 @@ use Rattle.host_journal.specs.States.{State, host_in}
 use Rattle.serving.specs.Exchanges.{Exchange}
 use Rattle.host_results.specs.Contents.{ContentView}
 use Rattle.reply_texts.specs.Replies.{status_of}
-use Rattle.requests.specs.Cases.{Responds, Settles, Steps}
+use Rattle.requests.specs.Cases.{Settles, Steps}
 use Rattle.requests.specs.Commands.{command_of}
 use Rattle.requests.specs.Replies.{Replies, Shows}
 use Rattle.sealed_core.specs.declared.commands.What.{What}
@@ -17,13 +17,11 @@ use Rattle.sealed_core.specs.Step.{CommandView, step}
 use Rattle.split_http.specs.declared.routes.Route.{Route}
 use Rattle.split_http.specs.Places.{IsRouted}
 use Rattle.serving_laws.specs.Refusing.{IsSuccess, StaysBut}
-use Rattle.serving_laws.specs.Moving.{IsAnsweredAt}
-use Rattle.serving_laws.proofs.Moved.{answered_at, answered_before}
 use Rattle.serving_laws.proofs.Quiet.{quiet_step}
 use Rattle.requests.specs.Said.{SaidView}
 
 -- the event beside a publication is none or such a close
-abbrev PublishesQuietly : Type 0
+abbrev pub PublishesQuietly : Type 0
 PublishesQuietly = (h : HostView) (t id : ℕ) (command : CommandView) (what : What) → (step h t command).reply ≡ reply.Publish id what → IsLateClose h t command (step h t command).event
 
 success_or_refused : (r : Reply) → IsSuccess (status_of r) ⊎ (is_refused r ≡ true)
@@ -43,32 +41,21 @@ shown_quiet publishes h t command told none (Shows.own bytes text is) =
 shown_quiet publishes h t command told none (Shows.published id asked i was there tells) = publishes h t id command asked was
 
 -- a request that goes no further leaves the state
-at_once_stays : {D : Type 0} (d : Ghosts D) (disk after : D) (s new : State) (said : SaidView) → Settles d disk after s new (Some said) → new ≡ s
+pub at_once_stays : {D : Type 0} (d : Ghosts D) (disk after : D) (s new : State) (said : SaidView) → Settles d disk after s new (Some said) → new ≡ s
 at_once_stays d disk after s new said (Settles.ready a b is c) = is
 at_once_stays d disk after s new said (Settles.store_fault e a up torn is c) = is
 at_once_stays d disk after s new said (Settles.damaged e place a same first never is c) = is
 at_once_stays d disk after s new said (Settles.opened e secret kept a same told can is c) = absurd (cc)
-at_once_stays d disk after s new said (Settles.memory e a same rests is c) = is
 
 module _ {D : Type 0} (d : Ghosts D) (x : Exchange (D × State)) (publishes : PublishesQuietly) (none : IsSuccess x.due.said.status → ⊥) where
-  stays : x.after.1 ≡ x.before.1 → StaysBut d x
-  stays is = record { settled = x.before.1; from = answered_before d x; stays = inl is }
-
-  steps_stay : (route : Route) (between : D) (settled : State) → IsRouted x.head.verb x.head.path (Ok route) → IsAnsweredAt d x settled
-      → Steps d between x.after.0 x.moment (command_of route.place route.id x.head.key x.body) settled x.after.1 x.due.said → StaysBut d x
-  steps_stay route between settled routed from (Steps.no_event told a b r is c) = record { settled = settled; from = from; stays = inl is }
-  steps_stay route between settled routed from (Steps.kept told e a can count appended r is c) =
+  pub steps_stay : (route : Route) (between : D) (settled : State) → IsRouted x.head.verb x.head.path (Ok route)
+      → Steps d between x.after.0 x.moment (command_of route.place route.id x.head.key x.body) settled x.after.1 x.due.said → StaysBut x settled
+  steps_stay route between settled routed (Steps.no_event told a b r is c) = inl is
+  steps_stay route between settled routed (Steps.kept told e a can count appended r is c) =
       let command = command_of route.place route.id x.head.key x.body in
       let failed : IsSuccess told.status → ⊥ = λ success. none (subst IsSuccess (sym (ap (λ (s : SaidView). s.status) c)) success) in
       let late : IsLateClose (host_in settled) x.moment command (Some e) =
       subst (λ (o : Option EventView). IsLateClose (host_in settled) x.moment command o) a (shown_quiet publishes (host_in settled) x.moment command told failed r) in
-      record { settled = settled; from = from; stays = inr (e, inl ((route, routed, a, late), is)) }
-  steps_stay route between settled routed from (Steps.failed e a up is c) = record { settled = settled; from = from; stays = inr (e, inr ((route, routed, a), is, c)) }
-  steps_stay route between settled routed from (Steps.memory a is c) = record { settled = settled; from = from; stays = inl is }
-
-  pub stays_but : Responds d x.before.0 x.after.0 x.head x.body x.moment x.before.1 x.after.1 x.due.said → StaysBut d x
-  stays_but (Responds.no_route a b is c) = stays is
-  stays_but (Responds.method allow a b is c) = stays is
-  stays_but (Responds.at_once route a settled) = stays (at_once_stays d x.before.0 x.after.0 x.before.1 x.after.1 x.due.said settled)
-  stays_but (Responds.stepped route between settled a settling one steps two) = steps_stay route between settled a (answered_at d x between settled None settling) steps
-  stays_but (Responds.memory a is c) = stays is
+      inr (e, inl ((route, routed, a, late), is))
+  steps_stay route between settled routed (Steps.failed e a up is c) = inr (e, inr ((route, routed, a), is, c))
+  steps_stay route between settled routed (Steps.memory a is c) = inl is

@@ -6,7 +6,7 @@ use Rattle.serving.specs.Exchanges.{Exchange}
 use Rattle.host_results.specs.Contents.{ContentView}
 use Rattle.reply_texts.specs.declared.refusals.ServiceRefusal.TheVariants as service
 use Rattle.reply_texts.specs.Sealing.{Told, sealed_told}
-use Rattle.requests.specs.Cases.{Responds, Settles, Steps}
+use Rattle.requests.specs.Cases.{Settles, Steps}
 use Rattle.requests.specs.Commands.{command_of}
 use Rattle.requests.specs.Replies.{Replies}
 use Rattle.requests.specs.Said.{SaidView, content_said, memory_said, refused_said}
@@ -17,9 +17,7 @@ use Rattle.sealed_core.specs.Sealed.{caller_number, host_after, is_closed, view}
 use Rattle.sealed_core.specs.Step.{CommandView, Create, To}
 use Rattle.split_http.specs.declared.routes.Route.{Route}
 use Rattle.split_http.specs.Places.{IsRouted}
-use Rattle.serving_laws.specs.Moving.{IsAnsweredAt}
 use Rattle.serving_laws.specs.Sealing.{IsSealedReply, IsSealedTold, TellsNoStep, got}
-use Rattle.serving_laws.proofs.Moved.{answered_at}
 
 pub same_sent : (said other : SaidView) (a b : ContentView) → said ≡ content_said a → other ≡ content_said b → sent a ≡ sent b → (said.status ≡ other.status) × (said.text ≡ other.text)
 same_sent said other a b is_a is_b same = (
@@ -41,32 +39,23 @@ at_once_tells d disk after s new said honest (Settles.ready a b is c) = absurd (
 at_once_tells d disk after s new said honest (Settles.store_fault e a up torn is c) = TellsNoStep.store_fault (some_same said (refused_said service.StoreFault) c)
 at_once_tells d disk after s new said honest (Settles.damaged e place a same first never is c) = absurd (never honest)
 at_once_tells d disk after s new said honest (Settles.opened e secret kept a same told can is c) = absurd (cc)
-at_once_tells d disk after s new said honest (Settles.memory e a same rests is c) = TellsNoStep.memory (some_same said memory_said c)
 
 sealed_content : SendsSealed → (h : HostView) (t : ℕ) (command : CommandView) (said : SaidView) (content : ContentView) → Replies h t command content → said ≡ content_said content → IsSealedTold h t command (got said)
 sealed_content sends h t (Create body) said content replies is = tt
 sealed_content sends h t (To id key ask) said content replies is = λ still. ap got is ∙ sends h t id key ask content still replies
 
-module _ {D : Type 0} (d : Ghosts D) (x : Exchange (D × State)) (sends : SendsSealed) where
-  at_once_sealed : Settles d x.before.0 x.after.0 x.before.1 x.after.1 (Some x.due.said) → IsSealedReply d x
-  at_once_sealed (Settles.ready a b is c) = absurd (cc)
-  at_once_sealed (Settles.store_fault e a up torn is c) = IsSealedReply.nothing (TellsNoStep.store_fault (cc c))
-  at_once_sealed (Settles.damaged e p a same first shut is c) = IsSealedReply.damaged (record { event = e; place = p; waits = a; first = first; never = shut; said = cc c })
-  at_once_sealed (Settles.opened e secret kept a same told can is c) = absurd (cc)
-  at_once_sealed (Settles.memory e a same rests is c) = IsSealedReply.nothing (TellsNoStep.memory (cc c))
+module _ {D : Type 0} (d : Ghosts D) (x : Exchange (D × State)) where
+  pub at_once_sealed : (settled : State) → Settles d x.before.0 x.after.0 x.before.1 x.after.1 (Some x.due.said) → IsSealedReply d x settled
+  at_once_sealed settled (Settles.ready a b is c) = absurd (cc)
+  at_once_sealed settled (Settles.store_fault e a up torn is c) = IsSealedReply.nothing (TellsNoStep.store_fault (cc c))
+  at_once_sealed settled (Settles.damaged e p a same first shut is c) = IsSealedReply.damaged (record { event = e; place = p; waits = a; first = first; never = shut; said = cc c })
+  at_once_sealed settled (Settles.opened e secret kept a same told can is c) = absurd (cc)
 
-  steps_sealed : (route : Route) (between : D) (settled : State) → IsRouted x.head.verb x.head.path (Ok route) → IsAnsweredAt d x settled
-      → Steps d between x.after.0 x.moment (command_of route.place route.id x.head.key x.body) settled x.after.1 x.due.said → IsSealedReply d x
-  steps_sealed route between settled routed at (Steps.no_event told a b r is c) =
-      IsSealedReply.told route settled routed at (sealed_content sends (host_in settled) x.moment (command_of route.place route.id x.head.key x.body) x.due.said told r c)
-  steps_sealed route between settled routed at (Steps.kept told e a can same appended r is c) =
-      IsSealedReply.told route settled routed at (sealed_content sends (host_in settled) x.moment (command_of route.place route.id x.head.key x.body) x.due.said told r c)
-  steps_sealed route between settled routed at (Steps.failed e a up is c) = IsSealedReply.nothing (TellsNoStep.store_fault c)
-  steps_sealed route between settled routed at (Steps.memory a is c) = IsSealedReply.nothing (TellsNoStep.memory c)
-
-  pub sealed_reply : Responds d x.before.0 x.after.0 x.head x.body x.moment x.before.1 x.after.1 x.due.said → IsSealedReply d x
-  sealed_reply (Responds.no_route a b is c) = IsSealedReply.nothing (TellsNoStep.no_route c)
-  sealed_reply (Responds.method allow a b is c) = IsSealedReply.nothing (TellsNoStep.method allow c)
-  sealed_reply (Responds.at_once route a settles) = at_once_sealed settles
-  sealed_reply (Responds.stepped route between settled a settles one steps two) = steps_sealed route between settled a (answered_at d x between settled None settles) steps
-  sealed_reply (Responds.memory a is c) = IsSealedReply.nothing (TellsNoStep.memory c)
+  pub steps_sealed : SendsSealed → (route : Route) (between : D) (settled : State) → IsRouted x.head.verb x.head.path (Ok route)
+      → Steps d between x.after.0 x.moment (command_of route.place route.id x.head.key x.body) settled x.after.1 x.due.said → IsSealedReply d x settled
+  steps_sealed sends route between settled routed (Steps.no_event told a b r is c) =
+      IsSealedReply.told route routed (sealed_content sends (host_in settled) x.moment (command_of route.place route.id x.head.key x.body) x.due.said told r c)
+  steps_sealed sends route between settled routed (Steps.kept told e a can same appended r is c) =
+      IsSealedReply.told route routed (sealed_content sends (host_in settled) x.moment (command_of route.place route.id x.head.key x.body) x.due.said told r c)
+  steps_sealed sends route between settled routed (Steps.failed e a up is c) = IsSealedReply.nothing (TellsNoStep.store_fault c)
+  steps_sealed sends route between settled routed (Steps.memory a is c) = IsSealedReply.nothing (TellsNoStep.memory c)

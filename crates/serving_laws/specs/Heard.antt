@@ -64,11 +64,13 @@ pub data Takes {D : Type 0} (x : Exchange (D × State)) (settled : State) (steps
   damaged : (place : ℕ) → x.due.said ≡ refused_said (service.StoreDamaged place) → HasKept x.after.1 settled.secret settled.kept → steps ≡ [] → Takes x settled steps
   one : (a : Asked) → IsStepAt x settled a → steps ≡ record { asked = a; said = Some x.due.said } ∷ [] → Takes x settled steps
 
--- in these requests the machine takes these steps, in order, and no others
-abbrev pub TakesSteps : {D : Type 0} → List (Exchange (D × State)) → List Taken → Type 0
-TakesSteps [] steps = steps ≡ []
-TakesSteps (x ∷ run) steps =
-    (settled : State) × (found own later : List Taken) × (steps ≡ found ++ (own ++ later)) × Finds x.before.1 settled found × Takes x settled own × TakesSteps run later
+-- in these requests, each answered at its state, the machine takes these steps, in order, and no others
+abbrev pub TakesSteps : {D : Type 0} → List (Exchange (D × State)) → List State → List Taken → Type 0
+TakesSteps [] [] steps = steps ≡ []
+TakesSteps [] (settled ∷ states) steps = ⊥
+TakesSteps (x ∷ run) [] steps = ⊥
+TakesSteps (x ∷ run) (settled ∷ states) steps =
+    (found own later : List Taken) × (steps ≡ found ++ (own ++ later)) × Finds x.before.1 settled found × Takes x settled own × TakesSteps run states later
 
 -- what was asked, step by step
 abbrev pub asked_of : List Taken → List Asked

@@ -7,3 +7,5 @@ pub mod Last
 pub mod Writing
 pub mod Sealing
 pub mod Heard
+pub mod Integrity
+pub mod Handling

@@ -1,6 +1,5 @@
 -- What a request without success may change.
 use Rattle.std.specs.Prelude.{◌≡◌, ◌⊎◌, ℕ, [], ◌∷◌, ◌++◌, Some, Ok}
-use Rattle.split_base.specs.declared.disk.Disk.{Ghosts}
 use Rattle.host_journal.specs.States.{State, host_in, ready_with, waits_with}
 use Rattle.serving.specs.Exchanges.{Exchange}
 use Rattle.reply_texts.specs.declared.refusals.ServiceRefusal.TheVariants as service
@@ -12,7 +11,6 @@ use Rattle.sealed_core.specs.Step.{step}
 use Rattle.split_http.specs.declared.routes.Route.{Route}
 use Rattle.split_http.specs.Places.{IsRouted}
 use Rattle.serving_laws.specs.Accepting.{Makes}
-use Rattle.serving_laws.specs.Moving.{IsAnsweredAt}
 
 -- the HTTP status of a success: 200, or 201 where an instance was made (RFC 9110, section 15.3)
 abbrev pub IsSuccess : ℕ → Type 0
@@ -27,15 +25,13 @@ MakesLateClose x s event =
 
 -- The request leaves the state at which it is answered as it is. Or the Close of a passed deadline is kept after the events of that state; or the disk
 -- failed in the append of the request's own event, and the host waits with it and says so.
-pub record StaysBut {D : Type 0} (d : Ghosts D) (x : Exchange (D × State)) : Type 0 where
-  pub settled : State
-  pub from : IsAnsweredAt d x settled
-  pub stays :
-      (x.after.1 ≡ settled)
-      ⊎ ((event : EventView)
-      × ((MakesLateClose x settled event × (x.after.1 ≡ ready_with settled.secret (settled.kept ++ event ∷ [])))
-      ⊎ (Makes x settled.secret settled.kept event × (x.after.1 ≡ waits_with settled event) × (x.due.said ≡ refused_said service.StoreFault))))
+abbrev pub StaysBut : {D : Type 0} → Exchange (D × State) → State → Type 0
+StaysBut x settled =
+    (x.after.1 ≡ settled)
+    ⊎ ((event : EventView)
+    × ((MakesLateClose x settled event × (x.after.1 ≡ ready_with settled.secret (settled.kept ++ event ∷ [])))
+    ⊎ (Makes x settled.secret settled.kept event × (x.after.1 ≡ waits_with settled event) × (x.due.said ≡ refused_said service.StoreFault))))
 
 -- a request that is refused, or in which something failed, changes nothing but so
-abbrev pub RefusesQuietly : {D : Type 0} → Ghosts D → Exchange (D × State) → Type 0
-RefusesQuietly d x = (IsSuccess x.due.said.status → ⊥) → StaysBut d x
+abbrev pub RefusesQuietly : {D : Type 0} → Exchange (D × State) → State → Type 0
+RefusesQuietly x settled = (IsSuccess x.due.said.status → ⊥) → StaysBut x settled

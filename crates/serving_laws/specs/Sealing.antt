@@ -17,7 +17,7 @@ use Rattle.sealed_core.specs.Step.{CommandView, Create, To}
 use Rattle.split_http.specs.declared.replies.Allow.{Allow}
 use Rattle.split_http.specs.declared.routes.Route.{Route}
 use Rattle.split_http.specs.Places.{IsRouted}
-use Rattle.serving_laws.specs.Moving.{IsAnsweredAt, IsReadyFor}
+use Rattle.serving_laws.specs.Moving.{IsReadyFor}
 
 -- the request asks this of that instance, under this key or none, of a host that is ready, and has the reply of the machine's step
 pub record AsksOf {D : Type 0} (x : Exchange (D × State)) (id : ℕ) (key : Option (List ℕ)) (ask : Ask) (h : HostView) : Type 0 where
@@ -59,8 +59,8 @@ IsSealedTold h t (Create body) told = Unit {0}
 IsSealedTold h t (To id key ask) told = is_closed (host_after h t (To id key ask)) id ≡ false → told ≡ sealed_told (view h id (caller_number h id key)) t id key ask
 
 -- the reply tells nothing of the host, or that its file is no journal, or of an instance that isn't closed no more than what its caller may know
-pub data IsSealedReply {D : Type 0} (d : Ghosts D) (x : Exchange (D × State)) : Type 0 where
-  nothing : TellsNoStep x.due.said → IsSealedReply d x
-  damaged : TellsDamage d x → IsSealedReply d x
-  told : (route : Route) (settled : State) → IsRouted x.head.verb x.head.path (Ok route) → IsAnsweredAt d x settled
-      → IsSealedTold (host_in settled) x.moment (command_of route.place route.id x.head.key x.body) (got x.due.said) → IsSealedReply d x
+pub data IsSealedReply {D : Type 0} (d : Ghosts D) (x : Exchange (D × State)) (settled : State) : Type 0 where
+  nothing : TellsNoStep x.due.said → IsSealedReply d x settled
+  damaged : TellsDamage d x → IsSealedReply d x settled
+  told : (route : Route) → IsRouted x.head.verb x.head.path (Ok route)
+      → IsSealedTold (host_in settled) x.moment (command_of route.place route.id x.head.key x.body) (got x.due.said) → IsSealedReply d x settled

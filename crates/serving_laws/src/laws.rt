@@ -13,23 +13,22 @@ ghost use Rattle.serving.specs.Served.{CountsEnd, LinkView};
 ghost use Rattle.requests.specs.Said.{memory_said};
 ghost use Rattle.serving.specs.Serving.{host_service};
 ghost use Rattle.serving_laws.specs.Accepting.{Accepts};
-ghost use Rattle.serving_laws.specs.Answering.{HasAnswer};
 ghost use Rattle.serving_laws.specs.Crashes.{Acknowledges, Since};
+ghost use Rattle.serving_laws.specs.Handling.{AreHandled, IsHandled};
+ghost use Rattle.serving_laws.specs.Integrity.{KeepsIntegrity};
 ghost use Rattle.serving_laws.specs.Heard.{IsStep, IsUnrouted, Taken, TakesSteps, WaitsByStep, asked_of, got_all, replied_of};
 ghost use Rattle.serving_laws.specs.Last.{EndsAfter, IsMemoryReply, IsPlainReply, IsWritten, Last, LinkEnds, end_by};
-ghost use Rattle.serving_laws.specs.Moving.{Moves};
-ghost use Rattle.serving_laws.specs.Refusing.{RefusesQuietly};
 ghost use Rattle.sealed_core.specs.declared.commands.Ask.{Ask};
 ghost use Rattle.sealed_core.specs.Host.{HostView};
 ghost use Rattle.sealed_core.specs.Sealed.{Asked, Caller, RunAlike, caller_number, host_after, is_closed, view};
 ghost use Rattle.sealed_core.specs.Veil.{LookAlike};
 ghost use Rattle.sealed_core.specs.Step.{To};
-ghost use Rattle.serving_laws.specs.Sealing.{AsksOf, IsSealedReply};
+ghost use Rattle.serving_laws.specs.Sealing.{AsksOf};
 ghost use Rattle.serving_laws.specs.Writing.{AnswerAlike, Answering, IsDone, OneState, answering_so};
 
 use reply_texts::text_sealing_law;
 use requests::sent_sealing_law;
-use sealed_core::{machine_law, publication_law};
+use sealed_core::{machine_law, publication_law, sameness_law};
 use serving::link_law;
 use split_base::Disk;
 use split_http::{cut_law, reply_law};
@@ -74,27 +73,40 @@ pub fn acknowledged_law<D: Disk>()
         → Acknowledges D.Disk new.0 w run }
 {}
 
-/// A request has its answer, whatever the disk: the refusal of its path or method, or the reply of the machine's one step, or that memory ran
-/// out. Or a call of the disk failed in it, and this is told. Or the file of a host that waited is no journal: then the place of its first fault
-/// is told, wherever the disk tells its bytes. It is never so on an honest disk.
-pub fn answered_law<D: Disk>()
-    ensures { (x : Exchange (D × State)) → IsExchange (host_service D.Disk) x → HasAnswer D.Disk x }
-{}
-
-/// A request changes the state by the machine's one step alone, or where it opens the file of a host that waits. A request that makes no event leaves
-/// the state as it is, or as it was opened: on an honest disk with the events kept before, and the one that waited or without it.
-pub fn moved_law<D: Disk>()
-    ensures { (x : Exchange (D × State)) → IsExchange (host_service D.Disk) x → Moves D.Disk x }
-{}
-
-/// A request without success changes nothing but, where the deadline of the instance that it asks has passed, by the Close of that: whatever
-/// the disk, the state stays as it was, or as its file was opened where it waited, or it has this one event more. Or the disk failed in the
-/// append, which is told: then the events stay, and the request's own one waits. On an honest disk the file of a host that waits is opened as
-/// the events kept before, with the one that waited or without it.
-pub fn refused_law<D: Disk>()
-    ensures { (x : Exchange (D × State)) → IsExchange (host_service D.Disk) x → RefusesQuietly D.Disk x }
+/// A request is handled at one state, whatever the disk: the state as it was, or as its file was opened where it waited. Where the disk tells its bytes,
+/// that file held just the events of that state; on an honest disk they are those kept before, with the one that waited or without it. All of this holds of
+/// that one state.
+///
+/// - The request changes it by at most one event, which its own step makes. The event is kept; or the disk failed in its append, which is told, and it waits.
+/// - The request is answered: its path or method is refused; or it has the reply of the machine's step there, whose event, if it makes one, was kept; or
+///   memory ran out. Or a call of the disk failed in it, and this is told. Or the file of a host that waited is no journal: then the place of its first fault
+///   is told, wherever the disk tells its bytes, and it is never so on an honest disk.
+/// - Without success it changes nothing but, where the deadline of the instance that it asks has passed, by the Close of that; or its own event waits.
+/// - Its reply tells of an instance that isn't closed after it no more than what the caller may know.
+/// - A bid or a withdrawal that it makes was sent under its member's key.
+///
+/// So it is of each request of a run; and on an honest disk the run goes by steps of the machine from those same states: a request takes one, or none where
+/// its reply tells nothing of the host, as where its path or method is refused, the store failed or memory ran out; and before it the step of an event
+/// that waited is taken, where the file that is opened again has it.
+pub fn handled_law<D: Disk>()
+    ensures one { (x : Exchange (D × State)) → IsExchange (host_service D.Disk) x → (settled : State) × IsHandled D.Disk x settled }
+    ensures run { (w : D × State) (run : List (Exchange (D × State))) (new : D × State) → Answered (host_service D.Disk) w run new
+        → (states : List State) × AreHandled D.Disk run states × (D.is_honest w.0 → WaitsByStep w.1 → (steps : List Taken) × TakesSteps run states steps) }
 {
+    machine_law();
     publication_law();
+    sameness_law();
+    sent_sealing_law();
+}
+
+/// On an honest disk each bid and each withdrawal that is kept after a run, which began with a host that was ready, was kept before it, or was sent by a
+/// request of the run under the key of its member, as it is kept.
+pub fn integrity_law<D: Disk>()
+    ensures { (w : D × State) (run : List (Exchange (D × State))) (new : D × State) → Answered (host_service D.Disk) w run new → D.is_honest w.0 → w.1.waiting ≡ None
+        → KeepsIntegrity run w.1 new.1 }
+{
+    machine_law();
+    sameness_law();
 }
 
 /// Over the same bytes and answers of the clock, where the machine with its disk and its memory answers each request in one way, a link on which
@@ -118,22 +130,17 @@ pub fn writing_law<D: Disk>()
     reply_law();
 }
 
-/// Bids are sealed in what a link gets. Each reply tells nothing of the host; or that its file is no journal, which is never so on an honest disk, with
-/// the place of the first fault where the disk tells its bytes; or its status and text on an instance that isn't closed after the command are written
-/// from what the caller may know of it, the command and the moment. So where an instance isn't closed after a command on it, two requests of this
-/// command at one moment, at hosts of which the caller may know the same, have replies of one status and one text.
+/// Bids are sealed in what a link gets. Where an instance isn't closed after a command on it, two requests of this command at one moment, at hosts of
+/// which the caller may know the same, have replies of one status and one text. What one reply tells is in `handled_law`.
 pub fn sealed_law<D: Disk>()
-    ensures alone { (x : Exchange (D × State)) → IsExchange (host_service D.Disk) x → IsSealedReply D.Disk x }
-    ensures pairs { (x y : Exchange (D × State)) (id : ℕ) (key : Option (List ℕ)) (ask : Ask) (g h : HostView) → AsksOf x id key ask g → AsksOf y id key ask h → x.moment ≡ y.moment
+    ensures { (x y : Exchange (D × State)) (id : ℕ) (key : Option (List ℕ)) (ask : Ask) (g h : HostView) → AsksOf x id key ask g → AsksOf y id key ask h → x.moment ≡ y.moment
         → view g id (caller_number g id key) ≡ view h id (caller_number h id key) → is_closed (host_after g x.moment (To id key ask)) id ≡ false
         → (x.due.said.status ≡ y.due.said.status) × (x.due.said.text ≡ y.due.said.text) }
 {
     sent_sealing_law();
 }
 
-/// Bids are sealed in whole runs of requests, as they happen. On an honest disk each run goes by steps of the machine: a request takes one, or none where
-/// its reply tells nothing of the host, as where its path or method is refused, the store failed or memory ran out; and before it the step of an event
-/// that waited is taken, where the file that is opened again has it.
+/// Bids are sealed in whole runs of requests, as they happen: on an honest disk each run goes by steps of the machine (`handled_law`).
 ///
 /// Take two runs, from hosts that differ in nothing but what others than the caller have bid on the instance, and what anyone has bid on other instances, as two
 /// hosts with empty journals or two that were started again. Let their steps be equal pair by pair, but that some of them may be two such bids, by
@@ -142,12 +149,10 @@ pub fn sealed_law<D: Disk>()
 ///
 /// A request at a host that is ready goes by a step, or its path or method is refused, where no call of the disk failed in it and memory didn't run out.
 pub fn sealed_runs_law<D: Disk>()
-    ensures got { (id : ℕ) (caller : Caller) (run others : List (Exchange (D × State))) (steps besides : List Taken) (w v new after : D × State)
+    ensures got { (id : ℕ) (caller : Caller) (run others : List (Exchange (D × State))) (states twins : List State) (steps besides : List Taken) (w v new after : D × State)
         → Answered (host_service D.Disk) w run new → Answered (host_service D.Disk) v others after → LookAlike id caller (host_in w.1) (host_in v.1)
-        → TakesSteps run steps → TakesSteps others besides → RunAlike (host_in w.1) (host_in v.1) id caller (asked_of steps) (asked_of besides) → replied_of steps ≡ replied_of besides
+        → TakesSteps run states steps → TakesSteps others twins besides → RunAlike (host_in w.1) (host_in v.1) id caller (asked_of steps) (asked_of besides) → replied_of steps ≡ replied_of besides
         → got_all (host_in w.1) id caller steps ≡ got_all (host_in v.1) id caller besides }
-    ensures takes { (w : D × State) (run : List (Exchange (D × State))) (new : D × State) → Answered (host_service D.Disk) w run new → D.is_honest w.0 → WaitsByStep w.1
-        → (steps : List Taken) × TakesSteps run steps }
     ensures step { (x : Exchange (D × State)) → IsExchange (host_service D.Disk) x → x.before.1.waiting ≡ None → (HasRisen (D.faults x.before.0) (D.faults x.after.0) → ⊥)
         → x.due.said.memory ≡ false → IsUnrouted x ⊎ ((a : Asked) × IsStep x a) }
 {

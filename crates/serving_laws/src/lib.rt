@@ -7,6 +7,6 @@
 mod laws;
 
 pub use laws::{
-    accepted_law, acknowledged_law, answered_law, crash_law, ends_law, moved_law, refused_law,
-    sealed_law, sealed_runs_law, writing_law,
+    accepted_law, acknowledged_law, crash_law, ends_law, handled_law, integrity_law, sealed_law,
+    sealed_runs_law, writing_law,
 };

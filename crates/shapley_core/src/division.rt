@@ -13,13 +13,13 @@ use best_laws::{best_fares_law, coalition_law};
 use bid_rules::FareCase;
 use bid_rules::limits::{MOST_FARE_CENTS, MOST_RIDERS, RIDER_ROOM, RiderList};
 use fare_routes::{Costs, costs};
-use set_costs::{all_riders, factorial, riders_of_set};
+use set_costs::{SetCosts, all_riders, factorial, riders_of_set};
 use split_base::NoMemory;
 use split_frac::{Frac, make, value_law};
 use std::alloc::Global;
 
 /// Fares in cents, by rider.
-type FareList = ArrayVec<Frac, RIDER_ROOM>;
+pub type FareList = ArrayVec<Frac, RIDER_ROOM>;
 
 /// The division of a shared fare: what each rider pays, what all cost, and how they go.
 #[derive(Drop)]
@@ -47,7 +47,9 @@ fn mean(sum: i128, count: u8) -> Frac
 }
 
 /// The fares of all riders, in turn: each is the mean of the rider's marginal costs over all orders.
-fn fares_of(costs: &Costs, count: u8) -> FareList
+///
+/// It takes no memory, so it serves costs in whatever memory their rows lie.
+pub fn fares_of(costs: &SetCosts<'_>, count: u8) -> FareList
     requires valid { IsValidFareCase costs.now }
     requires count { count ≡ length costs.now.at.items }
     ensures means { AllZip (λ rider fare. IsQuotient fare (sum_of_marginal_costs costs.now rider) (orders_of count)) (riders_of costs.now) (map fraction_of result.items) }
@@ -76,7 +78,7 @@ pub fn solve_fares(alloc: Global, case: &FareCase) -> Result<FareDivision, NoMem
     let count = case.at.len() as u8;
     let costs = costs(alloc, case)?;
     Ok(FareDivision {
-        fares: fares_of(&costs, count),
+        fares: fares_of(&costs.borrowed(), count),
         total: costs.cost_of(all_riders(count)),
         route: costs.route(),
         costs,

@@ -7,5 +7,5 @@
 mod division;
 mod laws;
 
-pub use division::{FareDivision, solve_fares};
+pub use division::{FareDivision, FareList, fares_of, solve_fares};
 pub use laws::{division_law, fraction_limits_law, members_law};

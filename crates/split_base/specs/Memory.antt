@@ -1,14 +1,16 @@
 -- What contracts see of the objects in memory, and what each call makes of it.
-use Rattle.std.specs.Prelude.{ℕ, ◌-◌, ◌^◌, List, [], ◌∷◌, ◌++◌, length, drop, Option, Some}
+use Rattle.std.specs.Prelude.{ℕ, zero, suc, ◌-◌, ◌^◌, List, [], ◌∷◌, ◌++◌, length, drop, Option, Some}
 pub use Rattle.split_base.specs.Faults.{counted}
 
--- a source: the bytes that are left, the most bytes that each next call gives, the numbers of the calls that fail, and how many calls were made and have failed
+-- a source: the bytes that are left, the most bytes that each next call gives, the numbers of the calls that fail, and how many calls were made,
+-- have failed, and gave nothing
 pub record SourceState : Type 0 where
   pub left : List ℕ
   pub pieces : List ℕ
   pub fails : List ℕ
   pub calls : ℕ
   pub faults : ℕ
+  pub empty_reads : ℕ
 
 -- a sink: the bytes that were written, the number of bytes that still fit, the numbers of the calls that fail, and how many calls were made,
 -- have failed, and were given no byte
@@ -25,9 +27,9 @@ pub record LinkState : Type 0 where
   pub input : SourceState
   pub output : SinkState
 
--- what the other side of a link tells of its source: the bytes that are left, and the faults
-abbrev pub source_side : LinkState → Option (List ℕ) × ℕ
-source_side link = (Some link.input.left, link.input.faults)
+-- what the other side of a link tells of its source: the bytes that are left, the faults, and the reads that gave nothing
+abbrev pub source_side : LinkState → Option (List ℕ) × ℕ × ℕ
+source_side link = (Some link.input.left, link.input.faults, link.input.empty_reads)
 
 -- what the other side of a link tells of its sink: the bytes that were written, the faults, and the calls without a byte
 abbrev pub sink_side : LinkState → Option (List ℕ) × ℕ × ℕ
@@ -38,6 +40,11 @@ abbrev pub next_piece : List ℕ → ℕ
 next_piece [] = 2 ^ 64 - 1
 next_piece (p ∷ ps) = p
 
+-- a count of the reads that gave nothing, after a read of so many bytes
+abbrev pub with_nothing : ℕ → ℕ → ℕ
+with_nothing zero count = counted count
+with_nothing (suc read) count = count
+
 -- the source after a call that gave so many bytes: they are gone, and a piece is used up
 abbrev pub after_read : SourceState → ℕ → SourceState
 after_read source count = record {
@@ -46,6 +53,7 @@ after_read source count = record {
   fails = source.fails;
   calls = counted source.calls;
   faults = source.faults;
+  empty_reads = with_nothing count source.empty_reads;
 }
 
 -- the source after a call that failed: only the counts differ
@@ -56,6 +64,7 @@ after_failed_read source = record {
   fails = source.fails;
   calls = counted source.calls;
   faults = counted source.faults;
+  empty_reads = source.empty_reads;
 }
 
 -- a count of the calls that were given no byte, after a call with this piece

@@ -1,5 +1,5 @@
 -- What hands out links in memory, a port or a dialer.
-use Rattle.std.specs.Prelude.{ℕ, zero, suc, List, [], ◌∷◌, ◌++◌, drop}
+use Rattle.std.specs.Prelude.{Bool, ℕ, zero, suc, List, [], ◌∷◌, ◌++◌, drop}
 use Rattle.split_base.specs.Asked.{asked_again, never_asked}
 use Rattle.split_base.specs.Links.{link_faults}
 use Rattle.split_base.specs.Memory.{LinkState, counted}
@@ -14,6 +14,12 @@ pub record PortState : Type 0 where
   pub calls : ℕ
   pub faults : ℕ
   pub asked : Asked
+
+-- a port: its links, how many of them were handed out and not given back yet, and whether it has answered that no link comes
+pub record OpenPort : Type 0 where
+  pub links : PortState
+  pub out : ℕ
+  pub is_over : Bool
 
 -- a port that nobody has called, with places for as many links as are to come
 abbrev pub new_port : List LinkState → ℕ → List ℕ → PortState

@@ -1,5 +1,5 @@
 -- The calls of what hands out links and takes them back, where the object tells them.
-use Rattle.std.specs.Prelude.{◌≡◌, ⊤, List, [], ◌∷◌, ◌++◌, MatchOption, MatchResult, Option, None, Some, Result}
+use Rattle.std.specs.Prelude.{◌≡◌, ℕ, ⊤, List, [], ◌∷◌, ◌++◌, MatchOption, MatchResult, Option, None, Some, Result, Ok, Err}
 
 -- the first link that is to come was handed out, none where no link is, and a failed call hands out none
 abbrev pub Accepts : {L E : Type 0} → Option (List L) → Option (List L) → Result (Option L) E → Type 0
@@ -8,6 +8,18 @@ Accepts (Some links) new result =
     MatchResult result
     (λ next. MatchOption next ((links ≡ []) × (new ≡ Some [])) (λ link. (rest : List _) × (links ≡ link ∷ rest) × (new ≡ Some rest)))
     (λ _. new ≡ Some links)
+
+-- how many links the call handed out
+abbrev pub handed_out : {L E : Type 0} → Result (Option L) E → ℕ
+handed_out (Ok None) = 0
+handed_out (Ok (Some link)) = 1
+handed_out (Err error) = 0
+
+-- the call answered that no link comes
+abbrev pub AnswersNone : {L E : Type 0} → Result (Option L) E → Type 0
+AnswersNone (Ok None) = ⊤
+AnswersNone (Ok (Some link)) = ⊥
+AnswersNone (Err error) = ⊥
 
 -- the first link that is to come was given, and a failed call gives none
 abbrev pub Dials : {L E : Type 0} → Option (List L) → Option (List L) → Result L E → Type 0

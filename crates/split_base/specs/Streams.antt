@@ -1,5 +1,5 @@
 -- What a call does to the bytes that a source has left or a sink holds, where the object tells them.
-use Rattle.std.specs.Prelude.{◌≡◌, ℕ, ◌<◌, ◌≤◌, List, length, take, Option, Result, MatchResult}
+use Rattle.std.specs.Prelude.{◌≡◌, ℕ, ◌+◌, ◌<◌, ◌≤◌, List, length, take, Option, Result, MatchResult}
 use Rattle.std.specs.Io.KnownBytes.{Consumes, Appends, Keeps, IsAtEnd}
 
 -- so many bytes were taken, none of a buffer with room exactly at the end; a failed read takes none
@@ -8,6 +8,14 @@ Reads old new result into =
     MatchResult result
     (λ count. (count ≤ length into) × Consumes old new (take count into) × (count ≡ 0 → 0 < length into → IsAtEnd new))
     (λ _. Keeps old new)
+
+-- a read that gives nothing is counted once at most, and no other call is
+abbrev pub CountsEmpty : {E : Type 0} → ℕ → ℕ → Result ℕ E → Type 0
+CountsEmpty before now result = MatchResult result (λ count. (now ≤ before + 1) × (0 < count → now ≤ before)) (λ _. now ≤ before)
+
+-- the end was met once at most where the answer is no failure, and not at all where it is one
+abbrev pub EndsOnce : {T E : Type 0} → ℕ → ℕ → Result T E → Type 0
+EndsOnce before now result = MatchResult result (λ _. now ≤ before + 1) (λ _. now ≤ before)
 
 -- so many bytes were written, at least one of a piece that isn't empty; a failed write writes none
 abbrev pub Writes : {E : Type 0} → Option (List ℕ) → Option (List ℕ) → Result ℕ E → List ℕ → Type 0

@@ -26,7 +26,9 @@ pub use dial::Dial;
 pub use disk::{Disk, write_synced};
 pub use gate::{Gate, Quiet};
 pub use link::{Link, sides_law};
-pub use memory::{MemClock, MemDial, MemDisk, MemLink, MemPort, MemSink, MemSource, NoMemory};
+pub use memory::{
+    MemClock, MemDial, MemDisk, MemLink, MemPort, MemSink, MemSource, NoMemory, TextSource,
+};
 pub use port::Port;
 pub use streams::{Failed, Sink, Source};
 pub use whole::{ReadStop, read_all, write_all};

@@ -1,4 +1,4 @@
-// Objects in memory, whose calls fail where they are told to.
+// Objects in memory, whose calls fail where they are told to, and text that is read without a fault.
 mod calls;
 mod clock;
 mod dial;
@@ -9,6 +9,7 @@ mod pieces;
 mod port;
 mod sink;
 mod source;
+mod text;
 
 pub use clock::MemClock;
 pub use dial::MemDial;
@@ -17,6 +18,7 @@ pub use link::MemLink;
 pub use port::MemPort;
 pub use sink::MemSink;
 pub use source::MemSource;
+pub use text::TextSource;
 
 /// There was no memory for what a call makes.
 #[derive(Clone, Copy, Debug, PartialEq, Eq)]

@@ -2,11 +2,12 @@
 ghost use Rattle.std.specs.Prelude.{◌≡◌, ◌↔◌, ◌<◌, ◌-◌, ℕ, List, Option, IfOk, IsNone};
 ghost use Rattle.split_base.specs.Faults.{HasCause, IsCounted};
 ghost use Rattle.split_base.specs.Asked.{asked_again};
-ghost use Rattle.split_base.specs.Ports.{Accepts, TakesBack};
+ghost use Rattle.split_base.specs.Ports.{Accepts, AnswersNone, TakesBack, handed_out};
 
 use crate::{Failed, Link};
 
-/// Hands out links until it has ended, and takes them back.
+/// Hands out links until it has ended, one after another: the next one only after the last was
+/// given back, and none after it has answered that no link comes.
 pub trait Port {
     ghost use Rattle.split_base.specs.declared.asked.Asked.{Asked};
 
@@ -26,8 +27,14 @@ pub trait Port {
     /// How often it was asked to listen, and at which port last.
     ghost asked: { Self → Asked };
 
+    /// How many links were handed out and not given back yet.
+    ghost out: { Self → ℕ };
+
     /// No link comes any more.
     ghost has_ended: { Self → Type 0 };
+
+    /// It has answered that no link comes.
+    ghost is_over: { Self → Type 0 };
 
     /// How many of its calls have failed, up to 2^64 - 1.
     ghost faults: { Self → ℕ };
@@ -40,22 +47,29 @@ pub trait Port {
         ensures cause { HasCause (faults self.old) (faults self.new) result }
         ensures count { IsCounted (faults self.old) (faults self.new) result }
         ensures asked { asked self.new ≡ asked_again port (asked self.old) }
+        ensures out { out self.new ≡ out self.old }
         ensures stays { has_ended self.old ↔ has_ended self.new }
+        ensures over { is_over self.old ↔ is_over self.new }
         ensures places { places self.new ≡ places self.old }
         ensures come { to_come self.new ≡ to_come self.old }
         ensures back { given_back self.new ≡ given_back self.old };
 
     /// The next link, or `None` exactly where the port has ended. A port that has ended stays so.
+    /// It is asked only while each link that it handed out was given back, and not after `None`.
     ///
     /// `Failed` comes only where the count of faults has risen, by one. No link is handed out then.
     /// `Ok` leaves the count as it is.
     fn accept(&mut self) -> Result<Option<Self::Link>, Failed>
+        requires none_out { out self.old ≡ 0 }
+        requires goes_on { is_over self.old → ⊥ }
         ensures cause { HasCause (faults self.old) (faults self.new) result }
         ensures count { IsCounted (faults self.old) (faults self.new) result }
         ensures asked { asked self.new ≡ asked self.old }
         ensures next { Accepts (to_come self.old) (to_come self.new) result }
+        ensures out { out self.new ≡ handed_out result }
         ensures ended { IfOk result (λ next. IsNone next ↔ has_ended self.old) }
         ensures stays { has_ended self.old → has_ended self.new }
+        ensures over { is_over self.new ↔ AnswersNone result }
         ensures places { places self.new ≡ places self.old }
         ensures back { given_back self.new ≡ given_back self.old };
 
@@ -63,7 +77,9 @@ pub trait Port {
     fn done(&mut self, link: Self::Link)
         ensures count { faults self.new ≡ faults self.old }
         ensures asked { asked self.new ≡ asked self.old }
+        ensures out { out self.new ≡ out self.old - 1 }
         ensures stays { has_ended self.old ↔ has_ended self.new }
+        ensures over { is_over self.old ↔ is_over self.new }
         ensures come { to_come self.new ≡ to_come self.old }
         ensures places { places self.new ≡ places self.old - 1 }
         ensures back { 0 < places self.old → TakesBack (given_back self.old) (given_back self.new) link }

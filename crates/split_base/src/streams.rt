@@ -1,7 +1,7 @@
 // Sources and sinks of bytes. Each has a count of its faults, which never falls.
 ghost use Rattle.std.specs.Prelude.{◌≡◌, ◌<◌, ℕ, List, Option, None, length};
 ghost use Rattle.split_base.specs.Faults.{HasCause, IsCounted};
-ghost use Rattle.split_base.specs.Streams.{Reads, Writes};
+ghost use Rattle.split_base.specs.Streams.{CountsEmpty, Reads, Writes};
 
 /// A call failed. The count of faults of the object that was called has risen by one in this call,
 /// or is at its greatest value, 2^64 - 1.
@@ -16,6 +16,11 @@ pub trait Source {
     /// How many of its calls have failed, up to 2^64 - 1.
     ghost faults: { Self → ℕ };
 
+    /// How many of its reads gave nothing, up to 2^64 - 1, where the object counts them: each at the
+    /// end, or into no room. So a call that raises it by one at most doesn't read again once a read
+    /// has met the end.
+    ghost empty_reads: { Self → ℕ } = { λ _. 0 };
+
     /// Where the object is a sink too: what that side has written, its count of faults, and its
     /// count of calls without a byte. A read leaves all three as they are.
     ghost beside: { Self → Option (List ℕ) × ℕ × ℕ } = { λ _. (None, 0, 0) };
@@ -27,6 +32,7 @@ pub trait Source {
     /// A call that answers a number leaves the count as it is.
     fn read(&mut self, into: &mut [u8]) -> Result<usize, Failed>
         ensures bytes { Reads (left self.old) (left self.new) result into.new }
+        ensures empty { CountsEmpty (empty_reads self.old) (empty_reads self.new) result }
         ensures beside { beside self.new ≡ beside self.old }
         ensures cause { HasCause (faults self.old) (faults self.new) result }
         ensures count { IsCounted (faults self.old) (faults self.new) result };
@@ -43,9 +49,9 @@ pub trait Sink {
     /// How many of its calls were given no byte, where the object counts them; else always 0.
     ghost empty_writes: { Self → ℕ } = { λ _. 0 };
 
-    /// Where the object is a source too: what that side has left, and its count of faults.
-    /// A write leaves both as they are.
-    ghost beside: { Self → Option (List ℕ) × ℕ } = { λ _. (None, 0) };
+    /// Where the object is a source too: what that side has left, its count of faults, and its count
+    /// of reads that gave nothing. A write leaves all three as they are.
+    ghost beside: { Self → Option (List ℕ) × ℕ × ℕ } = { λ _. (None, 0, 0) };
 
     /// Writes the front of `piece`, and answers how many bytes: from 1 to the length of `piece`
     /// where that isn't empty.

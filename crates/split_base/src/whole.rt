@@ -2,6 +2,7 @@
 ghost use Rattle.std.specs.Prelude.{◌≡◌, ◌<◌, ◌≤◌, ◌+◌, ℕ, List, length, take, drop, IfOk, IfSome, OnErr, IsErrOf, Some};
 ghost use Rattle.std.specs.Io.KnownBytes.{Appends, Consumes, IsAtEnd};
 ghost use Rattle.split_base.specs.Faults.{HasCause, HasRisen, IsCounted};
+ghost use Rattle.split_base.specs.Streams.{EndsOnce};
 ghost use Rattle.split_base.specs.Whole.{faults_after};
 
 use crate::{Failed, Sink, Source};
@@ -18,7 +19,8 @@ pub enum ReadStop {
     NoMemory,
 }
 
-/// Reads to the end, and gives all the bytes, at most `most` of them.
+/// Reads to the end, and gives all the bytes, at most `most` of them. Once a read has met the end it
+/// doesn't read again.
 ///
 /// - `Fault` comes only where the source's count of faults has risen. A failed read ends the
 ///   reading: it is not tried again, so the count has risen by one then, and not at all with
@@ -32,6 +34,7 @@ pub fn read_all<S: Source>(alloc: Global, source: &mut S, most: usize) -> Result
     ensures short { IfOk result (λ bytes. length bytes.items ≤ most) }
     ensures bytes { IfOk result (λ bytes. Consumes (S.left source.old) (S.left source.new) bytes.items) }
     ensures end { IfOk result (λ _. IsAtEnd (S.left source.new)) }
+    ensures empty { EndsOnce (S.empty_reads source.old) (S.empty_reads source.new) result }
     ensures taken { (taken : List ℕ) × (length taken ≤ most + 1) × Consumes (S.left source.old) (S.left source.new) taken }
     ensures one_more { IsErrOf result ReadStop.TooLong →
         (taken : List ℕ) × (length taken ≡ most + 1) × Consumes (S.left source.old) (S.left source.new) taken }

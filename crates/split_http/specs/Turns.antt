@@ -85,7 +85,7 @@ BodySays old new before now head bodies.Cut =
     (head.refused ≡ None) × ((all : List ℕ) × IsToldAs old all × (length all < head.length) × IsAtEnd new) × Appends before now (interim_of head.expects)
 BodySays old new before now head bodies.LinkFault =
     (head.refused ≡ None) × ((part : List ℕ) × (length part ≤ head.length) × Consumes old new part) × AppendsPart before now (interim_of head.expects)
-BodySays old new before now head bodies.NoMemory = (head.refused ≡ None) × Keeps old new × (now ≡ before)
+BodySays old new before now head bodies.NoMemory = (head.refused ≡ None) × (0 < head.length) × Keeps old new × (now ≡ before)
 
 -- a write of the interim line failed: the line is due, some of it was not written, and no byte of the link was taken
 abbrev pub IsWriteFault : Option (List ℕ) → Option (List ℕ) → Option (List ℕ) → Option (List ℕ) → Head → Type 0

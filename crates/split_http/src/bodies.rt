@@ -37,7 +37,8 @@ pub enum BodyTurn {
 ///   write of the interim line, where it is due, of which some is missing then, before anything was
 ///   read; or a read after the whole line, while less than the body was read. So nothing is read
 ///   where no body is due, and a failed call is not tried again.
-/// - `NoMemory` comes only where memory ran out, and before anything is read or written.
+/// - `NoMemory` comes only where memory ran out for a body of one byte or more, and before anything is
+///   read or written.
 ///
 /// Each answer but `LinkFault` leaves both counts as they are. No write is empty.
 /// After anything but a body the connection takes no further request.

@@ -135,7 +135,7 @@ fn search_once<R: Threads + Sync, G: Gate + Sync>(
 }
 
 /// How a case of goods ends by its search.
-fn end_of(found: Result<GoodsDivision, OverLimit>) -> Result<Division, SolveFault>
+pub(crate) fn end_of(found: Result<GoodsDivision, OverLimit>) -> Result<Division, SolveFault>
     ensures { (goods : GoodsCase) → IsSearched goods found → IsDivided (case.Goods goods) result }
 {
     match found {

@@ -40,9 +40,9 @@ ends stop = Err stop
 
 -- which count a fault of the store shows: that of the disk
 make_store : {D : Type 0} (d : DiskTells D) (disk after : D) (secret : List ℕ) → Makes d disk after secret (Err StoreFault) → FailedOnce (d.faults disk) (d.faults after)
-make_store d disk after secret (Makes.made is count says) = cc is
-make_store d disk after secret (Makes.filled is count says) = cc is
-make_store d disk after secret (Makes.failed is once says) = once
+make_store d disk after secret (Makes.made is count none says) = cc is
+make_store d disk after secret (Makes.filled is count told says) = cc is
+make_store d disk after secret (Makes.failed is once told says) = once
 
 -- a file that could not be opened
 open_store : {D : Type 0} (d : DiskTells D) (disk after : D) (why : LogFault) → Opens d disk after (Err why) → ends StoreFault ≡ ends (stop_of why) → FailedOnce (d.faults disk) (d.faults after)
@@ -138,9 +138,9 @@ once_more before after count = (has_risen before after (cases_lt (2 ^ 64 - 1) (b
 -- what is told of files and ports in no other way
 module _ (stop : Stop) (not_opened : (why : LogFault) → ends stop ≡ ends (stop_of why) → ⊥) where
   make_never : {D : Type 0} (d : DiskTells D) (disk after : D) (secret : List ℕ) → Makes d disk after secret (Err stop) → ⊥
-  make_never d disk after secret (Makes.made is count says) = cc is
-  make_never d disk after secret (Makes.filled is count says) = not_opened (fault.NotALog 0) is
-  make_never d disk after secret (Makes.failed is once says) = not_opened fault.Disk is
+  make_never d disk after secret (Makes.made is count none says) = cc is
+  make_never d disk after secret (Makes.filled is count told says) = not_opened (fault.NotALog 0) is
+  make_never d disk after secret (Makes.failed is once told says) = not_opened fault.Disk is
 
   dump_never : {D : Type 0} (d : DiskTells D) (disk after : D) → Dumps d disk after (Err stop) → ⊥
   dump_never d disk after (Dumps.dumped serving opens is) = cc is
@@ -193,9 +193,9 @@ no_answer CheckWinner bytes (inl h) = h
 no_answer CheckWinner bytes (inr h) = h
 
 no_memory_made : {D : Type 0} (d : DiskTells D) (disk after : D) (secret : List ℕ) → Makes d disk after secret (Err NoMemory) → ⊥
-no_memory_made d disk after secret (Makes.made is count says) = cc is
-no_memory_made d disk after secret (Makes.filled is count says) = cc is
-no_memory_made d disk after secret (Makes.failed is once says) = cc is
+no_memory_made d disk after secret (Makes.made is count none says) = cc is
+no_memory_made d disk after secret (Makes.filled is count told says) = cc is
+no_memory_made d disk after secret (Makes.failed is once told says) = cc is
 
 -- nor bad words
 no_bad_words : (why : LogFault) → ends BadWords ≡ ends (stop_of why) → ⊥

@@ -47,9 +47,9 @@ nine_of = (1, omega arith, refl)
 -- an empty file becomes a journal
 make_finishes : {D : Type 0} (d : DiskTells D) (disk after : D) (secret : List ℕ) (ending : Result (List ℕ) Stop) → Makes d disk after secret ending
     → d.is_honest disk → IsStill (d.faults disk) (d.faults after) → length (d.seen disk) ≡ 0 → (owed ending).status ≡ 0
-make_finishes d disk after secret ending (Makes.made is count says) honest still empty = ap (λ (e : Result (List ℕ) Stop). (owed e).status) is
-make_finishes d disk after secret ending (Makes.filled is count says) honest still empty = let some = (says honest).0 in absurd (omega (arith, some, empty))
-make_finishes d disk after secret ending (Makes.failed is once says) honest still empty = absurd (still once.0)
+make_finishes d disk after secret ending (Makes.made is count none says) honest still empty = ap (λ (e : Result (List ℕ) Stop). (owed e).status) is
+make_finishes d disk after secret ending (Makes.filled is count told says) honest still empty = let some = (says honest).0 in absurd (omega (arith, some, empty))
+make_finishes d disk after secret ending (Makes.failed is once told says) honest still empty = absurd (still once.0)
 
 status_is : (ending other : Result (List ℕ) Stop) → ending ≡ other → (owed ending).status ≡ (owed other).status
 status_is ending other is = ap (λ (e : Result (List ℕ) Stop). (owed e).status) is

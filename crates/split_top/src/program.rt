@@ -57,8 +57,8 @@ pub struct Status {
 /// | 9 | only where there was no memory; never for `init`, `check`, `checkwinner` and `audit`, nor for `serve` once it listens | `no memory` |
 ///
 /// The tests come in the order of the work: words, reading, file, port, solving or judging, writing. What a command doesn't use is untouched: it is not
-/// called. `serve` asks the port once to listen, at PORT and at no other. `audit` asks the dialer once for a link, to PORT and to no other. No write of
-/// no bytes reaches the output.
+/// called. The port comes with no link out, and has not answered yet that none comes. `serve` asks it once to listen, at PORT and at no other, and for one link
+/// after the other. `audit` asks the dialer once for a link, to PORT and to no other. No write of no bytes reaches the output.
 #[allow(clippy::too_many_arguments)]
 pub fn run<
     R: Threads + Sync,
@@ -81,6 +81,8 @@ pub fn run<
     gate: &G,
     dialer: &mut X,
 ) -> Status
+    requires none_out { P.out port.old ≡ 0 }
+    requires goes_on { P.is_over port.old → ⊥ }
     ensures holds { Holds (tells_by D.Disk P.Port (tells_of P.Link.Source P.Link.Sink) C.Clock X.Dial (tells_of X.Link.Source X.Link.Sink))
         (outside_of disk.old disk.new port.old port.new clock.old clock.new dialer.old dialer.new (told I.left I.faults input.old input.new) (told O.written O.faults output.old output.new))
         (map string_bytes words.now) result.code }
@@ -134,6 +136,8 @@ fn decide<R: Threads + Sync, D: Disk, P: Port, C: Clock, I: Source, G: Gate + Sy
     gate: &G,
     dialer: &mut X,
 ) -> Result<Text, Stop>
+    requires none_out { P.out port.old ≡ 0 }
+    requires goes_on { P.is_over port.old → ⊥ }
     ensures { (output : ObjectUse) → Comes (tells_by D.Disk P.Port (tells_of P.Link.Source P.Link.Sink) C.Clock X.Dial (tells_of X.Link.Source X.Link.Sink))
         (outside_of disk.old disk.new port.old port.new clock.old clock.new dialer.old dialer.new (told I.left I.faults input.old input.new) output)
         (map string_bytes words.now) (ending_of result) }
@@ -157,7 +161,9 @@ fn execute<R: Threads + Sync, D: Disk, P: Port, C: Clock, I: Source, G: Gate + S
     gate: &G,
     dialer: &mut X,
 ) -> Result<Text, Stop>
-    requires { IsInRange command }
+    requires range { IsInRange command }
+    requires none_out { P.out port.old ≡ 0 }
+    requires goes_on { P.is_over port.old → ⊥ }
     ensures { (output : ObjectUse) → Came (tells_by D.Disk P.Port (tells_of P.Link.Source P.Link.Sink) C.Clock X.Dial (tells_of X.Link.Source X.Link.Sink))
         (outside_of disk.old disk.new port.old port.new clock.old clock.new dialer.old dialer.new (told I.left I.faults input.old input.new) output)
         command (ending_of result) }

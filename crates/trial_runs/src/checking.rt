@@ -4,12 +4,11 @@ ghost use Rattle.bid_rules.specs.Facts.{IsValidCase};
 ghost use Rattle.certificates.specs.Division.{IsDivisionOf};
 ghost use Rattle.trial_runs.specs.Texts.{IsChecked};
 
-use crate::reading::TextSource;
 use bid_rules::Case;
 use cert_checker::{certificate_verdict_law, judge_text};
 use certificates::{Division, division_law, write_certificate};
 use rule_verdicts::Verdict;
-use split_base::NoMemory;
+use split_base::{NoMemory, TextSource};
 use std::alloc::Global;
 
 /// Writes the certificate of a division in memory, reads it back and judges it. The verdict is yes: certificate text gets one verdict, and

@@ -6,7 +6,6 @@
 
 mod checking;
 mod laws;
-mod reading;
 mod summary;
 
 pub use laws::trial_text_law;

@@ -2,7 +2,7 @@
 ghost use Rattle.std.specs.Prelude.{◌≡◌, ◌<◌, ◌↔◌, ◌⊎◌, Contains, length, min, IfOk, MatchResult, IsErr, IsTrue, Some};
 ghost use Rattle.std.proofs.Common.{refl};
 ghost use Rattle.split_base.specs.Faults.{HasCause, IsCounted};
-ghost use Rattle.split_base.specs.Streams.{Reads, Writes};
+ghost use Rattle.split_base.specs.Streams.{CountsEmpty, Reads, Writes};
 ghost use Rattle.split_base.specs.Memory.{counted, next_piece, source_side, sink_side, after_read, after_failed_read, after_write, after_failed_write};
 ghost use Rattle.split_base.specs.MemoryPorts.{faults_of_link};
 
@@ -57,10 +57,13 @@ impl Source for MemLink {
 
     ghost faults = { λ l. l.input.faults };
 
+    ghost empty_reads = { λ l. l.input.empty_reads };
+
     ghost beside = { sink_side };
 
     fn read(&mut self, into: &mut [u8]) -> Result<usize, Failed>
         ensures bytes { Reads (Some self.old.input.left) (Some self.new.input.left) result into.new }
+        ensures empty { CountsEmpty self.old.input.empty_reads self.new.input.empty_reads result }
         ensures beside { sink_side self.new ≡ sink_side self.old }
         ensures cause { HasCause self.old.input.faults self.new.input.faults result }
         ensures count { IsCounted self.old.input.faults self.new.input.faults result }

@@ -1,7 +1,7 @@
 // A port in memory.
-ghost use Rattle.std.specs.Prelude.{◌≡◌, ◌↔◌, ◌<◌, ◌-◌, [], Contains, IfOk, IsErr, IsNone, MatchResult, Some, length};
+ghost use Rattle.std.specs.Prelude.{◌≡◌, ◌↔◌, ◌<◌, ◌-◌, [], Contains, IfOk, IsErr, IsNone, IsTrue, MatchResult, Some, false, length};
 ghost use Rattle.split_base.specs.Faults.{HasCause, IsCounted, counted};
-ghost use Rattle.split_base.specs.Ports.{Accepts, TakesBack};
+ghost use Rattle.split_base.specs.Ports.{Accepts, AnswersNone, TakesBack, handed_out};
 ghost use Rattle.split_base.specs.Asked.{asked_again};
 ghost use Rattle.split_base.specs.MemoryPorts.{new_port, after_listen, after_link, after_no_link, after_done, with_fault};
 
@@ -18,14 +18,20 @@ use std::marker::Model;
 #[derive(Debug, Drop)]
 pub struct MemPort {
     links: Links,
+    out: u64,
+    is_over: bool,
 }
 
 impl Model for MemPort {
-    ghost use Rattle.split_base.specs.MemoryPorts.{PortState};
+    ghost use Rattle.split_base.specs.MemoryPorts.{OpenPort};
 
-    ghost Value = { PortState };
+    ghost Value = { OpenPort };
 
-    ghost view = { λ p. p.links };
+    ghost view = { λ p. record {
+      links = p.links;
+      out = p.out;
+      is_over = p.is_over;
+    } };
 }
 
 impl MemPort {
@@ -34,56 +40,70 @@ impl MemPort {
     ///
     /// `NoMemory` comes for want of the memory for those places.
     pub fn new(alloc: Global, links: Vec<MemLink>, fails: Vec<u64>) -> Result<Self, NoMemory>
-        ensures { IfOk result (λ port. port ≡ new_port links.items (length links.items) fails.items) }
+        ensures { IfOk result (λ port. port ≡ record {
+          links = new_port links.items (length links.items) fails.items;
+          out = 0;
+          is_over = false;
+        }) }
     {
         let links = Links::new(alloc, links, fails)?;
-        Ok(MemPort { links })
+        Ok(MemPort {
+            links,
+            out: 0,
+            is_over: false,
+        })
     }
 
     /// The links that were given back, in order.
     pub fn finished(&self) -> &[MemLink]
-        ensures { result.now ≡ self.now.given_back }
+        ensures { result.now ≡ self.now.links.given_back }
     {
         self.links.given_back()
     }
 
     /// How often it was asked to listen, and at which port last.
     pub fn asked(&self) -> Asked
-        ensures { result ≡ self.now.asked }
+        ensures { result ≡ self.now.links.asked }
     {
         self.links.asked()
     }
 }
 
 impl Port for MemPort {
-    ghost use Rattle.std.specs.Prelude.{◌≡◌, [], Some};
+    ghost use Rattle.std.specs.Prelude.{◌≡◌, [], IsTrue, Some};
 
     type Link = MemLink;
 
-    ghost to_come = { λ p. Some p.to_come };
+    ghost to_come = { λ p. Some p.links.to_come };
 
-    ghost given_back = { λ p. Some p.given_back };
+    ghost given_back = { λ p. Some p.links.given_back };
 
-    ghost places = { λ p. p.places };
+    ghost places = { λ p. p.links.places };
 
-    ghost asked = { λ p. p.asked };
+    ghost asked = { λ p. p.links.asked };
 
-    ghost has_ended = { λ p. p.to_come ≡ [] };
+    ghost out = { λ p. p.out };
 
-    ghost faults = { λ p. p.faults };
+    ghost has_ended = { λ p. p.links.to_come ≡ [] };
+
+    ghost is_over = { λ p. IsTrue p.is_over };
+
+    ghost faults = { λ p. p.links.faults };
 
     fn listen(&mut self, port: u16) -> Result<(), Failed>
-        ensures cause { HasCause self.old.faults self.new.faults result }
-        ensures count { IsCounted self.old.faults self.new.faults result }
-        ensures asked { self.new.asked ≡ asked_again port self.old.asked }
-        ensures stays { (self.old.to_come ≡ []) ↔ (self.new.to_come ≡ []) }
-        ensures places { self.new.places ≡ self.old.places }
-        ensures come { Some self.new.to_come ≡ Some self.old.to_come }
-        ensures back { Some self.new.given_back ≡ Some self.old.given_back }
+        ensures cause { HasCause self.old.links.faults self.new.links.faults result }
+        ensures count { IsCounted self.old.links.faults self.new.links.faults result }
+        ensures asked { self.new.links.asked ≡ asked_again port self.old.links.asked }
+        ensures out { self.new.out ≡ self.old.out }
+        ensures stays { (self.old.links.to_come ≡ []) ↔ (self.new.links.to_come ≡ []) }
+        ensures over { IsTrue self.old.is_over ↔ IsTrue self.new.is_over }
+        ensures places { self.new.links.places ≡ self.old.links.places }
+        ensures come { Some self.new.links.to_come ≡ Some self.old.links.to_come }
+        ensures back { Some self.new.links.given_back ≡ Some self.old.links.given_back }
 
         // It fails exactly where its number is listed.
-        ensures fails { IsErr result ↔ Contains self.old.fails (counted self.old.calls) }
-        ensures after { MatchResult result (λ _. self.new ≡ after_listen port self.old) (λ _. self.new ≡ with_fault (after_listen port self.old)) }
+        ensures fails { IsErr result ↔ Contains self.old.links.fails (counted self.old.links.calls) }
+        ensures after { MatchResult result (λ _. self.new.links ≡ after_listen port self.old.links) (λ _. self.new.links ≡ with_fault (after_listen port self.old.links)) }
     {
         self.links.ask(port);
         if self.links.begin() {
@@ -93,35 +113,47 @@ impl Port for MemPort {
     }
 
     fn accept(&mut self) -> Result<Option<MemLink>, Failed>
-        ensures cause { HasCause self.old.faults self.new.faults result }
-        ensures count { IsCounted self.old.faults self.new.faults result }
-        ensures asked { self.new.asked ≡ self.old.asked }
-        ensures next { Accepts (Some self.old.to_come) (Some self.new.to_come) result }
-        ensures ended { IfOk result (λ next. IsNone next ↔ (self.old.to_come ≡ [])) }
-        ensures stays { self.old.to_come ≡ [] → self.new.to_come ≡ [] }
-        ensures places { self.new.places ≡ self.old.places }
-        ensures back { Some self.new.given_back ≡ Some self.old.given_back }
+        requires none_out { self.old.out ≡ 0 }
+        requires goes_on { IsTrue self.old.is_over → ⊥ }
+        ensures cause { HasCause self.old.links.faults self.new.links.faults result }
+        ensures count { IsCounted self.old.links.faults self.new.links.faults result }
+        ensures asked { self.new.links.asked ≡ self.old.links.asked }
+        ensures next { Accepts (Some self.old.links.to_come) (Some self.new.links.to_come) result }
+        ensures out { self.new.out ≡ handed_out result }
+        ensures ended { IfOk result (λ next. IsNone next ↔ (self.old.links.to_come ≡ [])) }
+        ensures stays { self.old.links.to_come ≡ [] → self.new.links.to_come ≡ [] }
+        ensures over { IsTrue self.new.is_over ↔ AnswersNone result }
+        ensures places { self.new.links.places ≡ self.old.links.places }
+        ensures back { Some self.new.links.given_back ≡ Some self.old.links.given_back }
 
         // It fails exactly where its number is listed.
-        ensures fails { IsErr result ↔ Contains self.old.fails (counted self.old.calls) }
-        ensures after { MatchResult result (λ _. self.new ≡ after_link self.old) (λ _. self.new ≡ after_no_link self.old) }
+        ensures fails { IsErr result ↔ Contains self.old.links.fails (counted self.old.links.calls) }
+        ensures after { MatchResult result (λ _. self.new.links ≡ after_link self.old.links) (λ _. self.new.links ≡ after_no_link self.old.links) }
     {
         if self.links.begin() {
             return Err(self.links.fail());
         }
-        Ok(self.links.next())
+        let next = self.links.next();
+        match &next {
+            Some(_) => self.out = 1,
+            None => self.is_over = true,
+        }
+        Ok(next)
     }
 
     fn done(&mut self, link: MemLink)
-        ensures count { self.new.faults ≡ self.old.faults }
-        ensures asked { self.new.asked ≡ self.old.asked }
-        ensures stays { (self.old.to_come ≡ []) ↔ (self.new.to_come ≡ []) }
-        ensures come { Some self.new.to_come ≡ Some self.old.to_come }
-        ensures places { self.new.places ≡ self.old.places - 1 }
-        ensures back { 0 < self.old.places → TakesBack (Some self.old.given_back) (Some self.new.given_back) link }
-        ensures dropped { self.old.places ≡ 0 → Some self.new.given_back ≡ Some self.old.given_back }
-        ensures after { self.new ≡ after_done self.old link }
+        ensures count { self.new.links.faults ≡ self.old.links.faults }
+        ensures asked { self.new.links.asked ≡ self.old.links.asked }
+        ensures out { self.new.out ≡ self.old.out - 1 }
+        ensures stays { (self.old.links.to_come ≡ []) ↔ (self.new.links.to_come ≡ []) }
+        ensures over { IsTrue self.old.is_over ↔ IsTrue self.new.is_over }
+        ensures come { Some self.new.links.to_come ≡ Some self.old.links.to_come }
+        ensures places { self.new.links.places ≡ self.old.links.places - 1 }
+        ensures back { 0 < self.old.links.places → TakesBack (Some self.old.links.given_back) (Some self.new.links.given_back) link }
+        ensures dropped { self.old.links.places ≡ 0 → Some self.new.links.given_back ≡ Some self.old.links.given_back }
+        ensures after { self.new.links ≡ after_done self.old.links link }
     {
+        self.out = self.out.saturating_sub(1);
         self.links.take_back(link);
     }
 }

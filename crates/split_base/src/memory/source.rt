@@ -1,8 +1,8 @@
 // A source in memory.
 ghost use Rattle.std.specs.Prelude.{◌≡◌, ◌<◌, ◌≤◌, ◌↔◌, ℕ, All, Contains, length, min, take, drop, IfOk, MatchResult, IsErr, IsTrue, Some};
 ghost use Rattle.split_base.specs.Faults.{HasCause, IsCounted};
-ghost use Rattle.split_base.specs.Streams.{Reads};
-ghost use Rattle.split_base.specs.Memory.{counted, next_piece, after_read, after_failed_read};
+ghost use Rattle.split_base.specs.Streams.{CountsEmpty, Reads};
+ghost use Rattle.split_base.specs.Memory.{counted, next_piece, after_read, after_failed_read, with_nothing};
 
 use super::calls::Calls;
 use super::pieces::Pieces;
@@ -20,6 +20,7 @@ pub struct MemSource {
     at: usize,
     pieces: Pieces,
     calls: Calls,
+    empty_reads: u64,
 }
 
 impl Model for MemSource {
@@ -34,6 +35,7 @@ impl Model for MemSource {
       fails = s.calls.fails.items;
       calls = s.calls.made;
       faults = s.calls.faults;
+      empty_reads = s.empty_reads;
     } };
 
     ghost invariant = { λ s. s.at ≤ vec_len s.bytes };
@@ -44,14 +46,22 @@ impl MemSource {
     /// bytes that it gives, and `fails` the numbers of the calls that fail, from 1.
     pub fn new(bytes: Vec<u8>, pieces: Vec<usize>, fails: Vec<u64>) -> Self
         requires { All (λ p. 0 < p) pieces.items }
-        ensures { result ≡ record { left = bytes.items; pieces = pieces.items; fails = fails.items; calls = 0; faults = 0 } }
+        ensures { result ≡ record { left = bytes.items; pieces = pieces.items; fails = fails.items; calls = 0; faults = 0; empty_reads = 0 } }
     {
         MemSource {
             bytes,
             at: 0,
             pieces: Pieces::new(pieces),
             calls: Calls::new(fails),
+            empty_reads: 0,
         }
+    }
+
+    /// How many of its reads gave nothing.
+    pub fn empty_reads(&self) -> u64
+        ensures { result ≡ self.now.empty_reads }
+    {
+        self.empty_reads
     }
 
     pub(crate) fn has_fault(&self) -> bool
@@ -62,7 +72,7 @@ impl MemSource {
 }
 
 // Copies as many of the bytes as there is room for, up to `most`.
-fn copy_front(from: &[u8], into: &mut [u8], most: usize) -> usize
+pub(super) fn copy_front(from: &[u8], into: &mut [u8], most: usize) -> usize
     ensures count { result ≡ min most (min (length into.old) (length from.now)) }
     ensures bytes { take result into.new ≡ take result from.now }
 {
@@ -71,13 +81,26 @@ fn copy_front(from: &[u8], into: &mut [u8], most: usize) -> usize
     count
 }
 
+// A count of the reads that gave nothing, after a read of so many bytes.
+fn counted_empty(count: u64, read: usize) -> u64
+    ensures { result ≡ with_nothing read count }
+{
+    match read {
+        0 => count.saturating_add(1),
+        _ => count,
+    }
+}
+
 impl Source for MemSource {
     ghost left = { λ s. Some s.left };
 
     ghost faults = { λ s. s.faults };
 
+    ghost empty_reads = { λ s. s.empty_reads };
+
     fn read(&mut self, into: &mut [u8]) -> Result<usize, Failed>
         ensures bytes { Reads (Some self.old.left) (Some self.new.left) result into.new }
+        ensures empty { CountsEmpty self.old.empty_reads self.new.empty_reads result }
         ensures beside { Unit {0} }
         ensures cause { HasCause self.old.faults self.new.faults result }
         ensures count { IsCounted self.old.faults self.new.faults result }
@@ -93,6 +116,7 @@ impl Source for MemSource {
         let most = self.pieces.next();
         let count = copy_front(&self.bytes[self.at..], into, most);
         self.at += count;
+        self.empty_reads = counted_empty(self.empty_reads, count);
         Ok(count)
     }
 }

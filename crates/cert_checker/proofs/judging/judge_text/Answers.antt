@@ -58,6 +58,7 @@ lines-preserved-in-Ok-Line-next_piece g c =
         long = length-append inv.up_to.said (last ∷ []) ∙ (let one = told.1 in let long = inv.up_to.long in omega arith);
       };
       faults = next.faults ∙ inv.faults;
+      empty = omega (arith, next.empty, inv.empty);
       beside = next.beside ∙ inv.beside;
     }
 
@@ -116,6 +117,7 @@ lines-preserved g c =
       took = Consumes-trans _ _ _ (inv.taken ++ p.0) q.0 (Consumes-trans _ _ _ inv.taken p.0 inv.took p.1) q.1;
       up_to = q.2 (inv.taken ++ p.0) up_to;
       faults = marks.faults ∙ next.faults ∙ inv.faults;
+      empty = omega (arith, marks.empty, next.empty, inv.empty);
       beside = marks.beside ∙ next.beside ∙ inv.beside;
     }
 
@@ -194,6 +196,7 @@ lines-init g c =
         long = sym told.1;
       };
       faults = next.faults;
+      empty = omega (arith, next.empty);
       beside = next.beside;
     }
 

@@ -13,6 +13,7 @@ marks-init g c = record {
   later = omega arith;
   few = c.requires.few;
   faults = refl;
+  empty = omega arith;
   beside = refl;
 }
 
@@ -58,6 +59,7 @@ marks-preserved-in-Ok-Some g c =
       later = (let later = inv.later in let takes = next.takes in omega (arith, later, takes));
       few = next.few;
       faults = next.faults ∙ inv.faults;
+      empty = omega (arith, next.empty, inv.empty);
       beside = next.beside ∙ inv.beside;
     }
 
@@ -78,5 +80,6 @@ marks-preserved g c =
       later = (let later = inv.later in let takes = next.takes in omega (arith, later, takes));
       few = next.few;
       faults = next.faults ∙ inv.faults;
+      empty = omega (arith, next.empty, inv.empty);
       beside = next.beside ∙ inv.beside;
     }

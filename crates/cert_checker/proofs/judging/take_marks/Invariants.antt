@@ -13,6 +13,7 @@ invariant-marks g l = record {
   later : l.fn.pieces.given ≤ l.pieces.given;
   few : l.pieces.given ≤ MOST_BYTES;
   faults : g.S.Source.faults l.source ≡ g.S.Source.faults l.fn.source;
+  empty : g.S.Source.empty_reads l.source ≤ g.S.Source.empty_reads l.fn.source;
   beside : g.S.Source.beside l.source ≡ g.S.Source.beside l.fn.source;
 }
 

@@ -60,5 +60,6 @@ lines-preserved g c =
       read = subst (λ (lines : List Gathered). IsReadOf Pairs c.next_line.new.self all.0 (map line_said lines)) (sym c.push.ensures.items) all.2;
       to_come = c.is_open.ensures.0 (let test = c.if-not-is_open.false in cc);
       faults = c.in-Ok.ensures.faults ∙ inv.faults;
+      empty = omega (arith, c.in-Ok.ensures.empty, inv.empty);
       beside = c.in-Ok.ensures.beside ∙ inv.beside;
     }

@@ -1,5 +1,5 @@
 -- The lines that were gathered so far.
-use Rattle.std.proofs.Common.{◌≡◌, ℕ, ◌-◌, List, map}
+use Rattle.std.proofs.Common.{◌≡◌, ◌≤◌, ℕ, ◌-◌, List, map}
 use Rattle.std.specs.Io.KnownBytes.{Consumes}
 use Rattle.cert_reader.specs.Forms.{Pairs}
 use Rattle.cert_reader.specs.Gathered.{line_said}
@@ -14,6 +14,7 @@ invariant-lines g l = record {
   read : IsReadOf Pairs l.pair taken (map line_said l.lines.items);
   to_come : IsOpen l.pair;
   faults : g.S.Source.faults l.source ≡ g.S.Source.faults l.initial.source;
+  empty : g.S.Source.empty_reads l.source ≤ g.S.Source.empty_reads l.initial.source;
   beside : g.S.Source.beside l.source ≡ g.S.Source.beside l.initial.source;
 }
 

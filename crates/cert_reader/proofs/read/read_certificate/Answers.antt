@@ -1,4 +1,4 @@
-use Rattle.std.proofs.Common.{◌≡◌, ◌∙◌, ◌++◌, ◌∷◌, [], inl, inr, Ok, Err, sym, ap, subst}
+use Rattle.std.proofs.Common.{refl, arith, ◌≡◌, ◌∙◌, ◌++◌, ◌∷◌, [], inl, inr, Ok, Err, sym, ap, subst}
 use Rattle.std.specs.Prelude.{List}
 use Rattle.cert_reader.specs.Forms.{AreCounts, forms_of}
 use Rattle.cert_reader.specs.Gathered.{Gathered, whole_said}
@@ -20,6 +20,9 @@ pub returns-in-Err-clause-faults : goal.returns-in-Err-clause-faults
 returns-in-Err-clause-faults g c =
     inl (Err c.in-Err.end, ap Err c.from.ensures, c.in-Err.ensures.faults ∙ stopped_faults Piece _ c.in-Err.end ∙ ap (λ n. faults_after {T = Certificate} n (Err c.in-Err.end)) c.pieces.invariant.faults)
 
+pub returns-in-Err-clause-empty : goal.returns-in-Err-clause-empty
+returns-in-Err-clause-empty g c = inl (Err c.in-Err.end, ap Err c.from.ensures, omega (arith, c.in-Err.ensures.empty, c.pieces.invariant.empty))
+
 pub pieces-preserved-in-Ok-Kind : goal.pieces-preserved-in-Ok-Kind
 pieces-preserved-in-Ok-Kind g c =
     let inv = c.pieces.invariant in
@@ -31,6 +34,7 @@ pieces-preserved-in-Ok-Kind g c =
       gathering = all.2;
       to_come = (next.more (λ e. absurd (cc))).0;
       faults = next.faults ∙ inv.faults;
+      empty = omega (arith, next.empty, inv.empty);
       beside = next.beside ∙ inv.beside;
     }
 
@@ -53,6 +57,7 @@ pieces-preserved-else-is_err g c =
       gathering = subst (λ (lines : List Gathered). IsGathering c.next_piece.new.self all.0 lines c.pieces.marks.items) (sym pushed) all.2;
       to_come = (next.more (λ e. absurd (cc))).0;
       faults = next.faults ∙ inv.faults;
+      empty = omega (arith, next.empty, inv.empty);
       beside = next.beside ∙ inv.beside;
     }
 
@@ -75,6 +80,7 @@ pieces-preserved g c =
       gathering = subst (λ marks. IsGathering c.next_piece.new.self all.0 c.pieces.lines.items marks) (sym pushed) all.2;
       to_come = (next.more (λ e. absurd (cc))).0;
       faults = next.faults ∙ inv.faults;
+      empty = omega (arith, next.empty, inv.empty);
       beside = next.beside ∙ inv.beside;
     }
 
@@ -113,3 +119,21 @@ returns-in-Ok-Done-clause-faults g c =
       | in-Ok w ↦ inl (Ok w.in-Ok.certificate, w.result-is, same)
       | in-Err-certificate_of w ↦ inr (w.result-is, same)
     ]
+
+pub returns-in-Ok-Done-clause-empty : goal.returns-in-Ok-Done-clause-empty
+returns-in-Ok-Done-clause-empty g c =
+    let next = rw c.in-Ok-Done.field-0-is at c.in-Ok-Done.ensures in
+    elim c.match-certificate_of.branch [
+      | in-Ok w ↦ inl (Ok w.in-Ok.certificate, w.result-is, omega (arith, next.empty, c.pieces.invariant.empty))
+      | in-Err-certificate_of w ↦ inr (w.result-is, omega (arith, next.empty, c.pieces.invariant.empty))
+    ]
+
+pub returns-then-is_err-clause-empty : goal.returns-then-is_err-clause-empty
+returns-then-is_err-clause-empty g c =
+    let next = rw c.in-Ok-Line.field-0-is at c.in-Ok-Line.ensures in
+    inr (refl, omega (arith, next.empty, c.pieces.invariant.empty))
+
+pub returns-then-is_err-2-clause-empty : goal.returns-then-is_err-2-clause-empty
+returns-then-is_err-2-clause-empty g c =
+    let next = rw c.in-Ok-Mark.field-0-is at c.in-Ok-Mark.ensures in
+    inr (refl, omega (arith, next.empty, c.pieces.invariant.empty))

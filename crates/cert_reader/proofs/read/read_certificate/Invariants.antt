@@ -1,5 +1,5 @@
 -- What was gathered so far.
-use Rattle.std.proofs.Common.{◌≡◌, ℕ, ◌+◌, ◌-◌, List}
+use Rattle.std.proofs.Common.{◌≡◌, ◌≤◌, ℕ, ◌+◌, ◌-◌, List}
 use Rattle.std.specs.Io.KnownBytes.{Consumes}
 use Rattle.cert_reader.specs.Reading.{IsOpen}
 use Rattle.cert_reader.specs.Whole.{IsGathering}
@@ -13,6 +13,7 @@ invariant-pieces g l = record {
   gathering : IsGathering l.pieces taken l.lines.items l.marks.items;
   to_come : IsOpen l.pieces;
   faults : g.S.Source.faults l.source ≡ g.S.Source.faults l.initial.source;
+  empty : g.S.Source.empty_reads l.source ≤ g.S.Source.empty_reads l.initial.source;
   beside : g.S.Source.beside l.source ≡ g.S.Source.beside l.initial.source;
 }
 

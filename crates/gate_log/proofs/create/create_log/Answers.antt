@@ -26,5 +26,11 @@ returns-in_err-write_synced-clause-untouched g c honest some =
 pub returns-clause-untouched : goal.returns-clause-untouched
 returns-clause-untouched g c honest some = absurd (omega (arith, some, c.in_ok-size.ensures.told (g.met.D.Disk.honest_tells c.args.disk.now honest)))
 
+pub returns-in_err-write_synced-clause-still : goal.returns-in_err-write_synced-clause-still
+returns-in_err-write_synced-clause-still g c tells some = absurd (omega (arith, some, c.in_ok-size.ensures.told tells))
+
+pub returns-clause-still : goal.returns-clause-still
+returns-clause-still g c tells some = absurd (omega (arith, some, c.in_ok-size.ensures.told tells))
+
 pub returns-clause-empty : goal.returns-clause-empty
-returns-clause-empty g c honest = omega (arith, c.in_ok-size.ensures.told (g.met.D.Disk.honest_tells c.args.disk.now honest))
+returns-clause-empty g c tells = omega (arith, c.in_ok-size.ensures.told tells)

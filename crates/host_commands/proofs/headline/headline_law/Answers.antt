@@ -4,7 +4,7 @@ use Rattle.host_commands.proofs.Published.{CaseLaws}
 use Rattle.host_commands.proofs.headline.headline_law.Given.{Over}
 use Rattle.host_commands.proofs.headline.headline_law.Goals as goal
 
-run_laws : (g : Over) (c : goal.After-sealed_runs_law g) → RunLaws g.D.Disk
+run_laws : (g : Over) (c : goal.After-refusal_status_law g) → RunLaws g.D.Disk
 run_laws g c = record {
   seen = g.met.D.Disk.seen_is_image;
   one_meaning = c.events_law.ensures.one_meaning;
@@ -15,14 +15,11 @@ run_laws g c = record {
   crash = c.crash_law.ensures;
   acknowledged = c.acknowledged_law.ensures;
   accepted = c.accepted_law.ensures;
-  answered = c.answered_law.ensures;
-  moved = c.moved_law.ensures;
-  refused = c.refused_law.ensures;
-  sealed = c.sealed_law.ensures.alone;
-  takes = c.sealed_runs_law.ensures.takes;
+  integrity = c.integrity_law.ensures;
+  handled = c.handled_law.ensures.run;
 }
 
-case_laws : (g : Over) (c : goal.After-sealed_runs_law g) → CaseLaws
+case_laws : (g : Over) (c : goal.After-refusal_status_law g) → CaseLaws
 case_laws g c = record {
   refusals = c.refusal_status_law.ensures.refusal;
   valid = c.case_law.ensures.valid;

@@ -1,6 +1,6 @@
 use Rattle.std.proofs.Common.{refl, ap, ◌∙◌, Ok, Some}
 use Rattle.gate_log.specs.Calls.{counted_by}
-use Rattle.host_journal.proofs.KeptEvents.{was_kept, was_lost, was_refused}
+use Rattle.host_journal.proofs.KeptEvents.{was_kept, was_lost}
 use Rattle.host_journal.proofs.keeping.keep.Goals as goal
 
 pub returns-in-Ok-clause-kept : goal.returns-in-Ok-clause-kept
@@ -12,8 +12,3 @@ pub returns-in-Disk-clause-kept : goal.returns-in-Disk-clause-kept
 returns-in-Disk-clause-kept g c s stands =
     was_lost g.D.Disk c.args.serving.now _ c.args.disk.now c.commit.new.disk s stands _ _ c.commit.ensures.honest c.commit.ensures.count c.requires.ready
     refl (c.in-Err.ensures.faults ∙ ap (counted_by (g.D.Disk.faults c.args.disk.now)) c.in-Disk.is) (ap Some c.in-Err.ensures.given_back) c.in-Err.ensures.unchanged c.requires.can c.commit.ensures.after c.commit.ensures.any_moment
-
-pub returns-in-NoMemory-clause-kept : goal.returns-in-NoMemory-clause-kept
-returns-in-NoMemory-clause-kept g c s stands =
-    let same = c.in-Err.ensures.no_memory c.in-NoMemory.is in
-    was_refused g.D.Disk g.met.D.Disk.only_now c.args.serving.now _ c.args.disk.now c.commit.new.disk s stands _ _ refl same.0 c.in-Err.ensures.unchanged same.1 refl

@@ -1,12 +1,13 @@
 -- So far no byte was changed, and the events up to the log's gate were applied.
 use Rattle.std.proofs.Common.{◌≡◌, ◌≤◌, ◌-◌, ◌^◌, ◌↔◌, List, ℕ}
 use Rattle.split_base.specs.Disk.{Rests}
-use Rattle.sealed_core.specs.Host.{EventView}
+use Rattle.sealed_core.specs.Host.{EventView, HasRoom}
 use Rattle.host_journal.specs.Journal.{IsHostOf, IsHostOfFile, IsReplaying}
 use Rattle.host_journal.proofs.opening.replay.Given as goal
 
-abbrev pub invariant-loop-body : goal.invariant-loop-body
-invariant-loop-body g l = record {
+abbrev pub invariant-loop : goal.invariant-loop
+invariant-loop g l = record {
+  room : HasRoom l.host;
   count : g.D.Disk.faults l.initial.disk ≤ g.D.Disk.faults l.disk;
   faults : g.D.Disk.faults l.disk ≡ g.D.Disk.faults l.initial.disk;
   tick : g.D.Disk.is_honest l.initial.disk → g.D.Disk.moment l.disk ≡ g.D.Disk.moment l.initial.disk;
@@ -19,5 +20,5 @@ invariant-loop-body g l = record {
       (g.D.Disk.tells l.initial.disk → IsReplaying (g.D.Disk.seen l.initial.disk) l.initial.log l.initial.host.content secret events → IsReplaying (g.D.Disk.seen l.disk) l.log l.host.content secret all);
 }
 
-abbrev pub decreases-loop-body : goal.decreases-loop-body
-decreases-loop-body g l = 2 ^ 63 - l.log.place
+abbrev pub decreases-loop : goal.decreases-loop
+decreases-loop g l = 2 ^ 63 - l.log.place

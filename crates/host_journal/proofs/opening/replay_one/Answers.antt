@@ -10,34 +10,34 @@ pub returns-clause-goes_on : goal.returns-clause-goes_on
 returns-clause-goes_on g c tells secret events r more =
     let (e, spells, of, can, applied) = c.in_ok-take_up.ensures.applied in
     let file = g.D.Disk.seen c.args.disk.now in
-    let new = g.D.Disk.seen c.next.new.disk in
-    let same : new ≡ file = (c.next.ensures.still tells).1 in
-    let body = c.next.new.body.items in
-    let opened : IsTrue c.in_ok-next.field-0 = search rules in
-    let reading : IsReading new c.next.new.self secret (map spelling events ++ body ∷ []) = c.in_ok-next.ensures.record tells secret (map spelling events) r.reading opened in
-    let spelled : Spells e body = subst (Spells e) c.deref.ensures.value spells in
-    let version : IsOfVersion c.next.new.self.version e = subst (λ (v : ℕ). IsOfVersion v e) c.version.ensures.version of in
+    let new = g.D.Disk.seen c.next_body.new.disk in
+    let same : new ≡ file = (c.next_body.ensures.still tells).1 in
+    let body = c.next_body.new.body.items in
+    let opened : IsTrue c.in_ok-next_body.field-0 = search rules in
+    let reading : IsReading new c.next_body.new.self secret (map spelling events ++ body ∷ []) = c.in_ok-next_body.ensures.record tells secret (map spelling events) r.reading opened in
+    let spelled : Spells e body = subst (Spells e) c.deref.ensures.0 spells in
+    let version : IsOfVersion c.next_body.new.self.version e = subst (λ (v : ℕ). IsOfVersion v e) c.version.ensures.version of in
     let old : IsReplaying new c.args.log.now c.args.host.now.content secret events = subst (λ (f : List ℕ). IsReplaying f c.args.log.now c.args.host.now.content secret events) (sym same) r in
-    (e, one_more new c.args.log.now c.next.new.self c.args.host.now.content c.take_up.new.host.content secret events body e old c.next.ensures.version reading spelled version can applied)
+    (e, one_more new c.args.log.now c.next_body.new.self c.args.host.now.content c.take_up.new.host.content secret events body e old c.next_body.ensures.version reading spelled version can applied)
 
 pub returns-clause-made : goal.returns-clause-made
 returns-clause-made g c secret events made =
     let (e, spells, of, can, applied) = c.in_ok-take_up.ensures.applied in
     let file = g.D.Disk.seen c.args.disk.now in
-    let new = g.D.Disk.seen c.next.new.disk in
-    let body = c.next.new.body.items in
-    let opened : IsTrue c.in_ok-next.field-0 = search rules in (
+    let new = g.D.Disk.seen c.next_body.new.disk in
+    let body = c.next_body.new.body.items in
+    let opened : IsTrue c.in_ok-next_body.field-0 = search rules in (
       events ++ e ∷ [],
       record {
         of_events = made_push c.args.host.now.content c.take_up.new.host.content secret events e made can applied;
         of_file = λ tells r. (
           (λ more.
-              let same : new ≡ file = (c.next.ensures.still tells).1 in
-              let reading : IsReading new c.next.new.self secret (map spelling events ++ body ∷ []) = c.in_ok-next.ensures.record tells secret (map spelling events) r.reading opened in
-              let spelled : Spells e body = subst (Spells e) c.deref.ensures.value spells in
-              let version : IsOfVersion c.next.new.self.version e = subst (λ (v : ℕ). IsOfVersion v e) c.version.ensures.version of in
+              let same : new ≡ file = (c.next_body.ensures.still tells).1 in
+              let reading : IsReading new c.next_body.new.self secret (map spelling events ++ body ∷ []) = c.in_ok-next_body.ensures.record tells secret (map spelling events) r.reading opened in
+              let spelled : Spells e body = subst (Spells e) c.deref.ensures.0 spells in
+              let version : IsOfVersion c.next_body.new.self.version e = subst (λ (v : ℕ). IsOfVersion v e) c.version.ensures.version of in
               let old : IsReplaying new c.args.log.now c.args.host.now.content secret events = subst (λ (f : List ℕ). IsReplaying f c.args.log.now c.args.host.now.content secret events) (sym same) r in
-              one_more new c.args.log.now c.next.new.self c.args.host.now.content c.take_up.new.host.content secret events body e old c.next.ensures.version reading spelled version can applied),
+              one_more new c.args.log.now c.next_body.new.self c.args.host.now.content c.take_up.new.host.content secret events body e old c.next_body.ensures.version reading spelled version can applied),
           (λ no. absurd (cc)),
         );
       },

@@ -1,4 +1,4 @@
-use Rattle.std.proofs.Common.{subst, List}
+use Rattle.std.proofs.Common.{subst, List, arith}
 use Rattle.std.specs.Prelude.{All}
 use Rattle.std.specs.Str.{IsUtf8}
 use Rattle.std.proofs.lemmas.List.{take_all}
@@ -14,8 +14,9 @@ loop-name-preserved c =
     let i = c.loop-name.name-index in
     let name = c.name-item.result in
     record {
-      spelled = rw (c.in_ok-put_name.ensures.spelled, c.loop-name.invariant.spelled) (names_more c.put.new.body.items names i name c.loop-name-test.true c.name-item.is);
-      fit = All-more (λ (n : ArrayString). IsUtf8 (text n)) names i name c.loop-name-test.true c.loop-name.invariant.fit (subst (λ (n : ArrayString). IsUtf8 (text n)) c.name-item.is c.in_ok-put_name.ensures.fits);
+      spelled = rw (c.put_name.ensures.spelled, c.loop-name.invariant.spelled) (names_more c.put.new.body.items names i name c.loop-name-test.true c.name-item.is);
+      size = omega (arith, c.put_name.ensures.size, c.loop-name.invariant.size);
+      fit = All-more (λ (n : ArrayString). IsUtf8 (text n)) names i name c.loop-name-test.true c.loop-name.invariant.fit (subst (λ (n : ArrayString). IsUtf8 (text n)) c.name-item.is c.put_name.ensures.fits);
     }
 
 pub returns-clause-fit : goal.returns-clause-fit

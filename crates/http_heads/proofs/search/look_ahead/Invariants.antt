@@ -1,5 +1,5 @@
 -- The carry and the source hold what they held, no head is in the carry, and the parser asks for more of it.
-use Rattle.std.proofs.Common.{◌≡◌, ◌+◌, ◌++◌, ◌<◌, ℕ, List, length}
+use Rattle.std.proofs.Common.{◌≡◌, ◌+◌, ◌++◌, ◌<◌, ◌≤◌, ℕ, List, length}
 use Rattle.std.specs.Io.KnownBytes.{Keeps, prepend_known}
 use Rattle.http_heads.specs.declared.limits.TheConstants.{MAX_HEAD}
 use Rattle.http_heads.specs.Search.{HasNone}
@@ -12,6 +12,7 @@ invariant-loop-room g l = record {
   none : 0 < length l.carry → HasNone g.K.HeadKind.IsText l.carry;
   asks : 0 < length l.carry → g.K.HeadKind.AsksMore l.carry;
   same : Keeps (prepend_known l.initial.carry (g.S.Source.left l.initial.source)) (prepend_known l.carry (g.S.Source.left l.source));
+  empty : g.S.Source.empty_reads l.source ≤ g.S.Source.empty_reads l.initial.source;
   count : g.S.Source.faults l.source ≡ g.S.Source.faults l.initial.source;
   beside : g.S.Source.beside l.source ≡ g.S.Source.beside l.initial.source;
 }

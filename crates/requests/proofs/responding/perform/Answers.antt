@@ -1,15 +1,19 @@
-use Rattle.std.proofs.Common.{refl, subst}
-use Rattle.requests.proofs.Leading.{leads_as, leads_still}
-use Rattle.sealed_core.specs.Step.{CommandView}
-use Rattle.requests.specs.Cases.{Steps}
-use Rattle.requests.specs.Said.{said_view}
+use Rattle.requests.proofs.Leading.{leads_as}
+use Rattle.requests.proofs.Settled.{settled_files}
+use Rattle.requests.specs.Keeping.{Performs}
 use Rattle.requests.proofs.responding.perform.Goals as goal
 
-pub returns-in-Ok-clause-performed : goal.returns-in-Ok-clause-performed
-returns-in-Ok-clause-performed g c s stands =
-    leads_as g.D.Disk _ _ _ s _ _ (c.step.ensures.stepped s stands)
-    (λ new p. subst (λ (k : CommandView). Steps g.D.Disk c.args.disk.now c.step.new.disk c.args.moment k s new (said_view c.step.result)) c.in-Ok.ensures.command p)
+pub returns-in-Some-clause-performed : goal.returns-in-Some-clause-performed
+returns-in-Some-clause-performed g c s stands = leads_as g.D.Disk _ _ _ s _ _ (c.in-Some.ensures.settled s stands) (λ new p. Performs.at_once p)
 
-pub returns-in-Err-clause-performed : goal.returns-in-Err-clause-performed
-returns-in-Err-clause-performed g c s stands =
-    leads_still g.D.Disk c.passing_law.ensures.still c.args.serving.now c.args.disk.now s _ stands (Steps.memory refl refl c.out_of_memory.ensures)
+pub returns-in-None-clause-performed : goal.returns-in-None-clause-performed
+returns-in-None-clause-performed g c s stands =
+    let one = c.in-None.ensures.settled s stands in
+    let two = c.step.ensures.stepped one.new one.stands in
+    record {
+      new = two.new;
+      stands = two.stands;
+      passes = c.passing_law.ensures.joined c.args.disk.now c.settle.new.disk c.step.new.disk s one.new two.new one.passes two.passes
+          (settled_files c.passing_law.ensures.opened g.D.Disk _ _ s one.new one.is);
+      is = Performs.stepped c.settle.new.disk one.new one.is one.passes two.is two.passes;
+    }

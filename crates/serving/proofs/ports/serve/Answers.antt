@@ -8,6 +8,8 @@ pub loop-served-init : goal.loop-served-init
 loop-served-init g c = record {
   so_far = λ w stands. ports_start (host_service g.D.Disk) (tells_of g.P.Link.Source g.P.Link.Sink) _ _ _ _ _ _ _ w stands;
   places = search rules;
+  out = search rules;
+  goes_on = search rules;
   asked = refl;
   faults = refl;
   clock = search rules;
@@ -39,6 +41,8 @@ loop-served-preserved g c = record {
       (c.in-Ok-Some.is ∙ ap Ok c.in-Ok-Some.field-0-is) (c.accept.ensures.places ∙ c.loop-served.invariant.places) c.serve_link.ensures.come c.accept.ensures.back
       c.serve_link.ensures.served;
   places = omega (arith, c.serve_link.ensures.places, c.accept.ensures.places, c.loop-served.invariant.places);
+  out = search rules;
+  goes_on = search rules;
   asked = c.serve_link.ensures.asked ∙ c.accept.ensures.asked ∙ c.loop-served.invariant.asked;
   faults = c.serve_link.ensures.faults ∙ c.in-Ok-Some.ensures.count ∙ c.loop-served.invariant.faults;
   clock = omega (arith, c.serve_link.ensures.clock, c.loop-served.invariant.clock);

@@ -13,6 +13,8 @@ invariant-loop-served g l = record {
       (g.P.Port.to_come l.fn.port) (g.P.Port.to_come l.port) (g.P.Port.given_back l.fn.port) (g.P.Port.given_back l.port) (g.P.Port.places l.fn.port)
       (ClockRun g.C.Clock.gives g.C.Clock.faults l.fn.clock l.clock) (StandsAt g.D.Disk l.serving l.disk) w l.served;
   places : g.P.Port.places l.port ≡ g.P.Port.places l.fn.port - l.served;
+  out : g.P.Port.out l.port ≡ 0;
+  goes_on : g.P.Port.is_over l.port → ⊥;
   asked : g.P.Port.asked l.port ≡ g.P.Port.asked l.fn.port;
   faults : g.P.Port.faults l.port ≡ g.P.Port.faults l.fn.port;
   clock : g.C.Clock.faults l.fn.clock ≤ g.C.Clock.faults l.clock;

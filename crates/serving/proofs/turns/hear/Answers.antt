@@ -76,7 +76,7 @@ returns-in-NoMemory-next_body-clause-says g c =
     says_refused link c.next_body.new.carry (link_view tells c.next_body.new.link) asked c.refused-in-NoMemory-next_body.result refusals.Memory (Some c.in-Some.moment) c.is_head-in-NoMemory-next_body.result c.refused-in-NoMemory-next_body.ensures
     (heard_no_room link mid now asked c.in-Head.head c.in-Some.moment (head_text _ _ c.in-Head.head c.in-Head.ensures.says) c.in-Head.ensures.written
     (c.in-Head.ensures.count, c.in-Head.ensures.writes, c.in-Head.ensures.empty) c.in-Some.ensures.asked
-    says.0 says.1 says.2 (c.in-NoMemory-next_body.ensures.counts.0, c.in-NoMemory-next_body.ensures.counts.1, c.in-NoMemory-next_body.ensures.empty) c.is_head-in-NoMemory-next_body.result c.is_head-in-NoMemory-next_body.ensures)
+    says.0 says.1 says.2 says.3 (c.in-NoMemory-next_body.ensures.counts.0, c.in-NoMemory-next_body.ensures.counts.1, c.in-NoMemory-next_body.ensures.empty) c.is_head-in-NoMemory-next_body.result c.is_head-in-NoMemory-next_body.ensures)
 
 pub returns-in-Cut-clause-says : goal.returns-in-Cut-clause-says
 returns-in-Cut-clause-says g c =

@@ -1,4 +1,4 @@
-use Rattle.std.proofs.Common.{◌*ℤ◌, ℤ, pos, ◌∙◌, ap, subst, arith}
+use Rattle.std.proofs.Common.{◌*ℤ◌, pos, ◌∙◌, ap, subst, arith}
 use Rattle.split_frac.specs.Frac.{HasValue}
 use Rattle.bid_rules.specs.Orders.{factorial}
 use Rattle.split_lemmas.proofs.OrderLaws.{factorial_pos}

@@ -20,7 +20,7 @@ returns c =
     let n = length case.at.items in
     let means : AllZip (λ rider fare. IsQuotient fare (sum_of_marginal_costs case rider) (factorial n)) (riders_of case) (map fraction_of fares) =
     subst (λ m. AllZip (λ rider fare. IsQuotient fare (sum_of_marginal_costs case rider) (factorial m)) (riders_of case) (map fraction_of fares)) c.len-count.ensures.value
-    (subst (λ (k : FareCase). AllZip (λ rider fare. IsQuotient fare (sum_of_marginal_costs k rider) (factorial c.len-count.result)) (riders_of k) (map fraction_of fares)) same c.fares_of.ensures.means) in
+    (subst (λ (k : FareCase). AllZip (λ rider fare. IsQuotient fare (sum_of_marginal_costs k rider) (factorial c.len-count.result)) (riders_of k) (map fraction_of fares)) (c.borrowed.ensures ∙ same) c.fares_of.ensures.means) in
     let best : FareBest case (map fraction_of fares) route = record { mean = means; least_route = subst (λ (k : FareCase). IsLeastRoute k route) same c.route.ensures } in
     let all = ap riders_in c.all_riders.ensures ∙ c.coalition_law.ensures.all c.len-count.result ∙ ap (range_with_len 1) c.len-count.ensures.value in
     let whole : total ≡ coalition_cost case (riders_of case) =

@@ -7,6 +7,7 @@ abbrev pub invariant-loop-bytes : goal.invariant-loop-bytes
 invariant-loop-bytes g l = record {
   within : vec_len l.bytes ≤ l.most;
   so_far : Consumes (g.S.Source.left l.initial.source) (g.S.Source.left l.source) l.bytes.items;
+  empty : g.S.Source.empty_reads l.source ≤ g.S.Source.empty_reads l.initial.source;
   count : g.S.Source.faults l.source ≡ g.S.Source.faults l.initial.source;
   beside : g.S.Source.beside l.source ≡ g.S.Source.beside l.initial.source;
 }

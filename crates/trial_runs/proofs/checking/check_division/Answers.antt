@@ -8,7 +8,7 @@ unreachable-requires c =
     let judged = c.judge_text.ensures.judged in
     let same = c.new-source.ensures ∙ c.as_slice.ensures.value in
     let kept = subst IsCertificate (sym same) c.in_ok-certificate.ensures.certificate in
-    never_no c.certificate_verdict_law.ensures.one c.new-source.result.left.now judged.0 (Some c.judge_text.new.source.left.now) c.judge_text.result c.in-Ok-No.field-0-0 (c.in-Ok-No.is ∙ ap Ok c.in-Ok-No.field-0-is) kept judged.1 judged.2
+    never_no c.certificate_verdict_law.ensures.one c.new-source.result judged.0 (Some c.judge_text.new.source) c.judge_text.result c.in-Ok-No.field-0-0 (c.in-Ok-No.is ∙ ap Ok c.in-Ok-No.field-0-is) kept judged.1 judged.2
 
 pub returns : goal.returns
 returns c =

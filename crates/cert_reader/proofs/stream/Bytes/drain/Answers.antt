@@ -1,4 +1,4 @@
-use Rattle.std.proofs.Common.{◌∙◌, ◌++◌, ◌∷◌, []}
+use Rattle.std.proofs.Common.{arith, ◌∙◌, ◌++◌, ◌∷◌, []}
 use Rattle.cert_reader.proofs.Handed.{hands_trans, stops_after}
 use Rattle.cert_reader.proofs.stream.Bytes.drain.Goals as goal
 
@@ -17,5 +17,6 @@ bytes-preserved g c =
       text = c.bytes.invariant.text ++ c.in-Ok-Some.field-0-0 ∷ [];
       handed = hands_trans _ _ _ _ _ _ c.bytes.invariant.text (c.in-Ok-Some.field-0-0 ∷ []) c.bytes.invariant.handed next.byte;
       faults = next.faults ∙ c.bytes.invariant.faults;
+      empty = omega (arith, next.empty, c.bytes.invariant.empty);
       beside = next.beside ∙ c.bytes.invariant.beside;
     }

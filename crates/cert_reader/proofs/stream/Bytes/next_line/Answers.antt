@@ -12,6 +12,7 @@ line-init g c = record {
   over = λ e. absurd (cc);
   short = (let e = ap (λ held. length held.line) c.clear.ensures in omega arith);
   faults = refl;
+  empty = omega arith;
   beside = refl;
 }
 
@@ -52,6 +53,7 @@ line-preserved g c =
       over = λ long. (let over = inv.over long in omega (arith, length-append inv.text (byte ∷ [])));
       short = keep.short;
       faults = next.faults ∙ inv.faults;
+      empty = omega (arith, next.empty, inv.empty);
       beside = next.beside ∙ inv.beside;
     }
 
@@ -69,5 +71,6 @@ line-preserved-then-not-keep g c =
       over = λ _. over_more c.line.long c.line.self.line inv.text byte inv.kept inv.over (let full = keep.line.1 in omega (arith, ap length next.line));
       short = keep.short;
       faults = next.faults ∙ inv.faults;
+      empty = omega (arith, next.empty, inv.empty);
       beside = next.beside ∙ inv.beside;
     }

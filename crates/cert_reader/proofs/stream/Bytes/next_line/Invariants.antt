@@ -13,6 +13,7 @@ invariant-line g l = record {
   over : l.long ≡ true → LONGEST_LINE < length text;
   short : length l.self.line ≤ LONGEST_LINE;
   faults : g.S.Source.faults l.source ≡ g.S.Source.faults l.initial.source;
+  empty : g.S.Source.empty_reads l.source ≤ g.S.Source.empty_reads l.initial.source;
   beside : g.S.Source.beside l.source ≡ g.S.Source.beside l.initial.source;
 }
 

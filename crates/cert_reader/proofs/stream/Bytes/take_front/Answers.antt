@@ -5,7 +5,7 @@ use Rattle.cert_reader.proofs.Handed.{hands_none, hands_trans, stops_after}
 use Rattle.cert_reader.proofs.stream.Bytes.take_front.Goals as goal
 
 pub loop-expected-init : goal.loop-expected-init
-loop-expected-init g c = record { handed = hands_none _ _ _ refl refl; few = λ some. absurd (omega arith); faults = refl; beside = refl }
+loop-expected-init g c = record { handed = hands_none _ _ _ refl refl; few = λ some. absurd (omega arith); faults = refl; empty = omega arith; beside = refl }
 
 pub returns-in-Err-clause-stopped : goal.returns-in-Err-clause-stopped
 returns-in-Err-clause-stopped g c =
@@ -33,5 +33,6 @@ loop-expected-preserved g c =
           (hands_trans _ _ _ _ _ _ (take c.loop-expected.expected-index c.args.front.now) (c.in-Ok-Some.byte ∷ []) c.loop-expected.invariant.handed next.byte);
       few = λ _. next.few;
       faults = next.faults ∙ c.loop-expected.invariant.faults;
+      empty = omega (arith, next.empty, c.loop-expected.invariant.empty);
       beside = next.beside ∙ c.loop-expected.invariant.beside;
     }

@@ -1,0 +1,165 @@
+"""Parts of rung (c): what both checks say of a certificate, divisions without a server, the picture of a division, and the demo of the start page."""
+import json
+import os
+import re
+import time
+
+from rig import PAGE
+from tally import TOP, check, program, same
+
+FLAT = {'kind': 'rent', 'title': 'Flat', 'members': ['Ann', 'Ben', 'Çağla'], 'rooms': ['Attic', 'Back room', 'Cellar'], 'rent': 145050,
+        'bids': [[80000, 45050, 20000], [70000, 40000, 35050], [50000, 50000, 45050]]}
+ESTATE = {'kind': 'goods', 'title': 'Estate', 'members': ['Ida', 'Jo', 'Kim'], 'goods': ['Clock', 'Piano', 'Desk'], 'limit': 200000,
+          'bids': [[500, 300, 200], [400, 400, 200], None]}
+RIDE = {'kind': 'fares', 'title': 'Ride', 'members': ['Ann', 'Ben'], 'places': ['Station', 'Airport'], 'flag': 300,
+        'legs': [[1000, 2000], [0, 1500], [1500, 0]], 'bids': [1, 2]}
+THINGS = {'rent': 'rooms', 'goods': 'goods', 'fares': 'places'}
+
+
+def written(p, case):
+    """Fills the form of a division."""
+    p.put('#title', case['title'])
+    for which, names in (('members', case['members']), ('things', case[THINGS[case['kind']]])):
+        for i, name in enumerate(names):
+            if not p.all(f'#{which}-{i}'):
+                p.click(f'#{which} button.add')
+            p.put(f'#{which}-{i}', name)
+        while p.all(f'#{which}-{len(names)}') and not (case['kind'] == 'rent' and which == 'things'):
+            p.click(f'#{which} .item button', -1)
+    if case['kind'] == 'rent':
+        p.put('#rent', f'{case["rent"] / 100:.2f}')
+    if case['kind'] == 'fares':
+        p.put('#flag', f'{case["flag"] / 100:.2f}')
+        for row, legs in enumerate(case['legs']):
+            for to, leg in enumerate(legs):
+                if row != to + 1:
+                    p.put(f'#legs-{row}-{to}', f'{leg / 100:.2f}')
+
+
+def bids(p, case, is_passed):
+    """Each bid: behind a curtain where the device is passed around."""
+    for i, (name, bid) in enumerate(zip(case['members'], case['bids'])):
+        if is_passed:
+            p.has(f'Pass the device to {name}')
+            check('a bid is hidden from the next', not p.all('#value-0, .place'))
+            p.press(f'I’m {name}')
+        p.has(f'The bid of {name}')
+        if bid is None:
+            p.press(f'Leave {name} out')
+            continue
+        if case['kind'] == 'fares':
+            p.run(f'document.querySelectorAll("input[name=place]")[{bid - 1}].click()')
+        else:
+            for place, value in enumerate(bid):
+                p.put(f'#value-{place}', f'{value / 100:.2f}' if case['kind'] == 'rent' else value)
+        p.press('Show the result' if i == len(case['members']) - 1 and not is_passed else 'Next')
+    if is_passed:
+        p.has('Everyone has bid')
+        p.press('Show the result')
+
+
+def divided(p, address, case, is_passed, look_at, shots):
+    """One division without a server, from the first view to its certificate."""
+    p.open(address)
+    p.one('.kinds')
+    if p.run('return document.documentElement.lang') != 'en':  # files on a disk share what they remember: another part chose this one
+        p.speak('en')
+        p.until(lambda: p.run('return document.documentElement.lang') == 'en', 20, 'the page does not speak English')
+        time.sleep(0.5)
+    p.click(f'.kind.{case["kind"]}')
+    written(p, case)
+    if not is_passed:
+        p.run('document.querySelectorAll("input[name=how]")[1].click()')
+    what = f'{case["kind"]} {"passed around" if is_passed else "typed"} at {address[:5]}'
+    look_at(p, f'the form of {what}')
+    p.press('On to the bids')
+    bids(p, case, is_passed)
+    p.one('#verdict', 60)
+    p.until(lambda: p.values('#judges', 'data-by') == ['both'], 60, 'the second check does not end')
+    same(f'the verdict of {what}', p.values('#verdict', 'data-verdict'), ['yes'])
+    certificate = program('solve 1', json.dumps(case))
+    path = f'{p.profile}/files/division-certificate.txt'
+    if os.path.exists(path):
+        os.remove(path)
+    p.press('Certificate')
+    p.until(lambda: os.path.exists(path) and os.path.getsize(path) > 0, 15, 'the certificate is not saved')
+    same(f'the certificate of {what}', open(path, encoding='utf-8').read(), certificate)
+    report = program('report 1', json.dumps(case))
+    if case['kind'] != 'goods':
+        same(f'who pays what of {what}', p.values('[data-pays]', 'data-pays'), re.findall(r', pays (-?\d+),', report))
+    look_at(p, f'the result of {what}')
+    shots(p, f'C-{case["kind"]}-{"http" if address.startswith("http") else "file"}')
+
+
+def alone(rig, olive, ann, ben, look_at, shots):
+    """Divisions without a server: in the page, and in the file from a disk."""
+    page, file = rig.url + '#divide', 'file://' + os.path.join(os.path.realpath(PAGE), 'divide.html')
+    asked = len(rig.lossy.seen)
+    divided(ann, page, FLAT, True, look_at, shots)
+    divided(ben, page, ESTATE, False, look_at, shots)
+    divided(ben, file, RIDE, False, look_at, shots)
+    divided(ann, file, FLAT, True, look_at, shots)
+    same('no host was asked for anything', len(rig.lossy.seen), asked)
+    same('the file asked for nothing', [name for name in ann.run('return performance.getEntriesByType("resource").map((e) => e.name)')
+                                        if not name.startswith('blob:')], [])
+    path = f'{ann.profile}/files/division.png'
+    ann.press('Save as picture')
+    ann.until(lambda: os.path.exists(path) and os.path.getsize(path) > 0, 15, 'no picture is saved')
+    with open(path, 'rb') as picture:
+        same('the picture is a PNG', picture.read(8), b'\x89PNG\r\n\x1a\n')
+
+
+def demo(rig, olive, ann, ben, look_at, shots):
+    """The demo of the start page: its divisions change with what one moves."""
+    ann.open(rig.url)
+    ann.press('Try it with three')
+    ann.one('#demo-result li', 60)
+    look_at(ann, 'the demo of a rent')
+    shots(ann, 'D-demo-rent')
+    before = ann.text('#demo-result')
+    ann.run('const s = document.getElementById("demo-2"); s.value = 150000; s.dispatchEvent(new Event("input", {bubbles: true}))')
+    ann.until(lambda: ann.text('#demo-result') != before, 30, 'the division does not change')
+    check('who says that the small room is worth all gets it', 'Ada → Small room' in ann.text('#demo-result'), ann.text('#demo-result'))
+    for kind, words in (('Items', 'points'), ('Taxi', '→')):
+        ann.press(kind)
+        ann.until(lambda: words in ann.text('#demo-result') and 'Room' not in ann.text('#demo-result'), 30, f'no division of {kind}')
+        look_at(ann, f'the demo, {kind}')
+        shots(ann, f'D-demo-{kind}')
+
+
+# A worker whose two checks do not agree: the first argument is the line of the proved judge, the second that of the script.
+DISAGREEING = '''const [proved, says] = arguments;
+const [verdict, rule] = says.split(" ");
+window.Worker = class {
+  postMessage() {
+    for (const data of [{proved, isLowered: false}, {second: {verdict, rule: Number(rule ?? 0), rules: [], facts: [], says}}, null]) setTimeout(() => this.onmessage({data}));
+  }
+  terminate() {}
+};'''
+
+
+def judges(rig, olive, ann, ben):
+    """Both checks: where they differ there is no yes, and where the proved judge does not run the page says so."""
+    with open(os.path.join(TOP, 'examples/flat-for-three.txt'), encoding='utf-8') as file:
+        flat = file.read()
+
+    def checked(p):
+        p.one('#text')
+        p.run('document.getElementById("text").value = arguments[0]', flat)
+        p.press('Check')
+        p.one('#verdict', 60)
+        p.until(lambda: p.values('#judges', 'data-by') in (['both'], ['script']), 60, 'the second check does not end')
+        return p.values('#verdict', 'data-verdict') + p.values('#judges', 'data-by')
+    ann.open(rig.url + '#check')
+    same('both have judged', checked(ann), ['yes', 'both'])
+    ann.run('window.fetch = async () => new Response("", {status: 404})')
+    same('the script alone has judged', checked(ann), ['yes', 'script'])
+    check('that is said', 'That script is not proved correct' in ann.text('#verdict'), ann.text('#verdict'))
+    ann.complaints()
+    for proved, says in (('yes', 'no 3'), ('no 2', 'yes'), ('no 2', 'no 3')):
+        ann.open(rig.url + '#check')
+        ann.one('#text')
+        ann.run(DISAGREEING, proved, says)
+        same(f'where one says {proved} and the other {says}', checked(ann), ['differ', 'both'])
+        check('that is in red, and no division is shown', ann.values('#verdict', 'class') == ['verdict bad'] and not ann.all('#division'))
+        check('both are told', proved in ann.text('#judges') and says in ann.text('#judges'), ann.text('#judges'))

@@ -1,0 +1,435 @@
+"""Parts of rung (c): that nobody loses what they typed, their links or their bids, and that nobody is misled where no answer comes."""
+import os
+import re
+import shutil
+import subprocess
+import time
+
+from tally import TALLY, api, check, get_text, program, same, soon, tag
+
+KEPT = 'return Object.keys(localStorage).concat(Object.keys(sessionStorage)).filter((key) => !/language|borrowed/.test(key))'
+ITEMS = [f'Thing {i}' for i in range(8)]
+
+
+def rent_round(rig, people=('Ann', 'Ben'), end=86400):
+    """A rent without the page: its reply, and the links of organiser and members."""
+    creation = {'kind': 'rent', 'title': 'Flat', 'members': list(people), 'rooms': ['A', 'B'], 'rent': 90000, 'deadline': soon(end), 'tag': tag()}
+    made = api(rig, 'instances', body=creation)
+    return made, f'{rig.url}#{made["id"]}.{made["organiser"]}.EUR.{creation["tag"]}', [f'{rig.url}#{made["id"]}.{key}.EUR' for key in made['keys']]
+
+
+def typed(p, values):
+    p.one('#value-0')
+    for i, value in enumerate(values):
+        p.put(f'#value-{i}', value)
+
+
+def look(p, what, look_at, shots):
+    look_at(p, what)
+    shots(p, what.replace(' ', '-'))
+
+
+def remembered(rig, olive, ann, ben):
+    """The rounds that a browser remembers, and a device that isn't one's own."""
+    from rounds import links, look_at, shots
+    olive.open(rig.url)
+    olive.click('.kind.rent')
+    for at, value in {'title': 'Kept flat', 'members-0': 'Ann', 'members-1': 'Ben', 'things-0': 'A', 'things-1': 'B', 'rent': '9'}.items():
+        olive.put(f'#{at}', value)
+    olive.press('Create the links')
+    urls = links(olive)
+    same('the title of the organiser', olive.run('return document.title'), 'Kept flat: organiser – Fair split')
+    olive.run('history.back()')
+    olive.has('Your rounds in this browser')
+    check('the page says that the key is in it', 'holds its link, and so its key' in olive.text())
+    look(olive, 'rounds that are kept', look_at, shots)
+    olive.run('history.forward()')
+    olive.has('Now send each person')
+    olive.open(rig.url)
+    olive.click('.kept a[href="#' + urls['link-0'].split('#')[1] + '"]')
+    olive.has('Now send each person')
+    same('the list leads to the organiser’s page', olive.url(), urls['link-0'])
+    ann.open(urls['link-1'])
+    same('the title of a member', ann.until(lambda: 'Ann' in ann.run('return document.title') and ann.run('return document.title')), 'Kept flat: Ann – Fair split')
+    typed(ann, ['5', '4'])
+    ann.one('.remember input')
+    ann.press('Send my bid')
+    ann.has('Your bid is saved', '#message')
+    ann.open(rig.url)
+    ann.has('You are Ann', '.kept')
+    rounds = lambda p: [key for key in p.run(KEPT) if 'round.' in key]
+    before, listed = rounds(ann), len(ann.all('.kept li'))
+    ann.click('.kept li:has(a[href="#' + urls['link-1'].split('#')[1] + '"]) button')
+    same('a round is forgotten', [len(ann.all('.kept li')), len(rounds(ann))], [listed - 1, len(before) - 1])
+    check('it is that one', not [key for key in rounds(ann) if key.endswith(urls['link-1'].split('.')[-2][:12])], str(rounds(ann)))
+    # unticked
+    ben.open(urls['link-2'])
+    typed(ben, ['5', '4'])
+    before = rounds(ben)
+    ben.click('.remember label')
+    ben.press('Send my bid')
+    ben.has('Your bid is saved', '#message')
+    same('no round is kept where the tick was taken out', sorted(rounds(ben)), sorted(before))
+    # somebody else's device
+    olive.open(rig.url + '#new-goods')
+    olive.put('#title', 'Typed')
+    check('much is kept', len(olive.run(KEPT)) >= 3, str(olive.run(KEPT)))
+    olive.click('#device button')
+    olive.until(lambda: 'isn’t your device' in olive.text('#device'))
+    same('nothing is kept any more', olive.run(KEPT), [])
+    same('the form keeps what stands in it', olive.values('#title', 'value'), ['Typed'])
+    check('the tick is out', not olive.run('return document.querySelector(".remember input").checked'))
+    olive.put('#title', 'More')
+    same('nor is what is typed then', olive.run(KEPT), [])
+    look(olive, 'a device of somebody else', look_at, shots)
+    olive.open(urls['link-2'])
+    olive.one('.remember input')
+    same('nor what is bid', [olive.run('return document.querySelector(".remember input").checked'), olive.run(KEPT)], [False, []])
+    olive.click('#device button')
+    olive.until(lambda: not olive.run('return document.querySelector(".remember input").disabled'))
+
+
+def drafts(rig, olive, ann, ben):
+    """What is typed comes back after a reload, a tap on the logo and Back; and is gone once it was sent."""
+    from rounds import links
+    olive.open(rig.url + '#new-rent')
+    for field, value in (('#title', 'Draft'), ('#members-0', 'Ann'), ('#rent', '1450'), ('#things-1', 'Back')):
+        olive.put(field, value)
+    whole = lambda: [olive.values(field, 'value')[0] for field in ('#title', '#members-0', '#rent', '#things-1')]
+    olive.reload()
+    olive.one('#title')
+    same('a form after a reload', whole(), ['Draft', 'Ann', '1450', 'Back'])
+    olive.run('document.getElementById("home").click()')
+    olive.one('.kinds')
+    olive.run('history.back()')
+    olive.one('#title')
+    same('a form after the logo and Back', whole(), ['Draft', 'Ann', '1450', 'Back'])
+    asks = 'const e = new Event("beforeunload", {cancelable: true}); window.dispatchEvent(e); return e.defaultPrevented'
+    olive.put('#title', 'Drafts')
+    check('whoever leaves is asked', olive.run(asks))
+    for field, value in (('#members-1', 'Ben'), ('#things-0', 'Attic')):
+        olive.put(field, value)
+    olive.press('Create the links')
+    urls = links(olive)
+    check('nobody is asked after that', not olive.run(asks))
+    olive.open(rig.url + '#new-rent')
+    olive.one('#title')
+    same('the form is empty then', olive.values('#title', 'value'), [''])
+    ann.open(urls['link-1'])
+    typed(ann, ['1000', '400'])
+    ann.reload()
+    ann.has('is here again', '#message')
+    same('a bid after a reload', ann.values('.amount input', 'value'), ['1000', '400'])
+    ann.put('#value-1', '450')
+    ann.press('Send my bid')
+    ann.has('Your bid is saved', '#message')
+    check('the draft is gone', not [key for key in ann.run(KEPT) if 'draft' in key], str(ann.run(KEPT)))
+    check('nobody is asked after a bid', not ann.run(asks))
+    check('when the result is there is told', re.search(r'The result appears here after \w+day.* at \d\d:\d\d: keep this link', ann.text('#stands')), ann.text('#stands'))
+    ann.one('#stands + div button')
+    ann.press('Add to calendar')
+    path = f'{ann.profile}/files/round-{urls["link-1"].split("#")[1].split(".")[0]}.ics'
+    ann.until(lambda: os.path.exists(path) and os.path.getsize(path) > 0, 15, 'no appointment')
+    with open(path, encoding='utf-8', newline='') as file:
+        text = file.read()
+    check('an appointment with the link', text.startswith('BEGIN:VCALENDAR\r\n') and urls['link-1'] in text.replace('\r\n ', ''), text)
+
+
+def unanswered(rig, olive, ann, ben):
+    """No answer: to a read, to what was sent, and late; a part of the page that does not load; no script at all."""
+    from rounds import look_at, shots
+    made, _, keys = rent_round(rig)
+    rig.lossy.deaf = True
+    began = time.time()
+    ann.open(keys[0])
+    ann.has('No answer from the server', seconds=20)
+    check(f'it is told after {time.time() - began:.1f} seconds', time.time() - began < 6)
+    check('a read says that nothing was sent', 'You didn’t send anything, and your link is fine' in ann.text())
+    look(ann, 'no answer', look_at, shots)
+    rig.lossy.deaf = False
+    ann.press('Try again')
+    typed(ann, ['500', '400'])
+    rig.lossy.refuse = 3
+    ann.press('Send my bid')
+    ann.has('What you sent may have been saved: sending the same again is safe', '#message')
+    ann.press('Send the same again')
+    ann.has('Your bid is saved', '#message')
+    rig.lossy.slow = 8
+    ann.reload()
+    ann.has('hasn’t answered yet', seconds=8)
+    rig.lossy.slow = 0
+    ann.press('Try again')
+    ann.one('#value-0')
+    # the network goes
+    ben.open(rig.url)
+    ben.one('.kinds')
+    ben.cdp('Network.enable')
+    ben.cdp('Network.emulateNetworkConditions', offline=True, latency=0, downloadThroughput=0, uploadThroughput=0)
+    ben.speak('de')
+    ben.has('didn’t load. Are you offline?')
+    same('the language stays', ben.run('return document.documentElement.lang'), 'en')
+    ben.run('location.hash = "check"')
+    ben.has('Part of the page is missing')
+    look(ben, 'a part that is missing', look_at, shots)
+    ben.cdp('Network.emulateNetworkConditions', offline=False, latency=0, downloadThroughput=-1, uploadThroughput=-1)
+    ben.press('Try again')
+    ben.one('#text')
+    ann.open(keys[0])
+    ann.one('#value-0')
+    ann.cdp('Network.enable')
+    ann.cdp('Network.emulateNetworkConditions', offline=True, latency=0, downloadThroughput=0, uploadThroughput=0)
+    ann.run('document.getElementById("home").click()')
+    ann.has('Part of the page is missing')
+    ann.cdp('Network.emulateNetworkConditions', offline=False, latency=0, downloadThroughput=-1, uploadThroughput=-1)
+    # no script, and one that is not understood
+    for pattern in ('*js/main.js', '*js/words.js', '*js/dom.js'):
+        ben.cdp('Network.setBlockedURLs', urls=[pattern])
+        ben.cdp('Network.setCacheDisabled', cacheDisabled=True)
+        ben.open(rig.url)
+        ben.until(lambda: 'a part of the page didn’t load, or this browser is too old' in ben.text(), 10, f'a blank page without {pattern}')
+    shots(ben, 'no-script')
+    ben.cdp('Network.setBlockedURLs', urls=[])
+    ben.cdp('Network.setCacheDisabled', cacheDisabled=False)
+    for p in (ann, ben):
+        p.complaints()
+
+
+def passed_limit(rig, olive, ann, ben):
+    """After a passed step limit: a proposal, a new round with one tap, and in it the old bid in round numbers."""
+    from rounds import links, look_at, shots
+    # drawn so that rounding has remainders that tie
+    bids = [[130, 130, 130, 130, 120, 120, 120, 120], [175, 175, 175, 175, 75, 75, 75, 75]]
+    creation = {'kind': 'goods', 'title': 'Many', 'members': ['Ann', 'Ben'], 'goods': ITEMS, 'limit': 40, 'deadline': soon(86400), 'tag': tag()}
+    made = api(rig, 'instances', body=creation)
+    keys = [f'{rig.url}#{made["id"]}.{key}' for key in made['keys']]
+    ann.open(keys[0])
+    ann.one('#value-0')
+    typed(ann, map(str, bids[0]))
+    ann.press('Send my bid')
+    ann.has('Your bid is saved', '#message')
+    api(rig, f'instances/{made["id"]}/bids', made['keys'][1], {'turn': 1, 'values': bids[1]})
+    api(rig, f'instances/{made["id"]}/close', made['organiser'], {})
+    ann.reload()
+    ann.has('takes more than 40 steps', seconds=60)
+    check('a member is told who makes the new round', 'Ask the person who created this round' in ann.text() and not ann.enabled('Make the same'), ann.text())
+    proposal(rig, ann, made, bids)
+    olive.open(f'{rig.url}#{made["id"]}.{made["organiser"]}..{creation["tag"]}')
+    olive.has('One tap makes a round')
+    shots(olive, '8-no-answer-organiser')
+    olive.press('Make the same round again now')
+    olive.has('Now send each person their link', seconds=30)
+    urls = links(olive)
+    check('it is another round', f'#{made["id"]}.' not in urls['link-0'])
+    ann.open(urls['link-1'])
+    ann.press('Bid again with my numbers rounded')
+    ann.has('not sent yet')
+    rounded = ['150', '150', '150', '150', '100', '100', '100', '100']
+    same('rounded, the greatest remainders first', ann.values('.amount input', 'value'), rounded)
+    check('then and now are shown', 'not sent yet' in ann.text() and '130' in ann.text('table') and '150' in ann.text('table'))
+    look(ann, 'a bid in round numbers', look_at, shots)
+    same('nothing is sent by itself', api(rig, 'instances/' + urls['link-1'].split('#')[1].split('.')[0] + '/bid', urls['link-1'].split('.')[-1])['turn'], 0)
+    ann.press('Send my bid')
+    ann.has('Your bid is saved', '#message')
+    ben.open(urls['link-2'])
+    ben.click('#stands ~ div summary')
+    ben.put('#old-link', 'nothing')
+    ben.press('Bid again with my numbers rounded')
+    ben.has('Part of the link is missing')
+    ben.put('#old-link', keys[1])
+    ben.press('Bid again with my numbers rounded')
+    ben.has('not sent yet')
+    same('ties go to the first', ben.values('.amount input', 'value'), ['200', '200', '200', '200', '50', '50', '50', '50'])
+    ben.press('Send my bid')
+    ben.has('Your bid is saved', '#message')
+
+
+def proposal(rig, ann, made, bids):
+    """A proposal is typed, looked at, and saved as the file that weigh takes."""
+    import json
+    from rounds import holds, look_at, shots
+    same('one’s own points stand there', ann.values('#points-0-0', 'value'), ['130'])
+    check('it cannot be saved yet', not ann.enabled('Save the file') and 'points of Ben must be' in ann.text('#proposal-fault'), ann.text('#proposal-fault'))
+    for g, points in enumerate(bids[1]):
+        ann.put(f'#points-1-{g}', str(points))
+    owners = [0, 0, 0, 0, 0, 0, 1, 1]
+    ann.run('arguments[0].forEach((at, g) => { document.getElementById(`owner-${g}`).selectedIndex = at; }); document.getElementById("owner-0").dispatchEvent(new Event("input", {bubbles: true}))', owners)
+    text = ann.text('#found')
+    for words in ('Ann gets 760 points', 'Ben gets 150 points', 'Ben would rather have what Ann has, by 700 points, whichever item', 'Nothing of it is proved'):
+        check(f'{words!r} is told', words in text, text)
+    look(ann, 'a proposal', look_at, shots)
+    ann.press('Save the file')
+    path = f'{ann.profile}/files/round-{made["id"]}-proposal.json'
+    ann.until(lambda: holds(path), 15, 'no proposal')
+    with open(path, encoding='utf-8') as file:
+        saved = json.load(file)
+    same('the points and owners in the file', [saved['bids'], saved['owners']], [bids, [1, 1, 1, 1, 1, 1, 2, 2]])
+    audit = program('weigh', json.dumps({**saved, 'limit': 200000}))
+    check('weigh takes it, and says the same', all(line in audit for line in ('1 Ann: goods 1 2 3 4 5 6, points 760', '2 Ben: goods 7 8, points 150', 'envy 1 2: content', 'envy 2 1: fails')), audit)
+
+
+def handed_on(rig, olive, ann, ben):
+    """The links: this is me, open, share, a code to be scanned; and who is missing."""
+    from rounds import links, look_at, shots, wake
+    made, organiser, keys = rent_round(rig)
+    olive.open(organiser)
+    urls = links(olive)
+    same('the links of the members', [urls['link-1'], urls['link-2']], keys)
+    same('who is missing', olive.texts('.status'), ['hasn’t bid yet'] * 2)
+    letter = olive.values('.links a[href^="mailto:"]', 'href')[0]
+    import urllib.parse
+    body = urllib.parse.unquote(letter)
+    check('a letter says what it is, until when, and has the link', all(words in body for words in ('Ann, what is each room worth to you?', 'until ', keys[0])), body)
+    olive.click('.links li:nth-child(2) button[aria-expanded]')
+    olive.one('.qr')
+    if shutil.which('zbarimg'):
+        for dark in (False, True):
+            olive.look(dark)
+            path = os.path.join(rig.folder, 'code.png')
+            olive.shot(path, '.qr')
+            read = subprocess.run(['zbarimg', '-q', '--raw', path], capture_output=True, text=True, check=False).stdout.strip()
+            same(f'the code is read from the {"dark" if dark else "light"} screen', read, keys[1])
+        olive.look(False)
+    look(olive, 'the links with a code', look_at, shots)
+    olive.click('.me')
+    olive.has('You are Ann.', '.who')
+    olive.has('the person who created the round has all links and could open yours')
+    typed(olive, ['500', '400'])
+    olive.press('Send my bid')
+    olive.has('Your bid is saved', '#message')
+    olive.run('history.back()')
+    olive.has('1 of 2 has bid', seconds=60)
+    same('Back leads to the organiser’s page', olive.url(), organiser)
+    olive.one('.status')
+    same('who has bid is told beside the links', olive.texts('.status'), ['has bid', 'hasn’t bid yet'])
+    api(rig, f'instances/{made["id"]}/bids', made['keys'][1], {'turn': 1, 'values': [40000, 50000]})
+    wake(olive)
+    olive.until(lambda: olive.texts('.status') == ['has bid'] * 2, 20, 'the links do not hear of a bid')
+
+
+def typing(rig, olive, ann, ben):
+    """Amounts by habit and by two buttons, Enter, empty rows, names that are too long, places along one road."""
+    from rounds import links, look_at, shots
+    olive.open(rig.url + '#new-rent')
+    olive.one('#title')
+    same('the currency of a Briton', olive.values('#currency', 'value'), ['GBP'])
+    olive.put('#rent', '1,450')
+    same('read by habit', olive.text('#rent + .reads'), '= £1,450.00')
+    olive.put('#currency', 'eur')
+    same('in any currency', olive.text('#rent + .reads'), '= €1,450.00')
+    olive.put('#rent', 'much')
+    olive.has('Enter an amount from', '#rent-fault')
+    same('what is no amount keeps its text', olive.values('#rent', 'value'), ['much'])
+    olive.put('#members-0', 'Ж' * 23)
+    same('too long by', olive.text('#members-0-fault'), 'This is too long by 3 letters.')
+    olive.put('#rent', '€1,450')
+    olive.run('document.getElementById("title").focus()')
+    for words in ('Flat\ue007', 'Ann\ue007', 'Ben\ue007', 'Attic\ue007', 'Back\ue007'):
+        olive.keys(list(words)) if words != 'Ann\ue007' else (olive.put('#members-0', 'Ann'), olive.run('document.getElementById("members-1").focus()'))
+    same('Enter goes on, and adds no row', [olive.values(f, 'value') for f in ('#title', '#members .item input', '#things .item input')], [['Flat'], ['Ann', 'Ben'], ['Attic', 'Back']])
+    for _ in range(2):
+        olive.click('#members button.add')
+    olive.put('#things-3', 'Third')
+    olive.press('Create the links')
+    olive.has('There are 3 rooms for 2 people', '#summary')
+    look(olive, 'a summary of faults', look_at, shots)
+    olive.put('#things-3', '')
+    olive.press('Create the links')
+    urls = links(olive)
+    round_ = api(rig, 'instances/' + urls['link-0'].split('#')[1].split('.')[0], urls['link-1'].split('.')[-2])
+    same('empty rows are ignored', [round_['members'], round_['rooms'], round_['rent']], [['Ann', 'Ben'], ['Attic', 'Back'], 145000])
+    swiss(rig)
+    # a taxi
+    olive.open(rig.url + '#new-fares')
+    for field, value in (('#title', 'Road'), ('#members-0', 'Ann'), ('#members-1', 'Ben'), ('#things-0', 'Mill'), ('#things-1', 'Bridge'), ('#flag', '3')):
+        olive.put(field, value)
+    check('the deadline is an hour ahead', abs(olive.run('return new Date(document.getElementById("deadline").value) - Date.now()') - 3_600_000) < 120_000)
+    olive.click('#things button.add')
+    olive.put('#things-2', 'Church')
+    olive.click('fieldset .tick')
+    for at, cost in enumerate(('7', '12', '9.50')):
+        olive.put(f'#legs-0-{at}', cost)
+    look(olive, 'places along one road', look_at, shots)
+    olive.press('Create the links')
+    urls = links(olive)
+    round_ = api(rig, 'instances/' + urls['link-0'].split('#')[1].split('.')[0], urls['link-1'].split('.')[-2])
+    same('the trips between follow', round_['legs'], [[700, 1200, 950], [0, 500, 250], [500, 0, 250], [250, 250, 0]])
+
+
+def swiss(rig):
+    """Where a sign has no meaning, two buttons ask."""
+    from driver import Browser
+    from rounds import links, look_at, shots
+    urs = Browser(rig.driver, True, 'de-CH')
+    try:
+        urs.open(rig.url + '#new-rent')
+        urs.one('#title')
+        same('the currency of a Swiss', urs.values('#currency', 'value'), ['CHF'])
+        for field, value in (('#title', 'WG'), ('#members-0', 'Urs'), ('#members-1', 'Änne'), ('#things-0', 'A'), ('#things-1', 'B'), ('#rent', '1,450')):
+            urs.put(field, value)
+        urs.has('Welchen Betrag meinst du?')
+        before = len(rig.lossy.seen)
+        urs.press('Links erstellen')
+        urs.has('einen der beiden Beträge', '#summary')
+        check('nothing is sent before one is picked', not [s for s in rig.lossy.seen[before:] if s[0].startswith('POST')])
+        look(urs, 'two amounts', look_at, shots)
+        urs.press('CHF\u00a01')
+        same('the one that was picked', urs.values('#rent', 'value'), ['1450.00'])
+        urs.press('Links erstellen')
+        urls = links(urs)
+        round_ = api(rig, 'instances/' + urls['link-0'].split('#')[1].split('.')[0], urls['link-1'].split('.')[-2])
+        same('what is sent', round_['rent'], 145000)
+        urs.open(urls['link-1'])
+        urs.put('#value-0', '1,000')
+        urs.has('Welchen Betrag meinst du?')
+        urs.press('Gebot senden')
+        check('nor is a bid sent', 'gespeichert' not in urs.text('#message'))
+        urs.press('CHF\u00a01')
+        urs.put('#value-1', "CHF 450")
+        urs.press('Gebot senden')
+        urs.has('Dein Gebot ist gespeichert', '#message')
+        same('the bid', api(rig, 'instances/' + urls['link-1'].split('#')[1].split('.')[0] + '/bid', urls['link-1'].split('.')[-2])['values'], [100000, 45000])
+        same('complaints of the browser of the Swiss', urs.complaints(), [])
+    finally:
+        urs.end()
+
+
+def in_sight(rig, olive, ann, ben):
+    """On a phone the sum and the button that sends stay in sight; turns are told from the fifteenth on; text of twice the size fits."""
+    from rounds import shots
+    made, _, keys = rent_round(rig)
+    for turn in range(1, 15):
+        api(rig, f'instances/{made["id"]}/bids', made['keys'][0], {'turn': turn, 'values': [turn, 90000 - turn]})
+    ann.open(keys[0])
+    ann.one('#value-0')
+    check('fourteen turns are not told', 'more time' not in ann.text('#stands'), ann.text('#stands'))
+    ann.run('window.scrollTo(0, document.querySelector(".values").getBoundingClientRect().top + scrollY - 20)')
+    for selector in ('.bar .rest', '.bar button.main'):
+        box = ann.run('const r = document.querySelector(arguments[0]).getBoundingClientRect(); return [r.top >= 0, r.bottom <= innerHeight]', selector)
+        same(f'{selector} is in sight', box, [True, True])
+    if TALLY.shots:
+        data = ann.cdp('Page.captureScreenshot', format='png')['data']
+        import base64
+        with open(os.path.join(TALLY.shots, 'bar-phone.png'), 'wb') as file:
+            file.write(base64.b64decode(data))
+    ann.press('Change my bid')
+    ann.has('5 more times', '#stands')
+    many = {'kind': 'goods', 'title': 'Long', 'members': ['Ann', 'Ben'], 'goods': [f'A long name of a thing, number {i}' for i in range(24)], 'deadline': soon(86400), 'tag': tag()}
+    made = api(rig, 'instances', body=many)
+    ann.open(f'{rig.url}#{made["id"]}.{made["keys"][0]}')
+    ann.one('#value-23')
+    for view in ('', '#new-rent', '#new-fares', keys[0][len(rig.url):], f'#{made["id"]}.{made["keys"][0]}'):
+        ann.open(rig.url + view)
+        ann.one('main h1')
+        time.sleep(0.5)
+        ann.run('document.documentElement.style.fontSize = "200%"')
+        wide = ann.run('return document.documentElement.scrollWidth')
+        check(f'text of twice the size fits: {view[:9] or "the start"} is {wide} wide', wide <= 391)
+        shots_of_large(ann, view)
+
+
+def shots_of_large(p, view):
+    if TALLY.shots:
+        p.shot(os.path.join(TALLY.shots, f'large-{re.sub(r"[^a-z]", "", view)[:9] or "start"}.png'))
+
+
+KEEPING = [remembered, drafts, unanswered, passed_limit, handed_on, typing, in_sight]

@@ -1,0 +1,106 @@
+"""Parts of rung (c): the views of a rent in each language on a small phone, the help of each view, and a whole round in French and Polish."""
+from driver import Browser
+from tally import TALLY, api, check, same, soon, tag
+
+LOCALES = {'en': 'en-GB', 'de': 'de-DE', 'es': 'es-ES', 'fr': 'fr-FR', 'it': 'it-IT', 'pl': 'pl-PL'}
+TOO_WIDE = 'return document.documentElement.scrollWidth - document.documentElement.clientWidth'
+UNTOLD = r'return (document.querySelector("main").innerText.match(/\b(start|kinds|form|links|bid|rent|result|proof|check|facts|rules|files|names|differ|helps|own|judge)\.[a-z]\w+/g) || [])'
+HELP = '#languages button'
+
+
+def fits(p, what, code):
+    """Nothing is wider than a small phone, and no sentence is missing."""
+    p.size(320, 844)
+    same(f'{what} in {code} is wider than 320 px by', p.run(TOO_WIDE), 0)
+    same(f'sentences that {what} in {code} lacks', p.run(UNTOLD), [])
+    p.size(*p.home)
+
+
+def helped(p, what, code):
+    """The help of a view: it fits one screen, has four paragraphs, and goes away by its button."""
+    p.size(320, 844)
+    p.click(HELP)
+    p.one('dialog.help[open]')
+    same(f'paragraphs of the help of {what} in {code}', len(p.all('dialog.help p')), 4)
+    box = p.run('const d = document.querySelector("dialog.help"); return [d.scrollHeight - d.clientHeight, d.scrollWidth - d.clientWidth]')
+    same(f'the help of {what} in {code} is larger than the screen by', box, [0, 0])
+    titled = p.text('#help-title')
+    p.click('dialog.help button')
+    p.until(lambda: not p.all('dialog.help'), 10, 'the help stays')
+    p.size(*p.home)
+    return titled
+
+
+def a_rent(rig):
+    """A rent for two with both bids, closed by its organiser; its links."""
+    made = api(rig, 'instances', body={'kind': 'rent', 'title': 'Rue de la Grande-Truanderie', 'members': ['Maximiliane', 'Władysław'],
+                                       'rooms': ['Wohnschlafzimmer', 'Chambre de bonne'], 'rent': 123456, 'deadline': soon(86400), 'tag': tag()})
+    for key, values in zip(made['keys'], ([70000, 53456], [60000, 63456])):
+        api(rig, f'instances/{made["id"]}/bids', key, {'turn': 1, 'values': values})
+    return made
+
+
+def speaking(rig, olive, ann, ben):
+    """Each language: the views of a rent and their help fit a small phone, and a browser that wants the language gets it."""
+    for code, locale in LOCALES.items():
+        p = Browser(rig.driver, True, locale)
+        try:
+            made = a_rent(rig)
+            p.open(rig.url)
+            p.one('.kinds')
+            same('the browser gets its language', p.run('return document.documentElement.lang'), code)
+            titles = []
+            for what, address in (('the start', ''), ('the form', '#new-rent'), ('a check', '#check'), ('a division', '#divide'), ('a bid', f'#{made["id"]}.{made["keys"][0]}.EUR')):
+                p.open(rig.url + address)
+                p.one({'the start': '.kinds', 'a check': '#text', 'a division': 'main .kind', 'a bid': '#value-0'}.get(what, '#title'))
+                fits(p, what, code)
+                titles.append(helped(p, what, code))
+            organiser = f'{rig.url}#{made["id"]}.{made["organiser"]}.EUR'
+            p.open(organiser)
+            p.one('.people li')
+            fits(p, 'the organiser', code)
+            titles.append(helped(p, 'the organiser', code))
+            api(rig, f'instances/{made["id"]}/close', made['creator'], {})
+            p.open(f'{rig.url}#{made["id"]}.{made["keys"][0]}.EUR')
+            p.one('#verdict[data-verdict=yes]', 60)
+            fits(p, 'the result', code)
+            titles.append(helped(p, 'the result', code))
+            same(f'each view has a help of its own in {code}', len(set(titles)), 7)
+            if TALLY.shots:
+                p.shot(f'{TALLY.shots}/C-result-{code}.png')
+            same(f'complaints of the browser in {code}', p.complaints(), [])
+        finally:
+            p.end()
+
+
+def polish(rig, olive, ann, ben):
+    """A bid and a result by a browser that wants Polish; then the language is chosen, and remembered."""
+    p = Browser(rig.driver, True, 'pl-PL')
+    try:
+        made = api(rig, 'instances', body={'kind': 'goods', 'title': 'Dom', 'members': ['Ala', 'Olek'], 'goods': ['Zegar', 'Pianino'], 'limit': 200000,
+                                           'deadline': soon(86400), 'tag': tag()})
+        for i, values in enumerate((('700', '300'), ('298', '702'))):
+            p.open(f'{rig.url}#{made["id"]}.{made["keys"][i]}')
+            p.one('#value-0')
+            p.put('#value-0', values[0])
+            p.until(lambda: 'punkt' in p.text('.bar'), 10, 'the rest is not said')
+            check('the rest has the form of its number', ('702 punkty' if i else '300 punktów') in p.text('.bar'), p.text('.bar'))
+            p.put('#value-1', values[1])
+            p.press('Wyślij ofertę')
+            p.has('Twoja oferta jest zapisana.', '#message')
+        api(rig, f'instances/{made["id"]}/close', made['creator'], {})
+        p.reload()
+        p.one('#verdict[data-verdict=yes]', 60)
+        p.has('702 punkty: Pianino')
+        p.has('700 punktów: Zegar')
+        p.speak('fr')
+        p.has('Qui obtient quoi', seconds=60)
+        p.reload()
+        p.has('Qui obtient quoi', seconds=60)
+        same('the list shows the language', p.values('#languages select', 'value'), ['fr'])
+        same('complaints of the browser in Polish', p.complaints(), [])
+    finally:
+        p.end()
+
+
+SPEAKING = [speaking, polish]

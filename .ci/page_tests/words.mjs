@@ -1,0 +1,58 @@
+// Rung (b) of .ci/page, with node: the sentences of each language as the page chooses them, with the forms that its plural needs.
+import { readFileSync } from 'node:fs';
+import { dirname, join } from 'node:path';
+import { fileURLToPath } from 'node:url';
+import { storage } from './fake_dom.mjs';
+
+const JS = join(dirname(fileURLToPath(import.meta.url)), '../../page/js');
+globalThis.localStorage = storage(new Map());
+globalThis.sessionStorage = storage(new Map());
+globalThis.location = { pathname: '/h7/' };
+globalThis.document = { documentElement: {} };
+const { knows, learn, learnMore, text } = await import(`${JS}/language.js`);
+let right = 0, wrong = 0;
+
+function same(what, got, wanted) {
+  const [a, b] = [JSON.stringify(got), JSON.stringify(wanted)];
+  if (a === b) { right++; return; }
+  wrong++;
+  console.log(`words: ${what} gives ${a} and not ${b}`);
+}
+
+const NUMBERS = Array.from({ length: 1001 }, (_, n) => n);
+const CATEGORIES = ['zero', 'one', 'two', 'few', 'many', 'other'];
+const isPlural = (of) => 'other' in of && Object.keys(of).every((key) => CATEGORIES.includes(key));
+
+/** The keys of the sentences that have forms of a plural. */
+const plurals = (words, above = '') => Object.entries(words).filter(([, of]) => typeof of === 'object').flatMap(([key, of]) => (
+  isPlural(of) ? [[`${above}${key}`, of]] : plurals(of, `${above}${key}.`)));
+
+const codes = [...readFileSync(join(JS, 'language.js'), 'utf8').matchAll(/^ {2}(\w+): \{ called/gm)].map(([, code]) => code);
+same('the languages', codes, ['en', 'de', 'es', 'fr', 'it', 'pl']);
+for (const code of codes) {
+  const rules = new Intl.PluralRules(code);
+  const needed = [...new Set(NUMBERS.map((n) => rules.select(n)))].sort();
+  const end = code === 'en' ? '' : `.${code}`;
+  for (const file of [`words${end}`, `words.more${end}`]) {
+    const { words } = await import(`${JS}/${file}.js`);
+    for (const [key, of] of plurals(words)) same(`${key} of ${file}`, needed.filter((form) => !(form in of)), []);
+  }
+  await learn(code);
+  await learnMore();
+  same(`the page speaks ${code}`, [document.documentElement.lang, knows('helps.bid.1'), knows('helps.bid.9')], [code, true, false]);
+}
+const POINTS = {
+  en: ['1 point', '2 points', '0 points'], de: ['1 Punkt', '2 Punkte', '0 Punkte'], es: ['1 punto', '2 puntos', '0 puntos'],
+  fr: ['1 point', '2 points', '0 point'], it: ['1 punto', '2 punti', '0 punti'], pl: ['1 punkt', '2 punkty', '0 punktów'],
+};
+for (const [code, wanted] of Object.entries(POINTS)) {
+  await learn(code);
+  same(`points in ${code}`, [1, 2, 0].map((n) => text('points', { n })), wanted);
+}
+same('points in Polish', [5, 12, 22, 25, 101, 104, 1000].map((n) => text('points', { n })),
+  ['5 punktów', '12 punktów', '22 punkty', '25 punktów', '101 punktów', '104 punkty', '1000 punktów']);
+await learn('xx');
+same('a language that is not there', document.documentElement.lang, 'en');
+
+console.log(`words: ${right} right, ${wrong} wrong`);
+process.exit(wrong ? 1 : 0);

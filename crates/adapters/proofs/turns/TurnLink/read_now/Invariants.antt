@@ -1,9 +1,0 @@
--- No call has failed yet.
-use Rattle.std.proofs.Common.{◌≡◌}
-use Rattle.adapters.proofs.turns.TurnLink.read_now.Given as goal
-
-abbrev pub invariant-loop : goal.invariant-loop
-invariant-loop g l = record {
-  reads : l.self.read_faults ≡ l.initial.self.read_faults;
-  writes : l.self.write_faults ≡ l.initial.self.write_faults;
-}

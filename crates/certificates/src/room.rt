@@ -1,0 +1,16 @@
+// Bytes behind others in a buffer, where they have room.
+ghost use Rattle.certificates.specs.Puts.{Puts};
+
+/// Puts some bytes behind the first `used` bytes of a buffer, and answers how many bytes are used then. Bytes that have no room are only
+/// counted.
+pub(crate) fn put(text: &mut [u8], used: usize, more: &[u8]) -> usize
+    ensures { Puts more.now used text.old text.new result }
+{
+    let Some(end) = used.checked_add(more.len()) else {
+        return usize::MAX;
+    };
+    if end <= text.len() {
+        text[used..end].copy_from_slice(more);
+    }
+    end
+}

@@ -1,0 +1,4 @@
+pub mod Cases
+pub mod Fields
+pub mod Plans
+pub mod Replies

@@ -1,0 +1,40 @@
+-- How numbers of a caller are answered.
+use Rattle.std.specs.Prelude.{◌≡◌, ◌≤◌, ◌⊎◌, ℕ, List, Err, length, take}
+use Rattle.bid_rules.specs.declared.cases.Case.{Case}
+use Rattle.bid_rules.specs.declared.cases.Case.TheVariants.{Rent, Goods, Fares}
+use Rattle.case_fields.specs.declared.fields.BodyFault.TheVariants.{Field}
+use Rattle.case_fields.specs.declared.fields.FieldName.{FieldName}
+use Rattle.certificates.specs.Canonical.{IsCanonical}
+use Rattle.command_results.specs.Handing.{HandsOut}
+use Rattle.command_results.specs.declared.stop.Stop.TheVariants.{BadCase, OverLimit}
+use Rattle.nash_search.specs.Division.{IsOverLimit}
+use Rattle.fair_solver.specs.Cases.{AreFare, AreGoods, AreRent, fare_in, goods_in, rent_in}
+use Rattle.fair_solver.specs.Fields.{IsFareField, IsGoodsField, IsRentField}
+
+-- the size is that of the case's canonical certificate, and a buffer with room for it begins with it
+abbrev pub HandsCertificate : Case → ℕ → List ℕ → List ℕ → Type 0
+HandsCertificate case size before after = (text : List ℕ) × IsCanonical case text × (size ≡ length text) × (length text ≤ length before → take size after ≡ text)
+
+-- a field that breaks its rule is named
+abbrev pub Refuses : (FieldName → Type 0) → ℕ → ℕ → List ℕ → List ℕ → Type 0
+Refuses is_field status size before after = (field : FieldName) × is_field field × HandsOut (Err (BadCase (Field field))) status size before after
+
+-- the numbers are a valid rent, and its certificate is handed out; or they are none, and the field is named
+abbrev pub IsRentReply : ℕ → ℕ → List ℕ → ℕ → ℕ → List ℕ → List ℕ → Type 0
+IsRentReply members rent values status size before after =
+    ((status ≡ 0) × AreRent members rent values × HandsCertificate (Rent (rent_in members rent values)) size before after)
+    ⊎ ((AreRent members rent values → ⊥) × Refuses (IsRentField members rent) status size before after)
+
+-- the numbers are valid goods, and their certificate is handed out, or it is said that the step count is above their limit; or they are none, and
+-- the field is named
+abbrev pub IsGoodsReply : ℕ → ℕ → List ℕ → List ℕ → ℕ → ℕ → List ℕ → List ℕ → Type 0
+IsGoodsReply goods limit who values status size before after =
+    ((status ≡ 0) × AreGoods goods limit who values × HandsCertificate (Goods (goods_in goods limit who values)) size before after)
+    ⊎ ((AreGoods goods limit who values × IsOverLimit (goods_in goods limit who values) (record { limit = limit }) × HandsOut (Err (OverLimit limit)) status size before after)
+    ⊎ ((AreGoods goods limit who values → ⊥) × Refuses (IsGoodsField goods limit) status size before after))
+
+-- the numbers are a valid fare, and its certificate is handed out; or they are none, and the field is named
+abbrev pub IsFareReply : ℕ → ℕ → List ℕ → List ℕ → List ℕ → ℕ → ℕ → List ℕ → List ℕ → Type 0
+IsFareReply places flag legs who at status size before after =
+    ((status ≡ 0) × AreFare places flag legs who at × HandsCertificate (Fares (fare_in places flag legs who at)) size before after)
+    ⊎ ((AreFare places flag legs who at → ⊥) × Refuses (IsFareField places flag legs) status size before after)

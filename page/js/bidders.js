@@ -1,0 +1,77 @@
+// Who has bid, and until when: drawn, and asked for now and then while somebody looks.
+import { announce, box, fill, h, name } from './dom.js';
+import { locale, moment, t, text } from './language.js';
+import { hostNow, isRound, peek } from './api.js';
+
+const EVERY = 20_000;
+
+/** How long it is still, in the greatest two units. */
+function left(ms) {
+  const minutes = Math.max(0, Math.floor(ms / 60_000));
+  const [days, hours] = [Math.floor(minutes / 1440), Math.floor((minutes % 1440) / 60)];
+  const some = (unit, n) => n.toLocaleString(locale(), { style: 'unit', unit, unitDisplay: 'long' });
+  if (days) return `${some('day', days)} ${some('hour', hours)}`;
+  return hours ? `${some('hour', hours)} ${some('minute', minutes % 60)}` : some('minute', minutes);
+}
+
+export class Bidders {
+  constructor(place, view) {
+    Object.assign(this, { place, view, round: view.round, closing: null }); // closing: the organiser's button
+    this.silent = false; // whether the host did not answer when it was asked last
+    this.draw();
+    this.plan();
+  }
+
+  chip(member, i) {
+    const { bids, you } = this.round;
+    const has = bids.includes(i + 1);
+    return h('li', { class: has ? 'has' : 'lacks' }, h('span', { 'aria-hidden': 'true' }, has ? '✓ ' : '· '),
+      name(member), h('span', { class: 'sr' }, ' ', t(has ? 'hasBid' : 'lacksBid')), you === i + 1 && [' ', t('you')]);
+  }
+
+  draw() {
+    const { members, bids, deadline, kind } = this.round;
+    const missing = members.filter((_, i) => !bids.includes(i + 1));
+    const time = h('time', { datetime: new Date(deadline * 1000).toISOString() }, moment(deadline * 1000));
+    fill(this.place,
+      h('h2', {}, missing.length ? t('someBid', { n: bids.length, of: members.length }) : t('allBid')),
+      h('ul', { class: 'chips' }, members.map((member, i) => this.chip(member, i))),
+      h('p', { class: 'deadline' }, t('openUntil', { time, left: left(deadline * 1000 - hostNow()) }), ' ',
+        t(kind === 'rent' ? 'endsRent' : 'ends')),
+      this.silent && box('note', t('silent')), this.closing?.drawn(missing));
+  }
+
+  /** Asks who has bid; the form is left alone. */
+  async tick(quiet) {
+    const { path, link, alive, reload } = this.view;
+    clearTimeout(this.timer);
+    const now = await peek(path, link.key).catch(() => null);
+    if (!alive()) return;
+    if (now?.closed) { announce(text('closed')); reload(); return; }
+    if (isRound(now)) this.hear(now, quiet);
+    else {
+      if (!this.silent) announce(text('silent'));
+      this.silent = true;
+    }
+    this.draw();
+    this.plan();
+  }
+
+  /** The host said how the round is now. */
+  hear(now, quiet) {
+    if (!quiet && now.bids.length > this.round.bids.length) {
+      announce(text('someBid', { n: now.bids.length, of: now.members.length }));
+    }
+    this.round = now;
+    this.silent = false;
+    this.heard?.(now.bids);
+  }
+
+  plan() {
+    const rest = this.round.deadline * 1000 - hostNow();
+    const pause = rest > 0 && rest < EVERY ? rest + 1500 : EVERY + Math.random() * 5000;
+    this.timer = setTimeout(() => (document.hidden ? this.plan() : this.tick()), pause);
+  }
+
+  stop() { clearTimeout(this.timer); }
+}

@@ -1,0 +1,16 @@
+// The page that divides as a file of its own, divide.html: it works from a disk, with no server and no network.
+import { action, byId, fill } from './dom.js';
+import { help } from './help.js';
+import { languageSwitch, learn, learnMore, t, text } from './language.js';
+import { divideView } from './divide.js';
+
+async function show() {
+  await learnMore();
+  document.title = text('divide.title');
+  byId('main').dataset.view = 'divide';
+  fill(byId('languages'), action({ class: 'language', click: help }, t('help')), languageSwitch(show));
+  divideView(byId('main'), true);
+}
+
+await learn();
+show();

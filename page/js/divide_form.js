@@ -1,0 +1,130 @@
+// The form of a division without a server: who divides what, and who types the bids.
+import { box, byId, faultLine, field, fill, h, p, showFault } from './dom.js';
+import { locale, t, text } from './language.js';
+import { LIMITS, THINGS } from './rules.js';
+import { faults, rowsThatCount } from './faults.js';
+import { money, setCurrency } from './money.js';
+import { SUGGESTED, codeOf, currencyOf } from './currencies.js';
+import { MoneyField } from './money_field.js';
+import { NameList } from './name_list.js';
+import { Ways } from './ways.js';
+
+const MINUTE = 60_000; // a division without a server has no deadline; the rules want one
+const idOf = (of, at) => `${Object.values(THINGS).includes(of) ? 'things' : of}${at === '' ? '' : `-${at}`}`;
+
+export class DivideForm {
+  /** `start` is what the form held before; `done` gets the case, and whether the device is passed around. */
+  constructor(kind, start, done) {
+    Object.assign(this, { kind, done, isPassed: start.isPassed ?? true });
+    this.currency = h('input', { value: start.currency ?? currencyOf(locale()), list: 'currencies', maxlength: 3,
+      autocomplete: 'off', autocapitalize: 'characters', spellcheck: 'false', input: () => this.recur() });
+    this.recur();
+    this.title = h('input', { value: start.title ?? '', autocomplete: 'off' });
+    this.amount = new MoneyField({ value: start.amount ?? '' }, () => {});
+    this.lists(start);
+    this.ways = kind === 'fares' ? new Ways({ isBoth: true, ...start.ways }, this.things, () => {}) : null;
+    this.notes = h('div', { 'aria-live': 'polite' });
+    this.form = this.drawn();
+    this.people.draw();
+    this.things.draw();
+  }
+
+  lists({ people = ['', ''], things }) {
+    const { kind } = this;
+    const label = (which) => text(`kinds.${kind}.${which}`);
+    const renamed = () => this.ways?.label();
+    this.people = new NameList({ id: 'members', label: label('person'), names: [...people], least: 2, renamed,
+      most: LIMITS[kind === 'fares' ? 'riders' : 'members'][1], drawn: () => this.follow(),
+      removed: (i) => { if (kind === 'rent') this.things.names.splice(i, 1); } });
+    this.things = new NameList({ id: 'things', label: label('thing'), names: [...(things ?? ['', ''])], least: 1, renamed,
+      most: LIMITS[kind === 'goods' ? 'goods' : 'places'][1], isFixed: kind === 'rent',
+      drawn: () => this.ways?.draw(), removed: (i) => this.ways?.without(i) });
+  }
+
+  /** Of a rent, as many rooms as people. */
+  follow() {
+    if (this.kind !== 'rent' || !this.things.rows.firstChild) return;
+    while (this.things.names.length < this.people.names.length) this.things.names.push('');
+    this.things.draw();
+  }
+
+  recur() { setCurrency(codeOf(this.currency.value) ?? '', locale()); }
+
+  group({ id, rows }) {
+    const hint = id === 'things' && h('p', { class: 'hint' }, t(`kinds.${this.kind}.thingsHint`));
+    return h('fieldset', { id }, h('legend', {}, t(`kinds.${this.kind}.${id}`)), hint, rows, faultLine(id));
+  }
+
+  /** The amount of a kind, and its currency. */
+  amounts() {
+    const id = this.kind === 'rent' ? 'rent' : 'flag';
+    const sum = field(id, t(`form.${id}`), this.amount.input);
+    this.amount.input.after(this.amount.beside);
+    const codes = h('datalist', { id: 'currencies' }, SUGGESTED.map((code) => h('option', { value: code })));
+    return h('div', { class: 'two' }, sum, [field('currency', t('form.currency'), this.currency), codes]);
+  }
+
+  /** Whether each bids alone, or one person types all bids. */
+  how() {
+    const way = (isPassed, words) => h('label', { class: 'place' }, h('input', { type: 'radio', name: 'how',
+      checked: this.isPassed === isPassed, change: () => { this.isPassed = isPassed; } }), h('span', {}, t(words)));
+    return h('fieldset', {}, h('legend', {}, t('divide.who')),
+      h('div', { class: 'places' }, way(true, 'divide.pass'), way(false, 'divide.type')));
+  }
+
+  drawn() {
+    return h('form', { novalidate: true, submit: (event) => this.send(event) },
+      field('title', t('form.title'), this.title, t(`kinds.${this.kind}.example`)),
+      this.group(this.people), this.group(this.things), this.kind !== 'goods' && this.amounts(), this.ways?.set,
+      this.how(), this.notes, h('p', { class: 'row' }, h('button', { class: 'main' }, t('divide.begin'))));
+  }
+
+  /** The case without its bids; empty rows are left out. `rows` says where in the form its names stand. */
+  read() {
+    const { kind, people, things } = this;
+    const members = rowsThatCount(people.names, 2);
+    const rows = { members, things: rowsThatCount(things.names, kind === 'rent' ? members.length : 1) };
+    const named = (list, which) => rows[which].map((row) => list.names[row].trim());
+    const own = {
+      rent: () => ({ rent: this.amount.cents }), goods: () => ({ limit: LIMITS.steps }),
+      fares: () => ({ flag: this.amount.cents, legs: this.ways.between(rows.things) }),
+    }[kind]();
+    return { rows, made: { kind, title: this.title.value.trim(), members: named(people, 'members'),
+      [THINGS[kind]]: named(things, 'things'), ...own } };
+  }
+
+  /** The sentences of what is wrong, by the ids of the fields. */
+  wrong({ rows, made }) {
+    const says = ([path, given]) => text(path, given?.least === undefined ? given
+      : { least: money(given.least), most: money(given.most) });
+    const now = Date.now();
+    const deadline = new Date(now + MINUTE).toISOString();
+    return new Map(faults({ ...made, deadline }, now).map(({ field: of, at, says: why }) => {
+      if (of === 'legs') {
+        const [from, to] = at.split('-').map(Number);
+        return [`legs-${from ? rows.things[from - 1] + 1 : 0}-${rows.things[to]}`, says(why)];
+      }
+      const row = at === '' ? '' : rows[of === 'members' ? 'members' : 'things'][at];
+      return [idOf(of, row), says(why)];
+    }));
+  }
+
+  send(event) {
+    event.preventDefault();
+    const read = this.read();
+    const wrong = this.wrong(read);
+    const rowsOf = ({ id, names }) => names.map((_, i) => `${id}-${i}`);
+    for (const id of ['title', 'rent', 'flag', ...rowsOf(this.people), ...rowsOf(this.things)]) showFault(id, wrong.get(id) ?? '');
+    this.ways?.mark((id) => wrong.get(id) ?? '');
+    fill(this.notes, wrong.size > 0 && box('bad', p(t('form.mend', { n: wrong.size }))));
+    if (wrong.size > 0) byId([...wrong.keys()][0])?.focus();
+    else this.done(read.made, this.draft);
+  }
+
+  /** What the form holds, so that one can come back to it. */
+  get draft() {
+    const { title, people, things, ways, currency, isPassed, amount } = this;
+    return { title: title.value, people: people.names, things: things.names, ways: ways?.draft, isPassed,
+      amount: amount.input.value, currency: currency.value };
+  }
+}

@@ -1,0 +1,60 @@
+// Why a closed round has no result, and what is left to do.
+import { action, box, fill, h, p } from './dom.js';
+import { card, download } from './parts.js';
+import { names, number, t } from './language.js';
+import { toFrac } from './fractions.js';
+import { getText, hostNow, sentence } from './api.js';
+import { winnerCard } from './picture.js';
+import { proposalCard } from './proposal.js';
+import { makeAgain } from './creation.js';
+import { usualEnd } from './create.js';
+import { isRemembered } from './rounds_kept.js';
+
+/** Someone had no bid. Only the organiser can do something about it. */
+function voided({ round, again }, missing) {
+  const absent = names(missing.map((member) => String(round.members[member - 1])));
+  return [box('note', t(round.kind === 'rent' ? 'none.voidRent' : 'none.void', { names: absent })),
+    p(round.you === 0 ? action({ class: 'main', click: again }, t('none.again')) : t('none.askAgain'))];
+}
+
+/** The round that the organiser makes with one tap: the same people and things, and a new deadline. */
+function oneTap({ link, round, again }) {
+  const wrong = h('p', { class: 'fault' });
+  const button = action({ class: 'main', click: async () => {
+    button.disabled = true;
+    const how = { currency: link.currency, remembers: isRemembered(link) };
+    const refused = await makeAgain(round, usualEnd(round.kind, hostNow()), how);
+    button.disabled = false;
+    if (refused) fill(wrong, sentence(refused));
+  } }, t('none.oneTap'));
+  return [h('p', { class: 'row' }, button, action({ click: again }, t('none.again'))), wrong];
+}
+
+/** The search took too long. */
+async function endless(view, limit) {
+  const { round } = view;
+  const winner = round.bids.length === 2 ? await twoWay(view) : null;
+  const anew = card(t('none.round'), p(t(round.you === 0 ? 'none.roundHow' : 'none.roundAsk')), round.you === 0 && oneTap(view));
+  return [box('note', t('none.limit', { limit: number(limit) })), h('h2', {}, t('none.left')), anew, winner,
+    await proposalCard(view)];
+}
+
+/** For two: adjusted winner as the server tells it; null where it tells none. */
+async function twoWay({ round, path, link }) {
+  let winner;
+  try { winner = await getText(`${path}/winner`, link.key); } catch { return null; }
+  const row = (word) => winner.split('\n').find((line) => line.startsWith(`${word} `)).split(' ').slice(1);
+  const file = `round-${link.id}-winner.txt`;
+  const save = h('p', { class: 'row' }, action({ click: () => download(file, winner) }, t('files.winner')),
+    t('winner.check', { command: h('kbd', {}, `fairsplit checkwinner < ${file}`) }));
+  return winnerCard({
+    shares: row('shares').map(toFrac), total: toFrac(row('total')[0]), who: row('who').map(Number),
+    members: round.members, things: round.goods,
+  }, [p(t('winner.word')), save], true);
+}
+
+/** What there is to show for a refusal of a certificate; null where it says nothing of the round. */
+export async function noResult({ code, body }, view) {
+  if (code === 'void') return voided(view, body.missing ?? []);
+  return code === 'step_limit' ? endless(view, body.limit) : null;
+}

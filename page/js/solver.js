@@ -1,0 +1,57 @@
+// Divides by the proved modules, in a worker that can be stopped. `numbersOf` says of a case what the solver wants to know.
+import { fileOf, startWorker } from './carried.js';
+import { has64Bits } from '../judge/modules.js';
+
+/** What the solver of a kind is called with. `bids` has null for a member who takes no part. */
+const NUMBERS = {
+  rent: ({ rent, bids }) => [rent, bids],
+  goods: ({ limit, bids, who }) => [limit, who, who.map((member) => bids[member - 1])],
+  fares: ({ flag, legs, bids, who }) => [flag, legs, who, who.map((member) => bids[member - 1])],
+};
+
+/** The numbers of a case, for the solver of its kind. */
+export function numbersOf(made) {
+  const who = made.bids.flatMap((bid, i) => (bid === null ? [] : [i + 1]));
+  return NUMBERS[made.kind]({ ...made, who });
+}
+
+let modules = null;
+
+/** The bytes of both modules. They are asked for once. */
+function moduleBytes() {
+  const bits = has64Bits() ? '64' : '32';
+  modules ??= Promise.all([fileOf(`solver${bits}.wasm`), fileOf(`judge${bits}.wasm`)])
+    .then(([solver, judge]) => ({ solver, judge })).catch((fault) => { modules = null; throw fault; });
+  return modules;
+}
+
+/** A worker that divides one case after the other. */
+export class Solver {
+  /** What comes of a case: { status, text, says }; with the status null where the modules don't run here. */
+  async solve(made) {
+    try {
+      const task = { modules: await moduleBytes(), kind: made.kind, numbers: numbersOf(made) };
+      return await this.ask(task);
+    } catch {
+      this.stop();
+      return { status: null };
+    }
+  }
+
+  ask(task) {
+    this.worker ??= startWorker('solve');
+    return new Promise((done, fail) => {
+      this.fail = fail;
+      this.worker.onmessage = ({ data }) => done(data);
+      this.worker.onerror = fail;
+      this.worker.postMessage(task);
+    });
+  }
+
+  /** Ends the work; what is asked afterwards starts anew. */
+  stop() {
+    this.worker?.terminate();
+    this.worker = null;
+    this.fail?.(new Error('stopped'));
+  }
+}

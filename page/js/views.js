@@ -1,0 +1,28 @@
+// The views that belong to no round.
+import { box, fill, h, heading, p } from './dom.js';
+import { learnMore, t, text } from './language.js';
+import { choose } from './start.js';
+import { pending } from './creation.js';
+
+/** Shows the view of a fragment, unless another one is wanted meanwhile. */
+export async function showOwn(root, hash) {
+  const made = /^#new-(rent|goods|fares)$/.exec(hash);
+  const { create } = made ? await import('./create.js') : {};
+  const { checkView } = hash === '#check' ? await import('./checkview.js') : {};
+  const { divideView } = hash === '#divide' ? await import('./divide.js') : {};
+  await learnMore();
+  if (hash !== location.hash) return;
+  const named = { '#check': 'check.link', '#divide': 'divide.title' }[hash];
+  document.title = named ? `${text(named)} – ${text('site')}` : text('site');
+  root.dataset.view = made ? 'form' : { '#check': 'check', '#divide': 'divide' }[hash] ?? 'start';
+  if (made) create(root, made[1]);
+  else if (checkView) checkView(root);
+  else if (divideView) divideView(root);
+  else if (hash === '' || hash === '#') choose(root);
+  else {
+    fill(root, heading(t('link.broken')), box('bad', t('link.brokenWhy')), p(t('link.lost')), p(t('link.lostOwn')),
+      p(h('a', { href: '#' }, t('toStart'))));
+  }
+  const open = pending();
+  if (open) root.prepend(open);
+}

@@ -1,0 +1,61 @@
+// What the loaders of the proved modules share: which module runs in this browser, and how a function of it is called.
+
+const PAGE_BYTES = 65_536;
+const APART = 16; // lists begin at multiples of this, as the types of their numbers want
+// A module with a 64-bit memory of one page, and nothing else.
+const WITH_64_BITS = new Uint8Array([0, 97, 115, 109, 1, 0, 0, 0, 5, 3, 1, 4, 1]);
+
+/** Whether modules with a 64-bit memory run here. */
+export function has64Bits() {
+  return WebAssembly.validate(WITH_64_BITS);
+}
+
+/** The module of this name for the memory that this browser has. `fileOf` gives the bytes of a file. */
+export async function compiled(name, fileOf) {
+  return WebAssembly.compile(await fileOf(`${name}${has64Bits() ? '64' : '32'}.wasm`));
+}
+
+/** Lets the memory have all bytes below this address. */
+function reserve(memory, end) {
+  const missing = end - memory.buffer.byteLength;
+  if (missing <= 0) return;
+  const pages = Math.ceil(missing / PAGE_BYTES);
+  try {
+    memory.grow(BigInt(pages));
+  } catch (error) {
+    if (!(error instanceof TypeError)) throw error;
+    memory.grow(pages); // a 32-bit memory, and the 64-bit one of older engines, take a number
+  }
+}
+
+/** The next address at which a list may begin. */
+function aligned(address) {
+  return Math.ceil(address / APART) * APART;
+}
+
+/**
+ * Calls a function of a module in an instance of its own, so that nothing of one call can reach another: with these numbers, these lists, lists
+ * that it fills, and a buffer with this room. Memory from the heap's base on is the caller's, because no module has an allocator. The answer has
+ * the status, the text, and how many amounts or bytes the function says that there are.
+ */
+export async function called(module, name, numbers, lists, room, filled = []) {
+  const { exports } = await WebAssembly.instantiate(module, {});
+  const sizeAt = aligned(Number(exports.__heap_base.value));
+  const textAt = sizeAt + APART;
+  const words = [...numbers];
+  const places = [];
+  let end = aligned(textAt + room);
+  for (const list of [...lists, ...filled]) {
+    words.push(BigInt(end), BigInt(list.length));
+    places.push(end);
+    reserve(exports.memory, end + list.byteLength);
+    new Uint8Array(exports.memory.buffer, end).set(new Uint8Array(list.buffer, list.byteOffset, list.byteLength));
+    end = aligned(end + list.byteLength);
+  }
+  reserve(exports.memory, end);
+  const status = exports[name](...words, BigInt(textAt), BigInt(room), BigInt(sizeAt));
+  filled.forEach((list, place) => new Uint8Array(list.buffer).set(new Uint8Array(exports.memory.buffer, places[lists.length + place], list.byteLength)));
+  const size = Number(new DataView(exports.memory.buffer).getBigUint64(sizeAt, true));
+  const text = new TextDecoder().decode(new Uint8Array(exports.memory.buffer, textAt, Math.min(size, room)));
+  return { status, text, size };
+}

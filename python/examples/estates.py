@@ -1,0 +1,76 @@
+#!/usr/bin/env python3
+"""A thousand estates: draws them, divides each in one of four threads, and shows who would rather have another's share, and how long it took.
+
+    estates.py [COUNT] [THREADS] [SEED]
+
+A call lets go of the interpreter's lock, so the threads run side by side. The picture needs matplotlib, and is left out without it.
+"""
+import random
+import statistics
+import sys
+import time
+from concurrent.futures import ThreadPoolExecutor
+
+import fairsplit
+
+
+# %% Draw the estates
+def points(draw, goods):
+    """A thousand points over the goods: the steps between numbers that were drawn and sorted."""
+    cuts = sorted(draw.randint(0, 1000) for _ in range(goods - 1))
+    return [after - before for before, after in zip([0, *cuts], [*cuts, 1000])]
+
+
+def estate(draw):
+    """The bids of two to five heirs for three to nine goods."""
+    heirs, goods = draw.randint(2, 5), draw.randint(3, 9)
+    return [points(draw, goods) for _ in range(heirs)]
+
+
+# %% Divide one, and measure it
+def divided(bids):
+    """The most that an heir would gain from another's share, the share that is worth least to its heir, and the milliseconds that it took."""
+    begun = time.perf_counter()
+    division = fairsplit.goods(bids)
+    took = 1000 * (time.perf_counter() - begun)
+    envy = max(max(row) for row in division.envy)
+    return max(envy, 0), min(share.points for share in division.shares), took
+
+
+# %% Divide them all
+def main(count=1000, threads=4, seed=7):
+    draw = random.Random(seed)
+    estates = [estate(draw) for _ in range(count)]
+    begun = time.perf_counter()
+    with ThreadPoolExecutor(threads) as pool:
+        rows = list(pool.map(divided, estates))
+    seconds = time.perf_counter() - begun
+    envies, least, times = zip(*rows)
+    print(f'{count} estates in {seconds:.2f} s by {threads} threads')
+    print(f'without envy: {sum(envy == 0 for envy in envies)}; greatest envy: {max(envies)} points')
+    print(f'least points of an heir: {min(least)}; milliseconds an estate: {statistics.median(times):.2f} in the middle, {max(times):.1f} at most')
+    picture(envies, times)
+
+
+# %% Show them
+def picture(envies, times):
+    """Writes estates.png, where matplotlib is installed."""
+    try:
+        import matplotlib
+    except ImportError:
+        print('no picture: matplotlib is not installed')
+        return
+    matplotlib.use('Agg')
+    from matplotlib import pyplot
+    _, (left, right) = pyplot.subplots(1, 2, figsize=(9, 3.5))
+    left.hist(envies, bins=30)
+    left.set(xlabel='greatest envy, points', ylabel='estates')
+    right.hist(times, bins=30, log=True)
+    right.set(xlabel='milliseconds')
+    pyplot.tight_layout()
+    pyplot.savefig('estates.png', dpi=120)
+    print('estates.png')
+
+
+if __name__ == '__main__':
+    main(*map(int, sys.argv[1:]))

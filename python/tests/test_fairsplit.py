@@ -1,0 +1,233 @@
+"""Tests of the package over the real library. They run where it is installed:
+
+    python -m unittest discover -s python/tests
+
+What is due for the examples is in examples/, as for the command line.
+"""
+import json
+import threading
+import unittest
+from concurrent.futures import ThreadPoolExecutor
+from decimal import Decimal
+from fractions import Fraction
+from pathlib import Path
+
+import fairsplit
+from fairsplit import NotTwo, OverLimit, Refused, Verdict, Void, numbers
+
+EXAMPLES = Path(__file__).resolve().parents[2] / 'examples'
+FLAT = [[800, 100, 0], [700, 200, 0], [300, 300, 300]]
+LEGS = [[1000, 1500], [0, 700], [900, 0]]
+
+
+def example(name):
+    """A case of examples/."""
+    return json.loads((EXAMPLES / f'{name}.json').read_text())
+
+
+def text(name):
+    """A text of examples/."""
+    return (EXAMPLES / f'{name}.txt').read_text()
+
+
+def flat():
+    """What the three of the flat would pay for its rooms."""
+    case = example('flat-for-three')
+    return {member: dict(zip(case['rooms'], bid)) for member, bid in zip(case['members'], case['bids'])}
+
+
+def heirs():
+    """What the goods of the house are worth to the three heirs."""
+    case = example('three-heirs')
+    return {member: dict(zip(case['goods'], bid)) for member, bid in zip(case['members'], case['bids'])}
+
+
+class Rents(unittest.TestCase):
+    def test_the_flat_of_the_examples(self):
+        division = fairsplit.rent(900, flat())
+        self.assertEqual(division.certificate, text('flat-for-three'))
+        self.assertEqual([(share.member, share.room, share.price, share.pays, share.utility) for share in division.shares],
+                         [('Ann', 'Attic', 700, 700, 100), ('Ben', 'Back', 100, 100, 100), ('Cy', 'Cellar', 100, 100, 200)])
+        self.assertEqual(division.least_utility, 100)
+        self.assertEqual(division.envy, ((0, -100, -200), (-100, 0, -200), (-600, 0, 0)))
+        self.assertEqual(division.records()[0]['room'], 'Attic')
+
+    def test_half_cents_are_exact_and_whole_cents_add_up(self):
+        case = example('odd-rent')
+        division = fairsplit.rent(case['rent'], case['bids'])
+        self.assertEqual(division.shares[0].price, Fraction(1101, 2))
+        self.assertEqual(sum(share.pays for share in division.shares), case['rent'])
+        self.assertEqual(division.shares[0].member, 1)
+
+    def test_money_as_decimal(self):
+        bids = [[Decimal('6.00'), Decimal('3')], [Decimal('5.0'), Decimal('4')]]
+        self.assertEqual(fairsplit.rent(Decimal(9), bids).shares, fairsplit.rent(900, [[600, 300], [500, 400]]).shares)
+        with self.assertRaises(ValueError):
+            fairsplit.rent(Decimal('9.001'), bids)
+        with self.assertRaises(TypeError):
+            fairsplit.rent(900, bids)
+
+    def test_a_float_is_no_amount(self):
+        for total, bid in ((900.0, 600), (900, 600.0), (True, 600), ('900', 600)):
+            with self.assertRaises(TypeError):
+                fairsplit.rent(total, [[bid, 300], [500, 400]])
+
+    def test_names_may_repeat_and_be_anything(self):
+        division = fairsplit.rent(900, [[600, 300], [500, 400]], members=['Kim', 'Kim'], rooms=['a room with a name of more than forty bytes', ('r', 2)])
+        self.assertEqual([share.member for share in division.shares], ['Kim', 'Kim'])
+        self.assertEqual(division.shares[1].room, ('r', 2))
+
+    def test_a_missing_bid_is_named(self):
+        with self.assertRaises(Void) as caught:
+            fairsplit.rent(900, {'Ann': {'Attic': 600, 'Back': 300}, 'Ben': None})
+        self.assertEqual((caught.exception.missing, caught.exception.status), (('Ben',), 1))
+
+    def test_a_refused_field_is_named(self):
+        with self.assertRaises(Refused) as caught:
+            fairsplit.rent(900, [[600, 301], [500, 400]])
+        self.assertEqual((caught.exception.status, caught.exception.field, caught.exception.line), (3, 'bids', None))
+
+
+class Goods(unittest.TestCase):
+    def test_the_heirs_of_the_examples(self):
+        division = fairsplit.goods(heirs())
+        self.assertEqual(division.certificate, text('three-heirs'))
+        self.assertEqual(division.owners, ('Ada', 'Cleo', 'Bo', 'Cleo', 'Bo'))
+        self.assertEqual(division.shares[1].goods, ('Car', 'Paintings'))
+        self.assertEqual((division.positive, division.product, division.steps), (3, 400 * 650 * 400, 11))
+        self.assertEqual(division.envy[1], (-550, 0, -400))
+
+    def test_who_has_not_bid_has_no_share(self):
+        division = fairsplit.goods({'A': {'x': 400, 'y': 600}, 'B': None, 'C': {'y': 300, 'x': 700}})
+        self.assertEqual([share.member for share in division.shares], ['A', 'C'])
+        self.assertEqual(division.owners, ('C', 'A'))
+
+    def test_who_gets_nothing_has_a_share_of_nothing(self):
+        division = fairsplit.goods([[1000, 0], [500, 500], [600, 400]])
+        self.assertEqual([share.goods for share in division.shares], [(1,), (2,), ()])
+        self.assertEqual((division.owners, division.shares[2].points), ((1, 2), 0))
+
+    def test_a_limit_that_is_too_low(self):
+        with self.assertRaises(OverLimit) as caught:
+            fairsplit.goods(heirs(), limit=10)
+        self.assertEqual(caught.exception.limit, 10)
+
+    def test_an_audit(self):
+        audit = fairsplit.weigh(heirs(), ['Ada', 'Cleo', 'Bo', 'Cleo', 'Bo'])
+        self.assertIsNone(audit.dominating)
+        self.assertEqual({said for _, _, said in audit.envy}, {'content'})
+        worse = fairsplit.weigh(heirs(), {'Piano': 'Bo', 'Clock': 'Cleo', 'Car': 'Ada', 'Ring': 'Cleo', 'Paintings': 'Bo'})
+        self.assertEqual(len(worse.dominating), 5)
+
+    def test_adjusted_winner(self):
+        case = example('attic-for-two')
+        division = fairsplit.winner(case['bids'], members=case['members'], goods=case['goods'])
+        self.assertEqual(division.text, text('attic-for-two.winner'))
+        self.assertEqual((division.shares, division.total), ((Fraction(10, 11), 0), Fraction(7000, 11)))
+        self.assertTrue(fairsplit.check_winner(division.text))
+        with self.assertRaises(NotTwo):
+            fairsplit.winner(heirs())
+
+    def test_a_file_of_values(self):
+        table = fairsplit.read_table([',Piano,Clock,Car,Ring,Paintings', 'Ada,400,100,250,150,100', 'Bo,100,150,450,100,200', 'Cleo,250,100,300,300,50', 'Di,,,,,'])
+        self.assertEqual(fairsplit.goods(table).owners, ('Ada', 'Cleo', 'Bo', 'Cleo', 'Bo'))
+
+    def test_arrays_and_frames(self):
+        case = example('three-heirs')
+        try:
+            import numpy
+        except ImportError:
+            self.skipTest('NumPy is not installed')
+        self.assertEqual(fairsplit.goods(numpy.array(case['bids'])).certificate, text('three-heirs'))
+        with self.assertRaises(TypeError):
+            fairsplit.goods(numpy.array(case['bids'], dtype=float))
+        try:
+            import pandas
+        except ImportError:
+            self.skipTest('pandas is not installed')
+        frame = pandas.DataFrame(case['bids'], index=case['members'], columns=case['goods'])
+        self.assertEqual(fairsplit.goods(frame).shares, fairsplit.goods(heirs()).shares)
+
+
+class Fares(unittest.TestCase):
+    def test_the_taxi_of_the_examples(self):
+        legs = {'origin': {'Station': 1000, 'Harbour': 1500}, 'Station': {'Station': 0, 'Harbour': 700}, 'Harbour': {'Station': 900, 'Harbour': 0}}
+        division = fairsplit.fares(300, legs, {'Ann': 'Station', 'Ben': 'Harbour'})
+        self.assertEqual(division.certificate, text('taxi-for-two'))
+        self.assertEqual([(share.fare, share.pays, share.alone) for share in division.shares], [(750, 750, 1300), (1250, 1250, 1800)])
+        self.assertEqual((division.route, division.total), (('Ann', 'Ben'), 2000))
+
+    def test_who_does_not_ride(self):
+        division = fairsplit.fares(300, [[1000, 1500], [0, 700], [900, 0]], [2, None, 1], members=['A', 'B', 'C'])
+        self.assertEqual(([share.member for share in division.shares], division.route), (['A', 'C'], ('C', 'A')))
+
+
+class Numbers(unittest.TestCase):
+    def test_certificates(self):
+        case = example('three-heirs')
+        self.assertEqual(numbers.goods(case.get('limit', 100_000), [1, 2, 3], case['bids']), (0, text('three-heirs')))
+        self.assertEqual(numbers.fares(300, LEGS, [1, 2], [1, 2]), (0, text('taxi-for-two')))
+        self.assertEqual(numbers.rent(900, FLAT), (0, text('flat-for-three')))
+
+    def test_whole_cents(self):
+        self.assertEqual(numbers.rent_cents(900, FLAT), (0, [700, 100, 100]))
+        self.assertEqual(numbers.rent_cents(900, [[600, 300], [501, 399]]), (0, [551, 349]))
+        self.assertEqual(numbers.fares_cents(300, LEGS, [1, 2], [1, 2]), (0, [750, 1250]))
+
+    def test_refusals(self):
+        self.assertEqual(numbers.rent(0, FLAT), (3, 'refused: field rent\n'))
+        self.assertEqual(numbers.rent_cents(901, FLAT), (3, 'refused: field bids\n'))
+        self.assertEqual(numbers.fares_cents(300, LEGS, [1, 1], [1, 2]), (3, 'refused: field bids\n'))
+        self.assertEqual(numbers.goods(10, [1, 2, 3], example('three-heirs')['bids']), (1, 'step limit 10\n'))
+
+    def test_what_32_bits_cannot_hold(self):
+        for wrong in (-1, 1 << 32):
+            with self.assertRaises(ValueError):
+                numbers.rent(wrong, FLAT)
+        with self.assertRaises(TypeError):
+            numbers.rent_cents(900.0, FLAT)
+        with self.assertRaises(ValueError):
+            numbers.rent(900, [[900], [450, 450]])
+
+
+class Verdicts(unittest.TestCase):
+    def test_verdicts(self):
+        certificate = text('flat-for-three')
+        self.assertEqual(fairsplit.check(certificate), Verdict(True))
+        self.assertEqual(fairsplit.check(certificate.encode()), Verdict(True))
+        forged = fairsplit.check(certificate.replace('prices 700 100 100', 'prices 699 101 100'))
+        self.assertEqual((bool(forged), forged.rule), (False, 7))
+        with self.assertRaises(Refused) as caught:
+            fairsplit.check(certificate.replace('members 3', 'members x'))
+        self.assertEqual((caught.exception.status, caught.exception.field, caught.exception.line), (3, None, 3))
+        with self.assertRaises(Refused) as caught:
+            fairsplit.check(b'x' * 4_000_001)
+        self.assertEqual((caught.exception.line, str(caught.exception)), (None, 'refused: too long'))
+
+    def test_each_example(self):
+        for path in EXAMPLES.glob('*.txt'):
+            if path.read_text().startswith('fairsplit 1\n'):
+                self.assertTrue(fairsplit.check(path.read_text()), path)
+
+
+class Threads(unittest.TestCase):
+    def test_many_at_once(self):
+        with ThreadPoolExecutor(8) as pool:
+            texts = set(pool.map(lambda _: fairsplit.goods(heirs()).certificate, range(200)))
+        self.assertEqual(texts, {text('three-heirs')})
+
+    def test_a_thread_with_little_stack(self):
+        case = example('ten-in-a-taxi')
+        found = []
+        before = threading.stack_size(128 * 1024)
+        try:
+            thread = threading.Thread(target=lambda: found.append(fairsplit.check(fairsplit.run('solve', json.dumps(case).encode())[1])))
+            thread.start()
+        finally:
+            threading.stack_size(before)
+        thread.join()
+        self.assertEqual(found, [Verdict(True)])
+
+
+if __name__ == '__main__':
+    unittest.main()
