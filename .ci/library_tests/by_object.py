@@ -23,7 +23,7 @@ def difference(row):
 
 
 def by_numbers(command, body):
-    """What the numbers of a case give: the certificate, or in place of a report what it says that each pays."""
+    """What the numbers of a case give: the certificate, or instead of a report the amounts that everyone pays."""
     who = [member for member, bid in enumerate(body['bids'], 1) if bid is not None]
     bids = [body['bids'][member - 1] for member in who]
     if body['kind'] == 'rent':
@@ -34,7 +34,7 @@ def by_numbers(command, body):
 
 
 def numbers_differ(row):
-    """Whether the solvers differ on a row that they can answer, or None for another row."""
+    """Whether the solvers differ on a row; None if it isn't one that they can answer."""
     command, given, status, text = row
     text = base64.b64decode(text).decode(errors='replace')
     if command not in ('solve', 'report') or (status and not text.startswith('step limit')):

@@ -92,7 +92,7 @@ def changed_word(draw, word):
 
 
 def forged(draw, text):
-    """A text in which a word or a line is another."""
+    """A text in which one word or one line was changed."""
     lines = text.decode().split('\n')
     at = draw.randrange(len(lines) - 1)
     words = lines[at].split(' ')
@@ -106,7 +106,7 @@ def forged(draw, text):
 
 
 def changed(draw, text):
-    """A text in which one byte is another."""
+    """A text in which one byte was changed."""
     at = draw.randrange(len(text))
     byte = draw.choice([other for other in b'0123456789+-=/ \nabcdefghijklmnopqrstuvwxyz\x00\xff' if other != text[at]])
     return text[:at] + bytes([byte]) + text[at + 1:]

@@ -1,5 +1,6 @@
 #!/usr/bin/env python3
-"""Times a thousand rents, by hand: by the installed package in one thread and in four, by the program started for each, and by HiGHS if SciPy is there.
+"""Times a thousand rents, by hand: by the installed package in one thread and in four, by the program started for each, and by HiGHS if SciPy is there;
+and 200 searches by the package, which is where threads help.
 
     speed.py PROGRAM [COUNT]
 
@@ -19,6 +20,8 @@ import fairsplit
 
 PEERS = os.path.join(os.path.dirname(os.path.abspath(__file__)), '../peers')
 SEED = 3
+SEARCHES = 200
+MOST_STEPS = 200_000
 
 
 def peers():
@@ -37,17 +40,31 @@ def flat(draw, rent, spread):
     return {'kind': 'rent', 'title': 'x', 'members': names, 'rooms': names, 'rent': rent, 'bids': bids}
 
 
+def searched(bids):
+    """How many steps the package takes to divide goods, or that it would take more than it may."""
+    try:
+        return fairsplit.goods(bids, limit=MOST_STEPS).steps
+    except fairsplit.OverLimit:
+        return f'more than {MOST_STEPS}'
+
+
 def started(program, case):
     """The certificate that the program writes, started for this case."""
     return subprocess.run([program, 'solve', '1'], input=json.dumps(case).encode(), stdout=subprocess.PIPE, check=True).stdout.decode()
 
 
+def processor_seconds():
+    """The processor time of this process and of the programs that it started."""
+    return sum(os.times()[:4])
+
+
 def timed(name, solve, cases, threads=1):
-    """What is found for each case. Writes how long it took."""
-    begun = time.perf_counter()
+    """What is found for each case. Writes how long it took, and how much processor time."""
+    begun, used = time.perf_counter(), processor_seconds()
     with ThreadPoolExecutor(threads) as pool:
         found = list(pool.map(solve, cases))
-    print(f'{name}, {threads} at once: {len(cases)} rents in {time.perf_counter() - begun:.2f} s')
+    took, used = time.perf_counter() - begun, processor_seconds() - used
+    print(f'{name}, {threads} at once: {len(cases)} cases in {took:.2f} s, {used:.2f} s of a processor')
     return found
 
 
@@ -57,12 +74,14 @@ def main(program, count=1000):
     cases = [flat(draw, other.RENT, other.spread) for _ in range(int(count))]
     found = {}
     for threads in (1, 4):
-        found[threads] = timed('names in, report out', lambda case: fairsplit.rent(case['rent'], case['bids']), cases, threads)
+        found[threads] = timed('names in, division out', lambda case: fairsplit.rent(case['rent'], case['bids']), cases, threads)
         found[threads, 'numbers'] = timed('numbers in, certificate out', lambda case: fairsplit.numbers.rent(case['rent'], case['bids'])[1], cases, threads)
         found[threads, 'program'] = timed('the program', lambda case: started(program, case), cases, threads)
     texts = [[division if isinstance(division, str) else division.certificate for division in divisions] for divisions in found.values()]
     wrong = sum(any(text != same[0] for text in same) for same in zip(*texts))
     print(f'{wrong} certificates differ')
+    estates = [[other.spread(draw, other.POINTS, 12) for _ in range(5)] for _ in range(SEARCHES)]
+    wrong += timed('long searches', searched, estates) != timed('long searches', searched, estates, 4)
     try:
         import scipy.optimize  # noqa: F401
     except ImportError:

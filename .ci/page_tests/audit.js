@@ -91,6 +91,15 @@ for (const e of document.querySelectorAll('input:not([type=range]):not([type=fil
   if (ratio < 3) faults.push(`border ${ratio.toFixed(2)}: ${head(e)}`);
 }
 
+for (const e of document.querySelectorAll('input[placeholder], textarea[placeholder]')) {
+  if (!visible(e) || e.disabled || e.value) continue;
+  const words = getComputedStyle(e, '::placeholder');
+  const behind = ground(e);
+  const colour = rgb(words.color);
+  const ratio = contrast(over([...colour.slice(0, 3), colour[3] * Number(words.opacity)], behind), behind);
+  if (ratio < 4.5) faults.push(`placeholder ${ratio.toFixed(2)}: ${head(e)}`);
+}
+
 // reflow, with the spaces that a reader may set, and motion
 const spaced = arguments[1] ? { 'letter-spacing': '.12em', 'word-spacing': '.16em', 'line-height': '1.5' } : {};
 for (const [name, value] of Object.entries(spaced)) document.body.style.setProperty(name, value);

@@ -7,6 +7,7 @@ import { dirname, join } from 'node:path';
 import { fileURLToPath } from 'node:url';
 import { judging, lineOf } from '../../page/js/check.js';
 import { exact } from '../../page/js/fractions.js';
+import { LIMITS } from '../../page/js/rules.js';
 import { adjustedWinner, fareShares, goodsShares, rentShares } from '../../page/js/shares.js';
 
 const [program, seed, count] = [process.argv[2], Number(process.argv[3]), Number(process.argv[4])];
@@ -61,6 +62,23 @@ const DRAWN = {
   fares() {
     const n = 2 + draw(5), p = 1 + draw(4), far = draw(2) ? 5 : 2000;
     return { members: names(n, 'm'), places: names(p, 'p'), flag: draw(500), legs: list(p + 1, (from) => list(p, (to) => (from === to + 1 ? 0 : draw(far)))), bids: list(n, (i) => (i > 1 && !draw(5) ? null : 1 + draw(p))) };
+  },
+};
+
+/** One case of each kind with as many of everything as there may be. Each player wants two goods of their own, so that the search ends at once. */
+const GREATEST = {
+  rent() {
+    const n = LIMITS.members[1];
+    return { members: names(n, 'm'), rooms: names(n, 'r'), rent: LIMITS.rent, bids: list(n, () => spread(n, LIMITS.rent)) };
+  },
+  goods() {
+    const n = LIMITS.members[1], g = LIMITS.goods[1];
+    const wants = (i) => { const first = draw(LIMITS.points + 1); return list(g, (good) => (good === i ? first : good === n + i ? LIMITS.points - first : 0)); };
+    return { members: names(n, 'm'), goods: names(g, 'g'), limit: LIMITS.steps, bids: list(n, wants) };
+  },
+  fares() {
+    const n = LIMITS.riders[1], p = LIMITS.places[1];
+    return { members: names(n, 'm'), places: names(p, 'p'), flag: LIMITS.cost, legs: list(p + 1, (from) => list(p, (to) => (from === to + 1 ? 0 : LIMITS.cost - draw(2000)))), bids: list(n, () => 1 + draw(p)) };
   },
 };
 
@@ -131,10 +149,11 @@ async function compareReport(kind, input, text) {
 }
 
 const certificates = readdirSync(EXAMPLES).filter((name) => name.endsWith('.txt') && !/\.(report|winner|weigh)\.txt$/.test(name)).map((name) => readFileSync(join(EXAMPLES, name), 'utf8')).filter((text) => text.startsWith('fairsplit 1'));
-for (let i = 0; i < count; i++) {
-  const kind = Object.keys(DRAWN)[i % 3];
-  const input = JSON.stringify({ kind, title: 'x', ...DRAWN[kind]() });
+for (let i = -3; i < count; i++) {
+  const kind = Object.keys(DRAWN)[(i + 3) % 3];
+  const input = JSON.stringify({ kind, title: 'x', ...(i < 0 ? GREATEST : DRAWN)[kind]() });
   const text = await run(['solve', '1'], input);
+  if (!text.startsWith('fairsplit 1') && i < 0 && ++differ) console.log(`checkers: the greatest case of ${kind} gives ${text}`);
   if (!text.startsWith('fairsplit 1')) continue;
   certificates.push(text);
   await compareReport(kind, input, text);

@@ -37,7 +37,7 @@ def written(p, case):
 
 
 def bids(p, case, is_passed):
-    """Each bid: behind a curtain where the device is passed around."""
+    """Enters each bid: behind a curtain if the device is passed around."""
     for i, (name, bid) in enumerate(zip(case['members'], case['bids'])):
         if is_passed:
             p.has(f'Pass the device to {name}')
@@ -110,7 +110,7 @@ def alone(rig, olive, ann, ben, look_at, shots):
 
 
 def demo(rig, olive, ann, ben, look_at, shots):
-    """The demo of the start page: its divisions change with what one moves."""
+    """The demo of the start page: its divisions change when you move a slider."""
     ann.open(rig.url)
     ann.press('Try it with three')
     ann.one('#demo-result li', 60)
@@ -127,7 +127,7 @@ def demo(rig, olive, ann, ben, look_at, shots):
         shots(ann, f'D-demo-{kind}')
 
 
-# A worker whose two checks do not agree: the first argument is the line of the proved judge, the second that of the script.
+# A worker whose two checks disagree: the first argument is the line of the proved judge, the second that of the script.
 DISAGREEING = '''const [proved, says] = arguments;
 const [verdict, rule] = says.split(" ");
 window.Worker = class {
@@ -139,7 +139,7 @@ window.Worker = class {
 
 
 def judges(rig, olive, ann, ben):
-    """Both checks: where they differ there is no yes, and where the proved judge does not run the page says so."""
+    """Both checks: if they differ there is no yes, and if the proved judge can't run the page says so."""
     with open(os.path.join(TOP, 'examples/flat-for-three.txt'), encoding='utf-8') as file:
         flat = file.read()
 

@@ -1,13 +1,15 @@
-"""Browsers for the tests of the page: Chromium by its driver, over the driver's own protocol (W3C WebDriver), with Python's standard library alone."""
+"""Browsers for the tests of the page, with Python's standard library alone: what one person does in any of them, and Chromium by its driver, over the
+driver's own protocol (W3C WebDriver). firefox.py and webkit.py have the two other engines."""
 import base64
 import http.client
 import json
 import os
 import shutil
-import socket
 import subprocess
 import tempfile
 import time
+
+from rig import free_port, wait_for
 
 CHROMIUM = shutil.which('chromium') or shutil.which('chromium-browser') or shutil.which('google-chrome')
 CHROMEDRIVER = shutil.which('chromedriver')
@@ -26,59 +28,58 @@ FOCUSED = '''const e = document.activeElement;
 const s = getComputedStyle(e);
 return {id: e.id, tag: e.tagName, text: e.innerText, href: e.getAttribute("href") || "", seen: s.outlineStyle !== "none" && parseFloat(s.outlineWidth) > 0}'''
 VALUES = 'return [...document.querySelectorAll(arguments[0])].map((e) => arguments[1] === "value" ? e.value : e.getAttribute(arguments[1]))'
-# Refusals, replies that were lost on purpose, and a question at leaving that no click came before.
+# Refusals, replies that were lost on purpose, and a question on leaving a page on which nobody clicked.
 NOT_TOLD = (' status of 4', ' status of 50', 'Failed to load resource', 'Blocked attempt to show a')
 
 
 SLOWNESS = 3  # how much longer than usual a busy machine may take
+PATIENCE = 300  # seconds for one command of a driver
 
 
 class Fault(Exception):
     """The driver refused a command."""
 
 
-class Driver:
-    """A chromedriver, which is ended with `end`."""
+def ended(process):
+    """Ends a process that was started here."""
+    process.terminate()
+    try:
+        process.wait(30)
+    except subprocess.TimeoutExpired:
+        process.kill()
+        process.wait()
+
+
+class Chromium:
+    """Chromium: a chromedriver. `end` ends it."""
+    name = 'Chromium'
+    needs = {'chromium': CHROMIUM, 'chromedriver': CHROMEDRIVER}
 
     def __init__(self):
-        with socket.create_server(('127.0.0.1', 0)) as listener:
-            self.port = listener.getsockname()[1]
+        self.port = free_port()
         words = [CHROMEDRIVER, f'--port={self.port}', '--log-level=SEVERE']
         self.process = subprocess.Popen(words, stdout=subprocess.DEVNULL, stderr=subprocess.DEVNULL, env={**os.environ, 'LANGUAGE': 'en_GB'})
-        for _ in range(1200):
-            try:
-                socket.create_connection(('127.0.0.1', self.port), 1).close()
-                return
-            except OSError:
-                time.sleep(0.05)
+        wait_for(self.port)
+
+    def browser(self, phone=False, language='en-GB'):
+        return ChromiumBrowser(self.port, phone, language)
 
     def end(self):
-        self.process.terminate()
-        try:
-            self.process.wait(30)
-        except subprocess.TimeoutExpired:
-            self.process.kill()
-            self.process.wait()
+        ended(self.process)
 
 
 class Browser:
-    """A browser with a profile of its own: one person."""
+    """A browser with a profile of its own: one person. What differs between the engines stands in the classes of each."""
 
-    def __init__(self, driver, phone=False, language='en-GB'):
+    def __init__(self, phone):
         self.profile = tempfile.mkdtemp(prefix='fairsplit-browser-')
-        self.link = http.client.HTTPConnection('127.0.0.1', driver.port, timeout=120)
-        self.session = None
-        options = {'binary': CHROMIUM, 'args': SWITCHES + [f'--user-data-dir={self.profile}', f'--lang={language}'],
-                   'prefs': {'download.default_directory': self.profile + '/files', 'download.prompt_for_download': False, 'intl.accept_languages': language}}
-        wanted = {'browserName': 'chrome', 'goog:chromeOptions': options, 'goog:loggingPrefs': {'browser': 'ALL'}, 'unhandledPromptBehavior': 'ignore'}
-        made = self.call('POST', '/session', {'capabilities': {'alwaysMatch': wanted}})
-        self.session = made['sessionId']
+        os.mkdir(self.profile + '/files')
         self.home = (390, 844) if phone else (1200, 900)
-        self.size(*self.home)
-        self.look(False)
+        self.link = self.session = None
+        self.clicks = 0
 
     def call(self, method, path, body=None):
-        """One command of the protocol; its value."""
+        """Sends one command of the protocol. Gives its value."""
         self.link.request(method, path, None if body is None else json.dumps(body), {'Content-Type': 'application/json'})
         value = json.loads(self.link.getresponse().read())['value']
         if isinstance(value, dict) and value.get('error'):
@@ -87,17 +88,6 @@ class Browser:
 
     def ask(self, method, path, body=None):
         return self.call(method, f'/session/{self.session}{path}', body if body is not None or method != 'POST' else {})
-
-    def cdp(self, command, **given):
-        return self.ask('POST', '/goog/cdp/execute', {'cmd': command, 'params': given})
-
-    def look(self, dark):
-        """Light or dark, without motion."""
-        scheme = {'name': 'prefers-color-scheme', 'value': 'dark' if dark else 'light'}
-        self.cdp('Emulation.setEmulatedMedia', features=[scheme, {'name': 'prefers-reduced-motion', 'value': 'reduce'}])
-
-    def size(self, width, height):
-        self.cdp('Emulation.setDeviceMetricsOverride', width=width, height=height, deviceScaleFactor=1, mobile=width < 600)
 
     def open(self, url):
         self.ask('POST', '/url', {'url': 'about:blank'})
@@ -119,7 +109,7 @@ class Browser:
         return self.until(lambda: self.all(selector), seconds, f'there is no {selector}')[0]
 
     def until(self, what, seconds=30, why='it does not come'):
-        """What this answers, once it is something."""
+        """Waits until this gives something, and gives that."""
         end = time.time() + seconds * SLOWNESS
         while True:
             got = what()
@@ -136,7 +126,7 @@ class Browser:
         return self.run('return [...document.querySelectorAll(arguments[0])].map((e) => e.innerText)', selector)
 
     def values(self, selector, attribute):
-        """An attribute of each element, or for `value` what stands in the field."""
+        """An attribute of each element, or for `value` what is in the field."""
         return self.run(VALUES, selector, attribute)
 
     def has(self, words, selector='main', seconds=30):
@@ -146,6 +136,7 @@ class Browser:
             raise AssertionError(f'{words!r} is not in {self.text(selector)!r}') from None
 
     def click(self, selector, number=0):
+        self.clicks += 1
         self.one(selector)
         element = self.all(selector)[number]
         self.run('arguments[0].scrollIntoView({block: "center"})', {ELEMENT: element})
@@ -153,6 +144,7 @@ class Browser:
 
     def press(self, words):
         """Clicks the button that begins with these words."""
+        self.clicks += 1
         self.until(lambda: self.run(FIND_BUTTON, words), 20, f'there is no button {words!r} in {self.texts("main button")}')
         element = self.run(FIND_BUTTON, words)
         self.run('arguments[0].scrollIntoView({block: "center"})', element)
@@ -162,7 +154,7 @@ class Browser:
         return self.run(FIND_BUTTON + '?.disabled === false', words)
 
     def type(self, selector, words):
-        """Puts these words into a field as keys do."""
+        """Types these words into a field."""
         element = self.one(selector)
         self.ask('POST', f'/element/{element}/clear')
         self.ask('POST', f'/element/{element}/value', {'text': words})
@@ -173,20 +165,53 @@ class Browser:
         self.run(PUT, selector, value)
 
     def speak(self, code):
-        """Chooses a language as a person does: in the list."""
+        """Chooses a language in the list, as a person does."""
         self.one('#languages select')
         self.run('const list = document.querySelector("#languages select"); list.value = arguments[0]; list.dispatchEvent(new Event("change"))', code)
 
     def keys(self, words):
-        """Keys to whatever has the focus."""
+        """Sends keys to whatever has the focus."""
         self.ask('POST', '/actions', {'actions': [{'type': 'key', 'id': 'keys', 'actions': [{'type': kind, 'value': key} for key in words for kind in ('keyDown', 'keyUp')]}]})
 
     def focused(self):
-        """Of the element with the focus: id, tag, text, address, and whether the focus is seen."""
+        """The element with the focus: its id, tag, text and address, and whether one can see the focus."""
         return self.run(FOCUSED)
 
     def accept(self):
         self.ask('POST', '/alert/accept')
+
+    def end(self):
+        try:
+            if self.session:
+                self.ask('DELETE', '')
+        except (OSError, Fault, http.client.HTTPException):
+            pass
+        shutil.rmtree(self.profile, ignore_errors=True)
+
+
+class ChromiumBrowser(Browser):
+    """Chromium, which the driver starts without a window."""
+
+    def __init__(self, port, phone, language):
+        super().__init__(phone)
+        self.link = http.client.HTTPConnection('127.0.0.1', port, timeout=PATIENCE)
+        options = {'binary': CHROMIUM, 'args': SWITCHES + [f'--user-data-dir={self.profile}', f'--lang={language}'],
+                   'prefs': {'download.default_directory': self.profile + '/files', 'download.prompt_for_download': False, 'intl.accept_languages': language}}
+        wanted = {'browserName': 'chrome', 'goog:chromeOptions': options, 'goog:loggingPrefs': {'browser': 'ALL'}, 'unhandledPromptBehavior': 'ignore'}
+        self.session = self.call('POST', '/session', {'capabilities': {'alwaysMatch': wanted}})['sessionId']
+        self.size(*self.home)
+        self.look(False)
+
+    def cdp(self, command, **given):
+        return self.ask('POST', '/goog/cdp/execute', {'cmd': command, 'params': given})
+
+    def look(self, dark, forced=False):
+        """Light or dark, without motion; with the colours that somebody forced upon all pages, where that is asked for."""
+        features = {'prefers-color-scheme': 'dark' if dark else 'light', 'prefers-reduced-motion': 'reduce', 'forced-colors': 'active' if forced else 'none'}
+        self.cdp('Emulation.setEmulatedMedia', features=[{'name': name, 'value': value} for name, value in features.items()])
+
+    def size(self, width, height):
+        self.cdp('Emulation.setDeviceMetricsOverride', width=width, height=height, deviceScaleFactor=1, mobile=width < 600)
 
     def shot(self, path, selector=None, quality=None):
         """A picture of the whole page, or of one element."""
@@ -201,17 +226,9 @@ class Browser:
             file.write(base64.b64decode(data))
 
     def complaints(self):
-        """What the browser had to say, but for replies that are refusals."""
+        """What the browser complained about, except for refusals by the server."""
         lines = self.ask('POST', '/se/log', {'type': 'browser'})
         return [line['message'] for line in lines if line['level'] == 'SEVERE' and not any(words in line['message'] for words in NOT_TOLD)]
-
-    def end(self):
-        try:
-            if self.session:
-                self.ask('DELETE', '')
-        except (OSError, Fault, http.client.HTTPException):
-            pass
-        shutil.rmtree(self.profile, ignore_errors=True)
 
 
 FIND_BUTTON = 'return [...document.querySelectorAll("main button")].find((b) => b.getClientRects().length && b.innerText.trim().startsWith(arguments[0]))'

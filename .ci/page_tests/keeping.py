@@ -1,4 +1,4 @@
-"""Parts of rung (c): that nobody loses what they typed, their links or their bids, and that nobody is misled where no answer comes."""
+"""Parts of rung (c): nobody loses what they typed, their links or their bids, and nobody is misled if no answer comes."""
 import os
 import re
 import shutil
@@ -12,7 +12,7 @@ ITEMS = [f'Thing {i}' for i in range(8)]
 
 
 def rent_round(rig, people=('Ann', 'Ben'), end=86400):
-    """A rent without the page: its reply, and the links of organiser and members."""
+    """Creates a rent without the page. Gives the reply, and the links of organiser and members."""
     creation = {'kind': 'rent', 'title': 'Flat', 'members': list(people), 'rooms': ['A', 'B'], 'rent': 90000, 'deadline': soon(end), 'tag': tag()}
     made = api(rig, 'instances', body=creation)
     return made, f'{rig.url}#{made["id"]}.{made["organiser"]}.EUR.{creation["tag"]}', [f'{rig.url}#{made["id"]}.{key}.EUR' for key in made['keys']]
@@ -90,7 +90,7 @@ def remembered(rig, olive, ann, ben):
 
 
 def drafts(rig, olive, ann, ben):
-    """What is typed comes back after a reload, a tap on the logo and Back; and is gone once it was sent."""
+    """What someone typed comes back after a reload, a tap on the logo and Back. Once it has been sent, it is gone."""
     from rounds import links
     olive.open(rig.url + '#new-rent')
     for field, value in (('#title', 'Draft'), ('#members-0', 'Ann'), ('#rent', '1450'), ('#things-1', 'Back')):
@@ -136,7 +136,7 @@ def drafts(rig, olive, ann, ben):
 
 
 def unanswered(rig, olive, ann, ben):
-    """No answer: to a read, to what was sent, and late; a part of the page that does not load; no script at all."""
+    """No answer to a question or to something sent, or a late one; a part of the page that doesn't load; no script at all."""
     from rounds import look_at, shots
     made, _, keys = rent_round(rig)
     rig.lossy.deaf = True
@@ -195,9 +195,9 @@ def unanswered(rig, olive, ann, ben):
 
 
 def passed_limit(rig, olive, ann, ben):
-    """After a passed step limit: a proposal, a new round with one tap, and in it the old bid in round numbers."""
+    """If the step limit was passed: a proposal, a new round with one tap, and in it the old bid in round numbers."""
     from rounds import links, look_at, shots
-    # drawn so that rounding has remainders that tie
+    # chosen so that rounding has equal remainders
     bids = [[130, 130, 130, 130, 120, 120, 120, 120], [175, 175, 175, 175, 75, 75, 75, 75]]
     creation = {'kind': 'goods', 'title': 'Many', 'members': ['Ann', 'Ben'], 'goods': ITEMS, 'limit': 40, 'deadline': soon(86400), 'tag': tag()}
     made = api(rig, 'instances', body=creation)
@@ -244,7 +244,7 @@ def passed_limit(rig, olive, ann, ben):
 
 
 def proposal(rig, ann, made, bids):
-    """A proposal is typed, looked at, and saved as the file that weigh takes."""
+    """A proposal is typed, looked at, and saved as the file that weigh reads."""
     import json
     from rounds import holds, look_at, shots
     same('one’s own points stand there', ann.values('#points-0-0', 'value'), ['130'])
@@ -254,7 +254,7 @@ def proposal(rig, ann, made, bids):
     owners = [0, 0, 0, 0, 0, 0, 1, 1]
     ann.run('arguments[0].forEach((at, g) => { document.getElementById(`owner-${g}`).selectedIndex = at; }); document.getElementById("owner-0").dispatchEvent(new Event("input", {bubbles: true}))', owners)
     text = ann.text('#found')
-    for words in ('Ann gets 760 points', 'Ben gets 150 points', 'Ben would rather have what Ann has, by 700 points, whichever item', 'Nothing of it is proved'):
+    for words in ('Ann gets 760 points', 'Ben gets 150 points', 'Ben would rather have what Ann has, by 700 points, whichever item', 'None of it is proved'):
         check(f'{words!r} is told', words in text, text)
     look(ann, 'a proposal', look_at, shots)
     ann.press('Save the file')
@@ -268,7 +268,7 @@ def proposal(rig, ann, made, bids):
 
 
 def handed_on(rig, olive, ann, ben):
-    """The links: this is me, open, share, a code to be scanned; and who is missing."""
+    """The links: this is me, open, share, a code to scan; and who hasn't bid yet."""
     from rounds import links, look_at, shots, wake
     made, organiser, keys = rent_round(rig)
     olive.open(organiser)
@@ -307,7 +307,7 @@ def handed_on(rig, olive, ann, ben):
 
 
 def typing(rig, olive, ann, ben):
-    """Amounts by habit and by two buttons, Enter, empty rows, names that are too long, places along one road."""
+    """Amounts as people write them and by two buttons, Enter, empty rows, names that are too long, places along one road."""
     from rounds import links, look_at, shots
     olive.open(rig.url + '#new-rent')
     olive.one('#title')
@@ -356,10 +356,9 @@ def typing(rig, olive, ann, ben):
 
 
 def swiss(rig):
-    """Where a sign has no meaning, two buttons ask."""
-    from driver import Browser
+    """If the page can't know what a sign means, it asks with two buttons."""
     from rounds import links, look_at, shots
-    urs = Browser(rig.driver, True, 'de-CH')
+    urs = rig.engine.browser(True, 'de-CH')
     try:
         urs.open(rig.url + '#new-rent')
         urs.one('#title')
@@ -394,7 +393,7 @@ def swiss(rig):
 
 
 def in_sight(rig, olive, ann, ben):
-    """On a phone the sum and the button that sends stay in sight; turns are told from the fifteenth on; text of twice the size fits."""
+    """On a phone the sum and the button that sends stay in sight. Turns are shown from the fifteenth on. Text of twice the size fits."""
     from rounds import shots
     made, _, keys = rent_round(rig)
     for turn in range(1, 15):

@@ -4,28 +4,17 @@ import os
 import shutil
 import socket
 import subprocess
+import sys
 import tempfile
 import threading
 import time
 
 HERE = os.path.dirname(os.path.abspath(__file__))
+sys.path.insert(0, os.path.join(HERE, '..'))
+from host import Host, free_port, wait_for  # noqa: E402
 PAGE = os.path.join(HERE, '../../page')
+DOCS = os.path.join(HERE, '../../docs')
 NGINX = shutil.which('nginx') or (os.access('/usr/sbin/nginx', os.X_OK) and '/usr/sbin/nginx')
-
-
-def free_port():
-    with socket.create_server(('127.0.0.1', 0)) as listener:
-        return listener.getsockname()[1]
-
-
-def wait_for(port):
-    for _ in range(1200):
-        try:
-            socket.create_connection(('127.0.0.1', port), 1).close()
-            return
-        except OSError:
-            time.sleep(0.05)
-    raise OSError(f'nobody listens at {port}')
 
 
 def policy():
@@ -143,10 +132,9 @@ class Rig:
         home = os.path.join(self.folder, name)
         os.mkdir(home)
         subprocess.run([program, 'init', os.urandom(32).hex()], cwd=home, check=True)
-        port = free_port()
-        self.begin([program, 'serve', str(port), '2', '1000000'], cwd=home)
-        wait_for(port)
-        return port
+        host = Host(program, home, workers=2)
+        self.started.append(host.process)
+        return host.port
 
     def begin(self, words, **more):
         process = subprocess.Popen(words, stdout=subprocess.DEVNULL, **more)
@@ -186,13 +174,18 @@ http {{
 '''
 
     def place(self, path, port, lines):
-        """The page and the routes of a host at a path."""
+        """The page with its help, and the routes of a host, at a path."""
+        folders = {'': PAGE, 'help/': os.path.join(DOCS, 'site'), 'pictures/': os.path.join(DOCS, 'pictures')}
         return f'''location {path}instances {{
             proxy_pass http://127.0.0.1:{port}/instances;
             {lines['/instances']}
         }}
-        location {path} {{
-            alias {os.path.realpath(PAGE)}/;
+        {' '.join(self.files(path + below, folder, lines) for below, folder in folders.items())}'''
+
+    def files(self, path, folder, lines):
+        """The files of a folder at a path."""
+        return f'''location {path} {{
+            alias {os.path.realpath(folder)}/;
             gzip on;
             gzip_types text/css application/javascript application/wasm image/svg+xml;
             {lines['/']}

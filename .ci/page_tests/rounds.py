@@ -1,11 +1,14 @@
 """Rung (c) of .ci/page: whole rounds of the three kinds through the page, in real browsers against a real host behind nginx. What is shown is compared with
 what the program writes of the same case.
 
-rounds.py [--shots FOLDER] [--picture] [PART..]     the parts named, or those of the gate; pictures of each view into FOLDER; --picture writes
-                                                    the README's anew
+rounds.py [--engine ENGINE] [--shots FOLDER] [--picture] [PART..]
 
-The parts of the gate take less than SECONDS on two processors. One for which no time is left counts as wrong.
+It plays the parts named, or those of the gate, in chromium, firefox or webkit; chromium if none is said. --shots puts pictures of each view into FOLDER,
+and --picture writes the README's anew. The gate plays all its parts in Chromium, and in the two others those that tell most; any part can be played by name.
+Some of Chromium's need its own protocol: CHROMIUM_ONLY. The parts of the gate take less than SECONDS on two processors. One for which no time is left
+counts as wrong.
 """
+import argparse
 import json
 import os
 import random
@@ -18,22 +21,26 @@ import traceback
 import urllib.request
 from concurrent.futures import ThreadPoolExecutor
 
-import keeping
 import dividing
+import keeping
+import proving
+import reading
 import speaking
-from driver import KEYS, Browser, Driver
+from driver import KEYS
+from engines import ENGINES, lacking
 from rig import HERE, PAGE, Rig
+from smaller import smaller
 from tally import PROGRAM, TALLY, TOP, api, check, money, program, same, soon, tag
 from tampering import copied, tampered_fares, tampered_goods, tampered_rent
 
-SECONDS = 900
+SECONDS = 1500
 PICTURE = os.path.join(TOP, 'docs/pictures/result.png')
 with open(os.path.join(HERE, 'audit.js'), encoding='utf-8') as audit_file:
     AUDIT = audit_file.read()
 
 
 def look_at(p, what):
-    """A view by the audit, at the widths of a small phone and of a desk, light and dark."""
+    """Audits a view at the widths of a small phone and of a desktop, light and dark."""
     for width, dark, spaced in ((320, False, True), (320, True, False), (1200, False, False), (1200, True, False)):
         p.look(dark)
         p.size(width, 844)
@@ -45,7 +52,7 @@ def look_at(p, what):
 
 
 def shots(p, what):
-    """Pictures of a view, where they are asked for."""
+    """Takes pictures of a view, if they were asked for."""
     if not TALLY.shots:
         return
     for name, width, dark in (('phone', 390, False), ('desk', 1200, False), ('phone-dark', 390, True), ('desk-dark', 1200, True)):
@@ -88,7 +95,7 @@ def send(p, words='Send my bid'):
 
 
 def turn_is(p, turn):
-    """So often the member has bid, or taken a bid back."""
+    """How often the member has bid, or taken a bid back."""
     p.until(lambda: p.values('#stands', 'data-turn') == [str(turn)], why=f'the turn is not {turn}: {p.text("#stands")!r}')
 
 
@@ -120,13 +127,16 @@ def rows_of(report, pattern):
     return [re.match(pattern, line).groups() for line in report.splitlines() if line[:1].isdigit()]
 
 
+PARTIAL = ('.crdownload', '.part', '.wkdownload')  # at the end of the name of a file that is still being saved
+
+
 def holds(path):
-    """Whether a file is downloaded: a browser makes it empty first."""
-    return os.path.exists(path) and os.path.getsize(path) > 0 and not os.path.exists(path + '.crdownload')
+    """Whether a file has been downloaded: a browser first makes an empty one."""
+    return os.path.exists(path) and os.path.getsize(path) > 0 and not any(os.path.exists(path + partial) for partial in PARTIAL)
 
 
 def files(p, name, wanted):
-    """The files of a result are what the program writes."""
+    """The files of a result must be what the program writes."""
     for button, what, text in wanted:
         p.press(button)
         path = f'{p.profile}/files/{name}-{what}.txt'
@@ -240,14 +250,14 @@ def rent(rig, olive, ann, ben):
     send(ben, 'Send the same again')
     turn_is(ben, 1)
 
-    # a poll that fails is told, and no longer once one goes well
+    # the page says that a poll failed, until one succeeds
     lossy.deaf = True
     wake(olive)
     olive.has('isn’t answering just now', '.people')
     lossy.deaf = False
     wake(olive)
+    olive.until(lambda: 'isn’t answering' not in olive.text('.people'), 60, 'that it does not answer is told though it answers')
     olive.has('2 of 3 have bid', '.people', 60)
-    check('and then no longer', 'isn’t answering' not in olive.text('.people'))
     check('close is not offered', not olive.enabled('Close the round'))
     olive.has('no bid from Çağla', '.people')
     ben.open(urls['link-3'])
@@ -294,7 +304,7 @@ def rent(rig, olive, ann, ben):
 
 
 HEAD_OF_A_RESULT = '''document.querySelectorAll("main .card").forEach((e, i) => { e.hidden = i > 0; });
-document.querySelectorAll("footer, header.site, .top .eyebrow, .who, .bars + .hint").forEach((e) => { e.hidden = true; });
+document.querySelectorAll("footer, header.site, .top .eyebrow, .who, .bars + .hint, .keep, .hero p:last-of-type").forEach((e) => { e.style.display = "none"; });
 const main = document.querySelector("main");
 main.style.minHeight = 0;
 main.style.paddingTop = "1px";
@@ -307,13 +317,14 @@ def picture(p):
     p.run(HEAD_OF_A_RESULT)
     time.sleep(0.3)
     p.shot(PICTURE, 'main')
+    smaller(PICTURE)
     p.reload()
     p.size(*p.home)
     p.has('Check it yourself', seconds=60)
 
 
 def goods(rig, olive, ann, ben):
-    """Goods: names that are markup, a creation that is not answered, sliders in steps, what is said beforehand."""
+    """Goods: names that are markup, a creation that gets no answer, sliders in steps, what the page says beforehand."""
     people, things = ['Ada <b>&amp;', 'Bo\u202eoB', 'Cleo 🌻'], ['Piano', 'Clock', '<img src=x onerror=alert(1)>', 'Ring', 'Paintings']
     values = [[400, 100, 250, 150, 100], [100, 150, 450, 100, 200], [250, 100, 300, 300, 50]]
     fill_form(rig, olive, 'goods', 'House of Ida', people, things)
@@ -364,7 +375,7 @@ def goods(rig, olive, ann, ben):
 
 
 def heirs(rig, olive, ann, ben):
-    """Goods for two, whose deadline passes while somebody looks; a result with envy; and goods that do not end."""
+    """Goods for two, whose deadline passes while someone is looking; a result with envy; and goods whose search doesn't end."""
     things, values = ['Desk', 'Lamp', 'Chair'], [[700, 200, 100], [800, 150, 50]]
     made = api(rig, 'instances', body={'kind': 'goods', 'title': 'Attic', 'members': ['Ann', 'Ben', 'Dan'], 'goods': things, 'deadline': soon(15), 'tag': tag()})
     for i in (0, 1):
@@ -501,7 +512,7 @@ ROOM = 1000  # the rounds that a host has room for
 
 
 def room(rig, olive, ann, ben):
-    """A host that is full: the page makes the round at another of the name, and all its links lead there."""
+    """A host that is full: the page creates the round on another host of the same name, and all its links lead there."""
     with ThreadPoolExecutor(8) as many:
         flat = {'kind': 'rent', 'title': 'Flat', 'members': ['Ann', 'Ben'], 'rooms': ['A', 'B'], 'rent': 900, 'deadline': soon(86400)}
         list(many.map(lambda _: api(rig, rig.next_url + 'instances', body={**flat, 'tag': tag()}), range(ROOM)))
@@ -524,10 +535,8 @@ def room(rig, olive, ann, ben):
 
 
 def keys_alone(rig, olive, ann, ben):
-    """A round made and bid on by the keyboard alone; and what is typed stays where the language changes."""
+    """A whole round with the keyboard only: created, bid on by both, closed, and its result saved. What was typed stays when the language changes."""
     p = ann
-    p.open(rig.url)
-    p.one('.kinds')
 
     def tab_to(test, most=60):
         for _ in range(most):
@@ -537,39 +546,54 @@ def keys_alone(rig, olive, ann, ben):
             if test(now):
                 return
         raise AssertionError('no such stop')
+
+    def fill(pairs):
+        for id_, words in pairs:
+            tab_to(lambda e: e['id'] == id_)
+            p.keys(list(words))
+
+    def press(words):
+        tab_to(lambda e: e['text'].startswith(words))
+        p.keys([KEYS['enter']])
+    p.open(rig.url)
+    p.one('.kinds')
     tab_to(lambda e: 'new-goods' in e['href'])
     p.keys([KEYS['enter']])
     p.one('#title')
     same('the focus goes to the heading', p.focused()['tag'], 'H1')
-    for id_, words in (('title', 'By keys'), ('members-0', 'Ann'), ('members-1', 'Ben'), ('things-0', 'Desk'), ('things-1', 'Lamp'), ('things-2', 'Chair')):
-        tab_to(lambda e: e['id'] == id_)
-        p.keys(list(words))
+    fill((('title', 'By keys'), ('members-0', 'Ann'), ('members-1', 'Ben'), ('things-0', 'Desk'), ('things-1', 'Lamp'), ('things-2', 'Chair')))
     p.speak('de')
     p.has('Links erstellen')
     same('what was typed is there in the other language', [p.values(f, 'value')[0] for f in ('#title', '#members-1', '#things-2')], ['By keys', 'Ben', 'Chair'])
     p.speak('en')
     p.has('Create the links')
-    tab_to(lambda e: e['text'] == 'Create the links')
-    p.keys([KEYS['enter']])
+    press('Create the links')
     urls = links(p)
-    p.open(urls['link-1'])
-    p.one('#value-0')
-    for i, words in enumerate(('600', '400')):
-        tab_to(lambda e: e['id'] == f'value-{i}')
-        p.keys(list(words))
-    p.speak('de')
-    p.has('Gebot senden')
-    same('a bid that was typed is there in the other language', p.values('.amount input', 'value')[:2], ['600', '400'])
-    p.speak('en')
-    p.has('Send my bid')
-    tab_to(lambda e: e['text'] == 'Send my bid')
-    p.keys([KEYS['enter']])
-    p.has('Your bid is saved.', '#message')
-    p.until(lambda: 'Your bid is saved' in p.run('return document.getElementById("live").textContent'), 5, 'it is not spoken')
+    for link in ('link-1', 'link-2'):
+        p.open(urls[link])
+        p.one('#value-0')
+        fill((('value-0', '600'), ('value-1', '400')))
+        p.speak('de')
+        p.has('Gebot senden')
+        same('a bid that was typed is there in the other language', p.values('.amount input', 'value')[:2], ['600', '400'])
+        p.speak('en')
+        p.has('Send my bid')
+        press('Send my bid')
+        p.has('Your bid is saved.', '#message')
+        p.until(lambda: 'Your bid is saved' in p.run('return document.getElementById("live").textContent'), 5, 'it is not spoken')
+    p.open(urls['link-0'])
+    p.until(lambda: p.enabled('Close the round and'), 60, 'close is not offered')
+    press('Close the round and')
+    p.accept()
+    p.one('#verdict[data-verdict=yes]', 60)
+    same('and then the focus is at the heading', p.focused()['tag'], 'H1')
+    press('Certificate')
+    path = f'{p.profile}/files/round-{urls["link-0"].split("#")[1].split(".")[0]}-certificate.txt'
+    p.until(lambda: holds(path), 15, 'the certificate is not saved by keys')
 
 
 def checker(rig, olive, ann, ben):
-    """The view that checks, and the file that is handed out, from the disk."""
+    """The view that checks, and the file that people can save, opened from the disk."""
     with open(os.path.join(TOP, 'examples/flat-for-three.txt'), encoding='utf-8') as file:
         flat = file.read()
     heirs_text = open(os.path.join(TOP, 'examples/three-heirs.txt'), encoding='utf-8').read()
@@ -597,7 +621,7 @@ def checker(rig, olive, ann, ben):
 
 
 def shown_names(p, flat):
-    """The check shows the division: with names that are typed, or with those of a saved file."""
+    """The check shows the division, with names that someone types or with those of a saved file."""
     def checked(text):
         p.run('document.getElementById("text").value = arguments[0]; document.getElementById("findings").replaceChildren()', text)
         p.press('Check')
@@ -688,7 +712,7 @@ def greatest(rig, olive, ann, ben):
 
 def german(rig, olive, ann, ben):
     """A browser that wants German gets it, and long words fit."""
-    hanna = Browser(rig.driver, True, 'de-DE')
+    hanna = rig.engine.browser(True, 'de-DE')
     try:
         hanna.open(rig.url)
         hanna.has('Was wollt ihr aufteilen?')
@@ -713,60 +737,88 @@ def german(rig, olive, ann, ben):
         hanna.end()
 
 
-OF_THE_GATE = [rent, goods, fares, heirs, tampered_rent, tampered_goods, tampered_fares, copied, refusals, keys_alone, checker, dividing.judges, divided, demo, policy, german, *keeping.KEEPING]
-PARTS = OF_THE_GATE + [room, greatest, *speaking.SPEAKING]
+OF_THE_GATE = [rent, goods, fares, heirs, tampered_rent, tampered_goods, tampered_fares, copied, refusals, keys_alone, checker, dividing.judges, divided, demo, policy, german, proving.modules,
+               *reading.READING, *speaking.SPEAKING, *keeping.KEEPING]
+PARTS = OF_THE_GATE + [room, greatest, proving.many_modules]
+# In Firefox: a round of goods by keys, divisions without a server from a disk too, the policy, and the proved modules under it.
+OF_FIREFOX = [keys_alone, divided, demo, german, policy, proving.modules, reading.read_aloud]
+# In WebKit the same, but the round by keys, which is played by name: its driver has once not answered a key.
+OF_WEBKIT = OF_FIREFOX[1:]
+CHROMIUM_ONLY = [copied, keeping.unanswered]
 
 
-def play(names):
-    """Plays the parts with these names, or those of the gate where there are none; answers those for which no time was left."""
-    began = time.time()
-    rig, driver, people, left = Rig(PROGRAM), None, [], []
+def chosen(engine, names):
+    """The parts with these names, or those of the gate in this engine if none are named."""
+    if names:
+        return [part for part in PARTS if part.__name__ in names]
+    return {'chromium': OF_THE_GATE, 'firefox': OF_FIREFOX, 'webkit': OF_WEBKIT}[engine]
+
+
+def play_part(rig, people, part, is_timed):
+    """Plays a part. If it breaks off, the next one goes on."""
+    at = time.time()
     try:
-        rig.driver = driver = Driver()
+        part(rig, *people)
+    except Exception:
+        check(f'{part.__name__} broke off:', False, traceback.format_exc()[-1500:])
+        if TALLY.shots:
+            for p, who in zip(people, ('olive', 'ann', 'ben')):
+                p.shot(os.path.join(TALLY.shots, f'fault-{part.__name__}-{who}.png'))
+    if is_timed:
+        print(f'page: {part.__name__} took {time.time() - at:.0f} seconds', flush=True)
+
+
+def play(engine, names):
+    """Plays the parts with these names, or those of the gate if none are named. Gives those for which no time was left."""
+    began = time.time()
+    rig, people, left = Rig(PROGRAM), [], []
+    rig.engine = None
+    try:
+        rig.engine = ENGINES[engine]()
         for phone in (False, True, False):
-            people.append(Browser(driver, phone))
-        for part in [part for part in PARTS if part.__name__ in names] if names else OF_THE_GATE:
+            people.append(rig.engine.browser(phone))
+        for part in chosen(engine, names):
             if time.time() - began > SECONDS and not names:
                 left.append(part.__name__)
-                continue
-            at = time.time()
-            try:
-                part(rig, *people)
-            except Exception:  # the next part goes on
-                check(f'{part.__name__} broke off:', False, traceback.format_exc()[-1500:])
-                if TALLY.shots:
-                    for p, who in zip(people, ('olive', 'ann', 'ben')):
-                        p.shot(os.path.join(TALLY.shots, f'fault-{part.__name__}-{who}.png'))
-            if TALLY.shots or names:
-                print(f'page: {part.__name__} took {time.time() - at:.0f} seconds', flush=True)
+            else:
+                play_part(rig, people, part, TALLY.shots or names)
         for p, who in zip(people, ('organiser', 'phone', 'desk')):
             same(f'complaints of the browser of the {who}', p.complaints(), [])
         return left, len(rig.lossy.seen), time.time() - began
     finally:
-        for p in people:
-            p.end()
-        if driver:
-            driver.end()
-        rig.end()
+        for opened in [*people, *filter(None, [rig.engine]), rig]:
+            opened.end()
+
+
+def arguments():
+    """What was asked for."""
+    parser = argparse.ArgumentParser(description='Plays parts of rung (c) of .ci/page.')
+    parser.add_argument('--engine', choices=ENGINES, default='chromium')
+    parser.add_argument('--shots', metavar='FOLDER', help='where pictures of each view go')
+    parser.add_argument('--picture', action='store_true', help="write the README's picture anew")
+    parser.add_argument('parts', nargs='*', metavar='PART')
+    asked = parser.parse_args()
+    unknown = set(asked.parts) - {part.__name__ for part in PARTS}
+    if unknown:
+        parser.error(f'no part {", ".join(sorted(unknown))}')
+    only = [part.__name__ for part in CHROMIUM_ONLY if part.__name__ in asked.parts]
+    if asked.engine != 'chromium' and only:
+        parser.error(f'only in chromium: {", ".join(only)}')
+    if lacking(asked.engine):
+        parser.error(f'{asked.engine} lacks {", ".join(lacking(asked.engine))}')
+    return asked
 
 
 def main():
-    words = sys.argv[1:]
-    if '--picture' in words:
-        words.remove('--picture')
-        TALLY.picture = True
-    if '--shots' in words:
-        at = words.index('--shots')
-        TALLY.shots = words[at + 1]
+    asked = arguments()
+    TALLY.picture, TALLY.shots = asked.picture, asked.shots
+    if TALLY.shots:
         os.makedirs(TALLY.shots, exist_ok=True)
-        del words[at:at + 2]
     signal.signal(signal.SIGTERM, lambda *_: sys.exit(1))  # so that what was started is ended
-    unknown = set(words) - {part.__name__ for part in PARTS}
-    if unknown:
-        sys.exit(f'rounds: no part {", ".join(sorted(unknown))}')
-    left, requests, seconds = play(words)
+    left, requests, seconds = play(asked.engine, asked.parts)
     late = f'; no time was left for {", ".join(left)}' if left else ''
-    print(f'rounds: {TALLY.right} right, {TALLY.wrong} wrong, contrast of {TALLY.texts} texts, {requests} requests, {seconds:.0f} seconds{late}')
+    print(f'rounds in {ENGINES[asked.engine].name}: {TALLY.right} right, {TALLY.wrong} wrong, contrast of {TALLY.texts} texts, {requests} requests, '
+          f'{seconds:.0f} seconds{late}')
     sys.exit(TALLY.wrong > 0 or bool(left))
 
 

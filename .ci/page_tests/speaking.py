@@ -1,11 +1,17 @@
 """Parts of rung (c): the views of a rent in each language on a small phone, the help of each view, and a whole round in French and Polish."""
-from driver import Browser
+import collections
+import re
+import ssl
+import urllib.request
+
 from tally import TALLY, api, check, same, soon, tag
 
 LOCALES = {'en': 'en-GB', 'de': 'de-DE', 'es': 'es-ES', 'fr': 'fr-FR', 'it': 'it-IT', 'pl': 'pl-PL'}
 TOO_WIDE = 'return document.documentElement.scrollWidth - document.documentElement.clientWidth'
 UNTOLD = r'return (document.querySelector("main").innerText.match(/\b(start|kinds|form|links|bid|rent|result|proof|check|facts|rules|files|names|differ|helps|own|judge)\.[a-z]\w+/g) || [])'
 HELP = '#languages button'
+# The guide is there in English, and for members and organisers in German.
+GUIDES = collections.defaultdict(lambda: 'en', {('de', what): 'de' for what in ('the start', 'the form', 'a division', 'a bid', 'the organiser', 'the result')})
 
 
 def fits(p, what, code):
@@ -17,14 +23,17 @@ def fits(p, what, code):
 
 
 def helped(p, what, code):
-    """The help of a view: it fits one screen, has four paragraphs, and goes away by its button."""
+    """The help of a view: it fits on one screen, has four paragraphs and the way to the guide, and closes with its button."""
     p.size(320, 844)
     p.click(HELP)
     p.one('dialog.help[open]')
-    same(f'paragraphs of the help of {what} in {code}', len(p.all('dialog.help p')), 4)
+    same(f'paragraphs of the help of {what} in {code}', len(p.all('dialog.help p')), 5)
     box = p.run('const d = document.querySelector("dialog.help"); return [d.scrollHeight - d.clientHeight, d.scrollWidth - d.clientWidth]')
     same(f'the help of {what} in {code} is larger than the screen by', box, [0, 0])
     titled = p.text('#help-title')
+    [guide] = p.run('return [...document.querySelectorAll("dialog.help a")].map((a) => a.href)')
+    with urllib.request.urlopen(guide, context=ssl._create_unverified_context()) as reply:
+        same(f'the guide to {what} in {code}', re.search(r'<html lang="(\w+)">', reply.read().decode())[1], GUIDES[code, what])
     p.click('dialog.help button')
     p.until(lambda: not p.all('dialog.help'), 10, 'the help stays')
     p.size(*p.home)
@@ -32,7 +41,7 @@ def helped(p, what, code):
 
 
 def a_rent(rig):
-    """A rent for two with both bids, closed by its organiser; its links."""
+    """A rent for two with both bids, closed by its organiser. Gives the links."""
     made = api(rig, 'instances', body={'kind': 'rent', 'title': 'Rue de la Grande-Truanderie', 'members': ['Maximiliane', 'Władysław'],
                                        'rooms': ['Wohnschlafzimmer', 'Chambre de bonne'], 'rent': 123456, 'deadline': soon(86400), 'tag': tag()})
     for key, values in zip(made['keys'], ([70000, 53456], [60000, 63456])):
@@ -43,7 +52,7 @@ def a_rent(rig):
 def speaking(rig, olive, ann, ben):
     """Each language: the views of a rent and their help fit a small phone, and a browser that wants the language gets it."""
     for code, locale in LOCALES.items():
-        p = Browser(rig.driver, True, locale)
+        p = rig.engine.browser(True, locale)
         try:
             made = a_rent(rig)
             p.open(rig.url)
@@ -60,7 +69,7 @@ def speaking(rig, olive, ann, ben):
             p.one('.people li')
             fits(p, 'the organiser', code)
             titles.append(helped(p, 'the organiser', code))
-            api(rig, f'instances/{made["id"]}/close', made['creator'], {})
+            api(rig, f'instances/{made["id"]}/close', made['organiser'], {})
             p.open(f'{rig.url}#{made["id"]}.{made["keys"][0]}.EUR')
             p.one('#verdict[data-verdict=yes]', 60)
             fits(p, 'the result', code)
@@ -74,8 +83,8 @@ def speaking(rig, olive, ann, ben):
 
 
 def polish(rig, olive, ann, ben):
-    """A bid and a result by a browser that wants Polish; then the language is chosen, and remembered."""
-    p = Browser(rig.driver, True, 'pl-PL')
+    """A bid and a result in a browser that wants Polish. Then another language is chosen, and remembered."""
+    p = rig.engine.browser(True, 'pl-PL')
     try:
         made = api(rig, 'instances', body={'kind': 'goods', 'title': 'Dom', 'members': ['Ala', 'Olek'], 'goods': ['Zegar', 'Pianino'], 'limit': 200000,
                                            'deadline': soon(86400), 'tag': tag()})
@@ -88,7 +97,7 @@ def polish(rig, olive, ann, ben):
             p.put('#value-1', values[1])
             p.press('Wyślij ofertę')
             p.has('Twoja oferta jest zapisana.', '#message')
-        api(rig, f'instances/{made["id"]}/close', made['creator'], {})
+        api(rig, f'instances/{made["id"]}/close', made['organiser'], {})
         p.reload()
         p.one('#verdict[data-verdict=yes]', 60)
         p.has('702 punkty: Pianino')

@@ -14,7 +14,7 @@ PROGRAM = os.path.abspath(os.environ.get('FAIRSPLIT', os.path.join(TOP, 'crates/
 
 
 class Tally:
-    """What was right and what was wrong."""
+    """Counts what was right and what was wrong."""
     right = wrong = texts = 0
     shots = None
     picture = False
@@ -43,7 +43,7 @@ def money(cents, sign='€'):
 
 
 def api(rig, path, key=None, body=None):
-    """A request to the host without a browser."""
+    """Sends a request to the host without a browser."""
     request = urllib.request.Request(urllib.parse.urljoin(rig.url, path), data=None if body is None else json.dumps(body).encode(), headers={'x-key': key} if key else {})
     with urllib.request.urlopen(request, context=ssl._create_unverified_context()) as reply:
         return json.load(reply)
@@ -58,7 +58,7 @@ def soon(seconds):
 
 
 def get_text(rig, path, key):
-    """A text of the host without a browser."""
+    """Gets a text from the host without a browser."""
     request = urllib.request.Request(urllib.parse.urljoin(rig.url, path), headers={'x-key': key})
     with urllib.request.urlopen(request, context=ssl._create_unverified_context()) as reply:
         return reply.read().decode()

@@ -1,5 +1,5 @@
-"""Parts of rung (c): a server that lies. A proxy between page and host makes each field of each reply another one in turn, and the page must not say
-"Yes" over anything that its certificate does not show, or that this browser saw otherwise before the close."""
+"""Parts of rung (c): a server that lies. A proxy between page and host changes each field of each reply in turn, and the page must not say "Yes"
+over anything that its certificate doesn't show, or that was different when this browser saw it before the close."""
 import json
 import re
 
@@ -26,7 +26,7 @@ FIELDS_OF_NAMES = ('title', 'members', 'rooms', 'goods', 'places', 'you')
 
 
 def looked(p, url):
-    """The result as somebody reads it."""
+    """The result as a person reads it."""
     p.open(url)
     p.until(lambda: p.run(IS_DRAWN), 30, f'nothing is drawn: {p.text()!r}')
     return p.run(LOOKED)
@@ -62,7 +62,7 @@ class Tampered:
                 check(f'{cents} is written {shown}', shown == money(int(cents)) or shown == money(abs(int(cents))))
 
     def with_reply(self, word, body):
-        """A server that answers this at a path that ends with the word, or at the round itself where it is empty."""
+        """A server that answers this at a path that ends with the word, or at the round itself if the word is empty."""
         wanted = f'/{self.path}/{word}' if word else f'/{self.path}'
         self.rig.lossy.alter = lambda first, _: body.encode() if first.split()[0] == 'GET' and first.split()[1] == wanted else None
 
@@ -97,7 +97,7 @@ class Tampered:
         self.honest_again()
 
     def compare(self, who, view, what, field):
-        """What is told under a changed reply. `field` is that of the status, if it is one."""
+        """What the page says after a changed reply. `field` is the field of the status, if that was changed."""
         honest = self.honest[who]
         if view['verdict'] != 'yes':
             check(f'{what}: no yes', not view['good'] and 'Yes' not in view['says'], view['says'])
@@ -131,7 +131,7 @@ class Tampered:
         self.honest_again()
 
     def no_certificate(self):
-        """A server that has none: nothing was checked, and that is said in the place of the verdict."""
+        """A server without a certificate: nothing was checked, and the page says so in place of the verdict."""
         for text in ('', 'fairsplit 1\n'):
             self.with_reply('certificate', text)
             same('no certificate', (looked(self.ann, self.urls[0])['verdict'], self.ann.all('.hero')), ('refused', []))
@@ -158,7 +158,7 @@ def mine(certificate):
 
 
 def others(value):
-    """Other values of a field."""
+    """Other values for a field."""
     if isinstance(value, list):
         return [value[1:] + value[:1], value[:-1]] if len(value) > 1 else [[]]
     if isinstance(value, bool):
@@ -169,7 +169,7 @@ def others(value):
 
 
 def other_lines(line):
-    """Other lines in its place: one number more, its numbers in another order, and none."""
+    """Other lines in its place: with a number changed by one, with its numbers in another order, and none."""
     words = line.split(' ')
     numbers = [i for i, word in enumerate(words) if re.fullmatch(r'-?\d+', word)]
     more = [' '.join([*words[:i], str(int(words[i]) + 1), *words[i + 1:]]) for i in numbers[:1] + numbers[-1:]]
@@ -202,7 +202,7 @@ READ = 'return navigator.clipboard.readText()'
 
 
 def copied(rig, olive, ann, ben):
-    """Copy gives the link of its own line, by the clipboard."""
+    """Copy puts the link of its own line onto the clipboard."""
     flat = {'kind': 'rent', 'title': 'Flat', 'members': PEOPLE, 'rooms': ['A', 'B', 'C'], 'rent': 900, 'deadline': soon(86400), 'tag': tag()}
     made = api(rig, 'instances', body=flat)
     olive.cdp('Browser.grantPermissions', origin='/'.join(rig.url.split('/')[:3]), permissions=['clipboardReadWrite', 'clipboardSanitizedWrite'])

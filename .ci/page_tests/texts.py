@@ -1,4 +1,4 @@
-"""Rung (a) of .ci/page, by Python's standard library alone: the bytes of the page against themselves, the documents and the proxies' files."""
+"""Rung (a) of .ci/page, with Python's standard library only: compares the files of the page with each other, the documents and the proxies' files."""
 import colorsys
 import gzip
 import json
@@ -9,9 +9,12 @@ import sys
 
 TOP = os.path.realpath(os.path.join(os.path.dirname(os.path.abspath(__file__)), '../..'))
 PAGE = os.path.join(TOP, 'page')
+# The limits of page/js/rules.js, by the names of their constants.
+LISTED = {'name': 'LONGEST_NAME', 'members': 'MOST_MEMBERS', 'riders': 'MOST_RIDERS', 'goods': 'MOST_GOODS', 'places': 'MOST_PLACES', 'rent': 'MOST_RENT', 'cost': 'MOST_FARE_CENTS',
+          'steps': 'MOST_STEPS', 'points': 'WHOLE_POINTS', 'turns': 'MOST_TURNS', 'certificate': 'MOST_BYTES', 'digits': 'MOST_DIGITS', 'denominator': 'MOST_PRINTED_DENOMINATOR'}
 UNLOADED = ('try', 'make_check', 'make_divide', 'single_file.py', 'policy.txt')  # no browser loads these
-OF_FILES = ('check.html', 'divide.html', 'js/alone.js', 'js/divide_alone.js', 'js/carried_alone.js')  # the files that are handed out, and what is in them alone
-# Loaded only where something is checked, or divided without a server; counted apart, as judge/ and the languages are.
+OF_FILES = ('check.html', 'divide.html', 'js/alone.js', 'js/divide_alone.js', 'js/carried_alone.js')  # the files that people can save, and what is only in them
+# Loaded only if something is checked, or divided without a server. Counted apart, like judge/ and the languages.
 OF_CHECKS = [f'js/{name}.js' for name in ('carried', 'check', 'judges', 'judge_task', 'judge_worker', 'verdict')]
 OF_DIVISIONS = [f'js/{name}.js' for name in ('demo', 'divide', 'divide_form', 'solver', 'solve_task', 'solve_worker')]
 MOST_BYTES = 200_000
@@ -22,10 +25,10 @@ BID = ['index.html', 'style.css', 'icon.svg'] + [f'js/{name}.js' for name in (
     'main', 'dom', 'language', 'link', 'round', 'api', 'money', 'money_field', 'bid', 'value_fields', 'rules', 'seen', 'store')]
 with open(os.path.join(PAGE, 'js/language.js'), encoding='utf-8') as language_file:
     LANGUAGES = re.findall(r"load: \(\) => import\('\./(words[.\w]*)\.js'\)", language_file.read())
-FORMS = {'zero', 'one', 'two', 'few', 'many', 'other'}  # of a plural; node tells which a language needs
+FORMS = {'zero', 'one', 'two', 'few', 'many', 'other'}  # of a plural; node tells which ones a language needs
 MORE = {words: words.replace('words', 'words.more') for words in LANGUAGES}  # what nobody needs to bid
 PROXIES = ['hosting/nginx.site', 'hosting/Caddyfile', 'hosting/haproxy.cfg']
-# Codes that no person meets: of proxies and programs, or told by sentences of their own.
+# Codes that nobody sees on the page: they are for proxies and programs, or have sentences of their own.
 UNMET = {'no_key', 'role', 'open', 'bad_head', 'bad_host', 'framing', 'bad_length', 'length_missing', 'no_route', 'method', 'bad_json', 'bad_field', 'turn',
          'no_audit', 'void', 'not_two', 'step_limit'}
 FORBIDDEN = ('innerHTML', 'outerHTML', 'insertAdjacentHTML', 'document.write', 'eval(', 'new Function', 'setTimeout("', "setTimeout('", 'style="', '<style',
@@ -47,7 +50,7 @@ def text_of(name):
 
 
 def files():
-    """The files that a browser may load, by their names in page/."""
+    """The files that a browser may load, with their names in page/."""
     found = {}
     for folder, folders, names in os.walk(PAGE):
         folders[:] = [name for name in folders if name not in ('__pycache__', 'judge')]  # the modules are counted apart
@@ -60,7 +63,7 @@ def files():
 
 
 def weigh(texts):
-    """The page weighs no more than it may."""
+    """The page is no larger than it may be."""
     others = [f'js/{words}.js' for words in [*MORE, *MORE.values()]]
     size = {name: len(text.encode()) for name, text in texts.items() if name not in OF_FILES and name not in others}
     apart = sum(size[name] for name in OF_CHECKS + OF_DIVISIONS)
@@ -97,7 +100,7 @@ def imports_of(module, dynamic):
 
 
 def reached():
-    """The modules that a member's bid on a rent, which has most, needs before it can be sent, but for the words."""
+    """The modules that a bid on a rent needs before it can be sent, without the words. No other bid needs more."""
     found, todo = set(), ['main', 'round', 'bid', 'value_fields']
     while todo:
         module = todo.pop()
@@ -185,7 +188,7 @@ def sentences_of(words):
 
 
 def compare_words(texts):
-    """Each language has each sentence, with the same parts to be put in, and each that the code asks for."""
+    """Every language has every sentence that the code asks for, with the same parts to put in."""
     tables = {words: sentences_of(words) for words in LANGUAGES}
     check(f'these languages are there: {LANGUAGES}', len(LANGUAGES) >= 6)
     first = tables[LANGUAGES[0]]
@@ -211,7 +214,7 @@ def compare_words(texts):
 
 
 def compare_limits(texts, words):
-    """Limits are those of the schema, and each code that a person can meet has a sentence."""
+    """The limits are those of the schema, and every code that a person can see has a sentence."""
     schema = json.loads(text_of('examples/creation.schema.json'))
     kinds = {kind['title']: kind['properties'] for kind in schema['oneOf']}
     limits = {key: json.loads(value.replace('_', '')) for key, value in re.findall(r'(\w+): (\[\d+, \d+\]|[\d_]+)', texts['js/rules.js'].split('LIMITS = {')[1].split('};')[0])}
@@ -221,6 +224,11 @@ def compare_limits(texts, words):
     for what, value in theirs.items():
         check(f'the limit of {what} is {limits[what]} here and {value} in the schema', limits[what] == value)
     check('the members of goods', span('goods', 'members') == limits['members'])
+    listed = dict((name, int(number.replace(',', ''))) for number, name in re.findall(r'\| ([\d,]+)[^|]*\| `\w+`: `(\w+)` \|', text_of('docs/LIMITS.md')))
+    for what, name in LISTED.items():
+        most = limits[what][1] if isinstance(limits[what], list) else limits[what]
+        check(f'the limit of {what} is {most} here and {listed[name]} in docs/LIMITS.md', most == listed[name])
+    check('a limit of the page is compared with nothing', set(limits) == set(LISTED))
     http = text_of('docs/HTTP.md')
     turns = re.search(r'from 1 to (\d+)', http.split('## Bids')[1])
     check('the turns of a member', turns and int(turns[1]) == limits['turns'])
@@ -233,7 +241,7 @@ def compare_limits(texts, words):
 
 
 def compare_hosts(texts):
-    """The page takes each path that hosting/shards gives to a host, and each proxy's file serves the list."""
+    """The page accepts every path that hosting/shards gives to a host, and every proxy's file serves the list."""
     pattern = re.search(r'/(\^[^;]*?\$)/\.test', texts['js/creation.js'])[1].replace('\\/', '/')
     for path in ('/a/', '/z/', '/h27/', '/h1000/'):
         check(f'the page takes no host at {path}', re.search(pattern, path))
@@ -252,7 +260,7 @@ def compare_answers():
             check(f'{name} lacks the row {row}', row in text_of(name))
 
 
-# What ORGANISERS.md says of sizes: for so many people and so many things, from how many to how many had an answer, first with any points.
+# What ORGANISERS.md says about sizes: for so many people and items, the least and the most that had an answer, first with any points.
 SIZES = [
     ('2 to 6 people, up to 10 items', range(2, 7), range(4, 11)), ('2 to 6 people, 12 items', range(2, 7), [12]), ('2 to 6 people, 14 items', range(2, 7), [14]),
     ('2 people, 24 items', [2], [24]), ('3 to 6 people, 20 items', range(3, 7), [20]),
@@ -260,7 +268,7 @@ SIZES = [
 
 
 def compare_sizes():
-    """The table of sizes in ORGANISERS.md is that of the page, shortened."""
+    """The table of sizes in ORGANISERS.md is a short form of the one in the page."""
     table = texts_of_table(text_of('page/js/odds.js').split('ANSWERED = {')[1].split('};')[0])
     told = text_of('docs/ORGANISERS.md')
     cells = lambda key, people, things: [some for n, row in zip(table['people'], table[key]) for m, some in zip(table['goods'], row) if n in people and m in things]
@@ -296,7 +304,7 @@ def measure_bars():
 
 
 def outside_of_proof():
-    """The documents say that the page is outside what is proved, README shows it, and its picture is light."""
+    """The documents say that the page is outside what is proved, README has a picture of it, and the picture is small."""
     for name in ('docs/HEADLINE.md', 'docs/PROVED.md', 'README.md'):
         check(f'{name} does not say that the page is outside what is proved', re.search(r'page[^.]*(outside|no (clause|proof))', text_of(name)))
     check('README has no command page/try 8080', re.search(r'^page/try 8080$', text_of('README.md'), re.M))

@@ -1,5 +1,5 @@
-"""Of rung (a) of .ci/page, by Python alone where the program is there: `page/try` serves the page with its policy and the host behind it, reaches no other
-file, and leaves nothing behind."""
+"""A part of rung (a) of .ci/page, with Python only, if the program is there: `page/try` serves the page with its policy and the host behind it, no other
+file can be reached, and it leaves nothing behind."""
 import http.client
 import json
 import os
@@ -37,7 +37,7 @@ def ask(port, method, path, body=None, key=None, length=None):
 
 
 def serve(port):
-    """What is served, while it is."""
+    """What is served, while page/try runs."""
     lines = {path: {name: value for of, name, value in policy() if of == path} for path in ('/', '/instances')}
     for path, kind in (('/', 'text/html'), ('/js/main.js', 'text/javascript'), ('/style.css', 'text/css'), ('/icon.svg', 'image/svg+xml')):
         status, fields, content = ask(port, 'GET', path)
@@ -46,7 +46,12 @@ def serve(port):
         same(f'the policy of {path}', {name: fields.get(name.lower()) for name in lines['/']}, lines['/'])
         with open(os.path.join(PAGE, path[1:] or 'index.html'), 'rb') as file:
             same(f'the bytes of {path}', content == file.read(), True)
-    for path in ('/../README.md', '/..%2fREADME.md', '/js/', '/nothing'):
+    for path, place in (('/help/members.html', 'site/members.html'), ('/help/help.css', 'site/help.css'), ('/pictures/step-1.png', 'pictures/step-1.png')):
+        status, fields, content = ask(port, 'GET', path)
+        with open(os.path.join(PAGE, '../docs', place), 'rb') as file:
+            same(f'the reply to {path}', (status, content == file.read()), (200, True))
+        same(f'the policy of {path}', fields['content-security-policy'], lines['/']['Content-Security-Policy'])
+    for path in ('/../README.md', '/..%2fREADME.md', '/help/../../README.md', '/help/..%2fMEMBERS.md', '/js/', '/help/', '/nothing'):
         status, fields, _ = ask(port, 'GET', path)
         same(f'the status of {path}', status, 404)
         same(f'the policy of {path}', fields.get('content-security-policy'), lines['/']['Content-Security-Policy'])
@@ -64,7 +69,7 @@ def serve(port):
 
 
 def children_of(parent):
-    """The processes that this one started."""
+    """The processes that page/try started."""
     found = []
     for pid in filter(str.isdigit, os.listdir('/proc')):
         try:

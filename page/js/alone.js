@@ -1,4 +1,5 @@
-// The page that checks certificates as a file of its own, check.html: it works from a disk, with no host and no network.
+// The page that checks certificates as a file of its own, check.html: it works from a disk, with no host and no
+// network.
 import { action, byId, fill } from './dom.js';
 import { help } from './help.js';
 import { languageSwitch, learn, learnMore, t, text } from './language.js';
@@ -8,7 +9,8 @@ async function show() {
   await learnMore();
   document.title = text('check.link');
   byId('main').dataset.view = 'check';
-  fill(byId('languages'), action({ class: 'language', click: help }, t('help')), languageSwitch(show));
+  const opens = { class: 'language', click: () => help(true) };
+  fill(byId('languages'), action(opens, t('help')), languageSwitch(show));
   checkView(byId('main'), true);
 }
 

@@ -6,8 +6,8 @@ import { THINGS } from './rules.js';
 export class Refusal extends Error {
   constructor(status, body) { super(body.code); Object.assign(this, { status, body, code: body.code }); }
 }
-/** No reply of the host came. What was sent, if `isSent`, may have been kept or not; `isUnsent`: the proxy never reached
-    the host, so that nothing was. */
+/** No reply of the host came. What was sent, if `isSent`, may have been kept or not; `isUnsent`: the proxy never
+    reached the host, so that nothing was. */
 export class NoReply extends Error {
   constructor(what, isSent = false, isUnsent = false) { super(what); Object.assign(this, { isSent, isUnsent }); }
 }
@@ -90,7 +90,8 @@ const isList = (list) => Array.isArray(list) && list.length > 0 && list.every((o
 
 /** Whether this is a round: a reply that is none counts as no reply. */
 export const isRound = (round) => Boolean(THINGS[round?.kind]) && typeof round.title === 'string'
-  && isList(round.members) && isList(round[THINGS[round.kind]]) && Array.isArray(round.bids) && Number.isInteger(round.deadline);
+  && isList(round.members) && isList(round[THINGS[round.kind]])
+  && Array.isArray(round.bids) && Number.isInteger(round.deadline);
 
 /** What happened, as a sentence. */
 export function sentence(refused) {

@@ -124,7 +124,7 @@ class BidForm {
 
   /** The server has what was sent. */
   taken() {
-    const { link, round, tick } = this.view;
+    const { link, round, tick, own } = this.view;
     const isBack = this.open.what === 'withdraw';
     this.bid = this.open.said;
     this.open = null;
@@ -134,6 +134,7 @@ class BidForm {
     const says = isBack ? 'bid.taken' : this.bid.turn < LIMITS.turns ? 'bid.kept' : 'bid.keptLast';
     fill(this.message, box('good', t(says, { time: this.end() })));
     announce(this.message.textContent);
+    own(!isBack);
     tick(true);
   }
 

@@ -41,6 +41,13 @@ export class Bidders {
       this.silent && box('note', t('silent')), this.closing?.drawn(missing));
   }
 
+  /** What the member who looks has just done is counted at once. */
+  own(has) {
+    const { bids, you } = this.round;
+    this.round = { ...this.round, bids: bids.filter((member) => member !== you).concat(has ? you : []) };
+    this.draw();
+  }
+
   /** Asks who has bid; the form is left alone. */
   async tick(quiet) {
     const { path, link, alive, reload } = this.view;

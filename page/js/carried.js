@@ -1,5 +1,5 @@
-// What the page loads beside its scripts: workers, and the files of the proved modules. A single file carries them along,
-// and has carried_alone.js in the place of this.
+// What the page loads beside its scripts: workers, and the files of the proved modules. A single file carries them
+// along, and has carried_alone.js in the place of this.
 const WORKERS = { judge: 'js/judge_worker.js', solve: 'js/solve_worker.js' };
 
 /** The only addresses that a worker can have. */

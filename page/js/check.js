@@ -1,8 +1,9 @@
 // The second checker of certificates, by the rules of docs/CERTIFICATES.md, with exact arithmetic. Pure, and not proved: the proved one is
 // in judge/, and shares no code with it. Each rule is [its sentence in words.js, whether it holds].
 import { frac, same, total } from './fractions.js';
+import { LIMITS } from './rules.js';
 
-const MOST_BYTES = 4_000_000;
+const NUMBER = new RegExp(`^(0|-?[1-9]\\d{0,${LIMITS.digits - 1}})$`);
 const sum = (list) => list.reduce((a, b) => a + b, 0n);
 const range = (n, from = 0) => Array.from({ length: n }, (_, i) => i + from);
 const power = (base, exponent) => BigInt(base) ** BigInt(exponent);
@@ -15,17 +16,17 @@ class BadLine extends Error { constructor(line) { super(`line ${line}`); this.li
 
 /** Reads a certificate: what its lines say, as BigInts. Throws at the first line that is not valid. */
 export function read(text) {
-  if (new TextEncoder().encode(text).length > MOST_BYTES) throw new BadLine('too long');
+  if (new TextEncoder().encode(text).length > LIMITS.certificate) throw new BadLine('too long');
   const lines = text.split('\n');
   let at = 0;
   const bad = () => { throw new BadLine(at); };
   const line = () => { const got = lines[at++]; if (at >= lines.length) bad(); return got; };
-  const number = (word) => (/^(0|-?[1-9]\d{0,24})$/.test(word) ? BigInt(word) : bad());
+  const number = (word) => (NUMBER.test(word) ? BigInt(word) : bad());
   const fraction = (word) => {
     const [n, d] = word.split('/');
     if (d === undefined) return frac(number(n));
     const got = { n: number(n), d: number(d) };
-    return word.split('/').length === 2 && got.d >= 2n && got.d <= 4294967295n && same(got, frac(got.n, got.d)) ? got : bad();
+    return word.split('/').length === 2 && got.d >= 2n && got.d <= LIMITS.denominator && same(got, frac(got.n, got.d)) ? got : bad();
   };
   const row = (word, n, kind = number) => {
     const words = line().split(' ');
@@ -39,19 +40,19 @@ export function read(text) {
   const kind = /^kind (rent|goods|fares)$/.exec(line())?.[1] ?? bad();
   const said = { kind };
   if (kind === 'rent') {
-    const n = (said.n = count('members', 12));
+    const n = (said.n = count('members', LIMITS.members[1]));
     [said.rent] = row('rent', 1);
     Object.assign(said, { values: rows('values', n, n), rooms: row('rooms', n), left: row('left', n), right: row('right', n), walks: row('walks', n), ranks: row('ranks', n), prices: row('prices', n, fraction) });
   } else if (kind === 'goods') {
-    const n = (said.n = count('players', 12));
-    const g = (said.g = count('goods', 24));
+    const n = (said.n = count('players', LIMITS.members[1]));
+    const g = (said.g = count('goods', LIMITS.goods[1]));
     [said.limit] = row('limit', 1);
     Object.assign(said, { who: row('who', n), values: rows('values', n, g), owners: row('owners', g) });
     [said.steps] = row('steps', 1);
     said.tree = /^tree ([-+=]*)$/.exec(line())?.[1] ?? bad();
   } else {
-    const n = (said.n = count('riders', 10));
-    const places = (said.places = count('places', 12));
+    const n = (said.n = count('riders', LIMITS.riders[1]));
+    const places = (said.places = count('places', LIMITS.places[1]));
     [said.flag] = row('flag', 1);
     Object.assign(said, { legs: rows('legs', places + 1, places), who: row('who', n), at: row('at', n), sets: [null] });
     for (let set = 1; set < 1 << n; set++) {
@@ -68,7 +69,7 @@ export function read(text) {
 }
 
 const RENT = [
-  ['rules.rent.1', ({ n, rent, values }) => n >= 2 && rent >= 1n && rent <= 10_000_000n && values.every((row) => row.every((v) => v >= 0n) && sum(row) === rent)],
+  ['rules.rent.1', ({ n, rent, values }) => n >= LIMITS.members[0] && rent >= 1n && rent <= LIMITS.rent && values.every((row) => row.every((v) => v >= 0n) && sum(row) === rent)],
   ['rules.rent.2', ({ rooms }) => isOrder(rooms)],
   ['rules.rent.3', (c) => range(c.n).every((m) => range(c.n).every((r) => c.left[m] + c.right[r] >= c.key(m, r)))],
   ['rules.rent.4', (c) => range(c.n).every((m) => c.left[m] + c.right[c.own(m)] === c.key(m, c.own(m)))],
@@ -119,7 +120,7 @@ function shapley({ n, flag }, costs) {
 }
 
 const FARES = [
-  ['rules.fares.1', ({ flag, legs, who, at, places }) => flag >= 0n && flag <= 1_000_000n && legs.every((row, from) => row.every((leg, to) => leg >= 0n && leg <= 1_000_000n && (from !== to + 1 || leg === 0n))) && rising(who, 10n) && at.every((p) => p >= 1n && p <= BigInt(places))],
+  ['rules.fares.1', ({ flag, legs, who, at, places }) => flag >= 0n && flag <= LIMITS.cost && legs.every((row, from) => row.every((leg, to) => leg >= 0n && leg <= LIMITS.cost && (from !== to + 1 || leg === 0n))) && rising(who, LIMITS.riders[1]) && at.every((p) => p >= 1n && p <= BigInt(places))],
   ['rules.fares.2', (c) => range((1 << c.n) - 1, 1).every((set) => { const froms = [0, ...range(c.n).filter((r) => !(set & (1 << r))).map((r) => Number(c.at[r]))]; return froms.every((from, i) => c.sets[set][i] === c.costs[set][from]); })],
   ['rules.fares.3', ({ route }) => isOrder(route)],
   ['rules.fares.4', (c) => {
@@ -161,7 +162,7 @@ function bound(low, high, top) {
   const lows = open.map((i) => Math.max(low[i], 1)), highs = open.map((i) => high[i]);
   const filled = (level) => lows.map((l, i) => Math.min(highs[i], Math.max(l, level)));
   const room = sum0(lows) + left;
-  let from = 1, to = 24_001; // the greatest level that fits
+  let from = 1, to = LIMITS.points + 1; // the greatest level that fits; nobody has more points
   while (to - from > 1) { const mid = (from + to) >> 1; if (sum0(filled(mid)) <= room) from = mid; else to = mid; }
   const points = filled(from);
   left = room - sum0(points);
@@ -171,7 +172,7 @@ function bound(low, high, top) {
 const sum0 = (list) => { let all = 0; for (const x of list) all += x; return all; };
 
 const GOODS = [
-  ['rules.goods.1', ({ limit, who, values }) => limit >= 1n && limit <= 200_000n && rising(who, 12n) && values.every((row) => row.every((v) => v >= 0n) && sum(row) === 1000n)],
+  ['rules.goods.1', ({ limit, who, values }) => limit >= 1n && limit <= LIMITS.steps && rising(who, LIMITS.members[1]) && values.every((row) => row.every((v) => v >= 0n) && sum(row) === BigInt(LIMITS.points))],
   ['rules.goods.2', ({ owners, n }) => owners.every((o) => o >= 1n && o <= BigInt(n))],
   ['rules.goods.3', ({ walk }) => walk.tree],
   ['rules.goods.4', ({ walk }) => walk.tree && walk.cuts],

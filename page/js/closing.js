@@ -6,6 +6,7 @@ import { post, sentence } from './api.js';
 export class Closing {
   constructor(view) {
     this.view = view;
+    this.isAsked = false; // whether the server was asked to close it, and has not answered
     this.place = h('div', {});
     this.button = action({ class: 'main', click: () => this.close() });
   }
@@ -21,10 +22,15 @@ export class Closing {
 
   async close() {
     const { path, link, reload, tick } = this.view;
-    if (!confirm(text('closeSure'))) return;
-    this.button.disabled = true;
+    if (this.isAsked || !confirm(text('closeSure'))) return;
+    this.isAsked = true; // and the button keeps the focus, which then goes to the heading of the result
     try { await post(`${path}/close`, link.key, ''); } catch (refused) {
-      if (refused.code !== 'closed') { await tick(); showFault('close-fault', sentence(refused)); return; }
+      if (refused.code !== 'closed') {
+        await tick();
+        this.isAsked = false;
+        showFault('close-fault', sentence(refused));
+        return;
+      }
     }
     announce(text('closed'));
     reload();

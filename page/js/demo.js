@@ -1,5 +1,5 @@
-// "Try it", on the start page: three invented people divide something. One moves what it is worth to one of them, and sees the
-// division change. The proved solver divides, and only what the proved judge says yes to is shown.
+// "Try it", on the start page: three invented people divide something. One moves what it is worth to one of them, and
+// sees the division change. The proved solver divides, and only what the proved judge says yes to is shown.
 import { action, fill, h, name, p } from './dom.js';
 import { card } from './parts.js';
 import { learnMore, locale, t, text } from './language.js';
@@ -42,8 +42,9 @@ class Demo {
 
   draw() {
     const { kind, member, made } = this;
-    const kindOf = (each) => action({ 'aria-pressed': String(each === kind), click: () => this.pick(each, 0) }, t(`demo.${each}`));
-    const memberOf = (who, i) => action({ 'aria-pressed': String(i === member), click: () => this.pick(kind, i) }, name(who));
+    const choice = (isPicked, click, ...words) => action({ 'aria-pressed': String(isPicked), click }, words);
+    const kindOf = (each) => choice(each === kind, () => this.pick(each, 0), t(`demo.${each}`));
+    const memberOf = (who, i) => choice(i === member, () => this.pick(kind, i), name(who));
     fill(this.fields);
     fill(this.root, card(t('demo.title'), p(t('demo.lead')), h('p', { class: 'row' }, Object.keys(CASES).map(kindOf)),
       h('p', { class: 'row' }, made.members.map(memberOf)),
@@ -54,7 +55,8 @@ class Demo {
   /** Of a taxi: where somebody gets off. */
   places() {
     const place = (words, i) => h('label', { class: 'place' }, h('input', { type: 'radio', name: 'demo-place',
-      checked: this.made.bids[this.member] === i + 1, change: () => { this.made.bids[this.member] = i + 1; this.solve(); } }),
+      checked: this.made.bids[this.member] === i + 1,
+      change: () => { this.made.bids[this.member] = i + 1; this.solve(); } }),
     h('span', {}, words));
     return h('div', { class: 'places' }, this.things.map(place));
   }
@@ -97,10 +99,14 @@ class Demo {
   }
 
   show({ status, text: written, says }) {
-    if (status !== 0 || says !== 'yes') { fill(this.out, p(t(status === null ? 'divide.noModule' : 'demo.none'))); return; }
+    if (status !== 0 || says !== 'yes') {
+      fill(this.out, p(t(status === null ? 'divide.noModule' : 'demo.none')));
+      return;
+    }
     const scene = { said: read(written), names: { members: this.made.members, things: this.things } };
     const line = ({ member, says: gets, beside, part }) => h('li', { vars: { hue: (member * 137 + 168) % 360 } },
-      h('span', { class: 'of' }, gets), h('span', { class: 'track', 'aria-hidden': 'true' }, h('span', { class: 'full', vars: { part } })),
+      h('span', { class: 'of' }, gets),
+      h('span', { class: 'track', 'aria-hidden': 'true' }, h('span', { class: 'full', vars: { part } })),
       h('span', { class: 'says' }, beside));
     fill(this.out, h('ul', { class: 'bars' }, linesOf(scene).map(line)));
   }

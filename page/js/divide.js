@@ -17,7 +17,8 @@ import { PlaceField } from './place_field.js';
 const FILE = 'division';
 
 class Division {
-  /** `again` draws the view that is shown once more, with what is typed in it: in another language, or after another view. */
+  /** `again` draws the view that is shown once more, with what is typed in it: in another language, or after another
+      view. */
   constructor() { Object.assign(this, { drafts: {}, solver: new Solver(), again: () => this.choose() }); }
 
   draw(...children) {
@@ -81,7 +82,8 @@ class Division {
     };
     const isLast = i === made.members.length - 1;
     this.draw(heading(t('divide.bidOf', { name: name(made.members[i]) })), fields.set, fields.sum, message,
-      h('p', { class: 'row' }, action({ class: 'main', click: send }, t(isLast && !this.isPassed ? 'divide.last' : 'divide.next')),
+      h('p', { class: 'row' },
+        action({ class: 'main', click: send }, t(isLast && !this.isPassed ? 'divide.last' : 'divide.next')),
         made.kind !== 'rent' && action({ click: () => go(null) }, t('divide.skip', { name: name(made.members[i]) })),
         !this.isPassed && action({ click: () => (i ? this.bid(i - 1) : this.setUp(made.kind)) }, t('divide.back'))));
   }

@@ -8,7 +8,8 @@ async function show() {
   await learnMore();
   document.title = text('divide.title');
   byId('main').dataset.view = 'divide';
-  fill(byId('languages'), action({ class: 'language', click: help }, t('help')), languageSwitch(show));
+  const opens = { class: 'language', click: () => help(true) };
+  fill(byId('languages'), action(opens, t('help')), languageSwitch(show));
   divideView(byId('main'), true);
 }
 

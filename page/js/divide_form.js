@@ -36,8 +36,8 @@ export class DivideForm {
     this.people = new NameList({ id: 'members', label: label('person'), names: [...people], least: 2, renamed,
       most: LIMITS[kind === 'fares' ? 'riders' : 'members'][1], drawn: () => this.follow(),
       removed: (i) => { if (kind === 'rent') this.things.names.splice(i, 1); } });
-    this.things = new NameList({ id: 'things', label: label('thing'), names: [...(things ?? ['', ''])], least: 1, renamed,
-      most: LIMITS[kind === 'goods' ? 'goods' : 'places'][1], isFixed: kind === 'rent',
+    this.things = new NameList({ id: 'things', label: label('thing'), names: [...(things ?? ['', ''])], least: 1,
+      renamed, most: LIMITS[kind === 'goods' ? 'goods' : 'places'][1], isFixed: kind === 'rent',
       drawn: () => this.ways?.draw(), removed: (i) => this.ways?.without(i) });
   }
 
@@ -114,7 +114,8 @@ export class DivideForm {
     const read = this.read();
     const wrong = this.wrong(read);
     const rowsOf = ({ id, names }) => names.map((_, i) => `${id}-${i}`);
-    for (const id of ['title', 'rent', 'flag', ...rowsOf(this.people), ...rowsOf(this.things)]) showFault(id, wrong.get(id) ?? '');
+    const ids = ['title', 'rent', 'flag', ...rowsOf(this.people), ...rowsOf(this.things)];
+    for (const id of ids) showFault(id, wrong.get(id) ?? '');
     this.ways?.mark((id) => wrong.get(id) ?? '');
     fill(this.notes, wrong.size > 0 && box('bad', p(t('form.mend', { n: wrong.size }))));
     if (wrong.size > 0) byId([...wrong.keys()][0])?.focus();

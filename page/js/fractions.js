@@ -22,7 +22,8 @@ export const exact = (a) => (a.d === 1n ? `${a.n}` : `${a.n}/${a.d}`);
 export const near = (a) => Number(a.n) / Number(a.d);
 const floor = (a) => a.n / a.d - (a.n % a.d < 0n ? 1n : 0n);
 
-/** The cent plan: each amount rounded down, and the cents left over one each to the greatest remainders, ties to the lower place. */
+/** The cent plan: each amount rounded down, and the cents left over one each to the greatest remainders, ties to the
+    lower place. */
 export function centPlan(amounts, whole) {
   const pays = amounts.map(floor);
   const rest = amounts.map((a, place) => ({ place, left: minus(a, frac(pays[place])) }));

@@ -1,5 +1,5 @@
-// The two checks of a certificate, one after the other: by the proved judge, which takes a moment, and then by the page's
-// own checker, which takes seconds for a long tree.
+// The two checks of a certificate, one after the other: by the proved judge, which takes a moment, and then by the
+// page's own checker, which takes seconds for a long tree.
 import { judging, lineOf } from './check.js';
 import { loadJudge } from '../judge/judge.js';
 
@@ -12,8 +12,8 @@ async function provedVerdict(certificate, module) {
   } catch { return {}; }
 }
 
-/** What comes out, in this order: { proved, isLowered }, or {} where the proved judge can't run; { branches } now and then;
-    and { second }, what the page's own checker found, with its verdict as a line. `module` may be null. */
+/** What comes out, in this order: { proved, isLowered }, or {} where the proved judge can't run; { branches } now and
+    then; and { second }, what the page's own checker found, with its verdict as a line. `module` may be null. */
 export async function* judgeTask({ certificate, module }, pause = async () => {}) {
   yield module ? await provedVerdict(certificate, module) : {};
   const steps = judging(certificate);

@@ -1,4 +1,5 @@
-// Checks a certificate twice beside the page: by the proved judge, whose verdict comes at once, and by the page's own script.
+// Checks a certificate twice beside the page: by the proved judge, whose verdict comes at once, and by the page's own
+// script.
 import { fileOf, startWorker } from './carried.js';
 import { has64Bits } from '../judge/modules.js';
 import { together } from './verdict.js';
@@ -30,8 +31,8 @@ async function work(task, heard) {
   try { await inWorker(task, heard); } catch { await onPage(task, heard); }
 }
 
-/** Starts both checks. `first` is the verdict as soon as there is one, and `last` that of both. `progress` hears how much
-    of a long tree the second check has read. */
+/** Starts both checks. `first` is the verdict as soon as there is one, and `last` that of both. `progress` hears how
+    much of a long tree the second check has read. */
 export function judge(certificate, progress = () => {}) {
   const known = {};
   let tell;

@@ -1,4 +1,5 @@
-// Which language the page speaks, and how a sentence of words.js becomes text and elements. A translation is one more pair of files, and one more line here.
+// Which language the page speaks, and how a sentence of words.js becomes text and elements. A translation is one more
+// pair of files, and one more line here.
 import { h, name } from './dom.js';
 import { keep, kept } from './store.js';
 
@@ -18,8 +19,11 @@ let plural = new Intl.PluralRules('en');
 /** The browser's own form of the language that is spoken, such as en-GB: by it numbers and times are written. */
 export const locale = () => navigator.languages.find((tag) => tag.split('-')[0] === spoken) ?? spoken;
 
-/** Loads the sentences: of the language that was chosen here before, else of the first that the browser wants and the page has. */
-export async function learn(wanted = kept('language') ?? navigator.languages.map((tag) => tag.split('-')[0]).find((tag) => tag in LANGUAGES)) {
+/** The first language that the browser wants and the page has. */
+const best = () => navigator.languages.map((tag) => tag.split('-')[0]).find((tag) => tag in LANGUAGES);
+
+/** Loads the sentences: of the language that was chosen here before, else of the best one. */
+export async function learn(wanted = kept('language') ?? best()) {
   const code = wanted in LANGUAGES ? wanted : 'en';
   ({ words } = await LANGUAGES[code].load());
   spoken = code;
@@ -65,10 +69,12 @@ export function t(path, given = {}) {
 }
 
 /** A sentence as text alone, for labels and for what is read aloud. */
-export const text = (path, given) => t(path, given).flat(Infinity).map((part) => part?.textContent ?? String(part)).join('');
+export const text = (path, given) => (
+  t(path, given).flat(Infinity).map((part) => part?.textContent ?? String(part)).join(''));
 
 /** Names in a row, with commas and an "and". */
-export const names = (list) => new Intl.ListFormat(locale()).formatToParts(list).map(({ type, value }) => (type === 'element' ? name(value) : value));
+export const names = (list) => new Intl.ListFormat(locale()).formatToParts(list)
+  .map(({ type, value }) => (type === 'element' ? name(value) : value));
 
 /** A whole number as it is written in this language. */
 export const number = (n, digits = 0) => n.toLocaleString(locale(), { maximumFractionDigits: digits });

@@ -1,4 +1,5 @@
-// A field for an amount. Beside it stands how it is read, where that goes by habit, or two buttons where there is none.
+// A field for an amount. Beside it stands how it is read, where that goes by habit, or two buttons where there is
+// none.
 import { action, fill, h } from './dom.js';
 import { t, text } from './language.js';
 import { money, plain, reading } from './money.js';

@@ -3,8 +3,8 @@ import { action, byId, faultLine, fill, h } from './dom.js';
 import { text } from './language.js';
 
 export class NameList {
-  /** `names` are what stands in the rows; `least` and `most` bound how many there are; `isFixed` where another list says
-      how many; `drawn` is called after rows came or went, `renamed` after a letter. */
+  /** `names` are what stands in the rows; `least` and `most` bound how many there are; `isFixed` where another list
+      says how many; `drawn` is called after rows came or went, `renamed` after a letter. */
   constructor({ id, label, names, least, most, isFixed = false, drawn, renamed, removed }) {
     Object.assign(this, { id, label, names, least, most, isFixed, drawn, renamed, removed });
     this.rows = h('div', { class: 'list' });

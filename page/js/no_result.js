@@ -34,7 +34,8 @@ function oneTap({ link, round, again }) {
 async function endless(view, limit) {
   const { round } = view;
   const winner = round.bids.length === 2 ? await twoWay(view) : null;
-  const anew = card(t('none.round'), p(t(round.you === 0 ? 'none.roundHow' : 'none.roundAsk')), round.you === 0 && oneTap(view));
+  const anew = card(t('none.round'), p(t(round.you === 0 ? 'none.roundHow' : 'none.roundAsk')),
+    round.you === 0 && oneTap(view));
   return [box('note', t('none.limit', { limit: number(limit) })), h('h2', {}, t('none.left')), anew, winner,
     await proposalCard(view)];
 }

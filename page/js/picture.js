@@ -116,9 +116,11 @@ function rent(scene) {
 function goodsGains(called, players, { points, worthOf, best }) {
   const other = (player) => worthOf(player, best(player));
   const most = Math.max(...players.flatMap((player) => [Number(points[player]), Number(other(player))]), 1);
-  const says = (player) => t('own.points', { own: h('strong', {}, points[player]), other: other(player), name: called(best(player)) });
-  return h('ul', { class: 'bars gains' }, players.map((player) => twoBars(called.number(player) - 1, h('strong', {}, called(player)),
-    Number(points[player]) / most, Number(other(player)) / most, says(player))));
+  const says = (player) => t('own.points', {
+    own: h('strong', {}, points[player]), other: other(player), name: called(best(player)) });
+  const bars = (player) => twoBars(called.number(player) - 1, h('strong', {}, called(player)),
+    Number(points[player]) / most, Number(other(player)) / most, says(player));
+  return h('ul', { class: 'bars gains' }, players.map(bars));
 }
 
 /** Who would rather have what somebody else has, and the table of it. */
@@ -128,8 +130,9 @@ function goodsEnvy({ said, names: { members, things } }, shares) {
   const called = (player) => name(members[who[player] - 1]);
   called.number = (player) => who[player];
   const players = who.map((_, player) => player);
-  const line = ({ player, other, good, isOne }) => h('li', { class: isOne ? 'yes' : 'no' }, sign(isOne ? '✓ ' : '✗ '),
-    t(isOne ? 'goods.envyOne' : 'goods.envyAll', { a: called(player), b: called(other), good: name(things[good]) }));
+  const line = ({ player, other, good, isOne }) => h('li', { class: isOne ? 'yes' : 'no' },
+    sign(isOne ? '✓ ' : '✗ '), t(isOne ? 'goods.envyOne' : 'goods.envyAll',
+      { a: called(player), b: called(other), good: name(things[good]) }));
   return card(t('goods.envy'),
     h('ul', { class: 'rules', id: 'audit' },
       envies.length ? envies.map(line) : h('li', { class: 'yes' }, sign('✓ '), t('goods.content')),
@@ -137,7 +140,8 @@ function goodsEnvy({ said, names: { members, things } }, shares) {
     players.length > 1 && [goodsGains(called, players, shares), hint('own.goodsBars')],
     behind(heat(text('goods.envyTable'), t('result.who'), players.map(called), players.map(called), (p, o) => {
       const by = envy(p, o);
-      return { size: Number(by), shown: p === o ? '—' : String(by).replace('-', '−'), own: p === o, is: String(by) };
+      const shown = p === o ? '—' : String(by).replace('-', '−');
+      return { size: Number(by), shown, own: p === o, is: String(by) };
     })));
 }
 

@@ -1,5 +1,5 @@
-// A division as one picture, to send to others: drawn as SVG and saved as PNG. It needs the certificate's numbers and the
-// names, and nothing else.
+// A division as one picture, to send to others: drawn as SVG and saved as PNG. It needs the certificate's numbers and
+// the names, and nothing else.
 import { names, t, text } from './language.js';
 import { money } from './money.js';
 import { fareShares, goodsShares, rentShares } from './shares.js';
@@ -23,7 +23,8 @@ const LINES = {
   },
   goods(said, { members, things }) {
     const { points, owned } = goodsShares(said);
-    const share = (player) => (owned[player].length ? plain(names(owned[player].map((good) => things[good]))) : text('goods.nothing'));
+    const share = (player) => (
+      owned[player].length ? plain(names(owned[player].map((good) => things[good]))) : text('goods.nothing'));
     return peopleOf(said).map((m, player) => ({ member: m - 1, says: `${members[m - 1]}: ${share(player)}`,
       beside: text('points', { n: points[player] }), part: Number(points[player]) / 1000 }));
   },
@@ -64,7 +65,8 @@ export function posterOf(scene) {
   const height = HEAD + lines.length * LINE + 50;
   const svg = shape('svg', { xmlns: SVG, width: WIDTH, height, viewBox: `0 0 ${WIDTH} ${height}` });
   const title = short(scene.names.title || text(`kinds.${scene.said.kind}.title`));
-  svg.append(shape('rect', { width: WIDTH, height, fill: '#fff' }), written(SIDE, 70, 38, title, { 'font-weight': 700 }),
+  svg.append(shape('rect', { width: WIDTH, height, fill: '#fff' }),
+    written(SIDE, 70, 38, title, { 'font-weight': 700 }),
     ...lines.flatMap(drawn), written(SIDE, height - 24, 18, text('site'), { fill: '#55606b' }));
   return svg;
 }
@@ -77,7 +79,8 @@ async function pngOf(svg) {
     image.src = url;
     await image.decode();
   } finally { URL.revokeObjectURL(url); }
-  const canvas = Object.assign(document.createElement('canvas'), { width: WIDTH, height: Number(svg.getAttribute('height')) });
+  const height = Number(svg.getAttribute('height'));
+  const canvas = Object.assign(document.createElement('canvas'), { width: WIDTH, height });
   canvas.getContext('2d').drawImage(image, 0, 0);
   return new Promise((done) => { canvas.toBlob(done, 'image/png'); });
 }

@@ -22,7 +22,9 @@ function judged({ verdict, rule, line, by }, differ) {
 /** Who has judged, and what the second check said. */
 function judgedBy({ verdict, by, proved, script, isLowered, isOver }) {
   if (verdict === 'none') return [];
-  if (verdict === 'differ') return t('judge.differWhy', { proved: h('code', {}, proved), script: h('code', {}, script) });
+  if (verdict === 'differ') {
+    return t('judge.differWhy', { proved: h('code', {}, proved), script: h('code', {}, script) });
+  }
   if (by === 'script') return t('judge.script');
   const second = by === 'both' ? 'judge.agrees' : isOver ? 'judge.failed' : 'judge.again';
   return [t(isLowered ? 'judge.lowered' : 'judge.proved'), ' ', t(second)];

@@ -57,7 +57,8 @@ function whole(found, certificate, view) {
   const whose = whoseNames(saw, differ);
   return [
     verdictBox(found, says, whose && t(whose)), picture(scene),
-    h('p', { class: 'row keep' }, pictureButton(scene, `round-${link.id}`), action({ click: () => print() }, t('files.print'))),
+    h('p', { class: 'row keep' }, pictureButton(scene, `round-${link.id}`),
+      action({ click: () => print() }, t('files.print'))),
     card(t('proof.title'), panel({ found, scene, certificate, file: `round-${link.id}` })),
     files(certificate, view, { kind: said.kind, bids: peopleOf(said), you: known.you }),
   ];

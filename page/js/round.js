@@ -96,7 +96,8 @@ async function showOpen(root, top, view) {
   turn(root, top, round.you > 0 || round.bids.length ? [people, body] : [body, people]);
   const told = showBidders(people, view);
   const tick = (quiet) => asked?.tick(quiet);
-  if (round.you > 0) await (await import('./bid.js')).bidForm(body, { ...view, tick });
+  const own = (has) => asked?.own(has);
+  if (round.you > 0) await (await import('./bid.js')).bidForm(body, { ...view, tick, own });
   await told;
   if (round.you === 0 && asked) await (await import('./organiser.js')).organise(body, { ...view, tick }, asked);
 }

@@ -1,9 +1,10 @@
 // The limits of a round. Pure.
 
-/** The limits, which are those of examples/creation.schema.json. */
+/** The limits of a round, which are those of examples/creation.schema.json, and of a certificate, which are those of docs/LIMITS.md. */
 export const LIMITS = {
   name: 40, members: [2, 12], riders: [2, 10], goods: [1, 24], places: [1, 12],
   rent: 10_000_000, cost: 1_000_000, steps: 200_000, points: 1000, turns: 20,
+  certificate: 4_000_000, digits: 25, denominator: 4_294_967_295,
 };
 
 /** Points go by steps of this size: the search ends more often then. */

@@ -41,7 +41,8 @@ export function goodsShares(said) {
     return [{ player, other, good, isOne: by <= worth(good) }];
   }));
   const best = (player) => greatest(players.map((other) => frac(other === player ? -1n : worthOf(player, other))));
-  return { points, owned, envy, envies, worthOf, best, product: points.filter((some) => some > 0n).reduce((a, b) => a * b, 1n) };
+  const product = points.filter((some) => some > 0n).reduce((a, b) => a * b, 1n);
+  return { points, owned, envy, envies, worthOf, best, product };
 }
 
 /** The sets of riders who pay more together than a ride of their own would cost: how many, of how many, and the one

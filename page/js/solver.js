@@ -1,4 +1,5 @@
-// Divides by the proved modules, in a worker that can be stopped. `numbersOf` says of a case what the solver wants to know.
+// Divides by the proved modules, in a worker that can be stopped. `numbersOf` says of a case what the solver wants to
+// know.
 import { fileOf, startWorker } from './carried.js';
 import { has64Bits } from '../judge/modules.js';
 

@@ -133,7 +133,7 @@ export const words = {
     title: 'Who gets which room', mine: 'You get *{room}* and pay *{amount}*', minePaid: 'You get *{room}* and are paid *{amount}*',
     mineWorth: 'You said it’s worth {worth} to you: {gain} more than it costs.', worth: 'said it’s worth {worth}',
     bars: 'Full bar: the price. Outlined bar: what the person said the room is worth. Total: *{all}*.', fractions: 'Exact prices have fractions of a cent. What people pay is rounded so that it adds up.',
-    envy: 'Nobody would rather swap', envyWhy: 'What each person would gain with someone else’s room at its price: never more than 0. Of all prices like that, these leave the least happy person as well off as possible ({least}).',
+    envy: 'Nobody would rather swap', envyWhy: 'Nobody would be better off with someone else’s room at its price. Of all prices like that, these leave the least happy person as well off as possible ({least}).',
     envyTable: 'Gain from swapping with', saidTable: 'What each room is worth to each person. A frame shows who gets it',
   },
   goods: {
@@ -161,12 +161,12 @@ export const words = {
     pointsFault: 'The points of {name} must be whole numbers that add up to {all}. They add up to {has} now.',
     has: { one: '{name} gets {n} point of their own 1000.', other: '{name} gets {n} points of their own 1000.' },
     envyOne: '{a} would rather have what {b} has, by {n} points, but not if one item were taken out of it (EF1).', envyMore: '{a} would rather have what {b} has, by {n} points, whichever item were taken out of it.',
-    notProved: 'This page worked that out from what you typed. Nothing of it is proved.',
+    notProved: 'This page worked that out from what you typed. None of it is proved.',
     proposalFile: 'Save the file', proposalThen: 'To have it audited: {command}',
     round: 'A new round', roundHow: 'One tap makes a round with the same people and items, which ends in a week. Send everyone their new link: it has a button that bids their old points again, rounded to multiples of 50. Then you are far more likely to get an answer.',
     roundAsk: 'Ask the person who created this round to make it again. Your new link has a button that bids your old points again, rounded to multiples of 50. Then you are far more likely to get an answer.',
   },
-  files: { title: 'Files', whose: 'The verdict above is about the certificate. The other files are only what the server says: nothing of them was checked here.', report: 'Report', certificate: 'Certificate', audit: 'Audit', winner: 'Adjusted winner', print: 'Print' },
+  files: { title: 'Files', whose: 'The verdict above is about the certificate. The other files are only what the server says: none of them was checked here.', report: 'Report', certificate: 'Certificate', audit: 'Audit', winner: 'Adjusted winner', print: 'Print' },
   check: {
     link: 'Check a certificate', file: 'Save the checking page as a file', label: 'The text of a certificate, or of a file that Download saved', button: 'Check', open: 'or open a file', checking: 'Checking …', branches: '{count} branches read …',
     lead: 'Nothing is sent anywhere: the check runs in this browser. The verdict comes from the same proved code as that of {command}, and a script checks everything a second time. *This page around them is not proved correct.*',

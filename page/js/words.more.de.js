@@ -71,7 +71,7 @@ export const words = {
     other: 'Das Zertifikat gehört zu einer anderen Runde als der, die dieser Browser vor dem Schließen gesehen hat.', fit: 'Die Namen, die der Server sendet, passen nicht zu diesem Zertifikat. Darum stehen unten nur Nummern.',
   },
   helps: {
-    close: 'Hilfe schließen',
+    close: 'Hilfe schließen', guide: 'Mehr in der Anleitung',
     start: {
       title: 'So fängst du an', 1: 'Wähle, was ihr aufteilen wollt. Du erstellst eine Runde: Du gibst ein, wer dabei ist und was es gibt, und bekommst für jede Person einen eigenen Link.',
       2: 'Schick jeder Person ihren Link. Sie öffnet ihn und sagt, was ihr die Dinge wert sind. Niemand braucht ein Konto.', 3: 'Zur gewählten Zeit, oder früher, wenn alle geboten haben, schließt die Runde. Dann sieht jede Person das Ergebnis unter ihrem eigenen Link.',

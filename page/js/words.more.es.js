@@ -71,7 +71,7 @@ export const words = {
     other: 'El certificado pertenece a otra ronda, no a la que este navegador vio antes del cierre.', fit: 'Los nombres que envía el servidor no encajan con este certificado, así que abajo solo hay números.',
   },
   helps: {
-    close: 'Cerrar la ayuda',
+    close: 'Cerrar la ayuda', guide: 'Más en la guía (en inglés)',
     start: {
       title: 'Por dónde empezar', 1: 'Elige lo que queréis repartir. Creas una ronda: escribes quién participa y qué hay, y recibes un enlace privado para cada persona.',
       2: 'Envía a cada persona su enlace. Lo abre y dice cuánto valen las cosas para ella. Nadie necesita una cuenta.', 3: 'A la hora fijada, o antes si ya están todas las ofertas, la ronda se cierra. Entonces cada persona ve el resultado en su propio enlace.',

@@ -71,7 +71,7 @@ export const words = {
     other: 'Le certificat appartient à un autre partage que celui que ce navigateur a vu avant la clôture.', fit: 'Les noms envoyés par le serveur ne vont pas avec ce certificat : il n’y a donc que des numéros ci-dessous.',
   },
   helps: {
-    close: 'Fermer l’aide',
+    close: 'Fermer l’aide', guide: 'Plus dans le guide (en anglais)',
     start: {
       title: 'Par où commencer', 1: 'Choisis ce que vous voulez partager. Tu crées un partage : tu indiques qui participe et ce qu’il y a à répartir, et tu reçois un lien privé pour chaque personne.',
       2: 'Envoie à chaque personne son lien. Elle l’ouvre et dit ce que les choses valent pour elle. Personne n’a besoin de compte.', 3: 'À la date prévue, ou plus tôt si toutes les offres sont là, le partage se clôt. Chaque personne voit alors le résultat sous son propre lien.',

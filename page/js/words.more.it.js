@@ -71,7 +71,7 @@ export const words = {
     other: 'Il certificato appartiene a un’altra ripartizione, non a quella che questo browser ha visto prima della chiusura.', fit: 'I nomi inviati dal server non vanno d’accordo con questo certificato, quindi qui sotto ci sono solo numeri.',
   },
   helps: {
-    close: 'Chiudi l’aiuto',
+    close: 'Chiudi l’aiuto', guide: 'Altro nella guida (in inglese)',
     start: {
       title: 'Da dove cominciare', 1: 'Scegli che cosa volete dividere. Crei una ripartizione: scrivi chi partecipa e che cosa c’è, e ricevi un link privato per ogni persona.',
       2: 'Invia a ogni persona il suo link. Lo apre e dice quanto valgono per lei le cose. Nessuno ha bisogno di un account.', 3: 'All’ora stabilita, o prima se ci sono tutte le offerte, la ripartizione si chiude. Allora ogni persona vede il risultato sotto il proprio link.',

@@ -10,7 +10,7 @@ export const words = {
   },
   rules: {
     rent: {
-      1: 'The case is valid: everyone’s values add up to the rent.', 2: 'Everyone has one room.', 3: 'No room is worth more to anyone than the dual numbers allow …', 4: '… and everyone’s own room reaches them, so no other division is worth more in total.',
+      1: 'The case is valid: everyone’s values add up to the rent.', 2: 'Everyone has one room.', 3: 'No room is worth more to anyone than the dual variables allow …', 4: '… and everyone’s own room reaches them, so no other division is worth more in total.',
       5: 'The chains of envy are long enough …', 6: '… and no longer than some chain.', 7: 'The prices leave the least happy person as well off as possible.',
     },
     goods: { 1: 'The case is valid: everyone’s points add up to 1000.', 2: 'Every item goes to someone.', 3: 'The tree of all divisions is complete.', 4: 'Nothing below a cut branch is better.', 5: 'No complete division is better.', 6: 'The tree ends at this division.' },
@@ -36,7 +36,7 @@ export const words = {
     begin: 'On to the bids', handTo: 'Pass the device to *{name}*', hidden: 'The bids so far are hidden. Only {name} should look now.', take: 'I’m {name}',
     bidOf: 'The bid of *{name}*', next: 'Next', last: 'Show the result', back: 'Back', skip: 'Leave {name} out', done: 'Everyone has bid', allHere: 'Get together, and then show the result.', show: 'Show the result',
     working: 'Working out the division …', stop: 'Stop', stopped: 'Stopped. Nothing was lost: you can try again.', tooFew: 'At least two people have to bid.',
-    noModule: 'The proved program that divides can’t run in this browser. Try a current Firefox, Chrome, Edge or Safari.', refused: 'This is no case that can be divided ({what}).', unproved: 'The judging program did not say yes to this division, so it isn’t shown. It said: {says}',
+    noModule: 'The proved program that divides can’t run in this browser. Try a current Firefox, Chrome, Edge or Safari.', refused: 'This can’t be divided ({what}).', unproved: 'The judging program did not say yes to this division, so it isn’t shown. It said: {says}',
     anew: 'Change something',
   },
   demo: {
@@ -47,7 +47,7 @@ export const words = {
   },
   winner: {
     title: 'Or split one item: adjusted winner', how: 'If one item can be sold or shared over time, both of you can have {points} points (Brams and Taylor 1996).', table: 'Who gets how much of each item',
-    computed: 'This page worked it out from the bids in the certificate.', word: 'This is only what the server says. Nothing of it was checked here.', check: 'To check it: {command}',
+    computed: 'This page worked it out from the bids in the certificate.', word: 'This is only what the server says. None of it was checked here.', check: 'To check it: {command}',
   },
   proof: {
     title: 'Check it yourself', what: 'The certificate lists every bid, the result, and the numbers that show it’s the best one. You don’t have to trust the server:',
@@ -71,7 +71,7 @@ export const words = {
     other: 'The certificate belongs to another round than the one this browser saw before the close.', fit: 'The names that the server sends don’t fit this certificate, so there are only numbers below.',
   },
   helps: {
-    close: 'Close the help',
+    close: 'Close the help', guide: 'More in the guide',
     start: {
       title: 'Where to begin', 1: 'Pick what you want to split. You create a round: you enter who takes part and what there is, and you get a private link for each person.',
       2: 'Send each person their link. They open it and say what things are worth to them. Nobody needs an account.', 3: 'At the time that you set, or earlier if every bid is in, the round closes. Then each person sees the result under their own link.',

@@ -71,7 +71,7 @@ export const words = {
     other: 'Certyfikat należy do innej rundy niż ta, którą ta przeglądarka widziała przed zamknięciem.', fit: 'Nazwy przysłane przez serwer nie pasują do tego certyfikatu, więc poniżej są tylko numery.',
   },
   helps: {
-    close: 'Zamknij pomoc',
+    close: 'Zamknij pomoc', guide: 'Więcej w przewodniku (po angielsku)',
     start: {
       title: 'Od czego zacząć', 1: 'Wybierz, co chcecie podzielić. Tworzysz rundę: wpisujesz, kto bierze udział i co jest do podziału, i dostajesz poufny link dla każdej osoby.',
       2: 'Wyślij każdej osobie jej link. Otwiera go i mówi, ile co jest dla niej warte. Nikt nie potrzebuje konta.', 3: 'O ustalonej porze, albo wcześniej, gdy są wszystkie oferty, runda się zamyka. Wtedy każda osoba widzi wynik pod swoim linkiem.',

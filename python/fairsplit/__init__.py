@@ -19,39 +19,21 @@ those bytes from your values and reads the texts, is tested and not proved.
 """
 from __future__ import annotations
 
-import json
-from typing import Any, Dict, Hashable, Iterable, Mapping, Optional, Union
+from typing import Any, Hashable, Iterable, Mapping, Optional, Union
 
 from . import numbers
 from ._divisions import (Audit, FareDivision, FareShare, GoodsDivision, GoodsShare, PairDivision, RentDivision, RentShare, Verdict, audit, fare_division,
-                         goods_division, pair_division, rent_division)
+                         goods_case, goods_division, pair_division, rent_division, text_of)
 from ._errors import FairsplitError, NotTwo, OutOfMemory, OverLimit, Refused, Void, error_of
 from ._library import run
+from ._solving import solve_fares, solve_goods, solve_rent
 from ._tables import Money, Table, read_table, table_of, whole
 
-__all__ = ['Audit', 'FairsplitError', 'FareDivision', 'FareShare', 'GoodsDivision', 'GoodsShare', 'NotTwo', 'OutOfMemory', 'OverLimit', 'PairDivision', 'Refused',
-           'RentDivision', 'RentShare', 'Table', 'Verdict', 'Void', 'check', 'check_winner', 'fares', 'goods', 'numbers', 'read_table', 'rent', 'run', 'weigh', 'winner']
+__all__ = ['Audit', 'FairsplitError', 'FareDivision', 'FareShare', 'GoodsDivision', 'GoodsShare', 'NotTwo', 'OutOfMemory', 'OverLimit', 'PairDivision',
+           'Refused', 'RentDivision', 'RentShare', 'Table', 'Verdict', 'Void', 'check', 'check_winner', 'fares', 'goods', 'numbers', 'read_table', 'rent',
+           'run', 'weigh', 'winner']
 
 Names = Optional[Iterable[Hashable]]
-
-
-def _numbered(letter: str, count: int) -> list:
-    """Names for the library, which never change a division: yours may be anything."""
-    return [f'{letter}{number}' for number in range(1, count + 1)]
-
-
-def _text(command: str, case: Dict[str, Any], members: tuple) -> str:
-    """What a command writes on a case, or its refusal as an error."""
-    status, text = run(command, json.dumps(case).encode())
-    if status:
-        raise error_of(status, text.decode().strip(), members)
-    return text.decode()
-
-
-def _goods_case(table: Table, limit: Optional[int] = None) -> Dict[str, Any]:
-    """The case of goods that a table is."""
-    case = {'kind': 'goods', 'title': 'x', 'members': _numbered('m', len(table.members)), 'goods': _numbered('g', len(table.columns)), 'bids': table.rows}
-    return case if limit is None else {**case, 'limit': whole(limit)}
 
 
 def rent(total: Any, bids: Any, *, members: Names = None, rooms: Names = None) -> RentDivision:
@@ -66,9 +48,7 @@ def rent(total: Any, bids: Any, *, members: Names = None, rooms: Names = None) -
     money = Money()
     amount = money(total)
     table = table_of(bids, members, rooms, 'rooms', money)
-    case = {'kind': 'rent', 'title': 'x', 'members': _numbered('m', len(table.members)), 'rooms': _numbered('r', len(table.columns)), 'rent': amount,
-            'bids': table.rows}
-    return rent_division(table, _text('solve', case, table.members), _text('report', case, table.members))
+    return rent_division(table, amount, *solve_rent(amount, table))
 
 
 def goods(bids: Any, *, members: Names = None, goods: Names = None, limit: Optional[int] = None) -> GoodsDivision:
@@ -78,11 +58,11 @@ def goods(bids: Any, *, members: Names = None, goods: Names = None, limit: Optio
     steps that the search may take, up to 200,000; without it 100,000.
     """
     table = table_of(bids, members, goods, 'goods', whole)
-    case = _goods_case(table, limit)
-    return goods_division(table, _text('solve', case, table.members), _text('report', case, table.members))
+    most = None if limit is None else whole(limit)
+    return goods_division(table, most, solve_goods(most, table))
 
 
-def fares(flag: Any, legs: Any, bids: Union[Mapping, Iterable], *, members: Names = None, places: Names = None) -> FareDivision:
+def fares(flag: Any, legs: Any, bids: Union[Mapping[Hashable, Any], Iterable[Any]], *, members: Names = None, places: Names = None) -> FareDivision:
     """Shares the fare of a taxi. `flag` is what the ride costs before it begins, and `legs` what each leg costs: a row from the origin, and then
     a row from each place, each with a number for every place. As a mapping of mappings the first key is the origin. `bids` says where each member
     gets off: a mapping from member to place, or a list of places; None for a member who does not ride.
@@ -95,25 +75,24 @@ def fares(flag: Any, legs: Any, bids: Union[Mapping, Iterable], *, members: Name
         bids = bids.values()
     stops = [None if stop is None else table.columns.index(stop) + 1 for stop in bids]
     riders = tuple(range(1, len(stops) + 1) if members is None else members)
-    case = {'kind': 'fares', 'title': 'x', 'members': _numbered('m', len(riders)), 'places': _numbered('p', len(table.columns)), 'flag': amount,
-            'legs': table.rows, 'bids': stops}
-    return fare_division(riders, table.columns, _text('solve', case, riders), _text('report', case, riders))
+    return fare_division(amount, table, riders, stops, *solve_fares(amount, table, riders, stops))
 
 
-def weigh(bids: Any, owners: Union[Mapping, Iterable[Hashable]], *, members: Names = None, goods: Names = None, limit: Optional[int] = None) -> Audit:
+def weigh(bids: Any, owners: Union[Mapping[Any, Hashable], Iterable[Hashable]], *, members: Names = None, goods: Names = None,
+          limit: Optional[int] = None) -> Audit:
     """Audits a proposed division of goods: `owners` has for each good the member who is to get it, as a mapping from good to member or in the order
     of the goods.
     """
     table = table_of(bids, members, goods, 'goods', whole)
     chosen = [owners[good] for good in table.columns] if isinstance(owners, Mapping) else list(owners)
-    case = {**_goods_case(table, limit), 'owners': [table.members.index(owner) + 1 for owner in chosen]}
-    return audit(table, _text('weigh', case, table.members))
+    case = {**goods_case(table, None if limit is None else whole(limit)), 'owners': [table.members.index(owner) + 1 for owner in chosen]}
+    return audit(table, text_of('weigh', case, table.members))
 
 
 def winner(bids: Any, *, members: Names = None, goods: Names = None) -> PairDivision:
     """Divides goods between two members by adjusted winner: at most one good is cut, both members have as many points, and neither envies."""
     table = table_of(bids, members, goods, 'goods', whole)
-    return pair_division(table, _text('winner', _goods_case(table), table.members))
+    return pair_division(table, text_of('winner', goods_case(table), table.members))
 
 
 def _verdict(command: str, text: Union[str, bytes]) -> Verdict:

@@ -1,25 +1,59 @@
-"""What a division is, read from the texts that the library writes. Amounts are in cents, and exact."""
+"""What a division is: read from its certificate, and from what the caller handed over. Amounts are in cents, and exact.
+
+A report and the other texts come from the commands, which read JSON.
+"""
 from __future__ import annotations
 
+import json
 import re
-from dataclasses import asdict, dataclass
+from dataclasses import asdict, dataclass, field
 from fractions import Fraction
-from typing import Any, Dict, Hashable, List, Optional, Tuple
+from functools import cached_property
+from math import lcm, prod
+from typing import Any, Dict, Hashable, List, Optional, Sequence, Tuple
 
-from ._tables import Table
-
-_RENT = re.compile(r'(\d+) .*: room (\d+) .*, price (\S+), pays (\S+), utility (\S+)')
-_GOODS = re.compile(r'(\d+) .*: goods (none|\d+(?: \d+)*), points (\d+)')
-_FARES = re.compile(r'(\d+) .*: place (\d+) .*, fare (\S+), pays (\S+), alone (\S+)')
-_ENVY = re.compile(r'envy \d+: (.+)')
+from ._errors import error_of
+from ._library import run
+from ._tables import Table, bids_of
 
 Names = Tuple[Hashable, ...]
+Case = Dict[str, Any]
+
+
+def _numbered(letter: str, count: int) -> List[str]:
+    """Names for the library, which never change a division: yours may be anything."""
+    return [f'{letter}{number}' for number in range(1, count + 1)]
+
+
+def _case(kind: str, members: int, items: str, count: int, bids: Sequence[Any], **facts: Any) -> Case:
+    """A case as the commands read it. `items` are its rooms, goods or places."""
+    return {'kind': kind, 'title': 'x', 'members': _numbered('m', members), items: _numbered(items[0], count), **facts, 'bids': bids}
+
+
+def goods_case(table: Table, limit: Optional[int] = None) -> Case:
+    """The case of goods that a table is."""
+    facts = {} if limit is None else {'limit': limit}
+    return _case('goods', len(table.members), 'goods', len(table.columns), table.rows, **facts)
+
+
+def text_of(command: str, case: Case, members: Names) -> str:
+    """What a command writes on a case, or its refusal as an error."""
+    status, text = run(command, json.dumps(case).encode())
+    if status:
+        raise error_of(status, text.decode().strip(), members)
+    return text.decode()
 
 
 class _Shares:
     """What all divisions can do."""
 
-    shares: tuple
+    shares: Tuple[Any, ...]
+    _case: Case
+
+    @cached_property
+    def report(self) -> str:
+        """What the program's `report` writes of this division, with m1, m2 and so on for the members. The library makes it from JSON when it is asked for."""
+        return text_of('report', self._case, ())
 
     def records(self) -> List[Dict[str, Any]]:
         """The shares as dictionaries, one a member, such as pandas.DataFrame takes."""
@@ -46,7 +80,7 @@ class RentDivision(_Shares):
     least_utility: Fraction
     envy: Tuple[Tuple[Fraction, ...], ...]
     certificate: str
-    report: str
+    _case: Case = field(repr=False, compare=False)
 
 
 @dataclass(frozen=True)
@@ -71,7 +105,7 @@ class GoodsDivision(_Shares):
     steps: int
     envy: Tuple[Tuple[int, ...], ...]
     certificate: str
-    report: str
+    _case: Case = field(repr=False, compare=False)
 
 
 @dataclass(frozen=True)
@@ -94,7 +128,7 @@ class FareDivision(_Shares):
     total: int
     route: Names
     certificate: str
-    report: str
+    _case: Case = field(repr=False, compare=False)
 
 
 @dataclass(frozen=True)
@@ -133,55 +167,67 @@ class Verdict:
         return self.holds
 
 
-def _matches(pattern: 're.Pattern[str]', text: str) -> List[Tuple[str, ...]]:
-    """What the lines of this form say."""
-    return [found.groups() for found in map(pattern.fullmatch, text.splitlines()) if found]
-
-
 def _words(text: str, word: str) -> List[str]:
     """The words behind the word with which a line begins."""
-    return next(line[len(word):].split() for line in text.splitlines() if line.startswith(word + ' '))
+    found = re.search(rf'^{word} (.*)$', text, re.MULTILINE)
+    assert found, f'the library wrote no line {word}'
+    return found[1].split()
 
 
-def rent_division(table: Table, certificate: str, report: str) -> RentDivision:
-    """The division of a rent from its certificate and its report."""
+def _places(text: str, word: str) -> List[int]:
+    """The numbers behind that word, which count from 1, as places in a list."""
+    return [int(number) - 1 for number in _words(text, word)]
+
+
+def rent_division(table: Table, total: int, certificate: str, pays: Sequence[int]) -> RentDivision:
+    """The division of a rent from its certificate, and from what each member pays."""
+    rooms = _places(certificate, 'rooms')
+    prices = [Fraction(price) for price in _words(certificate, 'prices')]
+    # what each room is worth to each member beyond its price, in parts of a cent of which each price has a whole number
+    parts = lcm(*(price.denominator for price in prices))
+    costs = [int(price * parts) for price in prices]
+    gains = [[value * parts - cost for value, cost in zip(row, costs)] for row in bids_of(table)]
+    own = [row[room] for row, room in zip(gains, rooms)]
+    utilities = [Fraction(gain, parts) for gain in own]
     shares = tuple(
-        RentShare(table.members[int(member) - 1], table.columns[int(room) - 1], Fraction(price), int(pays), Fraction(utility))
-        for member, room, price, pays, utility in _matches(_RENT, report))
-    envy = tuple(tuple(map(Fraction, row.split())) for row, in _matches(_ENVY, report))
-    return RentDivision(shares, Fraction(_words(report, 'least utility')[0]), envy, certificate, report)
+        RentShare(member, table.columns[room], prices[room], paid, utility) for member, room, paid, utility in zip(table.members, rooms, pays, utilities))
+    envy = tuple(tuple(Fraction(row[room] - gain, parts) for room in rooms) for row, gain in zip(gains, own))
+    count = len(rooms)
+    return RentDivision(shares, min(utilities), envy, certificate, _case('rent', count, 'rooms', count, table.rows, rent=total))
 
 
-def _goods_of(table: Table, said: str) -> Names:
-    """The goods of a share, as a report says them."""
-    return () if said == 'none' else tuple(table.columns[int(good) - 1] for good in said.split())
+def goods_division(table: Table, limit: Optional[int], certificate: str) -> GoodsDivision:
+    """The division of goods from its certificate."""
+    owners = _places(certificate, 'owners')
+    players = [member for member, row in zip(table.members, table.rows) if row is not None]
+    goods = [[good for good, owner in enumerate(owners) if owner == player] for player in range(len(players))]
+    # what the goods of each player are worth to each
+    worth = [[sum(row[good] for good in got) for got in goods] for row in bids_of(table)]
+    points = [row[player] for player, row in enumerate(worth)]
+    shares = tuple(GoodsShare(member, tuple(table.columns[good] for good in got), own) for member, got, own in zip(players, goods, points))
+    positive = [own for own in points if own]
+    envy = tuple(tuple(other - own for other in row) for row, own in zip(worth, points))
+    steps = int(_words(certificate, 'steps')[0])
+    names = tuple(players[owner] for owner in owners)
+    return GoodsDivision(shares, names, len(positive), prod(positive), steps, envy, certificate, goods_case(table, limit))
 
 
-def goods_division(table: Table, certificate: str, report: str) -> GoodsDivision:
-    """The division of goods from its certificate and its report."""
+def fare_division(flag: int, legs: Table, members: Names, stops: Sequence[Optional[int]], certificate: str, pays: Sequence[int]) -> FareDivision:
+    """The division of a fare from its certificate, and from what each rider pays."""
+    riders = [(member, stop - 1) for member, stop in zip(members, stops) if stop is not None]
+    fares = map(Fraction, _words(certificate, 'fares'))
+    from_origin = bids_of(legs)[0]
     shares = tuple(
-        GoodsShare(table.members[int(member) - 1], _goods_of(table, goods), int(points))
-        for member, goods, points in _matches(_GOODS, report))
-    owners = tuple(shares[int(player) - 1].member for player in _words(certificate, 'owners'))
-    positive, product, steps = (int(number) for number in re.findall(r'\d+', ' '.join(_words(report, 'positive'))))
-    envy = tuple(tuple(map(int, row.split())) for row, in _matches(_ENVY, report))
-    return GoodsDivision(shares, owners, positive, product, steps, envy, certificate, report)
-
-
-def fare_division(members: Names, places: Names, certificate: str, report: str) -> FareDivision:
-    """The division of a fare from its certificate and its report."""
-    shares = tuple(
-        FareShare(members[int(member) - 1], places[int(place) - 1], Fraction(fare), int(pays), Fraction(alone))
-        for member, place, fare, pays, alone in _matches(_FARES, report))
-    route = tuple(shares[int(rider) - 1].member for rider in _words(certificate, 'route'))
-    return FareDivision(shares, int(_words(report, 'total')[0].rstrip(',')), route, certificate, report)
+        FareShare(member, legs.columns[stop], fare, paid, Fraction(flag + from_origin[stop])) for (member, stop), fare, paid in zip(riders, fares, pays))
+    route = tuple(riders[rider][0] for rider in _places(certificate, 'route'))
+    case = _case('fares', len(members), 'places', len(legs.columns), stops, flag=flag, legs=legs.rows)
+    return FareDivision(shares, sum(pays), route, certificate, case)
 
 
 def audit(table: Table, text: str) -> Audit:
     """The audit of proposed owners from its text."""
     envy = tuple(
-        (table.members[int(one) - 1], table.members[int(other) - 1], said)
-        for one, other, said in _matches(re.compile(r'envy (\d+) (\d+): (.+)'), text))
+        (table.members[int(one) - 1], table.members[int(other) - 1], said) for one, other, said in re.findall(r'^envy (\d+) (\d+): (.+)$', text, re.MULTILINE))
     positive, product = (int(number) for number in re.findall(r'\d+', ' '.join(_words(text, 'positive'))))
     last = text.splitlines()[-1].split()
     dominating = tuple(table.members[int(number) - 1] for number in last[2:]) if last[0] == 'dominated' else None

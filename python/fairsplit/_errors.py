@@ -1,11 +1,12 @@
 """Why there is no division, and no verdict."""
 from __future__ import annotations
 
-from typing import Optional
+from typing import Hashable, Optional, Tuple
 
 
 class FairsplitError(Exception):
-    """The base of all that the library refuses. `status` is the status of the command line."""
+    """The base of all that the library refuses. `status` is the status of the command line. What an error is made from is in `args`, so that it can be
+    pickled and come from another process."""
 
     status = 0
 
@@ -15,9 +16,12 @@ class Void(FairsplitError):
 
     status = 1
 
-    def __init__(self, missing: tuple):
-        super().__init__(f'no bid from {", ".join(map(str, missing))}')
+    def __init__(self, missing: Tuple[Hashable, ...]):
+        super().__init__(missing)
         self.missing = missing
+
+    def __str__(self) -> str:
+        return f'no bid from {", ".join(map(str, self.missing))}'
 
 
 class OverLimit(FairsplitError):
@@ -26,8 +30,11 @@ class OverLimit(FairsplitError):
     status = 1
 
     def __init__(self, limit: int):
-        super().__init__(f'the search takes more than {limit} steps')
+        super().__init__(limit)
         self.limit = limit
+
+    def __str__(self) -> str:
+        return f'the search takes more than {self.limit} steps'
 
 
 class NotTwo(FairsplitError):
@@ -35,8 +42,8 @@ class NotTwo(FairsplitError):
 
     status = 1
 
-    def __init__(self) -> None:
-        super().__init__('adjusted winner wants exactly two members who have bid')
+    def __str__(self) -> str:
+        return 'adjusted winner wants exactly two members who have bid'
 
 
 class OutOfMemory(FairsplitError):
@@ -44,8 +51,8 @@ class OutOfMemory(FairsplitError):
 
     status = 9
 
-    def __init__(self) -> None:
-        super().__init__('memory ran out')
+    def __str__(self) -> str:
+        return 'memory ran out'
 
 
 class Refused(FairsplitError, ValueError):
@@ -56,11 +63,19 @@ class Refused(FairsplitError, ValueError):
     """
 
     def __init__(self, status: int, field: Optional[str], line: Optional[int], said: str):
-        super().__init__(said)
-        self.status, self.field, self.line = status, field, line
+        super().__init__(status, field, line, said)
+        self.status, self.field, self.line, self.said = status, field, line, said
+
+    def __str__(self) -> str:
+        return self.said
+
+    @classmethod
+    def of_field(cls, field: str) -> 'Refused':
+        """The refusal of a field, as the library says it."""
+        return cls(3, field, None, f'refused: field {field}')
 
 
-def error_of(status: int, said: str, members: tuple = ()) -> FairsplitError:
+def error_of(status: int, said: str, members: Tuple[Hashable, ...] = ()) -> FairsplitError:
     """The error for a status and a line of the library. `members` names the members whose numbers the line has."""
     words = said.split()
     if status == 9:

@@ -8,8 +8,9 @@ import ctypes
 import mmap
 import os
 import threading
+from concurrent.futures import Future
 from pathlib import Path
-from typing import Callable, List, Tuple
+from typing import Any, Callable, List, Tuple, TypeVar, Union
 
 COMMANDS = ('check', 'checkwinner', 'solve', 'report', 'weigh', 'winner')
 SOLVERS = ('rent', 'goods', 'fares', 'rent_cents', 'fares_cents')
@@ -21,6 +22,12 @@ NEW_STACK = 4 << 20
 
 _here = threading.local()
 _starting = threading.Lock()
+
+
+# Whole numbers of one width, as C has them.
+Numbers = Union['ctypes.Array[ctypes.c_uint32]', 'ctypes.Array[ctypes.c_uint8]', 'ctypes.Array[ctypes.c_int64]']
+Lists = List[Numbers]
+Answer = TypeVar('Answer')
 
 
 class _Attributes(ctypes.Structure):
@@ -61,13 +68,13 @@ def _has_stack() -> bool:
     """Whether this thread has stack enough. It is asked once in each thread."""
     if not hasattr(_here, 'has_stack'):
         _here.has_stack = _stack_size() >= LEAST_STACK
-    return _here.has_stack
+    return bool(_here.has_stack)
 
 
-def _buffer():
-    """This thread's buffer for answers."""
+def _buffer() -> Any:
+    """This thread's buffer for answers. A process that is forked gets a copy of it, and not the same memory."""
     if not hasattr(_here, 'buffer'):
-        _here.memory = mmap.mmap(-1, ROOM)
+        _here.memory = mmap.mmap(-1, ROOM, flags=mmap.MAP_PRIVATE | mmap.MAP_ANONYMOUS)
         _here.buffer = (ctypes.c_char * ROOM).from_buffer(_here.memory)
     return _here.buffer
 
@@ -83,30 +90,37 @@ def _call(name: str, data: bytes) -> Tuple[int, bytes]:
     return status, text.raw[:size.value]
 
 
-def _call_on_numbers(name: str, numbers: List[int], lists: List[ctypes.Array]) -> Tuple[int, bytes, int]:
+def _call_on_numbers(name: str, numbers: List[int], lists: Lists) -> Tuple[int, bytes, int]:
     """The answer of a solver, in this thread."""
     text, size = _buffer(), ctypes.c_size_t()
-    words: list = [ctypes.c_uint32(number) for number in numbers]
+    words: List[Any] = [ctypes.c_uint32(number) for number in numbers]
     for numbered in lists:
         words += [numbered, ctypes.c_size_t(len(numbered))]
     status = getattr(_library, f'fair_{name}')(*words, text, ctypes.c_size_t(ROOM), ctypes.byref(size))
     return status, ctypes.string_at(text, min(size.value, ROOM)), size.value
 
 
-def _with_stack(call: Callable) -> tuple:
+def _answer(answer: 'Future[Answer]', call: Callable[[], Answer]) -> None:
+    """Sets what a call gives, or the error that it ends with."""
+    try:
+        answer.set_result(call())
+    except BaseException as error:
+        answer.set_exception(error)
+
+
+def _with_stack(call: Callable[[], Answer]) -> Answer:
     """What a call gives: in this thread if it has stack enough, and otherwise in a new one that has."""
     if _has_stack():
         return call()
-    answers: list = []
-    thread = threading.Thread(target=lambda: answers.append(call()))
+    answer: 'Future[Answer]' = Future()
+    thread = threading.Thread(target=_answer, args=(answer, call))
     with _starting:
         before = threading.stack_size(NEW_STACK)
         try:
             thread.start()
         finally:
             threading.stack_size(before)
-    thread.join()
-    return answers[0]
+    return answer.result()
 
 
 def run(name: str, data: bytes) -> Tuple[int, bytes]:
@@ -116,6 +130,6 @@ def run(name: str, data: bytes) -> Tuple[int, bytes]:
     return _with_stack(lambda: _call(name, data))
 
 
-def run_on_numbers(name: str, numbers: List[int], lists: List[ctypes.Array]) -> Tuple[int, bytes, int]:
+def run_on_numbers(name: str, numbers: List[int], lists: Lists) -> Tuple[int, bytes, int]:
     """What a solver answers to numbers, and to lists that it reads or fills: its status, its text, and how many amounts or bytes it tells."""
     return _with_stack(lambda: _call_on_numbers(name, numbers, lists))

@@ -7,6 +7,7 @@ import csv
 import operator
 from dataclasses import dataclass
 from decimal import Decimal
+from fractions import Fraction
 from typing import Any, Callable, Hashable, Iterable, List, Mapping, Optional, Sequence, Tuple
 
 Row = Optional[List[int]]
@@ -34,10 +35,13 @@ class Money:
 
 
 def cents(amount: Decimal) -> int:
-    """The cents of an amount with at most two places."""
-    if not amount.is_finite() or (amount * 100) % 1:
+    """The cents of an amount with at most two places, exact whatever precision the caller's context has."""
+    if not amount.is_finite():
+        raise ValueError(f'{amount} is no amount')
+    found = Fraction(amount) * 100
+    if found.denominator != 1:
         raise ValueError(f'{amount} has more than two places')
-    return int(amount * 100)
+    return found.numerator
 
 
 @dataclass(frozen=True)
@@ -47,6 +51,11 @@ class Table:
     members: Tuple[Hashable, ...]
     columns: Tuple[Hashable, ...]
     rows: Tuple[Row, ...]
+
+
+def bids_of(table: Table) -> List[List[int]]:
+    """The rows of those who have bid."""
+    return [row for row in table.rows if row is not None]
 
 
 def _named(names: Optional[Iterable[Hashable]], count: int, word: str) -> Tuple[Hashable, ...]:

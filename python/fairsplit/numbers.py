@@ -14,43 +14,55 @@ from __future__ import annotations
 import ctypes
 from typing import Iterable, List, Sequence, Tuple, Union
 
-from ._library import run_on_numbers
+from ._library import Lists, Numbers, run_on_numbers
 from ._tables import whole
 
 Rows = Sequence[Sequence[int]]
 
 
-def _held(kind: type, numbers: Iterable[int]) -> ctypes.Array:
-    """The numbers as an array of this type, which would change one that it can't hold silently."""
+def _held(bits: int, numbers: Iterable[int]) -> List[int]:
+    """The numbers, if so many bits can hold each: an array would change one that it can't hold silently."""
     found = [whole(number) for number in numbers]
-    most = (1 << 8 * ctypes.sizeof(kind)) - 1
+    most = (1 << bits) - 1
     for number in found:
         if not 0 <= number <= most:
             raise ValueError(f'{number} is not between 0 and {most}')
-    return (kind * len(found))(*found)
+    return found
 
 
 def _word(number: int) -> int:
     """A number that 32 bits can hold."""
-    return _held(ctypes.c_uint32, [number])[0]
+    return _held(32, [number])[0]
 
 
-def _table(rows: Rows) -> Tuple[int, ctypes.Array]:
+def _words(numbers: Iterable[int]) -> Numbers:
+    """Numbers in 32 bits each."""
+    found = _held(32, numbers)
+    return (ctypes.c_uint32 * len(found))(*found)
+
+
+def _bytes(numbers: Iterable[int]) -> Numbers:
+    """Numbers in 8 bits each."""
+    found = _held(8, numbers)
+    return (ctypes.c_uint8 * len(found))(*found)
+
+
+def _table(rows: Rows) -> Tuple[int, Numbers]:
     """The length of each row, and the numbers of all of them."""
     width = len(rows[0]) if len(rows) else 0
     if any(len(row) != width for row in rows):
         raise ValueError('the rows have not all the same length')
-    return width, _held(ctypes.c_uint32, (number for row in rows for number in row))
+    return width, _words(number for row in rows for number in row)
 
 
-def _paid(name: str, numbers: List[int], lists: List[ctypes.Array], count: int) -> Tuple[int, Union[List[int], str]]:
+def _paid(name: str, numbers: List[int], lists: Lists, count: int) -> Tuple[int, Union[List[int], str]]:
     """What each of so many pays, or the refusal."""
     pays = (ctypes.c_int64 * count)()
     status, text, size = run_on_numbers(name, numbers, [*lists, pays])
-    return (status, list(pays[:size])) if status == 0 else (status, text.decode())
+    return status, text.decode() if status else list(pays[:size])
 
 
-def _solved(name: str, numbers: List[int], lists: List[ctypes.Array]) -> Tuple[int, str]:
+def _solved(name: str, numbers: List[int], lists: Lists) -> Tuple[int, str]:
     """A certificate, or why there is none."""
     status, text, _ = run_on_numbers(name, numbers, lists)
     return status, text.decode()
@@ -64,13 +76,13 @@ def rent(total: int, values: Rows) -> Tuple[int, str]:
 def goods(limit: int, who: Iterable[int], values: Rows) -> Tuple[int, str]:
     """Divides goods: the numbers of the members who have bid, rising from 1, and their points."""
     width, numbers = _table(values)
-    return _solved('goods', [width, _word(limit)], [_held(ctypes.c_uint8, who), numbers])
+    return _solved('goods', [width, _word(limit)], [_bytes(who), numbers])
 
 
-def _fare(flag: int, legs: Rows, who: Iterable[int], at: Iterable[int]) -> Tuple[List[int], List[ctypes.Array]]:
+def _fare(flag: int, legs: Rows, who: Iterable[int], at: Iterable[int]) -> Tuple[List[int], Lists]:
     """The numbers and the lists of a fare."""
     width, numbers = _table(legs)
-    return [width, _word(flag)], [numbers, _held(ctypes.c_uint8, who), _held(ctypes.c_uint8, at)]
+    return [width, _word(flag)], [numbers, _bytes(who), _bytes(at)]
 
 
 def fares(flag: int, legs: Rows, who: Iterable[int], at: Iterable[int]) -> Tuple[int, str]:

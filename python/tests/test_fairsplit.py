@@ -5,15 +5,17 @@
 What is due for the examples is in examples/, as for the command line.
 """
 import json
+import os
+import pickle
 import threading
 import unittest
 from concurrent.futures import ThreadPoolExecutor
-from decimal import Decimal
+from decimal import Decimal, localcontext
 from fractions import Fraction
 from pathlib import Path
 
 import fairsplit
-from fairsplit import NotTwo, OverLimit, Refused, Verdict, Void, numbers
+from fairsplit import FairsplitError, NotTwo, OutOfMemory, OverLimit, Refused, Verdict, Void, _library, numbers
 
 EXAMPLES = Path(__file__).resolve().parents[2] / 'examples'
 FLAT = [[800, 100, 0], [700, 200, 0], [300, 300, 300]]
@@ -25,6 +27,13 @@ def example(name):
     return json.loads((EXAMPLES / f'{name}.json').read_text())
 
 
+def report_of(case):
+    """What the program's `report` says of a case."""
+    status, said = fairsplit.run('report', json.dumps(case).encode())
+    assert status == 0, said
+    return said.decode()
+
+
 def text(name):
     """A text of examples/."""
     return (EXAMPLES / f'{name}.txt').read_text()
@@ -34,6 +43,38 @@ def flat():
     """What the three of the flat would pay for its rooms."""
     case = example('flat-for-three')
     return {member: dict(zip(case['rooms'], bid)) for member, bid in zip(case['members'], case['bids'])}
+
+
+def refusal(call):
+    """Why a call gives no division: the error's type, and what it names."""
+    try:
+        call()
+    except FairsplitError as error:
+        return type(error).__name__, vars(error)
+    return None
+
+
+def refused(field):
+    """The refusal of a field."""
+    return 'Refused', {'status': 3, 'field': field, 'line': None, 'said': f'refused: field {field}'}
+
+
+def names(letter, count):
+    """So many names."""
+    return [f'{letter}{number}' for number in range(1, count + 1)]
+
+
+def in_little_stack(call):
+    """What a call gives in a thread with 128 kB of stack."""
+    found = []
+    before = threading.stack_size(128 * 1024)
+    try:
+        thread = threading.Thread(target=lambda: found.append(call()))
+        thread.start()
+    finally:
+        threading.stack_size(before)
+    thread.join()
+    return found[0]
 
 
 def heirs():
@@ -67,6 +108,16 @@ class Rents(unittest.TestCase):
         with self.assertRaises(TypeError):
             fairsplit.rent(900, bids)
 
+    def test_decimals_are_exact_in_any_context(self):
+        with localcontext() as context:
+            context.prec = 3
+            division = fairsplit.rent(Decimal('1234.56'), [[Decimal('1000.55'), Decimal('234.01')], [Decimal('1234.56'), Decimal('0')]])
+        self.assertEqual(sum(share.pays for share in division.shares), 123_456)
+        self.assertEqual(refusal(lambda: fairsplit.rent(Decimal('1e40'), [[Decimal(1), Decimal(1)]] * 2)), refused('rent'))
+        for amount in (Decimal('NaN'), Decimal('-Infinity')):
+            with self.assertRaises(ValueError):
+                fairsplit.rent(amount, [[Decimal(1), Decimal(1)]] * 2)
+
     def test_a_float_is_no_amount(self):
         for total, bid in ((900.0, 600), (900, 600.0), (True, 600), ('900', 600)):
             with self.assertRaises(TypeError):
@@ -87,6 +138,25 @@ class Rents(unittest.TestCase):
             fairsplit.rent(900, [[600, 301], [500, 400]])
         self.assertEqual((caught.exception.status, caught.exception.field, caught.exception.line), (3, 'bids', None))
 
+    def test_the_first_field_that_breaks_its_rule_is_named(self):
+        for field, total, bids in (
+                ('members', 0, [[1, 2]]), ('members', 0, []), ('members', 900, [[900] + 12 * [0]] * 13),
+                ('rooms', 0, [[600, 300, 0], [1, 2, 3]]), ('rooms', 900, [None, None]),
+                ('rent', 0, [[1, 2], None]), ('rent', 1 << 32, [[1, 2], [3, 4]]), ('rent', -900, [[-900, 0], [-900, 0]]), ('rent', 10 ** 400, [[0, 10 ** 400]] * 2),
+                ('bids', 900, [[600, 301], None]), ('bids', 900, [[600, 300], [900]]), ('bids', 900, [[900 - (1 << 32), 1 << 32], [500, 400]]),
+                ('bids', 3, [[1, 1, 1], [3, 0, 0], [3, 0, 0, 0]])):
+            self.assertEqual(refusal(lambda: fairsplit.rent(total, bids)), refused(field), (total, bids))
+
+    def test_all_missing_bids_are_named(self):
+        self.assertEqual(refusal(lambda: fairsplit.rent(900, [None, [900, 0, 0], None], members=['A', 'B', 'C'])), ('Void', {'missing': ('A', 'C')}))
+        self.assertEqual(refusal(lambda: fairsplit.rent(900, [None, None], rooms=['r', 's'])), ('Void', {'missing': (1, 2)}))
+
+    def test_the_report_is_that_of_the_program(self):
+        case = example('flat-for-three')
+        division = fairsplit.rent(900, flat())
+        self.assertEqual(division.report, report_of({**case, 'title': 'x', 'members': names('m', 3), 'rooms': names('r', 3)}))
+        self.assertNotIn('report', repr(division))
+
 
 class Goods(unittest.TestCase):
     def test_the_heirs_of_the_examples(self):
@@ -106,6 +176,18 @@ class Goods(unittest.TestCase):
         division = fairsplit.goods([[1000, 0], [500, 500], [600, 400]])
         self.assertEqual([share.goods for share in division.shares], [(1,), (2,), ()])
         self.assertEqual((division.owners, division.shares[2].points), ((1, 2), 0))
+
+    def test_the_first_field_that_breaks_its_rule_is_named(self):
+        for field, limit, bids in (
+                ('members', 0, [[1, 2]]), ('members', 0, [[1000]] * 13),
+                ('goods', 0, [25 * [40]] * 2), ('goods', None, [None, None]), ('goods', 0, [[], []]),
+                ('limit', 0, [[1, 2], [3, 4]]), ('limit', -1, [[1, 2], None]), ('limit', 1 << 32, [None, [1, 2]]), ('limit', 200_001, [None, [1000, 0]]),
+                ('bids', None, [[1000, 0], [1000]]), ('bids', None, [[1, 2], None]), ('bids', None, [[1000 - (1 << 32), 1 << 32], None])):
+            self.assertEqual(refusal(lambda: fairsplit.goods(bids, limit=limit)), refused(field), (limit, bids))
+
+    def test_goods_without_any_bid_are_void(self):
+        self.assertEqual(refusal(lambda: fairsplit.goods({'A': None, 'B': None}, goods=['x'])), ('Void', {'missing': ('A', 'B')}))
+        self.assertEqual(refusal(lambda: fairsplit.goods([None, None], goods=['x'], limit=0)), refused('limit'))
 
     def test_a_limit_that_is_too_low(self):
         with self.assertRaises(OverLimit) as caught:
@@ -160,6 +242,72 @@ class Fares(unittest.TestCase):
     def test_who_does_not_ride(self):
         division = fairsplit.fares(300, [[1000, 1500], [0, 700], [900, 0]], [2, None, 1], members=['A', 'B', 'C'])
         self.assertEqual(([share.member for share in division.shares], division.route), (['A', 'C'], ('C', 'A')))
+
+
+    def test_the_first_field_that_breaks_its_rule_is_named(self):
+        far = [[1, 2], [0, 1], [1, 0]]
+        for field, flag, legs, bids in (
+                ('members', -1, far, [1]), ('members', 0, far, 11 * [1]),
+                ('places', -1, [[], []], [None, None]), ('places', 0, [[0] * 13] * 14, [1, 2]),
+                ('flag', -1, [[1, 2]], [1, 2]), ('flag', 1_000_001, far, [None, None]),
+                ('legs', 0, far[:2], [1, 2]), ('legs', 0, [*far, [1, 0]], [1, 2]), ('legs', 0, [[1, 2], [0, 1], [1]], [1, 2]),
+                ('legs', 0, [[1, 2], None, [1, 0]], [1, 2]), ('legs', 0, [[1, -2], [0, 1], [1, 0]], [1, 2]), ('legs', 0, [[1, 2], [5, 1], [1, 0]], [None, None])):
+            self.assertEqual(refusal(lambda: fairsplit.fares(flag, legs, bids)), refused(field), (flag, legs, bids))
+        self.assertEqual(refusal(lambda: fairsplit.fares(0, far, [1, 2, 1], members=['A', 'B'])), refused('bids'))
+        self.assertEqual(refusal(lambda: fairsplit.fares(0, far, [None], members=['A', 'B'])), refused('bids'))
+        with self.assertRaises(ValueError):
+            fairsplit.fares(0, far, [1, 3])
+
+    def test_a_ride_of_nobody_is_void(self):
+        self.assertEqual(refusal(lambda: fairsplit.fares(300, LEGS, {'A': None, 'B': None})), ('Void', {'missing': ('A', 'B')}))
+
+
+class Limits(unittest.TestCase):
+    """The package itself tests how many may take part, and knows the usual limit. Both are those of the program."""
+
+    def case(self, kind, members):
+        """A case of so many members, who ask for nothing but the first room, good or place."""
+        if kind == 'rent':
+            return {'rooms': names('r', members), 'rent': 900, 'bids': [[900] + [0] * (members - 1)] * members}
+        if kind == 'goods':
+            return {'goods': ['g'], 'bids': [[1000]] * members}
+        return {'places': ['p'], 'flag': 1, 'legs': [[1], [0]], 'bids': [1] * members}
+
+    def divided(self, kind, case):
+        """The certificate of a case by the package, or its refusal."""
+        if kind == 'rent':
+            return fairsplit.rent(case['rent'], case['bids']).certificate
+        if kind == 'goods':
+            return fairsplit.goods(case['bids']).certificate
+        return fairsplit.fares(case['flag'], case['legs'], case['bids']).certificate
+
+    def test_how_many_may_take_part(self):
+        for kind in ('rent', 'goods', 'fares'):
+            for members in range(1, 15):
+                case = self.case(kind, members)
+                status, text = fairsplit.run('solve', json.dumps({'kind': kind, 'title': 'x', 'members': names('m', members), **case}).encode())
+                try:
+                    found = 0, self.divided(kind, case)
+                except Refused as error:
+                    found = error.status, f'{error}\n'
+                self.assertEqual(found, (status, text.decode()), (kind, members))
+
+    def test_the_usual_limit(self):
+        self.assertEqual(fairsplit.goods(heirs()).certificate, fairsplit.run('solve', json.dumps(
+            {'kind': 'goods', 'title': 'x', **{key: example('three-heirs')[key] for key in ('members', 'goods', 'bids')}}).encode())[1].decode())
+
+
+class Errors(unittest.TestCase):
+    def test_errors_and_divisions_come_from_another_process(self):
+        for error in (Void(('Ann', 2)), OverLimit(10), NotTwo(), OutOfMemory(), Refused(3, 'bids', None, 'refused: field bids')):
+            again = pickle.loads(pickle.dumps(error))
+            self.assertEqual((type(again), str(again), again.status, vars(again)), (type(error), str(error), error.status, vars(error)))
+        division = fairsplit.rent(900, flat())
+        self.assertEqual(pickle.loads(pickle.dumps(division)), division)
+
+    def test_what_an_error_says(self):
+        self.assertEqual([str(error) for error in (Void(('Ann', 2)), OverLimit(10), OutOfMemory(), Refused(3, None, 2, 'refused: line 2'))],
+                         ['no bid from Ann, 2', 'the search takes more than 10 steps', 'memory ran out', 'refused: line 2'])
 
 
 class Numbers(unittest.TestCase):
@@ -218,15 +366,34 @@ class Threads(unittest.TestCase):
 
     def test_a_thread_with_little_stack(self):
         case = example('ten-in-a-taxi')
-        found = []
-        before = threading.stack_size(128 * 1024)
-        try:
-            thread = threading.Thread(target=lambda: found.append(fairsplit.check(fairsplit.run('solve', json.dumps(case).encode())[1])))
-            thread.start()
-        finally:
-            threading.stack_size(before)
-        thread.join()
-        self.assertEqual(found, [Verdict(True)])
+        solved = in_little_stack(lambda: fairsplit.run('solve', json.dumps(case).encode())[1])
+        self.assertEqual(in_little_stack(lambda: fairsplit.check(solved)), Verdict(True))
+        division = in_little_stack(lambda: fairsplit.fares(case['flag'], case['legs'], case['bids']))
+        self.assertEqual(division.certificate, solved.decode())
+        self.assertEqual(in_little_stack(lambda: fairsplit.rent(900, FLAT)), fairsplit.rent(900, FLAT))
+        self.assertEqual(in_little_stack(lambda: refusal(lambda: fairsplit.goods(heirs(), limit=10))), ('OverLimit', {'limit': 10}))
+
+    def test_an_error_in_the_thread_with_more_stack_is_that_of_the_call(self):
+        def fails():
+            raise MemoryError
+
+        def call():
+            with self.assertRaises(MemoryError):
+                _library._with_stack(fails)
+            return True
+
+        self.assertTrue(in_little_stack(call))
+
+    def test_a_forked_process_writes_into_a_buffer_of_its_own(self):
+        fairsplit.check(text('flat-for-three'))
+        child = os.fork()
+        if not child:
+            try:
+                fairsplit.run('check', b'')
+            finally:
+                os._exit(0)
+        os.waitpid(child, 0)
+        self.assertEqual(_library._buffer()[:4], b'yes\n')
 
 
 if __name__ == '__main__':

@@ -73,7 +73,7 @@ impl<'r, R: Files<File = File>> JournalFile<'r, R> {
         self.faults
     }
 
-    // Opens and locks the file where it isn't open yet, and tells whether it is.
+    // Opens and locks the file where it is not open yet, and tells whether it is.
     fn opens(&mut self) -> bool
         ensures count { self.new.faults ≡ self.old.faults }
     {

@@ -1,4 +1,4 @@
-// The three standard descriptors, kept from files and sockets.
+// Keeps the numbers of the three standard descriptors from going to files and sockets.
 use split_base::Failed;
 use std::fs::{File, Files, OpenOptions};
 use std::os::fd::AsRawFd;

@@ -1,4 +1,4 @@
-// What holds of the solver's answers, for all cases: each law is the contract of a function that does nothing.
+// What holds of the players' shares by adjusted winner, for all cases: each law is the contract of a function that does nothing.
 ghost use Rattle.std.specs.Prelude.{◌≡◌, ℕ, List, map};
 ghost use Rattle.bid_rules.specs.declared.goods.GoodsCase.{GoodsCase};
 ghost use Rattle.bid_rules.specs.Goods.{IsValidGoodsCase, player_count};

@@ -1,3 +1,4 @@
+// Adjusted winner itself: what the two players have once as much of the last good has moved as makes them equal.
 ghost use Rattle.std.specs.Prelude.{◌≡◌, ℕ, ◌+◌, ◌*◌, ◌<◌, ◌≤◌, pos, map};
 ghost use Rattle.std.specs.List.{AllZip, range_with_len};
 ghost use Rattle.bid_rules.specs.Goods.{IsValidGoodsCase, player_count};

@@ -1,3 +1,4 @@
+// Tests of the disk in memory: what a crash may leave of it, and calls that fail where they are told to.
 use crate::objects::{crashed, disk_of};
 use split_base::{Disk, MemDisk, write_synced};
 use std::alloc::Global;

@@ -1,4 +1,4 @@
-//! Tests of the outside, in memory and the real one, and of `gate_log`.
+//! Tests of the outside, in memory and the real one, and of `gate_log`. Its limits are held to those of the crates that use it.
 #![tactic(auto)]
 
 #[cfg(test)]
@@ -7,6 +7,7 @@ mod clocks;
 mod disks;
 #[cfg(test)]
 mod files;
+mod limits;
 #[cfg(test)]
 mod links;
 #[cfg(test)]

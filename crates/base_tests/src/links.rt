@@ -1,3 +1,4 @@
+// Tests of sources and links in memory, in pieces of several sizes, and where calls fail.
 use crate::objects::link_of;
 use split_base::{Failed, Link, ReadStop, read_all, write_all};
 

@@ -1,3 +1,4 @@
+// Tests of the journal in one file: which bytes are read as what, and what a crash keeps of an append.
 ghost use Rattle.std.specs.Prelude.{IfOk, IsTrue};
 
 use crate::objects::{crashed, disk_of};

@@ -62,7 +62,7 @@ insertions_next {X} x y zs =
     let f : ℕ → List X = λ k. insert (y ∷ zs) k x in
     ap (λ m. map f (range_with_len 0 m)) long ∙ ap (λ xs. (x ∷ y ∷ zs) ∷ xs) (shift f n 0 (0 + 1) refl ∙ sym (map_map (λ p. y ∷ p) (λ k. insert zs k x) (range_with_len 0 n)))
 
--- what the orders in which x isn't first give
+-- what the orders in which x is not first give
 later : {M X : Type 0} → Sums M → (List X → M) → X → List X → M
 later s f x [] = s.unit
 later s f x (y ∷ zs) = combined s (λ p. f (y ∷ p)) (insertions x zs)

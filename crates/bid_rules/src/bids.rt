@@ -1,3 +1,4 @@
+// Facts and bids of any kind, and the first thing that is wrong with them.
 ghost use Rattle.std.specs.Prelude.{◌↔◌, IsOk, MatchResult};
 ghost use Rattle.bid_rules.specs.Facts.{IsCheckedBid, IsCheckedFacts, IsFaultOfBid};
 ghost use Rattle.bid_rules.specs.FactFaults.{IsFaultOfFacts};

@@ -1,3 +1,4 @@
+// Cases of any kind, and which case facts and bids make.
 ghost use Rattle.std.specs.Prelude.{◌≡◌, ◌≤◌, ◌↔◌, length, All, IfOk, IfSome, IsErr, IsNone, IsSome, IsTrue, is_some, is_none, false, true};
 ghost use Rattle.std.specs.List.{filter_map, list_all};
 ghost use Rattle.bid_rules.specs.Facts.{AreMissing, ArePointsOf, AreValuesOf, IsCheckedBid, IsCheckedFacts, IsCheckedFares, IsPlaceOf, IsValidCase, IsValidFareCase, case_of, fare_case, goods_case, member_count, members_where, place_named, rent_case, values_given};

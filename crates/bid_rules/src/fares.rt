@@ -1,3 +1,4 @@
+// The facts of a shared fare, and their limits.
 ghost use Rattle.std.specs.Prelude.{◌≡◌, ℕ, ◌+◌, ◌*◌, ◌<◌, ◌≤◌, ◌↔◌, ◌∷◌, length, slice_index, All, IsTrue, IsOk, IsErrOf, MatchResult, MatchOption, IfSome};
 ghost use Rattle.bid_rules.specs.declared.bids.BidFault.TheVariants.{Count, Range};
 ghost use Rattle.bid_rules.specs.Facts.{HasShape, HasTable, IsCheckedFares, IsFaultOfFares, IsFirstAboveLimit, IsFirstOwnLeg, AreWithinLimit, leg, legs_in_order};
@@ -104,7 +105,7 @@ fn first_leg_above(facts: &Fares) -> Option<u32>
     None
 }
 
-/// The first place whose leg to itself isn't 0.
+/// The first place whose leg to itself is not 0.
 fn first_own_leg(facts: &Fares) -> Option<u8>
     requires { HasShape facts.now }
     ensures { MatchOption result ((p : ℕ) → 1 ≤ p → p ≤ facts.now.places → leg facts.now p p ≡ 0) (IsFirstOwnLeg facts.now) }

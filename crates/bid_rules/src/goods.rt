@@ -1,3 +1,4 @@
+// The facts and the case of goods, and their limits.
 ghost use Rattle.std.specs.Prelude.{◌≡◌, ◌≤◌, ◌↔◌, length, All, IsErrOf, IsOk, IsTrue, MatchResult};
 ghost use Rattle.std.specs.List.Sorted.{IsStrictlyIncreasing};
 ghost use Rattle.bid_rules.specs.declared.bids.BidFault.TheVariants.{Count, Range};

@@ -1,3 +1,4 @@
+// The facts and the case of a rent, and their limits.
 ghost use Rattle.std.specs.Prelude.{◌≡◌, ℕ, pos, ◌-◌, ◌<◌, ◌≤◌, ◌≤ℤ◌, ◌↔◌, IsErrOf, IsOk, IsTrue, MatchResult};
 ghost use Rattle.bid_rules.specs.declared.bids.BidFault.TheVariants.{Count, Range};
 ghost use Rattle.bid_rules.specs.Rent.{HasMembers, HasRent, IsCheckedRent, IsFaultOfRent, IsValidRentCase, room_count, value};

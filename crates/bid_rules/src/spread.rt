@@ -1,3 +1,4 @@
+// Values that one member spreads over rooms or goods: whether they sum to the whole.
 ghost use Rattle.std.specs.Prelude.{◌≡◌, ◌≤◌, ◌↔◌, length, sum, IsOk, MatchResult};
 ghost use Rattle.bid_rules.specs.Facts.{IsFaultOfSpread, IsSpread};
 

@@ -1,3 +1,4 @@
+// The body of a bid or of a withdrawal, as its fields were read.
 use bid_rules::limits::Values;
 
 /// The body of a bid or of a withdrawal. A field is `None` if it is absent or of another form.

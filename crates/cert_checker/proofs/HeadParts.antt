@@ -18,7 +18,7 @@ use Rattle.cert_checker.specs.FaresLines.{AreWritten, IsInHead, IsNext, IsWhole,
 use Rattle.cert_checker.proofs.FaresViews.{fares_cut, last_said}
 use Rattle.cert_checker.proofs.SaidLists.{numbers_in, numerators, numerators_of, wholes_once}
 
--- a line that isn't there
+-- a line that is not there
 abbrev pub no_line : Gathered
 no_line = record { items = [] }
 

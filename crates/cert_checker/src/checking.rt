@@ -15,6 +15,8 @@ use rule_verdicts::Verdict;
 
 /// Whether all rules of its kind hold for the certificate, or the first that does not. This is the verdict that `judge` gives on the bytes from which the
 /// certificate was read. It takes no memory.
+///
+/// The program judges bytes as they come; this is for a caller who has read the certificate already, by `read_certificate`.
 pub fn check(certificate: &Certificate) -> Verdict
     ensures verdict { GivesVerdict (view_of certificate.now) result }
     ensures judged { (bytes : List ℕ) → IsText bytes (counts_of (view_of certificate.now)) (said_of (view_of certificate.now)) → IsJudged bytes result }

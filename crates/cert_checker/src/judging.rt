@@ -58,6 +58,7 @@ pub fn judge_text<S: Source>(source: &mut S) -> Result<Verdict, TextEnd>
 }
 
 /// Judges certificate text as `judge_text` does, and answers with the reasons of a reader that keeps what it reads. `NoMemory` never comes.
+/// The program asks `judge_text`; this is for a caller who handles the ends of `read_certificate` and wants the same ones here.
 pub fn judge<S: Source>(source: &mut S) -> Result<Verdict, ReadEnd>
     ensures judged { (taken : List ℕ) × Consumes (S.left source.old) (S.left source.new) taken × OfAnswer (IsJudgement (S.left source.new) taken) result }
     ensures best { result ≡ Ok Verdict.Yes → (taken : List ℕ) × Consumes (S.left source.old) (S.left source.new) taken × IsCertificate taken × PrintsBest taken }

@@ -1,4 +1,4 @@
-//! The judge of certificates: one pass, in fixed memory. Its yes alone shows the printed division best.
+//! The judge of certificates: one pass, in fixed memory. A yes is enough to show that the printed division is best.
 //!
 //! Bytes have one verdict at most, and none where they have a broken line
 //! (`certificate_verdict_law`). It takes no allocator. The cuts of a tree are judged by what a

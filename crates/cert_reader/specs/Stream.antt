@@ -44,7 +44,7 @@ faults_after before (Err ReadFault) = counted before
 faults_after before (Err TooLong) = before
 faults_after before (Err (NotText line)) = before
 
--- how often the end was met where the reading stopped for this reason: once where the text is none
+-- how often the end was met if reading stopped for this reason: once if the bytes are not text
 abbrev pub ends_met : TextEnd → ℕ
 ends_met (NotText line) = 1
 ends_met ReadFault = 0

@@ -20,6 +20,8 @@ use std::alloc::Global;
 /// - `TooLong` comes exactly where it has more, whatever its lines. 4,000,001 bytes were read.
 /// - `ReadFault` comes only where the source's count of faults has risen, and at once: the failed read is not tried again.
 /// - `NoMemory` comes only when memory runs out.
+///
+/// The program judges line by line and keeps no certificate; this is for a caller who wants to look at what one says.
 pub fn read_certificate<S: Source>(alloc: Global, source: &mut S) -> Result<Certificate, ReadEnd>
     ensures read { (taken : List ℕ) × Consumes (S.left source.old) (S.left source.new) taken × OfReading (IsReadWhole (S.left source.new) taken) (length taken ≤ MOST_BYTES) result }
     ensures faults { OfReading (λ answer. S.faults source.new ≡ faults_after (S.faults source.old) answer) (S.faults source.new ≡ S.faults source.old) result }

@@ -1,4 +1,4 @@
-// One line of a text from a source, and the end of a text that is none.
+// Takes one line of a text from a source, and ends where the bytes stop being text.
 ghost use Rattle.std.specs.Prelude.{◌≡◌, ◌+◌, ◌<◌, ◌≤◌, ◌∷◌, ◌++◌, ℕ, List, length, IsErrOf, Err};
 ghost use Rattle.split_base.specs.Faults.{HasRisen};
 ghost use Rattle.cert_reader.specs.Forms.{AreInRange, Tree, forms_of};

@@ -1,4 +1,4 @@
--- The canonical certificate of a case: the case, the solver's division, and the numbers that show it best.
+-- The canonical certificate of a case: the case, the solver's division, and the numbers that show that it is best.
 use Rattle.std.specs.Prelude.{◌≡◌, ℕ, List, []}
 use Rattle.bid_rules.specs.declared.cases.Case.{Case}
 use Rattle.bid_rules.specs.declared.cases.Case.TheVariants as case

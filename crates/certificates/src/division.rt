@@ -1,3 +1,4 @@
+// The division of a case of any kind.
 use nash_search::GoodsDivision;
 use rent_maximin::RentDivision;
 use shapley_core::FareDivision;

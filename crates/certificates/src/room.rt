@@ -1,4 +1,4 @@
-// Bytes behind others in a buffer, where they have room.
+// Puts bytes after others in a buffer, if there is room for them.
 ghost use Rattle.certificates.specs.Puts.{Puts};
 
 /// Puts some bytes behind the first `used` bytes of a buffer, and answers how many bytes are used then. Bytes that have no room are only

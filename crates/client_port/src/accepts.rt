@@ -1,4 +1,4 @@
-// Why a connection could not be accepted, and how long the system is left alone after a call that failed.
+// Why a connection could not be accepted, and how long the port waits after a failed call.
 use crate::limits::{GIVING_UP_SECONDS, LEAST_PAUSE_MILLIS, MOST_PAUSE_MILLIS};
 use std::io::Error;
 use std::time::Duration;

@@ -78,7 +78,7 @@ pub(crate) struct Client {
 }
 
 impl Client {
-    /// A client that has just come. What it has sent was not looked at yet.
+    /// A client that has just come. What it has sent wasn't looked at yet.
     pub(crate) fn new(stream: TcpStream, alloc: Global, now: Duration) -> Client {
         Client {
             stream,

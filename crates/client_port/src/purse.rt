@@ -1,4 +1,4 @@
-// The time for which clients may hold others.
+// The budget of time, shared by all clients, for which they may hold up others.
 use std::time::Duration;
 
 /// One part in so many of the time that passes comes back.

@@ -51,13 +51,6 @@ pub struct Owed {
 }
 
 impl Stop {
-    /// The status with which the program ends.
-    pub fn status(&self) -> u8
-        ensures { result ≡ (owed (Err self.now)).status }
-    {
-        self.owed().status
-    }
-
     /// The status, and the line that the program writes. No memory is taken.
     pub fn owed(&self) -> Owed
         ensures status { result.status ≡ (owed (Err self.now)).status }

@@ -1,3 +1,4 @@
+// Who envies whom over goods, by how much, and whether one good less would end it.
 ghost use Rattle.std.specs.Prelude.{◌≡◌, ℕ, ◌-◌, ◌*◌, ◌<◌, ◌≤◌, if◌then◌else◌, length};
 ghost use Rattle.bid_rules.specs.Goods.{AreOwners, IsValidGoodsCase, player_count, points};
 ghost use Rattle.envy_check.specs.Fairness.{AreBestOwners, HasNoFails};

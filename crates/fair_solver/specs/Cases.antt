@@ -1,4 +1,4 @@
--- The cases that numbers of a caller are.
+-- Which cases the caller's numbers are.
 use Rattle.std.specs.Prelude.{◌≡◌, ◌≤◌, ◌+◌, ◌*◌, ℕ, List, length, map, take, drop}
 use Rattle.std.specs.List.{range_with_len}
 use Rattle.bid_rules.specs.declared.cases.FareCase.{FareCase}

@@ -1,4 +1,4 @@
--- How numbers of a caller are answered.
+-- What the solvers answer to a caller's numbers.
 use Rattle.std.specs.Prelude.{◌≡◌, ◌≤◌, ◌⊎◌, ℕ, List, Err, length, take}
 use Rattle.bid_rules.specs.declared.cases.Case.{Case}
 use Rattle.bid_rules.specs.declared.cases.Case.TheVariants.{Rent, Goods, Fares}
@@ -25,8 +25,8 @@ IsRentReply members rent values status size before after =
     ((status ≡ 0) × AreRent members rent values × HandsCertificate (Rent (rent_in members rent values)) size before after)
     ⊎ ((AreRent members rent values → ⊥) × Refuses (IsRentField members rent) status size before after)
 
--- the numbers are valid goods, and their certificate is handed out, or it is said that the step count is above their limit; or they are none, and
--- the field is named
+-- the numbers are a valid case of goods, and its certificate is handed out, or the reply says that the step count is above its limit; or they are
+-- no such case, and the field is named
 abbrev pub IsGoodsReply : ℕ → ℕ → List ℕ → List ℕ → ℕ → ℕ → List ℕ → List ℕ → Type 0
 IsGoodsReply goods limit who values status size before after =
     ((status ≡ 0) × AreGoods goods limit who values × HandsCertificate (Goods (goods_in goods limit who values)) size before after)

@@ -1,4 +1,4 @@
-// The cases that numbers of a caller are, or the field that is refused.
+// Turns the caller's numbers into a case, or names the field that is refused.
 ghost use Rattle.std.specs.Prelude.{◌≡◌, ◌≤◌, MatchOption, MatchResult};
 ghost use Rattle.bid_rules.specs.declared.limits.TheConstants.{MOST_GOODS, MOST_MEMBERS, MOST_PLACES};
 ghost use Rattle.fair_solver.specs.Cases.{AreFare, AreGoods, AreRent, HasLegs, HasRiders, facts_in, fare_in, goods_in, rent_in, with_riders};

@@ -1,4 +1,4 @@
-// The rules of the route and of the fares, where the lines of all sets are as they are to be.
+// The rules of the route and of the fares, tested once the lines of all sets are right.
 ghost use Rattle.std.specs.Prelude.{◌≡◌, ◌≤◌, ◌↔◌, length, map, IsTrue};
 ghost use Rattle.cert_reader.specs.Numbers.{AreShort};
 ghost use Rattle.cert_reader.specs.Layout.{FaresView};

@@ -1,4 +1,4 @@
--- Where a file is no journal: the place of its first fault.
+-- Where a file stops being a journal: the place of its first fault.
 use Rattle.std.specs.Prelude.{◌≡◌, ◌≢◌, ◌⊎◌, ℕ, ◌+◌, ◌≤◌, ◌<◌, List, [], ◌∷◌, ◌++◌, length, take, slice_index, All, ◌^◌}
 use Rattle.std.specs.Int.{from_le_bytes, w32}
 use Rattle.gate_log.specs.Records.{start_line, header, IsVersion, IsLength, IsRun, Begins, Stands, place_after}

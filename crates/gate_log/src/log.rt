@@ -23,7 +23,7 @@ use std::marker::Model;
 /// A log of a journal: it is at a gate of the file. `next` reads the record at that gate and
 /// moves on; once the gate is known to be closed, `append` writes a record there.
 ///
-/// After a `Disk` fault a log isn't used again.
+/// After a `Disk` fault a log is not used again.
 #[derive(Drop)]
 pub struct Log {
     place: u64,
@@ -210,7 +210,7 @@ impl Log {
     /// and the log is at its end again. It takes no memory.
     ///
     /// `Disk` comes only where the disk's count of faults has risen, by one: a call that fails is not
-    /// tried again. The file holds the body or doesn't then, and the log is not at its end: the file is opened anew.
+    /// tried again. The file holds the body or does not then, and the log is not at its end: the file is opened anew.
     pub fn append<D: Disk>(&mut self, disk: &mut D, body: &[u8]) -> Result<(), LogFault>
         requires at_end { IsTrue self.old.at_end }
         requires body { IsBody body.now }

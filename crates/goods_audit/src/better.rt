@@ -1,4 +1,4 @@
-// Whether a division can be bettered: the least allocation that gives every player as many points, and one more.
+// Whether there is a better division: the first allocation that gives every player at least as many points, and someone more.
 ghost use Rattle.std.specs.Prelude.{◌≡◌, ◌<◌, ◌↔◌, [], ◌∷◌, length, IfErr, IfOk, IsErr};
 ghost use Rattle.bid_rules.specs.Goods.{AreOwners, IsAllocation, IsValidGoodsCase, in_search_order};
 ghost use Rattle.nash_bounds.specs.Lanes.{IsLanes};

@@ -82,7 +82,7 @@ parent_back leaf n g owner up marks last after =
     let none : 0 ≡ n - owner = omega arith in
     (marks, subst (λ k. Children (Subtree leaf n (g - suc (length up))) (reverse up) (range_with_len (owner + 1) k) marks marks) none refl, after)
 
--- a mark that can't come at a node
+-- a mark that cannot come at a node
 pub no_mark : (leaf : List ℕ → ℕ → Type 0) (n g mark : ℕ) (path marks : List ℕ) → (mark ≡ 45 → ⊥) → (mark ≡ 61 → length path < g) → (mark ≡ 43 → g ≤ length path) → FinishesAt leaf n g path (mark ∷ marks) → ⊥
 no_mark leaf n g mark path marks minus equals plus (rest, walk, after) = at (g - length path) refl walk
   where

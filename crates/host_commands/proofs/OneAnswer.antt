@@ -150,7 +150,7 @@ module _ {D : Type 0} (d : Ghosts D) (laws : OneWay) (head : Head) (body : List 
         (sound_step d between new.0 moment asks w.1 new.1 said (Steps.kept told e event can faults appended replies is so) sound) replies so
     from_step between same (Steps.failed e event up is so) =
         absurd (still (subst (λ (n : ℕ). HasRisen (d.faults w.0) n) (sym (subst (λ (x : D). d.faults new.0 ≡ counted (d.faults x)) same up)) (counted_rises (d.faults w.0))))
-    from_step between same (Steps.memory rest is so) = absurd (lacks_none said plain so)
+    from_step between same (Steps.memory id what published rest is so) = absurd (lacks_none said plain so)
 
   answers_so : Responds d w.0 new.0 head body moment w.1 new.1 said → Answers w.1 new.1 head body moment said
   answers_so (Responds.no_route routed same is so) = Answers.no_route routed is so

@@ -112,7 +112,7 @@ module _ (refusals : AreRefusals) (one_more : (secret : List ℕ) (events : List
   steps_tell d disk after moment command s new said id key asked is success (Steps.kept told e event can faults appended replies same so) =
       step_tells (host_in s) moment command new said told id key asked is success so (ap (applied (host_in s)) event ∙ sym (one_more s.secret s.kept e) ∙ ap host_in (sym same)) replies
   steps_tell d disk after moment command s new said id key asked is success (Steps.failed e event faults same so) = absurd (said_other said service.StoreFault refl so success)
-  steps_tell d disk after moment command s new said id key asked is success (Steps.memory still same so) =
+  steps_tell d disk after moment command s new said id key asked is success (Steps.memory other what published still same so) =
       absurd (not_refused said.status service.Memory refl (ap (λ (x : SaidView). x.status) so) success)
 
 -- a request that goes no further has another status

@@ -109,7 +109,7 @@ module _ {D : Type 0} (d : Ghosts D) where
   sound_step disk after moment command s new said (Steps.no_event told none still replies same so) sound = still_sound s new same sound
   sound_step disk after moment command s new said (Steps.kept told e event can faults appended replies same so) sound = subst IsSound (sym same) (can_push (empty s.secret) s.kept e sound can)
   sound_step disk after moment command s new said (Steps.failed e event faults same so) sound = subst IsSound (sym same) sound
-  sound_step disk after moment command s new said (Steps.memory still same so) sound = still_sound s new same sound
+  sound_step disk after moment command s new said (Steps.memory id what published still same so) sound = still_sound s new same sound
 
   -- whatever the disk, a request leaves a sound state so
   pub sound_response : (x : Exchange (D × State)) → Responds d x.before.0 x.after.0 x.head x.body x.moment x.before.1 x.after.1 x.due.said → IsSound x.before.1 → IsSound x.after.1

@@ -39,7 +39,7 @@ pub record IsMade {D : Type 0} (d : Ghosts D) (disk after : D) (secret : List �
   pub one : Only (d.seen after) (d.images after)
   pub calls : d.moment after ≡ d.moment disk + 2
 
--- A journal is made of an empty file, and nothing is written out; or the file is not empty, which is told with place 0; or a call of the disk
+-- A journal is made of an empty file, and nothing is written out; or the file isn't empty, which is told with place 0; or a call of the disk
 -- failed. A file with bytes stays as it is, whatever the ending.
 pub data Makes {D : Type 0} (d : Ghosts D) (disk after : D) (secret : List ℕ) (ending : Result (List ℕ) Stop) : Type 0 where
   made : ending ≡ Ok [] → d.faults after ≡ d.faults disk → (d.tells disk → length (d.seen disk) ≡ 0) → (d.is_honest disk → IsMade d disk after secret)

@@ -64,10 +64,11 @@ pub record Headline {D P L C : Type 0} (d : Ghosts D) (p : PortSide P L) (tells 
   pub holds : HoldsState d after ended.1
   -- Each request is answered at one state: the one before it, or the one that the file of a waiting host gives when it is opened. All that `IsHandled`
   -- says of the request is said of that state. The request changes it by at most one event, which one step of the machine makes. It has the reply of
-  -- that step, or a refusal of its path or method, or it is told that memory ran out, that a call of the disk failed in it, or that its file is no
-  -- journal, which is never so on an honest disk. One that is refused changes nothing, except by the Close of an instance whose deadline has passed.
-  -- Bids are sealed: a reply tells no more of an instance that isn't closed than what its caller may know. In all the machine takes these steps in
-  -- order, from these same states, and no others
+  -- that step, or a refusal of its path or method; or it is told that memory ran out, for a body that is read or a result that is published; or that a
+  -- call of the disk failed in it; or that its file is no journal, which is never so on an honest disk. One that is refused changes nothing, except by
+  -- the Close of an instance whose deadline has passed, or its own event waits. Bids are sealed: of a status, an own bid and a close, on an instance that
+  -- isn't closed, the reply tells no more than what its caller may know, or a fault of the store. A bid or a withdrawal that is made was sent under its
+  -- member's key. In all the machine takes these steps in order, from these same states, and no others
   pub states : List State
   pub handled : AreHandled d run states
   pub taken : d.is_honest disk → (steps : List Taken) × TakesSteps run states steps

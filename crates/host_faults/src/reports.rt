@@ -56,7 +56,7 @@ impl Report {
     }
 }
 
-/// Whether a reply refuses for a fault of this code; a reply to HEAD doesn't tell it.
+/// Whether a reply refuses for a fault of this code; a reply to HEAD does not tell it.
 pub(crate) fn is_refusal(reply: &[u8], bodiless: bool, code: &[u8]) -> bool {
     let reply = match reply.strip_prefix(INTERIM) {
         Some(behind) => behind,

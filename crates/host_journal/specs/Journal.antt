@@ -90,7 +90,7 @@ HoldsFrom version secret bodies file = (later : ℕ) × (version ≤ later) × S
 abbrev pub HoldsOne : List ℕ → List (List EventView) → List ℕ → Type 0
 HoldsOne secret lists file = (events : List EventView) × Contains lists events × HoldsEvents secret events file
 
--- the host is that of these events, whatever the disk, and this is told of the disk's file
+-- the host is the one that these events make, on any disk, and this is what is known of the disk's file
 pub record IsHostOfFile (host : HostView) (secret : List ℕ) (events : List EventView) (told : Type 0) : Type 0 where
   pub of_events : IsHostOf host secret events
   pub of_file : told

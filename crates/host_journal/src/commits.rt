@@ -22,7 +22,7 @@ pub struct CommitFault {
 /// the host, then the record in the journal, and then the host's change. At `Ok` a crash leaves the
 /// event, and the log is at its end again.
 ///
-/// - `Disk` comes only where the disk's count of faults has risen, by one: a call that fails is not
+/// - `Disk` comes only where the disk's count of faults has risen, by one: a call that fails isn't
 ///   tried again, and the count stays with every other answer. The host is as before; the file
 ///   holds the event or doesn't. The log isn't at its end: the file is opened anew.
 /// - `NoMemory` comes only where the host has no spare place and memory runs out, before the first

@@ -35,7 +35,7 @@ use Rattle.bid_rules.specs.declared.limits.TheConstants.{PAIR}
 abbrev pub case_data : InstanceView → CaseData
 case_data i = record { title = i.creation.title; members = i.creation.members; items = i.creation.items; facts = i.creation.facts; bids = i.bids }
 
--- the refusal by which a fault of the solver is told
+-- the refusal that reports a fault of the solver
 abbrev pub refusal_of : SolveFault → ServiceRefusal
 refusal_of (fault.Void missing) = service.Void missing
 refusal_of (fault.OverLimit limit) = service.StepLimit limit
@@ -67,7 +67,7 @@ TellsFault (fault.Void missing) told = told ≡ refusal_told (refusal_of (fault.
 TellsFault (fault.OverLimit limit) told = told ≡ refusal_told (refusal_of (fault.OverLimit limit))
 TellsFault fault.NoMemory told = ⊥
 
--- the end of a solver is told: a case and its division, or why there is none
+-- what is said when a solver has ended: a case and its division, or why there is none
 abbrev pub TellsEnd : What → CaseData → Result (Case × Division) SolveFault → ContentView → Type 0
 TellsEnd asked given (Ok answer) told = IsPublished asked given answer.0 answer.1 told
 TellsEnd asked given (Err fault) told = TellsFault fault told

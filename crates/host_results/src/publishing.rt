@@ -17,7 +17,7 @@ use crate::refusals::{refusal_content, refusal_of};
 use adjusted_winner::winner_text;
 use bid_rules::limits::PAIR_ROOM;
 use bid_rules::{Case, Facts, GoodsCase, case_law, make_case};
-use certificates::{Division, write_certificate};
+use certificates::Division;
 use fare_audit::fare_audit_text;
 use goods_audit::division_audit;
 use nash_search::GoodsDivision;
@@ -25,7 +25,7 @@ use reply_texts::{ServiceRefusal, division_text};
 use sealed_core::{Instance, What};
 use split_base::{Gate, NoMemory};
 use split_reports::{Names, named_report};
-use split_solve::{KeptSearches, SolveFault, solve_once};
+use split_solve::{KeptSearches, SolveFault, certificate_once, solve_once};
 use std::alloc::Global;
 use std::thread::Threads;
 
@@ -38,7 +38,8 @@ use std::thread::Threads;
 ///   two.
 ///
 /// It may be asked before the event that closes the instance is applied: that changes nothing of it. Goods are searched by 1 to
-/// `MOST_WORKERS` workers, unless a kept search is of the same case. Neither they nor the kept searches change the answer.
+/// `MOST_WORKERS` workers, unless a kept search is of the same case, and a certificate of goods that is kept is copied. Neither the workers nor
+/// what is kept change the answer.
 /// `NoMemory` comes only where memory runs out.
 pub fn publication<R: Threads + Sync, G: Gate + Sync>(
     alloc: Global,
@@ -80,7 +81,7 @@ fn best<R: Threads + Sync, G: Gate + Sync>(
     let facts = &instance.creation.facts;
     let bids = instance.bids.as_slice();
     match solve_once(alloc, rt, facts, bids, searches, workers, gate) {
-        Ok((case, division)) => published(alloc, instance, what, &case, &division),
+        Ok((case, division)) => published(alloc, instance, what, &case, &division, searches),
         Err(fault) => unsolved(alloc, fault),
     }
 }
@@ -158,6 +159,7 @@ fn published(
     what: What,
     case: &Case,
     division: &Division,
+    searches: &mut KeptSearches,
 ) -> Result<ReplyContent, NoMemory>
     requires sound { IsCheckedInstance (instance_view instance.now) }
     requires asked { AsksBest what }
@@ -168,7 +170,7 @@ fn published(
     case_law();
     match what {
         What::Division => Ok(json(division_text(alloc, case, division)?)),
-        What::Certificate => Ok(plain(write_certificate(alloc, case, division)?)),
+        What::Certificate => Ok(plain(certificate_once(alloc, case, division, searches)?)),
         What::Report => Ok(plain(named_report(alloc, &names_of(instance), case, division)?)),
         What::Audit => audited(alloc, instance, case, division),
         What::Winner => unreachable!(),

@@ -1,4 +1,4 @@
-// How it is told that an instance has no division.
+// What is said when an instance has no division.
 ghost use Rattle.std.specs.Prelude.{◌≡◌, IfOk};
 ghost use Rattle.host_results.specs.Contents.{content_view, refusal_told};
 ghost use Rattle.host_results.specs.Publications.{refusal_of};

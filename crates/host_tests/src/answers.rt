@@ -1,3 +1,4 @@
+// Tests of what a host answers, command by command, at moments that the test chooses.
 ghost use Rattle.sealed_core.specs.Step.{IsCheckedCommand, command_view};
 
 use crate::creations::{DEADLINE, NOW, SECRET, flat};

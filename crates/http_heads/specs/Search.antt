@@ -34,7 +34,7 @@ LookSays IsText AsksMore IsFound bytes fields (looks.Found spans) = IsFound byte
 LookSays IsText AsksMore IsFound bytes fields looks.Never = NeverHasOne IsText bytes
 LookSays IsText AsksMore IsFound bytes fields looks.NotYet = HasNone IsText bytes × AsksMore bytes
 
--- what the carry holds after a search: the head that was found; bytes that begin with none; nothing; or, where a read failed, bytes for which the
+-- what the carry holds after a search: the head that was found; bytes that begin with no head; nothing; or, if a read failed, bytes after which the
 -- parser asks for more
 abbrev pub IsAhead : {T : Type 0} → (IsText AsksMore : List ℕ → Type 0) → (List ℕ → List HeaderSpan → T → Type 0) → List ℕ → List HeaderSpan → Ahead T → Type 0
 IsAhead IsText AsksMore IsFound bytes fields (ahead.Found spans) = IsFound bytes fields spans

@@ -62,8 +62,8 @@ OfCase prints given (Err (Void missing)) = IsVoid missing given
 OfCase prints given (Err (OverLimit limit)) = MakesCase given (λ case. IsAboveLimit case limit)
 OfCase prints given (Err other) = ⊥
 
--- the answer to a case of goods and a division of them: the audit, with the least division that dominates this one, where there is one; or the
--- case's limit, where more prefixes leave room for one
+-- the answer to a case of goods and a division of them: the audit, with the first division that dominates this one, if there is one; or the case's
+-- limit, if more prefixes than that leave room for one
 abbrev pub OfOwners : CaseData → GoodsCase → List ℕ → Result (List ℕ) Stop → Type 0
 OfOwners given case owners (Ok text) =
     (open_count case (in_search_order case owners) ≤ case.facts.limit)

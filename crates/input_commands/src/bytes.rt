@@ -1,4 +1,4 @@
-// How the commands end on bytes that a caller has in memory, by the calling thread alone.
+// How the commands end on bytes that a caller has in memory. Only the calling thread works.
 ghost use Rattle.std.specs.Prelude.{◌≡◌};
 ghost use Rattle.command_results.specs.Endings.{ending_of, verdict_ending};
 ghost use Rattle.split_json.specs.Reading.{IsReady, case_in, shown};

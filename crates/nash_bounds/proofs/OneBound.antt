@@ -36,7 +36,7 @@ under (suc n) low high top h =
           rw yes (omega arith, l, inl refl))
     ]
 
--- a level that fits and whose next doesn't, or the highest, with the rest on the first that rise, reaches the top
+-- a level that fits and whose next does not, or the highest, with the rest on the first that rise, reaches the top
 pub reaches : (low high : List ℕ) (top level : ℕ) → AllZip ◌≤◌ low high → All (λ h. h ≤ WHOLE_POINTS) high → level ≤ WHOLE_POINTS → level_sum level low high ≤ top
     → (level ≡ WHOLE_POINTS) ⊎ (top < level_sum (suc level) low high) → Reaches low high top level (top - level_sum level low high)
 reaches low high top level order small l fits (inr above) =

@@ -1,4 +1,4 @@
--- What a search has found in place of the best of all allocations so far.
+-- What a search may have found instead of the best of all allocations so far.
 use Rattle.std.specs.Prelude.{◌≡◌, ℕ, List, Option, Some, None}
 use Rattle.bid_rules.specs.declared.goods.GoodsCase.{GoodsCase}
 use Rattle.bid_rules.specs.declared.pair.Pair.{Pair}

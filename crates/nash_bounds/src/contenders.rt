@@ -1,3 +1,4 @@
+// Which players could take the next good and still reach a goal, asked for all of them at once.
 ghost use Rattle.std.specs.Prelude.{◌≡◌, ◌≤◌, ◌<◌, ◌+◌, ◌-◌, ◌*◌, ◌^◌, ◌⊎◌, ℕ, length, slice_index, min, max, cond, nat_le};
 ghost use Rattle.nash_bounds.specs.FarLanes.{FallsShort, IsNoMore, lane_bit};
 ghost use Rattle.nash_bounds.specs.Goals.{AreContenders, IsGoal, is_contender};

@@ -1,3 +1,4 @@
+// A level at which the players' lanes sum to no more than the top, found quickly from a guess.
 ghost use Rattle.std.specs.Prelude.{◌≡◌, ◌<◌, ◌≤◌};
 ghost use Rattle.nash_bounds.specs.Reach.{IsFitting, IsSpan};
 

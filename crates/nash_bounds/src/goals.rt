@@ -1,3 +1,4 @@
+// A pair that a bound has to reach, with its product rounded to units so that most comparisons take one word.
 ghost use Rattle.std.specs.Prelude.{◌≡◌, ◌+◌, ◌^◌, ◌≤◌};
 ghost use Rattle.nash_bounds.specs.Goals.{IsAbove, IsGoal};
 ghost use Rattle.nash_bounds.specs.declared.limits.TheConstants.{UNIT_BITS};

@@ -1,3 +1,4 @@
+// The bound's level: how high the utilities can rise together before they sum to more than the top.
 ghost use Rattle.std.specs.Prelude.{◌≡◌, ℕ, suc, ◌+◌, ◌-◌, ◌*◌, ◌^◌, ◌<◌, ◌≤◌, ◌⊎◌, length, slice_index, All, sum};
 ghost use Rattle.std.specs.List.{AllZip};
 ghost use Rattle.bid_rules.specs.Pairs.{nash_welfare};

@@ -1,3 +1,4 @@
+// Owners by number of the good, and owners in the order of the search: each from the other.
 ghost use Rattle.std.specs.Prelude.{◌≡◌, ℕ, ◌-◌, ◌<◌, ◌==◌, length, slice_index};
 ghost use Rattle.std.specs.List.{position_or_len};
 ghost use Rattle.bid_rules.specs.Goods.{IsValidGoodsCase, in_search_order, order_of, owners_by_good};

@@ -1,3 +1,4 @@
+// Prefixes of allocations: the owners of the first few goods, and the bound on all allocations that begin so.
 ghost use Rattle.std.specs.Prelude.{◌≡◌, ◌+◌, ◌-◌, ◌<◌, ◌≤◌, [], ◌∷◌, ◌++◌, length, map, sum, cond, ◌==◌, slice_index};
 ghost use Rattle.std.specs.List.{range_with_len, sum_by};
 ghost use Rattle.bid_rules.specs.declared.pair.Pair.{Pair};

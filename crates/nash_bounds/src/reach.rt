@@ -1,3 +1,4 @@
+// Whether a bound reaches a goal, which is quicker to ask than what the bound is.
 ghost use Rattle.std.specs.Prelude.{◌≡◌, ◌<◌, ◌≤◌, [], ◌∷◌, ◌++◌, IfSome, true};
 ghost use Rattle.bid_rules.specs.Goods.{IsValidGoodsCase, pair_of, player_count};
 ghost use Rattle.nash_bounds.specs.Goals.{IsGoal, IsShort, is_reached};

@@ -1,3 +1,4 @@
+// Vectors with a lane for each player: sums, counts and products of their lanes.
 ghost use Rattle.std.specs.Prelude.{◌≡◌, ℕ, ◌<◌, ◌≤◌, ◌-◌, ◌^◌, length, map, max, slice_index, sum, All};
 ghost use Rattle.bid_rules.specs.Pairs.{positives, product};
 ghost use Rattle.nash_bounds.specs.Reach.{entries_at};

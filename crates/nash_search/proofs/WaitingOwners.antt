@@ -58,7 +58,7 @@ falling p n k xs l passes is =
     let b : k + 1 ≡ suc k = omega arith in
     rw (a, b) (reverse_push xs (n - k) ∙ ap (λ ys. (n - k) ∷ ys) is ∙ sym (ap (λ t. cond t ((n - k) ∷ filter p (range_with_len (n - k + 1) k)) (filter p (range_with_len (n - k + 1) k))) passes))
 
--- an owner who doesn't wait leaves those who wait, down from the last
+-- an owner who does not wait leaves those who wait, down from the last
 pub falling_not : (p : ℕ → Bool) (n k : ℕ) (xs : List ℕ) → k < n → p (n - k) ≡ false → reverse xs ≡ filter p (range_with_len (n - k + 1) k) → reverse xs ≡ filter p (range_with_len (n - (k + 1) + 1) (k + 1))
 falling_not p n k xs l fails is =
     let a : n - (k + 1) + 1 ≡ n - k = omega arith in

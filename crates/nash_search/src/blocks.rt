@@ -1,3 +1,4 @@
+// The search of one block: its tasks one after another, all by one rule.
 ghost use Rattle.std.specs.Prelude.{◌≡◌, ◌*◌, ◌<◌, ◌≤◌};
 ghost use Rattle.bid_rules.specs.Goods.{IsValidGoodsCase};
 ghost use Rattle.nash_bounds.specs.Blocks.{count_block, counted_of_block, tasks_in};

@@ -1,3 +1,4 @@
+// A walk through one task that can stop after any number of prefixes and go on later.
 ghost use Rattle.std.specs.Prelude.{◌≡◌, ℕ, ◌+◌, ◌<◌, ◌≤◌, ◌↔◌, ◌^◌, true, None};
 ghost use Rattle.bid_rules.specs.Goods.{IsValidGoodsCase};
 ghost use Rattle.nash_bounds.specs.Counted.{count_task};
@@ -37,7 +38,7 @@ impl Model for TaskWalk {
 }
 
 /// A walk that has its whole task to come. It will count the prefixes whose bound is at least `floor` and, if there is an `above`, greater
-/// than it.
+/// than it. The program makes the case's tables once and walks by them with `walk_by`; this is for a walk of one task alone.
 pub fn start_walk(case: &GoodsCase, task: u32, floor: Pair, above: Option<Pair>) -> TaskWalk
     requires case { IsValidGoodsCase case.now }
     requires task { task < tasks_of case.now }

@@ -1,3 +1,4 @@
+// How far a whole search has come, block by block, and when it is over the limit.
 use crate::division::{GoodsDivision, OverLimit};
 use crate::found::{Found, better, pair_found};
 use crate::start::start_value;

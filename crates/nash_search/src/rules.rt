@@ -1,3 +1,4 @@
+// Which prefixes are counted, as a goal that is made once for a block.
 ghost use Rattle.std.specs.Prelude.{◌≡◌};
 ghost use Rattle.nash_search.specs.Waiting.{AreRules};
 

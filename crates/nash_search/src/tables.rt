@@ -1,3 +1,4 @@
+// The tables of a case that a whole search makes once.
 use arrayvec::ArrayVec;
 use bid_rules::GoodsCase;
 use nash_bounds::{LaneTable, PointTable, lane_table, point_table, search_order};

@@ -1,3 +1,4 @@
+// What the tasks of a block have counted and found, added up in their order.
 use crate::found::{Found, better};
 use crate::task::TaskEnd;
 use nash_bounds::tasks_in_row_law;

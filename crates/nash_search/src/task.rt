@@ -1,3 +1,4 @@
+// Tasks: how the search is split by the owners of the first few goods, and the search of one of them.
 ghost use Rattle.std.specs.Prelude.{◌≡◌, ℕ, ◌+◌, ◌-◌, ◌*◌, ◌<◌, ◌≤◌, ◌^◌, length};
 ghost use Rattle.bid_rules.specs.Goods.{IsValidGoodsCase, player_count};
 ghost use Rattle.nash_bounds.specs.Prefixes.{IsPrefix, HasBound};
@@ -89,7 +90,7 @@ pub(crate) fn task_prefix(case: &GoodsCase, table: &PointTable, task: u32) -> Pr
 /// allocation among them, the least list among equals.
 ///
 /// `task` is a task of the case, from 0, and `allowance` at most `MOST_STEPS`. The search stops exactly if more prefixes are counted than
-/// the allowance, and then it has counted one more.
+/// the allowance, and then it has counted one more. A search of a whole case makes the tables once, for all its tasks; this is for one task alone.
 pub fn search_task(
     case: &GoodsCase,
     task: u32,

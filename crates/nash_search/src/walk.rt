@@ -1,3 +1,4 @@
+// The walk down and up the prefixes of a task, which counts them one by one.
 ghost use Rattle.std.specs.Prelude.{◌≡◌, ℕ, ◌+◌, ◌<◌, ◌≤◌, ◌^◌, List, [], ◌∷◌, ◌++◌, length, reverse, cond, All, true, false, None};
 ghost use Rattle.std.specs.List.{filter, range_with_len};
 ghost use Rattle.bid_rules.specs.declared.goods.GoodsCase.{GoodsCase};

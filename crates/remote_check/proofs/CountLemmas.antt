@@ -1,16 +1,16 @@
 -- The counts of a link that is not read again once a read has failed.
-use Rattle.std.proofs.Common.{◌≡◌, ℕ, ◌+◌, ◌-◌, ◌^◌, ◌<◌, ◌≤◌, min, inl, inr, List, length, take, Option, Result, Ok, Err, IsErrOf, IfSome, refl, arith, subst}
+use Rattle.std.proofs.Common.{◌≡◌, ℕ, ◌+◌, ◌-◌, ◌*◌, ◌^◌, ◌<◌, ◌≤◌, min, inl, inr, List, length, take, Option, Result, Ok, Err, IsErrOf, IfSome, refl, arith, subst}
 use Rattle.std.proofs.lemmas.Bool.{cases_lt}
 use Rattle.std.specs.Io.KnownBytes.{Consumes, prepend_known}
 use Rattle.cert_reader.specs.declared.limits.TheConstants.{MOST_BYTES}
-use Rattle.cert_reader.specs.Stream.{faults_after}
+use Rattle.cert_reader.specs.Stream.{ends_at, faults_after}
 use Rattle.cert_reader.specs.declared.ends.TextEnd.{TextEnd}
 use Rattle.cert_reader.specs.declared.ends.TextEnd.TheVariants as reads
 use Rattle.rule_verdicts.specs.declared.verdict.Verdict.{Verdict}
 use Rattle.split_base.specs.Faults.{HasRisen, counted}
 use Rattle.remote_check.specs.declared.body.Due.{Due}
 use Rattle.remote_check.specs.declared.body.Due.TheVariants.{Awaited, Filler, Refused}
-use Rattle.remote_check.specs.Bodies.{count_at_fault, count_with, given, given_by}
+use Rattle.remote_check.specs.Bodies.{count_at_fault, count_with, ends_with, given, given_by}
 use Rattle.remote_check.specs.Taken.{LeavesSome}
 use Rattle.remote_check.proofs.AnswerLemmas.{front_told, leaves_some}
 
@@ -56,3 +56,26 @@ pub front_some : (due : Due) (s t : ℕ) (result : Result Verdict TextEnd) (held
 front_some due s t result held count n input left taken behind fault told front took is less most =
     told_some due s t result count (prepend_known held input) left taken behind fault told is less most
     (subst (λ known. Consumes known (prepend_known behind (given_by due left)) taken) (front_told held input count n front) took)
+
+-- the judge counts one more read of nothing at most
+one_end : (before : ℕ) (result : Result Verdict TextEnd) → ends_at before result ≤ before + 1
+one_end before (Ok verdict) = omega arith
+one_end before (Err (reads.NotText line)) = omega arith
+one_end before (Err reads.TooLong) = omega arith
+one_end before (Err reads.ReadFault) = omega arith
+
+-- so the link's end was met once at most
+pub told_once : (due : Due) (ends ends_now : ℕ) (result : Result Verdict TextEnd) → ends_with due ends_now ≤ ends_at (2 * (ends + 1)) result → ends_now ≤ ends + 1
+told_once (Awaited n) ends ends_now result most = omega (arith, most, one_end (2 * (ends + 1)) result)
+told_once (Filler n) ends ends_now result most = omega (arith, most, one_end (2 * (ends + 1)) result)
+told_once (Refused behind more) ends ends_now result most = omega (arith, most, one_end (2 * (ends + 1)) result)
+
+-- and not at all where a read failed
+pub told_before : (due : Due) (s t ends ends_now : ℕ) (result : Result Verdict TextEnd) → count_at_fault due t ≡ counted s → count_with due t ≡ faults_after s result
+    → ends_with due ends_now ≤ ends_at (2 * (ends + 1)) result → IsErrOf result reads.ReadFault → t < 2 ^ 64 - 1 → ends_now ≤ ends
+told_before (Awaited n) s t ends ends_now result fault told most is less = absurd (no_fault s t result fault told is less)
+told_before (Filler n) s t ends ends_now result fault told most is less = absurd (no_fault s t result fault told is less)
+told_before (Refused behind more) s t ends ends_now (Ok verdict) fault told most is less = absurd cc
+told_before (Refused behind more) s t ends ends_now (Err (reads.NotText line)) fault told most is less = absurd cc
+told_before (Refused behind more) s t ends ends_now (Err reads.TooLong) fault told most is less = absurd cc
+told_before (Refused behind more) s t ends ends_now (Err reads.ReadFault) fault told most is less = omega (arith, most)

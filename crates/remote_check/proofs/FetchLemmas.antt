@@ -1,11 +1,11 @@
 -- What was written, and the counts.
-use Rattle.std.proofs.Common.{◌≡◌, ◌≢◌, ℕ, ◌<◌, List, length, take, Option, Result, Ok, Err, IsErrOf, refl, sym, ap, ◌∙◌, subst}
+use Rattle.std.proofs.Common.{◌≡◌, ◌≢◌, ℕ, ◌+◌, ◌-◌, ◌^◌, ◌<◌, ◌≤◌, List, length, take, Option, Result, Ok, Err, IsErrOf, refl, sym, ap, ◌∙◌, subst, arith}
 use Rattle.std.specs.Io.KnownBytes.{Appends}
 use Rattle.split_base.specs.Faults.{counted}
 use Rattle.rule_verdicts.specs.declared.verdict.Verdict.{Verdict}
 use Rattle.remote_check.specs.declared.ends.FetchEnd.{FetchEnd}
 use Rattle.remote_check.specs.declared.ends.FetchEnd.TheVariants as ends
-use Rattle.remote_check.specs.Requests.{AsksOnce, faults_of}
+use Rattle.remote_check.specs.Requests.{AsksOnce, MeetsEndOnce, faults_of}
 use Rattle.remote_check.specs.Taken.{IsUnsettled}
 
 -- the reply was heard after the whole request
@@ -48,3 +48,15 @@ no_fault (ends.Status code) other result e = λ is. cc
 no_fault (ends.NotText line) other result e = λ is. cc
 no_fault ends.TooLong other result e = λ is. cc
 no_fault ends.LinkFault other result e = absurd (other refl)
+
+-- the end was met while the reply was heard
+pub met_heard : (met mid now reads : ℕ) (result : Result Verdict FetchEnd) → mid ≡ met → now ≤ mid + 1 → (IsErrOf result ends.LinkFault → reads < 2 ^ 64 - 1 → now ≤ mid)
+    → MeetsEndOnce met now reads result
+met_heard met mid now reads result same once before = record {
+  once = omega (arith, same, once);
+  failed = λ is less. omega (arith, same, before is less);
+}
+
+-- nothing was read
+pub met_nowhere : (met now reads : ℕ) (result : Result Verdict FetchEnd) → now ≡ met → MeetsEndOnce met now reads result
+met_nowhere met now reads result same = record { once = omega (arith, same); failed = λ is less. omega (arith, same) }

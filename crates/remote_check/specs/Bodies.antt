@@ -1,5 +1,5 @@
 -- A body as a source of bytes for the judge.
-use Rattle.std.specs.Prelude.{ℕ, ◌+◌, ◌-◌, ◌^◌, min, ◌<◌, ◌≤◌, nat_lt, List, [], ◌∷◌, ◌++◌, length, take, replicate, Option, option_map, Some, None, Result, Ok, Err, if◌then◌else◌, ⊤}
+use Rattle.std.specs.Prelude.{ℕ, ◌+◌, ◌-◌, ◌*◌, ◌^◌, min, ◌<◌, ◌≤◌, nat_lt, List, [], ◌∷◌, ◌++◌, length, take, replicate, Option, option_map, Some, None, Result, Ok, Err, if◌then◌else◌, ⊤}
 use Rattle.cert_reader.specs.declared.ends.TextEnd.{TextEnd}
 use Rattle.cert_reader.specs.declared.ends.TextEnd.TheVariants.{NotText, ReadFault, TooLong}
 use Rattle.cert_reader.specs.declared.limits.TheConstants.{MOST_BYTES}
@@ -11,7 +11,7 @@ use Rattle.remote_check.specs.declared.body.Due.{Due}
 use Rattle.remote_check.specs.declared.body.Due.TheVariants.{Awaited, Filler, Refused}
 use Rattle.remote_check.specs.declared.limits.TheConstants.{FILLER}
 
--- how many bytes of filler follow the awaited ones: more than a certificate has where the input ends within them
+-- how many bytes of filler follow the expected ones: more than any certificate has, if the input ends within them
 abbrev pub filler_of : ℕ → ℕ → List ℕ → ℕ
 filler_of awaited filler input = if nat_lt (length input) awaited then FILLER else filler
 
@@ -40,6 +40,14 @@ abbrev pub count_with : Due → ℕ → ℕ
 count_with (Awaited count) faults = faults
 count_with (Filler count) faults = faults
 count_with (Refused behind more) faults = min (faults + more) (2 ^ 64 - 1)
+
+-- Twice the link's count of reads that gave nothing, with the one that may still come, while no read has met its input's end or failed. So a read that takes
+-- bytes never raises this number: a read of the link that meets the end uses up the one, and no other may follow it. Twice, since the judge may count one
+-- more, for the end of the body, which is no read of the link.
+abbrev pub ends_with : Due → ℕ → ℕ
+ends_with (Awaited count) ends = 2 * (ends + 1)
+ends_with (Filler count) ends = 2 * ends
+ends_with (Refused behind more) ends = 2 * (ends + 1)
 
 -- what is beside a link, and under it the name of the reference to the link and its count once a read has failed, as one
 abbrev pub named : ℕ → ℕ → Option (List ℕ) × ℕ × ℕ → Option (List ℕ) × ℕ × ℕ

@@ -1,5 +1,5 @@
 -- What a fetch writes, and what becomes of the counts of its link.
-use Rattle.std.specs.Prelude.{◌≡◌, ◌≢◌, ℕ, ◌<◌, List, ◌++◌, length, take, codes, decimal, Option, Result, Ok, Err}
+use Rattle.std.specs.Prelude.{◌≡◌, ◌≢◌, ℕ, ◌+◌, ◌-◌, ◌^◌, ◌<◌, ◌≤◌, List, ◌++◌, length, take, codes, decimal, Option, Result, Ok, Err}
 use Rattle.std.specs.Io.KnownBytes.{Appends}
 use Rattle.split_base.specs.Faults.{counted}
 use Rattle.rule_verdicts.specs.declared.verdict.Verdict.{Verdict}
@@ -22,6 +22,12 @@ pub data AsksOnce (ahead left before now : Option (List ℕ)) (reads reads_now w
       → AsksOnce ahead left before now reads reads_now writes writes_now request result
   read_failed : result ≡ Err LinkFault → Appends before now request → reads_now ≡ counted reads → writes_now ≡ writes → IsUnsettled ahead left reads_now
       → AsksOnce ahead left before now reads reads_now writes writes_now request result
+
+-- The reads that gave nothing, by their count before and now: one at most, as at the end of the input, and none where a call failed. So no read came after
+-- the end. The second is said while the count of failed reads is below its greatest value: at that it tells of no read whether it failed.
+pub record MeetsEndOnce (ends ends_now reads_now : ℕ) (result : Result Verdict FetchEnd) : Type 0 where
+  pub once : ends_now ≤ ends + 1
+  pub failed : result ≡ Err LinkFault → reads_now < 2 ^ 64 - 1 → ends_now ≤ ends
 
 -- the count of failed reads after the reply: one more where a read failed, and else the same
 abbrev pub faults_of : ℕ → Result Verdict FetchEnd → ℕ

@@ -15,6 +15,8 @@ impl<'h, S: Source> Source for Ahead<'h, S> {
 
     ghost faults = { λ ahead. S.faults ahead.input };
 
+    ghost empty_reads = { λ ahead. S.empty_reads ahead.input };
+
     ghost beside = { λ ahead. S.beside ahead.input };
 
     fn read(&mut self, into: &mut [u8]) -> Result<usize, Failed> {

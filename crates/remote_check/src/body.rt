@@ -2,8 +2,8 @@
 ghost use Rattle.std.specs.Prelude.{◌≡◌, ◌≤◌, ◌<◌, length, take, MatchResult, IfOk};
 ghost use Rattle.std.specs.Io.KnownBytes.{Consumes, IsAtEnd, Keeps};
 ghost use Rattle.split_base.specs.Faults.{HasCause, IsCounted};
-ghost use Rattle.split_base.specs.Streams.{Reads};
-ghost use Rattle.remote_check.specs.Bodies.{count_at_fault, count_with, given_by, named};
+ghost use Rattle.split_base.specs.Streams.{CountsEmpty, Reads};
+ghost use Rattle.remote_check.specs.Bodies.{count_at_fault, count_with, ends_with, given_by, named};
 
 use crate::limits::FILLER;
 use split_base::{Failed, Source};
@@ -20,7 +20,7 @@ pub(crate) enum Due {
 }
 
 // Gives the awaited bytes of the link, so many, and then ends. Where the input ends within them, filler follows, more than a certificate has, so that the judge
-// finds the body too long, whatever was sent of it; it finds no other so. Once a read has failed the link is not read again.
+// finds the body too long, whatever was sent of it; it finds no other so. Once a read has failed, or has met the end of the input, the link is not read again.
 #[derive(Drop)]
 pub(crate) struct Body<'l, S> {
     pub(crate) link: &'l mut S,
@@ -35,6 +35,7 @@ impl<'l, S: Source> Body<'l, S> {
         ensures bytes { Reads (given_by self.old.due (S.left self.old.link.now)) (given_by self.new.due (S.left self.new.link.now)) result into.new }
         ensures kept { named self.new.link.ghost_name (count_at_fault self.new.due (S.faults self.new.link.now)) (S.beside self.new.link.now)
             ≡ named self.old.link.ghost_name (count_at_fault self.old.due (S.faults self.old.link.now)) (S.beside self.old.link.now) }
+        ensures empty { CountsEmpty (ends_with self.old.due (S.empty_reads self.old.link.now)) (ends_with self.new.due (S.empty_reads self.new.link.now)) result }
         ensures cause { HasCause (count_with self.old.due (S.faults self.old.link.now)) (count_with self.new.due (S.faults self.new.link.now)) result }
         ensures count { IsCounted (count_with self.old.due (S.faults self.old.link.now)) (count_with self.new.due (S.faults self.new.link.now)) result }
     {
@@ -66,6 +67,7 @@ impl<'l, S: Source> Body<'l, S> {
         ensures end { result ≡ 0 → 0 < length into.new → IsAtEnd (given_by self.new.due (S.left self.new.link.now)) }
         ensures kept { named self.new.link.ghost_name (count_at_fault self.new.due (S.faults self.new.link.now)) (S.beside self.new.link.now)
             ≡ named self.old.link.ghost_name (count_at_fault self.old.due (S.faults self.old.link.now)) (S.beside self.old.link.now) }
+        ensures empty { ends_with self.new.due (S.empty_reads self.new.link.now) ≡ ends_with self.old.due (S.empty_reads self.old.link.now) }
         ensures count { count_with self.new.due (S.faults self.new.link.now) ≡ count_with self.old.due (S.faults self.old.link.now) }
     {
         let filled = into.len().min(count);
@@ -79,6 +81,8 @@ impl<'l, S: Source> Source for Body<'l, S> {
     ghost left = { λ body. given_by body.due (S.left body.link.now) };
 
     ghost faults = { λ body. count_with body.due (S.faults body.link.now) };
+
+    ghost empty_reads = { λ body. ends_with body.due (S.empty_reads body.link.now) };
 
     ghost beside = { λ body. named body.link.ghost_name (count_at_fault body.due (S.faults body.link.now)) (S.beside body.link.now) };
 

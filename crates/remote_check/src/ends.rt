@@ -18,6 +18,6 @@ pub enum FetchEnd {
     },
     /// The body is told to have more than 4,000,000 bytes.
     TooLong,
-    /// A read or a write of the link failed. It was not tried again.
+    /// A read or a write of the link failed. It wasn't tried again.
     LinkFault,
 }

@@ -1,11 +1,11 @@
 // A certificate fetched over a link.
-ghost use Rattle.std.specs.Prelude.{◌≡◌, ◌≤◌, ◌<◌, ℕ, List, length, take, IfOk, IfSome, OnErr, IsErrOf, Ok};
+ghost use Rattle.std.specs.Prelude.{◌≡◌, ◌≤◌, ◌<◌, ◌+◌, ◌-◌, ◌^◌, ℕ, List, length, take, IfOk, IfSome, OnErr, IsErrOf, Ok};
 ghost use Rattle.std.specs.Io.KnownBytes.{Appends, prepend_known};
 ghost use Rattle.split_base.specs.Faults.{HasCause, HasRisen, IsCounted};
 ghost use Rattle.cert_checker.specs.Judged.{PrintsBest};
 ghost use Rattle.http_heads.specs.declared.limits.TheConstants.{MAX_HEAD};
 ghost use Rattle.remote_check.specs.Fetched.{FetchSays, IsReplyOf};
-ghost use Rattle.remote_check.specs.Requests.{AsksOnce, faults_of, request_of};
+ghost use Rattle.remote_check.specs.Requests.{AsksOnce, MeetsEndOnce, faults_of, request_of};
 ghost use Rattle.remote_check.specs.Heads.{IsFoundAt};
 ghost use Rattle.remote_check.specs.Taken.{IsInBody, IsUnsettled};
 
@@ -26,7 +26,7 @@ use split_base::{Failed, Link, Source, sides_law, write_all};
 /// What is answered depends on the bytes of the reply alone, and not on the pieces in which they come. In this order:
 ///
 /// 1. `Reply`, where no first part of the first 8,192 bytes is the head of a response as `httparse` reads it (RFC 9112), with at most 64 fields.
-/// 2. `Status`, where its status isn't 200.
+/// 2. `Status`, where its status is not 200.
 /// 3. `Reply`, where it has a Transfer-Encoding, or not exactly one Content-Length of one to ten digits.
 /// 4. `TooLong`, where that length is above 4,000,000.
 /// 5. `Reply`, where the input ends within the body of this length.
@@ -37,12 +37,15 @@ use split_base::{Failed, Link, Source, sides_law, write_all};
 /// all of it. Where it was a read, that of failed reads does, the whole request was written, and what came settles no answer: no head came, and the parser asks
 /// for more; or a body is to be judged, and some of it is still to come. That some is, is said of a body that comes whole, while the count is below 2^64 - 1.
 /// Any other answer leaves both counts as they are, after the whole request.
+///
+/// Once a read has met the end of the input, no other read follows it.
 pub fn fetch<L: Link>(link: &mut L, words: &Words) -> Result<Verdict, FetchEnd>
     ensures says { FetchSays (L.Source.left link.old) result }
     ensures best { result ≡ Ok Verdict.Yes → IfSome (L.Source.left link.old) (λ bytes. (body : List ℕ) × IsReplyOf bytes body × PrintsBest body) }
     ensures asked { AsksOnce (L.Source.left link.old) (L.Source.left link.new) (L.Sink.written link.old) (L.Sink.written link.new)
         (L.Source.faults link.old) (L.Source.faults link.new) (L.Sink.faults link.old) (L.Sink.faults link.new) (request_of words.now) result }
     ensures empty { L.Sink.empty_writes link.new ≡ L.Sink.empty_writes link.old }
+    ensures over { MeetsEndOnce (L.Source.empty_reads link.old) (L.Source.empty_reads link.new) (L.Source.faults link.new) result }
     ensures reads { L.Source.faults link.old ≤ L.Source.faults link.new }
     ensures writes { L.Sink.faults link.old ≤ L.Sink.faults link.new }
 {
@@ -61,6 +64,7 @@ fn ask<L: Link>(link: &mut L, words: &Words) -> Result<(), Failed>
     ensures count { IsCounted (L.Sink.faults link.old) (L.Sink.faults link.new) result }
     ensures empty { L.Sink.empty_writes link.new ≡ L.Sink.empty_writes link.old }
     ensures left { L.Source.left link.new ≡ L.Source.left link.old }
+    ensures over { L.Source.empty_reads link.new ≡ L.Source.empty_reads link.old }
     ensures reads { L.Source.faults link.new ≡ L.Source.faults link.old }
 {
     sides_law::<L>();
@@ -73,6 +77,8 @@ fn hear<L: Link>(link: &mut L) -> Result<Verdict, FetchEnd>
     ensures faults { L.Source.faults link.new ≡ faults_of (L.Source.faults link.old) result }
     ensures fault { IsErrOf result FetchEnd.LinkFault → HasRisen (L.Source.faults link.old) (L.Source.faults link.new) }
     ensures unsettled { IsErrOf result FetchEnd.LinkFault → IsUnsettled (L.Source.left link.old) (L.Source.left link.new) (L.Source.faults link.new) }
+    ensures once { L.Source.empty_reads link.new ≤ L.Source.empty_reads link.old + 1 }
+    ensures before_end { IsErrOf result FetchEnd.LinkFault → L.Source.faults link.new < 2 ^ 64 - 1 → L.Source.empty_reads link.new ≤ L.Source.empty_reads link.old }
     ensures count { L.Source.faults link.old ≤ L.Source.faults link.new }
     ensures written { L.Sink.written link.new ≡ L.Sink.written link.old }
     ensures writes { L.Sink.faults link.new ≡ L.Sink.faults link.old }
@@ -88,6 +94,8 @@ fn read_reply<S: Source>(source: &mut S) -> Result<Verdict, FetchEnd>
     ensures faults { S.faults source.new ≡ faults_of (S.faults source.old) result }
     ensures fault { IsErrOf result FetchEnd.LinkFault → HasRisen (S.faults source.old) (S.faults source.new) }
     ensures unsettled { IsErrOf result FetchEnd.LinkFault → IsUnsettled (S.left source.old) (S.left source.new) (S.faults source.new) }
+    ensures once { S.empty_reads source.new ≤ S.empty_reads source.old + 1 }
+    ensures before_end { IsErrOf result FetchEnd.LinkFault → S.faults source.new < 2 ^ 64 - 1 → S.empty_reads source.new ≤ S.empty_reads source.old }
     ensures count { S.faults source.old ≤ S.faults source.new }
     ensures beside { S.beside source.new ≡ S.beside source.old }
 {
@@ -115,6 +123,8 @@ fn read_body<S: Source>(
     ensures fault { IsErrOf result FetchEnd.LinkFault → HasRisen (S.faults source.old) (S.faults source.new) }
     ensures unsettled { IsErrOf result FetchEnd.LinkFault → IfSome (prepend_known held.now (S.left source.old))
         (λ bytes. IsInBody bytes (S.left source.new) (S.faults source.new)) }
+    ensures once { S.empty_reads source.new ≤ S.empty_reads source.old + 1 }
+    ensures before_end { IsErrOf result FetchEnd.LinkFault → S.faults source.new < 2 ^ 64 - 1 → S.empty_reads source.new ≤ S.empty_reads source.old }
     ensures count { S.faults source.old ≤ S.faults source.new }
     ensures beside { S.beside source.new ≡ S.beside source.old }
 {

@@ -1,5 +1,5 @@
 // The judge's answer on a body.
-ghost use Rattle.std.specs.Prelude.{◌≡◌, ◌≢◌, ◌≤◌, ◌<◌, ◌-◌, ◌^◌, IfSome, IsErrOf, Err};
+ghost use Rattle.std.specs.Prelude.{◌≡◌, ◌≢◌, ◌≤◌, ◌<◌, ◌+◌, ◌-◌, ◌^◌, IfSome, IsErrOf, Err};
 ghost use Rattle.std.specs.Io.KnownBytes.{prepend_known};
 ghost use Rattle.cert_reader.specs.Stream.{faults_after};
 ghost use Rattle.cert_reader.specs.declared.limits.TheConstants.{MOST_BYTES};
@@ -28,6 +28,8 @@ pub(crate) fn judge_body<S: Source>(
     ensures faults { S.faults link.new ≡ faults_of (S.faults link.old) result }
     ensures fault { IsErrOf result FetchEnd.LinkFault → HasRisen (S.faults link.old) (S.faults link.new) }
     ensures count { S.faults link.old ≤ S.faults link.new }
+    ensures once { S.empty_reads link.new ≤ S.empty_reads link.old + 1 }
+    ensures before_end { IsErrOf result FetchEnd.LinkFault → S.faults link.new < 2 ^ 64 - 1 → S.empty_reads link.new ≤ S.empty_reads link.old }
     ensures some { IsErrOf result FetchEnd.LinkFault → S.faults link.new < 2 ^ 64 - 1
         → IfSome (prepend_known held.now (S.left link.old)) (λ rest. LeavesSome length rest (S.left link.new)) }
     ensures beside { S.beside link.new ≡ S.beside link.old }
@@ -47,6 +49,8 @@ fn judge_given<S: Source>(link: &mut S, held: &[u8], length: usize) -> Result<Ve
     ensures faults { S.faults link.new ≡ faults_after (S.faults link.old) result }
     ensures fault { IsErrOf result TextEnd.ReadFault → HasRisen (S.faults link.old) (S.faults link.new) }
     ensures count { S.faults link.old ≤ S.faults link.new }
+    ensures once { S.empty_reads link.new ≤ S.empty_reads link.old + 1 }
+    ensures before_end { IsErrOf result TextEnd.ReadFault → S.faults link.new < 2 ^ 64 - 1 → S.empty_reads link.new ≤ S.empty_reads link.old }
     ensures some { IsErrOf result TextEnd.ReadFault → S.faults link.new < 2 ^ 64 - 1 → length ≤ MOST_BYTES
         → IfSome (prepend_known held.now (S.left link.old)) (λ rest. LeavesSome length rest (S.left link.new)) }
     ensures beside { S.beside link.new ≡ S.beside link.old }

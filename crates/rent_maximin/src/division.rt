@@ -1,3 +1,4 @@
+// The best division of a rent, with all numbers that its certificate needs.
 ghost use Rattle.bid_rules.specs.Rent.{IsValidRentCase};
 ghost use Rattle.rent_maximin.specs.Division.{IsRentDivision};
 

@@ -4,6 +4,8 @@ ghost use Rattle.bid_rules.specs.declared.limits.TheConstants.{MOST_RENT};
 ghost use Rattle.bid_rules.specs.Keys.{key};
 ghost use Rattle.bid_rules.specs.Rent.{IsAssignment, IsValidRentCase, room_count, value};
 ghost use Rattle.cert_reader.specs.Numbers.{IsSmall};
+ghost use Rattle.cert_reader.specs.declared.limits.TheConstants.{MOST_DIGITS};
+ghost use Rattle.room_assignment.specs.declared.limits.TheConstants.{MOST_KEY};
 
 use bid_rules::RentCase;
 use room_assignment::key_at;
@@ -13,7 +15,7 @@ pub(crate) fn plus(a: i128, b: i128) -> i128
     requires a { IsSmall a }
     requires b { IsSmall b }
     ensures value { result ≡ a +ℤ b }
-    ensures small { unsigned_abs result < 2 * 10 ^ 25 }
+    ensures small { unsigned_abs result < 2 * 10 ^ MOST_DIGITS }
 {
     a + b
 }
@@ -48,7 +50,7 @@ pub(crate) fn key_of(case: &RentCase, member: usize, room: usize) -> i128
     requires member { member < room_count case.now }
     requires room { room < room_count case.now }
     ensures value { result ≡ key case.now member (room + 1) }
-    ensures small { unsigned_abs result ≤ 10 ^ 20 }
+    ensures small { unsigned_abs result ≤ MOST_KEY }
 {
     key_at(case, member as u8 + 1, room as u8 + 1)
 }

@@ -1,13 +1,13 @@
 // The prices of the formula.
-ghost use Rattle.std.specs.Prelude.{◌≡◌, ℕ, ℤ, pos, ◌*◌, ◌-◌, ◌<◌, ◌≤◌, ◌^◌, ◌+ℤ◌, ◌-ℤ◌, ◌*ℤ◌, ◌↔◌, length, map, slice_index, slice_index_or, unsigned_abs, IsTrue};
+ghost use Rattle.std.specs.Prelude.{◌≡◌, ℕ, ℤ, pos, ◌+◌, ◌*◌, ◌-◌, ◌<◌, ◌≤◌, ◌^◌, ◌+ℤ◌, ◌-ℤ◌, ◌*ℤ◌, ◌↔◌, length, map, slice_index, slice_index_or, unsigned_abs, IsTrue};
 ghost use Rattle.std.specs.List.{range_with_len};
-ghost use Rattle.bid_rules.specs.declared.limits.TheConstants.{MOST_MEMBERS};
+ghost use Rattle.bid_rules.specs.declared.limits.TheConstants.{MOST_MEMBERS, MOST_RENT};
 ghost use Rattle.bid_rules.specs.Fractions.{IsQuotient};
 ghost use Rattle.bid_rules.specs.Maximin.{AreMaximinPrices, least_in_parts, price_in_parts};
 ghost use Rattle.bid_rules.specs.Rent.{IsAssignment, IsValidRentCase, room_count, value, welfare};
 ghost use Rattle.bid_rules.specs.Sums.{total};
 ghost use Rattle.bid_rules.specs.Walks.{weight_at};
-ghost use Rattle.cert_reader.specs.declared.limits.TheConstants.{MOST_PRINTED_DENOMINATOR};
+ghost use Rattle.cert_reader.specs.declared.limits.TheConstants.{MOST_DIGITS, MOST_PRINTED_DENOMINATOR};
 ghost use Rattle.cert_reader.specs.Numbers.{AreShort, AreSmall, IsSmall};
 ghost use Rattle.split_frac.specs.Frac.{fraction_of};
 
@@ -20,7 +20,7 @@ fn welfare_of(case: &RentCase, rooms: &[u8]) -> i128
     requires case { IsValidRentCase case.now }
     requires rooms { IsAssignment case.now rooms.now }
     ensures value { result ≡ welfare case.now rooms.now }
-    ensures small { unsigned_abs result ≤ 10 ^ 9 }
+    ensures small { unsigned_abs result ≤ MOST_MEMBERS * MOST_RENT }
 {
     let mut sum = 0;
     for member in 0..usize::from(case.facts.members) {
@@ -34,7 +34,7 @@ fn sum_of(walks: &[i128]) -> i128
     requires few { length walks.now ≤ MOST_MEMBERS }
     requires small { AreSmall walks.now }
     ensures value { result ≡ total (weight_at walks.now) (range_with_len 0 (length walks.now)) }
-    ensures small { unsigned_abs result ≤ MOST_MEMBERS * 10 ^ 25 }
+    ensures small { unsigned_abs result ≤ MOST_MEMBERS * 10 ^ MOST_DIGITS }
 {
     let mut sum = 0;
     for k in 0..walks.len() {
@@ -50,7 +50,7 @@ fn least_of(case: &RentCase, rooms: &[u8], walks: &[i128]) -> i128
     requires walks { AreSmall walks.now }
     requires each { length walks.now ≡ room_count case.now }
     ensures value { result ≡ least_in_parts case.now rooms.now walks.now }
-    ensures small { unsigned_abs result ≤ 13 * 10 ^ 25 }
+    ensures small { unsigned_abs result ≤ (MOST_MEMBERS + 1) * 10 ^ MOST_DIGITS }
 {
     welfare_of(case, rooms) - i128::from(case.facts.rent) - sum_of(walks)
 }
@@ -60,7 +60,7 @@ fn times(count: u8, number: i128) -> i128
     requires count { count ≤ MOST_MEMBERS }
     requires number { IsSmall number }
     ensures value { result ≡ pos count *ℤ number }
-    ensures small { unsigned_abs result ≤ MOST_MEMBERS * 10 ^ 25 }
+    ensures small { unsigned_abs result ≤ MOST_MEMBERS * 10 ^ MOST_DIGITS }
 {
     i128::from(count) * number
 }
@@ -70,7 +70,7 @@ fn is_quotient(fraction: &Frac, whole: i128, parts: u8) -> bool
     requires parts { parts ≤ MOST_MEMBERS }
     requires num { IsSmall fraction.now.num }
     requires den { fraction.now.den ≤ MOST_PRINTED_DENOMINATOR }
-    requires whole { unsigned_abs whole ≤ 10 ^ 27 }
+    requires whole { unsigned_abs whole ≤ (3 * MOST_MEMBERS + 1) * 10 ^ MOST_DIGITS }
     ensures { IsTrue result ↔ IsQuotient (fraction_of fraction.now) whole parts }
 {
     fraction.num * i128::from(parts) == whole * i128::from(fraction.den)
@@ -78,11 +78,11 @@ fn is_quotient(fraction: &Frac, whole: i128, parts: u8) -> bool
 
 /// A value less the least utility and a walk, each some times.
 fn less(worth: i128, least: i128, walk: i128) -> i128
-    requires worth { unsigned_abs worth ≤ MOST_MEMBERS * 10 ^ 25 }
-    requires least { unsigned_abs least ≤ 13 * 10 ^ 25 }
-    requires walk { unsigned_abs walk ≤ MOST_MEMBERS * 10 ^ 25 }
+    requires worth { unsigned_abs worth ≤ MOST_MEMBERS * 10 ^ MOST_DIGITS }
+    requires least { unsigned_abs least ≤ (MOST_MEMBERS + 1) * 10 ^ MOST_DIGITS }
+    requires walk { unsigned_abs walk ≤ MOST_MEMBERS * 10 ^ MOST_DIGITS }
     ensures value { result ≡ worth -ℤ (least +ℤ walk) }
-    ensures small { unsigned_abs result ≤ 10 ^ 27 }
+    ensures small { unsigned_abs result ≤ (3 * MOST_MEMBERS + 1) * 10 ^ MOST_DIGITS }
 {
     worth - (least + walk)
 }
@@ -94,10 +94,10 @@ fn part_of(case: &RentCase, rooms: &[u8], walks: &[i128], least: i128, member: u
     requires walks { AreSmall walks.now }
     requires each { length walks.now ≡ room_count case.now }
     requires least { least ≡ least_in_parts case.now rooms.now walks.now }
-    requires least_small { unsigned_abs least ≤ 13 * 10 ^ 25 }
+    requires least_small { unsigned_abs least ≤ (MOST_MEMBERS + 1) * 10 ^ MOST_DIGITS }
     requires member { member < room_count case.now }
     ensures value { result ≡ price_in_parts case.now rooms.now walks.now member }
-    ensures small { unsigned_abs result ≤ 10 ^ 27 }
+    ensures small { unsigned_abs result ≤ (3 * MOST_MEMBERS + 1) * 10 ^ MOST_DIGITS }
 {
     let count = case.facts.members;
     let value = value_at(case, member, room_at(case, rooms, member));
@@ -120,7 +120,7 @@ fn is_price(
     requires prices { AreShort prices.now }
     requires each_price { length prices.now ≡ room_count case.now }
     requires least { least ≡ least_in_parts case.now rooms.now walks.now }
-    requires least_small { unsigned_abs least ≤ 13 * 10 ^ 25 }
+    requires least_small { unsigned_abs least ≤ (MOST_MEMBERS + 1) * 10 ^ MOST_DIGITS }
     requires member { member < room_count case.now }
     ensures { IsTrue result ↔ IsQuotient (slice_index_or (map fraction_of prices.now) (slice_index rooms.now member - 1) (pos 0, 1)) (price_in_parts case.now rooms.now walks.now member) (room_count case.now) }
 {

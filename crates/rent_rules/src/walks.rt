@@ -5,6 +5,7 @@ ghost use Rattle.bid_rules.specs.Maximin.{value_step};
 ghost use Rattle.bid_rules.specs.Rent.{IsAssignment, IsValidRentCase, room_count};
 ghost use Rattle.bid_rules.specs.Walks.{weight_at};
 ghost use Rattle.cert_reader.specs.Numbers.{AreSmall, IsSmall};
+ghost use Rattle.cert_reader.specs.declared.limits.TheConstants.{MOST_DIGITS};
 ghost use Rattle.rent_rules.specs.Rules.{AreRanked, AreSettled, IsLed};
 
 use crate::numbers::{plus, room_at, value_at};
@@ -32,7 +33,7 @@ fn led_to(case: &RentCase, rooms: &[u8], walks: &[i128], from: usize, to: usize)
     requires from { from < room_count case.now }
     requires to { to < room_count case.now }
     ensures value { result ≡ weight_at walks.now from +ℤ value_step case.now rooms.now from to }
-    ensures small { unsigned_abs result < 2 * 10 ^ 25 }
+    ensures small { unsigned_abs result < 2 * 10 ^ MOST_DIGITS }
 {
     plus(walks[from], step(case, rooms, from, to))
 }

@@ -1,10 +1,12 @@
 pub mod After
 pub mod Answered
-pub mod KeyTexts
 pub mod Literals
 pub mod OneText
 pub mod PlainTexts
 pub mod Ranges
 pub mod Routes
 pub mod Sealed
+pub mod SizesOfReplies
+pub mod SizesOfSteps
+pub mod SizesOfValues
 pub mod TextsThere

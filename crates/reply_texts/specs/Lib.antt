@@ -1,4 +1,6 @@
 pub mod Divisions
+pub mod Objects
+pub mod Pages
 pub mod Refusals
 pub mod Replies
 pub mod Sealing

@@ -49,7 +49,7 @@ refusal_detail refusal.NoBid = no_members
 unfoldable pub of_refusal : Refusal → Data
 of_refusal r = object (member (codes "code") (of_text (refusal_row r).1) (refusal_detail r))
 
--- how a refusal of the service is told: its HTTP status, its code, what it names beside the code, and whether the connection closes after it
+-- what a refusal of the service says: its HTTP status, its code, what it names besides the code, and whether the connection closes after it
 pub record ServiceRow : Type 0 where
   pub status : ℕ
   pub code : List ℕ

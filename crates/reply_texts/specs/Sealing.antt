@@ -1,4 +1,4 @@
--- What a caller is told of an instance that isn't closed, written from what they may know of it; and what they are told in a run.
+-- What a caller is told of an instance that is not closed, written from what they may know of it; and what they are told in a run.
 use Rattle.std.specs.Prelude.{ℕ, ◌&&◌, ◌==◌, false, List, [], ◌∷◌, length, if◌then◌else◌, Option, None, Some, option_map, ◌≡◌}
 use Rattle.serde_json.specs.Data.{Data}
 use Rattle.serde_json.specs.Written.{compact_text}

@@ -1,4 +1,4 @@
-// What is told where the file is no journal at a place.
+// What is said when the file stops being a journal at some place.
 ghost use Rattle.std.specs.Prelude.{◌≡◌, ◌≤◌, ◌+◌, ◌++◌, length};
 ghost use Rattle.reply_texts.specs.Refusals.{service_text};
 ghost use Rattle.reply_texts.specs.declared.damage.TheConstants.{DAMAGE_ROOM};

@@ -2,21 +2,27 @@
 //!
 //! The text of a reply on an instance that is not closed follows from what the caller may know of it.
 //!
-//! A reply is made over the host before its event, for the host after it, so that all memory is
-//! taken before the event is kept. Callers with equal views are told the same (`text_sealing_law`).
-//! No reply shows a tag, and only that to a creation shows keys (`shown_law`).
+//! A reply is made before its event is kept, over the host as it will be after it. It takes no
+//! memory: none has more than `REPLY_MOST` bytes (`reply_size_law`). Callers with equal views are
+//! told the same (`text_sealing_law`). No reply shows a tag, and only that to a creation shows keys
+//! (`shown_law`).
 #![tactic(auto)]
 
 mod damage;
 mod division_texts;
 mod laws;
+mod objects;
+mod page;
 mod refusals;
 mod replies;
+mod sizes;
 mod statuses;
 mod values;
 
 pub use damage::{DAMAGE_ROOM, DamageText, damage_text};
 pub use division_texts::division_text;
 pub use laws::{division_text_law, refusal_status_law, shown_law, telling_law, text_sealing_law};
+pub use page::ReplyBytes;
 pub use refusals::{ServiceRefusal, constant_text, memory_text, service_refusal_text};
-pub use replies::{is_publication, reply_status, reply_text};
+pub use replies::{is_publication, reply_bytes, reply_status, reply_text};
+pub use sizes::{REPLY_MOST, reply_size_law};

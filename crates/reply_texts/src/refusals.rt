@@ -2,9 +2,12 @@
 ghost use Rattle.std.specs.Prelude.{◌≡◌, ◌↔◌, codes, IfOk, IfSome, IsSome, true};
 ghost use Rattle.serde_json.specs.Data.{object, member, no_members};
 ghost use Rattle.serde_json.specs.View.{view};
+ghost use Rattle.reply_texts.specs.Pages.{IsTextOf};
 ghost use Rattle.reply_texts.specs.Refusals.{is_code_alone, of_refusal, of_service_refusal, refusal_row, service_row, service_text};
 ghost use Rattle.reply_texts.specs.Values.{list_by, of_number, of_text};
 
+use crate::objects::{Field, Part, object_text};
+use crate::page::{ReplyBytes, TooLong};
 use crate::values::{numbers, written};
 use bid_rules::Missing;
 use sealed_core::Refusal;
@@ -169,18 +172,6 @@ fn coded(alloc: Global, code: &str) -> Result<Value, AllocError>
     json!(in alloc; {"code": code})
 }
 
-fn with_field(alloc: Global, code: &str, field: &str) -> Result<Value, AllocError>
-    ensures { IfOk result (λ v. view v ≡ object (member (codes "code") (of_text code.now) (member (codes "field") (of_text field.now) no_members))) }
-{
-    json!(in alloc; {"code": code, "field": field})
-}
-
-fn with_kept(alloc: Global, code: &str, kept: u8) -> Result<Value, AllocError>
-    ensures { IfOk result (λ v. view v ≡ object (member (codes "code") (of_text code.now) (member (codes "kept") (of_number kept) no_members))) }
-{
-    json!(in alloc; {"code": code, "kept": kept})
-}
-
 fn with_limit(alloc: Global, code: &str, limit: u32) -> Result<Value, AllocError>
     ensures { IfOk result (λ v. view v ≡ object (member (codes "code") (of_text code.now) (member (codes "limit") (of_number limit) no_members))) }
 {
@@ -199,15 +190,56 @@ fn with_place(alloc: Global, code: &str, place: u64) -> Result<Value, AllocError
     json!(in alloc; {"code": code, "place": place})
 }
 
+/// A code alone, without memory.
+fn code_text(code: &str) -> Result<ReplyBytes, TooLong>
+    ensures { IsTextOf (object (member (codes "code") (of_text code.now) no_members)) result }
+{
+    object_text(&[Field {
+        name: "code",
+        part: Part::Text(code.as_bytes()),
+    }])
+}
+
+fn code_with_field<'a>(code: &'a str, field: &'a str) -> Result<ReplyBytes, TooLong>
+    ensures { IsTextOf (object (member (codes "code") (of_text code.now) (member (codes "field") (of_text field.now) no_members))) result }
+{
+    object_text(&[
+        Field {
+            name: "code",
+            part: Part::Text(code.as_bytes()),
+        },
+        Field {
+            name: "field",
+            part: Part::Text(field.as_bytes()),
+        },
+    ])
+}
+
+fn code_with_kept(code: &str, kept: u8) -> Result<ReplyBytes, TooLong>
+    ensures { IsTextOf (object (member (codes "code") (of_text code.now) (member (codes "kept") (of_number kept) no_members))) result }
+{
+    object_text(&[
+        Field {
+            name: "code",
+            part: Part::Text(code.as_bytes()),
+        },
+        Field {
+            name: "kept",
+            part: Part::Number(u64::from(kept)),
+        },
+    ])
+}
+
+/// What the host refuses, without memory.
 #[tactic(auto, unfolding(crate::specs::Refusals::of_refusal))]
-pub(crate) fn refusal_value(alloc: Global, refusal: Refusal) -> Result<Value, AllocError>
-    ensures { IfOk result (λ v. view v ≡ of_refusal refusal) }
+pub(crate) fn refusal_text(refusal: Refusal) -> Result<ReplyBytes, TooLong>
+    ensures { IsTextOf (of_refusal refusal) result }
 {
     let code = refusal_code(refusal);
     match refusal {
-        Refusal::BadField { name } => with_field(alloc, code, name.name()),
-        Refusal::Turn { kept } => with_kept(alloc, code, kept),
-        _ => coded(alloc, code),
+        Refusal::BadField { name } => code_with_field(code, name.name()),
+        Refusal::Turn { kept } => code_with_kept(code, kept),
+        _ => code_text(code),
     }
 }
 

@@ -1,28 +1,32 @@
 // The texts of what a host answers.
-ghost use Rattle.std.specs.Prelude.{◌≡◌, ◌≤◌, ◌||◌, length, map, option_map, IfOk, IsSome, IsSomeAnd, Some, false};
+ghost use Rattle.std.specs.Prelude.{◌≡◌, ◌≤◌, ◌||◌, length, option_map, IfOk, IsSome, IsSomeAnd, Some, false};
 ghost use Rattle.std.specs.List.{range_with_len};
-ghost use Rattle.serde_json.specs.View.{view};
 ghost use Rattle.bid_rules.specs.declared.limits.TheConstants.{MEMBER_ROOM};
 ghost use Rattle.sealed_core.specs.Host.{IsCheckedInstance, event_view, instance_at, instance_view, kept_bid, kept_turn};
 ghost use Rattle.sealed_core.specs.Keys.{key_text};
 ghost use Rattle.sealed_core.specs.Sealed.{applied};
 ghost use Rattle.sealed_core.specs.Step.{answer_view};
+ghost use Rattle.reply_texts.specs.Objects.{of_keys};
+ghost use Rattle.reply_texts.specs.Pages.{IsTextAt, IsTextOf};
 ghost use Rattle.reply_texts.specs.Replies.{of_closed, of_created, of_own, of_place, of_reply, of_turn, of_values, status_of, text_of};
 ghost use Rattle.reply_texts.specs.Sealing.{IsSealedText};
 ghost use Rattle.reply_texts.specs.Telling.{IsAnswered, IsCloseOf, IsCreationOf, Tells, is_close, is_publication};
 ghost use Rattle.reply_texts.specs.Values.{list_by, of_text};
 
 use crate::laws::text_sealing_law;
-use crate::refusals::{refusal_status, refusal_value};
-use crate::statuses::status_value;
-use crate::values::{amounts, written};
+use crate::objects::{Field, Part, object_text};
+use crate::page::{ReplyBytes, TooLong};
+use crate::refusals::{refusal_status, refusal_text};
+use crate::sizes::reply_size_law;
+use crate::statuses::status_text;
+use arrayvec::ArrayVec;
 use bid_rules::Bid;
+use bid_rules::limits::MEMBER_ROOM;
 use sealed_core::{
-    Answered, Event, Host, Instance, Reply, bid_of, instance_at, key_law, key_of, turn_of,
+    Answered, Event, Host, Instance, Key, Reply, bid_of, instance_at, key_of, turn_of,
 };
-use serde_json::{Value, json};
 use split_base::NoMemory;
-use std::alloc::{AllocError, Global};
+use std::alloc::Global;
 
 /// The HTTP status of a reply.
 pub fn reply_status(reply: &Reply) -> u16
@@ -46,90 +50,118 @@ pub fn is_publication(reply: &Reply) -> bool
 }
 
 #[tactic(auto, unfolding(crate::specs::Replies::of_turn))]
-fn turn_value(alloc: Global, turn: u8) -> Result<Value, AllocError>
-    ensures { IfOk result (λ v. view v ≡ of_turn turn) }
+fn turn_text(turn: u8) -> Result<ReplyBytes, TooLong>
+    ensures { IsTextOf (of_turn turn) result }
 {
-    json!(in alloc; {"turn": turn})
+    object_text(&[Field {
+        name: "turn",
+        part: Part::Number(u64::from(turn)),
+    }])
 }
 
 #[tactic(auto, unfolding(crate::specs::Replies::of_values))]
-fn values_value(alloc: Global, turn: u8, values: &[u32]) -> Result<Value, AllocError>
-    ensures { IfOk result (λ v. view v ≡ of_values turn values.now) }
+fn values_text(turn: u8, values: &[u32]) -> Result<ReplyBytes, TooLong>
+    ensures { IsTextOf (of_values turn values.now) result }
 {
-    let values = amounts(alloc, values)?;
-    json!(in alloc; {"turn": turn, "values": values})
+    object_text(&[
+        Field {
+            name: "turn",
+            part: Part::Number(u64::from(turn)),
+        },
+        Field {
+            name: "values",
+            part: Part::Numbers(values),
+        },
+    ])
 }
 
 #[tactic(auto, unfolding(crate::specs::Replies::of_place))]
-fn place_value(alloc: Global, turn: u8, place: u8) -> Result<Value, AllocError>
-    ensures { IfOk result (λ v. view v ≡ of_place turn place) }
+fn place_text(turn: u8, place: u8) -> Result<ReplyBytes, TooLong>
+    ensures { IsTextOf (of_place turn place) result }
 {
-    json!(in alloc; {"place": place, "turn": turn})
+    object_text(&[
+        Field {
+            name: "place",
+            part: Part::Number(u64::from(place)),
+        },
+        Field {
+            name: "turn",
+            part: Part::Number(u64::from(turn)),
+        },
+    ])
 }
 
 /// The member's own kept turn and bid.
-fn own_value(alloc: Global, instance: &Instance, member: u8) -> Result<Value, AllocError>
+fn own_text(instance: &Instance, member: u8) -> Result<ReplyBytes, TooLong>
     requires least { 1 ≤ member }
     requires most { member ≤ length instance.now.creation.members.items }
     requires sound { IsCheckedInstance (instance_view instance.now) }
-    ensures { IfOk result (λ v. view v ≡ of_own (kept_turn (instance_view instance.now) member) (kept_bid (instance_view instance.now) member)) }
+    ensures { IsTextOf (of_own (kept_turn (instance_view instance.now) member) (kept_bid (instance_view instance.now) member)) result }
 {
     let turn = turn_of(instance, member);
     match bid_of(instance, member) {
-        Some(Bid::Values(values)) => values_value(alloc, turn, values.as_slice()),
-        Some(Bid::Place(place)) => place_value(alloc, turn, *place),
-        None => turn_value(alloc, turn),
+        Some(Bid::Values(values)) => values_text(turn, values.as_slice()),
+        Some(Bid::Place(place)) => place_text(turn, *place),
+        None => turn_text(turn),
     }
 }
 
 #[tactic(auto, unfolding(crate::specs::Replies::of_closed))]
-fn closed_value(alloc: Global) -> Result<Value, AllocError>
-    ensures { IfOk result (λ v. view v ≡ of_closed) }
+fn closed_text() -> Result<ReplyBytes, TooLong>
+    ensures { IsTextOf of_closed result }
 {
-    json!(in alloc; {"closed": true})
-}
-
-/// The key of a member of an instance, 0 for the organiser.
-fn key_value(alloc: Global, secret: &[u8; 32], id: u32, member: u8) -> Result<Value, AllocError>
-    ensures { IfOk result (λ v. view v ≡ of_text (key_text secret.now id member)) }
-{
-    key_law();
-    let key = key_of(secret, id, member);
-    let Ok(text) = std::str::from_utf8(&key) else {
-        unreachable!();
-    };
-    json!(in alloc; text)
+    object_text(&[Field {
+        name: "closed",
+        part: Part::Flag(true),
+    }])
 }
 
 /// The keys of the members, in their order.
-fn member_keys(alloc: Global, secret: &[u8; 32], id: u32, members: u8) -> Result<Value, AllocError>
-    ensures { IfOk result (λ v. view v ≡ list_by (λ m. of_text (key_text secret.now id m)) (range_with_len 1 members)) }
+fn member_keys(secret: &[u8; 32], id: u32, members: u8) -> ArrayVec<Key, MEMBER_ROOM>
+    requires { members ≤ MEMBER_ROOM }
+    ensures { list_by of_text result.items ≡ list_by (λ m. of_text (key_text secret.now id m)) (range_with_len 1 members) }
 {
-    let mut list = Vec::new(alloc);
+    let mut keys = ArrayVec::new();
     for place in 0..members {
-        list.push(key_value(alloc, secret, id, place + 1)?)?;
+        keys.push(key_of(secret, id, place + 1));
     }
-    Ok(Value::Array(list))
+    keys
 }
 
-#[tactic(auto, unfolding(crate::specs::Replies::of_created))]
-fn created_value(
-    alloc: Global,
-    secret: &[u8; 32],
-    id: u32,
-    members: u8,
-) -> Result<Value, AllocError>
-    ensures { IfOk result (λ v. view v ≡ of_created secret.now id members) }
+/// The id and the keys of a new instance.
+fn keys_text<'a>(id: u32, keys: &'a [Key], organiser: &'a Key) -> Result<ReplyBytes, TooLong>
+    ensures { IsTextOf (of_keys id keys.now organiser.now) result }
 {
-    json!(in alloc; {
-        "id": id, "keys": member_keys(alloc, secret, id, members)?, "organiser": key_value(alloc, secret, id, 0)?
-    })
+    object_text(&[
+        Field {
+            name: "id",
+            part: Part::Number(u64::from(id)),
+        },
+        Field {
+            name: "keys",
+            part: Part::Keys(keys),
+        },
+        Field {
+            name: "organiser",
+            part: Part::Text(organiser),
+        },
+    ])
+}
+
+fn created_text(secret: &[u8; 32], id: u32, members: u8) -> Result<ReplyBytes, TooLong>
+    requires { members ≤ MEMBER_ROOM }
+    ensures { IsTextOf (of_created secret.now id members) result }
+{
+    let keys = member_keys(secret, id, members);
+    let organiser = key_of(secret, id, 0);
+    keys_text(id, keys.as_slice(), &organiser)
 }
 
 /// How many members the instance has that a reply names as created.
 fn members_after(host: &Host, event: &Option<Event>, id: u32) -> u8
     requires { Tells host.now.content (option_map event_view event.now) (Reply.Created id) }
-    ensures { option_map (λ i. length i.creation.members) (instance_at (applied host.now.content (option_map event_view event.now)) id) ≡ Some result }
+    ensures few { result ≤ MEMBER_ROOM }
+    ensures members { option_map (λ i. length i.creation.members) (instance_at (applied host.now.content (option_map event_view event.now)) id) ≡ Some result }
 {
     if let Some(Event::Create { creation, .. }) = event {
         return creation.members.len() as u8;
@@ -140,17 +172,12 @@ fn members_after(host: &Host, event: &Option<Event>, id: u32) -> u8
     instance.creation.members.len() as u8
 }
 
-fn created_after(
-    alloc: Global,
-    host: &Host,
-    event: &Option<Event>,
-    id: u32,
-) -> Result<Value, AllocError>
+fn created_after(host: &Host, event: &Option<Event>, id: u32) -> Result<ReplyBytes, TooLong>
     requires { Tells host.now.content (option_map event_view event.now) (Reply.Created id) }
-    ensures { IfOk result (λ v. of_reply (applied host.now.content (option_map event_view event.now)) (Reply.Created id) ≡ Some (view v)) }
+    ensures { IsTextAt (of_reply (applied host.now.content (option_map event_view event.now)) (Reply.Created id)) result }
 {
     let members = members_after(host, event, id);
-    created_value(alloc, host.secret(), id, members)
+    created_text(host.secret(), id, members)
 }
 
 fn is_close(event: &Option<Event>) -> bool
@@ -169,82 +196,73 @@ fn is_closed_after(instance: &Instance, event: &Option<Event>) -> bool
     instance.closed || is_close(event)
 }
 
-fn status_after(
-    alloc: Global,
-    host: &Host,
-    event: &Option<Event>,
-    id: u32,
-    you: u8,
-) -> Result<Value, AllocError>
+fn status_after(host: &Host, event: &Option<Event>, id: u32, you: u8) -> Result<ReplyBytes, TooLong>
     requires { Tells host.now.content (option_map event_view event.now) (Reply.Status id you) }
-    ensures { IfOk result (λ v. of_reply (applied host.now.content (option_map event_view event.now)) (Reply.Status id you) ≡ Some (view v)) }
+    ensures { IsTextAt (of_reply (applied host.now.content (option_map event_view event.now)) (Reply.Status id you)) result }
 {
     let Some(instance) = instance_at(host, id) else {
         unreachable!();
     };
     let closed = is_closed_after(instance, event);
-    status_value(alloc, id, you, instance, closed)
+    status_text(id, you, instance, closed)
 }
 
-fn own_after(
-    alloc: Global,
-    host: &Host,
-    event: &Option<Event>,
-    id: u32,
-    member: u8,
-) -> Result<Value, AllocError>
+fn own_after(host: &Host, event: &Option<Event>, id: u32, member: u8) -> Result<ReplyBytes, TooLong>
     requires { Tells host.now.content (option_map event_view event.now) (Reply.Own id member) }
-    ensures { IfOk result (λ v. of_reply (applied host.now.content (option_map event_view event.now)) (Reply.Own id member) ≡ Some (view v)) }
+    ensures { IsTextAt (of_reply (applied host.now.content (option_map event_view event.now)) (Reply.Own id member)) result }
 {
     let Some(instance) = instance_at(host, id) else {
         unreachable!();
     };
-    own_value(alloc, instance, member)
+    own_text(instance, member)
 }
 
-/// The value of a reply over the host after the event.
-fn value_after(
-    alloc: Global,
-    host: &Host,
-    event: &Option<Event>,
-    reply: Reply,
-) -> Result<Value, AllocError>
+/// The text of a reply over the host after the event.
+fn text_after(host: &Host, event: &Option<Event>, reply: Reply) -> Result<ReplyBytes, TooLong>
     requires tells { Tells host.now.content (option_map event_view event.now) reply }
     requires reply { is_publication reply ≡ false }
-    ensures { IfOk result (λ v. of_reply (applied host.now.content (option_map event_view event.now)) reply ≡ Some (view v)) }
+    ensures { IsTextAt (of_reply (applied host.now.content (option_map event_view event.now)) reply) result }
 {
     match reply {
-        Reply::Created { id } => created_after(alloc, host, event, id),
-        Reply::Status { id, you } => status_after(alloc, host, event, id, you),
-        Reply::Kept { turn } => turn_value(alloc, turn),
-        Reply::Own { id, member } => own_after(alloc, host, event, id, member),
-        Reply::Closed => closed_value(alloc),
+        Reply::Created { id } => created_after(host, event, id),
+        Reply::Status { id, you } => status_after(host, event, id, you),
+        Reply::Kept { turn } => turn_text(turn),
+        Reply::Own { id, member } => own_after(host, event, id, member),
+        Reply::Closed => closed_text(),
         Reply::Publish { .. } => unreachable!(),
-        Reply::Refused(refusal) => refusal_value(alloc, refusal),
+        Reply::Refused(refusal) => refusal_text(refusal),
     }
 }
 
-fn text_after(alloc: Global, host: &Host, answered: &Answered) -> Result<Vec<u8>, AllocError>
-    requires tells { Tells host.now.content (option_map event_view answered.now.event) answered.now.reply }
-    requires reply { is_publication answered.now.reply ≡ false }
-    ensures { IfOk result (λ text. text_of (applied host.now.content (option_map event_view answered.now.event)) answered.now.reply ≡ Some text.items) }
-{
-    let value = value_after(alloc, host, &answered.event, answered.reply)?;
-    written(alloc, &value)
-}
-
 /// The text of what a host answered to a command, unless the answer is a publication: over the host after the event, which is not applied.
+/// It takes no memory.
 ///
 /// The host is the one before the event. If the instance that was asked is not closed after the event, the status and the text are those
-/// of the sealed reply, written from what the caller may know of it. `NoMemory`: memory ran out.
+/// of the sealed reply, written from what the caller may know of it.
+pub fn reply_bytes(host: &Host, answered: &Answered) -> ReplyBytes
+    requires answered { IsAnswered host.now.content (answer_view answered.now) }
+    requires reply { is_publication answered.now.reply ≡ false }
+    ensures text { text_of (applied host.now.content (answer_view answered.now).event) answered.now.reply ≡ Some result.items }
+    ensures sealed { IsSealedText host.now.content (answer_view answered.now) result.items }
+{
+    text_sealing_law();
+    reply_size_law();
+    let _instances = host.instances();
+    match text_after(host, &answered.event, answered.reply) {
+        Ok(bytes) => bytes,
+        Err(TooLong) => unreachable!(),
+    }
+}
+
+/// The same text in memory. `NoMemory`: memory ran out.
 pub fn reply_text(alloc: Global, host: &Host, answered: &Answered) -> Result<Vec<u8>, NoMemory>
     requires answered { IsAnswered host.now.content (answer_view answered.now) }
     requires reply { is_publication answered.now.reply ≡ false }
     ensures text { IfOk result (λ text. text_of (applied host.now.content (answer_view answered.now).event) answered.now.reply ≡ Some text.items) }
     ensures sealed { IfOk result (λ text. IsSealedText host.now.content (answer_view answered.now) text.items) }
 {
-    text_sealing_law();
-    match text_after(alloc, host, answered) {
+    let bytes = reply_bytes(host, answered);
+    match Vec::from_slice(alloc, bytes.as_slice()) {
         Ok(text) => Ok(text),
         Err(_) => Err(NoMemory),
     }

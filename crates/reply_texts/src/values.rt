@@ -1,12 +1,11 @@
-// Lists of numbers, texts and fractions as JSON values.
+// Lists of numbers and fractions as JSON values.
 ghost use Rattle.std.specs.Prelude.{◌≡◌, map, IfOk, false};
 ghost use Rattle.serde_json.specs.View.{view};
 ghost use Rattle.serde_json.specs.Written.{compact_text, has_float};
 ghost use Rattle.split_frac.specs.Frac.{frac_text};
-ghost use Rattle.reply_texts.specs.Values.{list_by, of_cents, of_frac, of_number, of_text};
+ghost use Rattle.reply_texts.specs.Values.{list_by, of_cents, of_frac, of_number};
 
-use sealed_core::Name;
-use serde_json::{Value, json};
+use serde_json::Value;
 use split_frac::{Frac, text};
 use std::alloc::{AllocError, Global};
 
@@ -17,17 +16,6 @@ pub(crate) fn numbers(alloc: Global, numbers: &[u8]) -> Result<Value, AllocError
     let mut list = Vec::new(alloc);
     for number in numbers {
         list.push(Value::from(*number))?;
-    }
-    Ok(Value::Array(list))
-}
-
-/// Numbers of cents or points.
-pub(crate) fn amounts(alloc: Global, amounts: &[u32]) -> Result<Value, AllocError>
-    ensures { IfOk result (λ v. view v ≡ list_by of_number amounts.now) }
-{
-    let mut list = Vec::new(alloc);
-    for amount in amounts {
-        list.push(Value::from(*amount))?;
     }
     Ok(Value::Array(list))
 }
@@ -61,28 +49,6 @@ pub(crate) fn fractions(alloc: Global, fractions: &[Frac]) -> Result<Value, Allo
         list.push(fraction(alloc, one)?)?;
     }
     Ok(Value::Array(list))
-}
-
-fn name(alloc: Global, name: &Name) -> Result<Value, AllocError>
-    ensures { IfOk result (λ v. view v ≡ of_text name.now.bytes) }
-{
-    json!(in alloc; name.as_str())
-}
-
-fn each_name(alloc: Global, names: &[Name]) -> Result<Value, AllocError>
-    ensures { IfOk result (λ v. view v ≡ list_by (λ name. of_text name.bytes) names.now) }
-{
-    let mut list = Vec::new(alloc);
-    for one in names {
-        list.push(name(alloc, one)?)?;
-    }
-    Ok(Value::Array(list))
-}
-
-pub(crate) fn names(alloc: Global, names: &[Name]) -> Result<Value, AllocError>
-    ensures { IfOk result (λ v. view v ≡ list_by of_text (map (λ name. name.bytes) names.now)) }
-{
-    each_name(alloc, names)
 }
 
 /// The text of a value without floats, as `serde_json` writes it.

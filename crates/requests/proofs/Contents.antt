@@ -1,5 +1,5 @@
 -- What a publication tells, over the host after the event.
-use Rattle.std.proofs.Common.{◌≡◌, ℕ, List, Option, None, Some, Result, Ok, Err, IfOk, IsSome, inl, inr, max, refl, sym, ap, subst, ◌∙◌, true≢false}
+use Rattle.std.proofs.Common.{◌≡◌, ℕ, List, Option, None, Some, Result, Ok, Err, IfOk, OnErr, IsSome, inl, inr, max, refl, sym, ap, subst, ◌∙◌, true≢false}
 use Rattle.host_results.specs.declared.contents.ContentType.TheVariants.{Json}
 use Rattle.host_results.specs.Contents.{ContentView}
 use Rattle.host_results.specs.Publications.{IsPublication, case_data}
@@ -13,6 +13,11 @@ use Rattle.sealed_core.specs.Host.{Closed, EventView, HostView, InstanceView, ap
 use Rattle.sealed_core.specs.Sealed.{IsLateClose, applied}
 use Rattle.sealed_core.specs.Step.{Answer, CommandView, To, step}
 use Rattle.requests.specs.Replies.{Shows}
+
+-- what holds anyway holds where a call has failed
+pub if_failed : {A E P : Type 0} (r : Result A E) → P → OnErr r P
+if_failed (Ok a) p = tt
+if_failed (Err e) p = p
 
 -- what holds of a result
 pub if_ok : {A E : Type 0} (r : Result A E) (P Q : A → Type 0) → ((a : A) → P a → Q a) → IfOk r P → IfOk r Q

@@ -7,6 +7,7 @@ use Rattle.host_journal.specs.Calls.{Keeps}
 use Rattle.host_journal.specs.States.{State, host_in}
 use Rattle.host_results.specs.Contents.{ContentView}
 use Rattle.reply_texts.specs.declared.refusals.ServiceRefusal.TheVariants as service
+use Rattle.sealed_core.specs.declared.replies.Reply.{Reply}
 use Rattle.sealed_core.specs.Host.{CanApply, EventView, HostView}
 use Rattle.sealed_core.specs.Sealed.{applied}
 use Rattle.sealed_core.specs.Step.{Answer, CommandView, step}
@@ -46,6 +47,9 @@ module _ (h : HostView) (s : State) (is_host : h ≡ host_in s) (moment : ℕ) (
   pub replied : (told : ContentView) → Shows (applied h answered.event) answered.reply told → Replies (host_in s) moment command told
   replied told shows =
       subst (λ (x : HostView). Replies x moment command told) is_host (subst (λ (a : Answer). Shows (applied h a.event) a.reply told) is shows)
+
+  pub reply_is : (reply : Reply) → answered.reply ≡ reply → (step (host_in s) moment command).reply ≡ reply
+  reply_is reply was = ap (λ (a : Answer). a.reply) (sym same_answer) ∙ was
 
   pub event_is : (event : Option EventView) → answered.event ≡ event → (step (host_in s) moment command).event ≡ event
   event_is event was = ap (λ (a : Answer). a.event) (sym same_answer) ∙ was

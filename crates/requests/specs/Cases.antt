@@ -1,5 +1,5 @@
--- The cases of a request that was read whole, in the order in which they are tested. Memory may run out only for its body, and for what the
--- step tells. Each says what becomes of the state, what is said, which calls of the disk failed, and what calls were made of an honest one.
+-- The cases of a request that was read whole, in the order in which they are tested. Memory may run out only for its body, and for a
+-- publication. Each says what becomes of the state, what is said, which calls of the disk failed, and what calls were made of an honest one.
 use Rattle.std.specs.Prelude.{◌≡◌, ℕ, true, List, ◌∷◌, [], ◌++◌, Option, Some, None, Ok, Err}
 use Rattle.split_base.specs.declared.disk.Disk.{Ghosts}
 use Rattle.split_base.specs.Disk.{Each, Tears}
@@ -10,6 +10,8 @@ use Rattle.host_journal.specs.Journal.{IsFirstFault}
 use Rattle.host_journal.specs.States.{Passes, State, host_in, ready_with, waits_with}
 use Rattle.host_results.specs.Contents.{ContentView}
 use Rattle.reply_texts.specs.declared.refusals.ServiceRefusal.TheVariants as service
+use Rattle.sealed_core.specs.declared.commands.What.{What}
+use Rattle.sealed_core.specs.declared.replies.Reply.TheVariants as reply
 use Rattle.sealed_core.specs.Host.{CanApply, EventView}
 use Rattle.sealed_core.specs.Runs.{CanApplyAll}
 use Rattle.sealed_core.specs.Sealed.{empty}
@@ -48,7 +50,9 @@ pub data Steps {D : Type 0} (d : Ghosts D) (disk after : D) (moment : ℕ) (comm
   -- a call of the disk failed in the append, and the event waits
   failed : (event : EventView) → (step (host_in s) moment command).event ≡ Some event → d.faults after ≡ counted (d.faults disk)
       → new ≡ waits_with s event → said ≡ refused_said service.StoreFault → Steps d disk after moment command s new said
-  memory : after ≡ disk → new ≡ s → said ≡ memory_said → Steps d disk after moment command s new said
+  -- there was no memory for a publication
+  memory : (id : ℕ) (asked : What) → (step (host_in s) moment command).reply ≡ reply.Publish id asked → after ≡ disk → new ≡ s → said ≡ memory_said
+      → Steps d disk after moment command s new said
 
 -- A request that was read whole, at a moment: its path or method is refused, or there is no memory for its body, or it ends with the
 -- reopening, or the step comes after that.

@@ -6,13 +6,16 @@ use Rattle.split_base.specs.declared.disk.Disk.{Ghosts}
 use Rattle.split_base.specs.Faults.{counted}
 use Rattle.host_journal.specs.Calls.{IsAppended}
 use Rattle.host_journal.specs.States.{Passes, State, ready_with, waits_with}
+use Rattle.host_results.specs.Contents.{ContentView}
 use Rattle.reply_texts.specs.declared.refusals.ServiceRefusal.TheVariants as service
-use Rattle.sealed_core.specs.Host.{EventView}
+use Rattle.sealed_core.specs.declared.replies.Reply.{Reply}
+use Rattle.sealed_core.specs.Host.{EventView, HostView}
 use Rattle.split_http.specs.declared.routes.RouteFault.{RouteFault}
 use Rattle.split_http.specs.declared.routes.RouteFault.TheVariants.{NoRoute, Method}
 use Rattle.sealed_core.specs.Step.{CommandView}
 use Rattle.requests.specs.Cases.{Settles, Steps}
-use Rattle.requests.specs.Said.{SaidView, memory_said, method_said, refused_said}
+use Rattle.requests.specs.Replies.{Shows}
+use Rattle.requests.specs.Said.{SaidView, content_said, memory_said, method_said, refused_said}
 
 -- the event was kept and this is said; or the disk failed in the append and the host waits
 pub data KeepsSaid {D : Type 0} (d : Ghosts D) (disk after : D) (event : EventView) (due : SaidView) (s new : State) (said : SaidView) : Type 0 where
@@ -25,6 +28,10 @@ abbrev pub FaultSays : LogFault → SaidView → Type 0
 FaultSays fault.Disk said = said ≡ refused_said service.StoreFault
 FaultSays (fault.NotALog place) said = said ≡ refused_said (service.StoreDamaged place)
 FaultSays fault.NoMemory said = said ≡ memory_said
+
+-- a reply is said as it is shown
+abbrev pub SaysShown : HostView → Reply → SaidView → Type 0
+SaysShown h r said = (told : ContentView) × Shows h r told × (said ≡ content_said told)
 
 -- what is said where a request leads nowhere
 abbrev pub unrouted_said : RouteFault → SaidView

@@ -17,10 +17,11 @@ pub record SaidView : Type 0 where
   pub allow : Option Allow
   pub memory : Bool
 
--- the bytes of a text that was written, is constant or is short
+-- the bytes of a text that was written, is constant, or takes no memory
 abbrev pub bytes_of : ReplyText → List ℕ
 bytes_of (text.Written bytes) = bytes.items
 bytes_of (text.Constant bytes) = bytes.now
+bytes_of (text.Own bytes) = bytes.items
 bytes_of (text.Short bytes) = bytes.items
 
 -- what a reply of the code says

@@ -4,8 +4,8 @@
 //! the events kept before it, with or without its own.
 //!
 //! Each failed call of the disk is counted once and ends the request. A store fault is said only in
-//! a request in which a call failed. That memory ran out is said only of a body that is read, or where the text of a reply takes memory, with
-//! no event: to open the file again and to keep an event take none.
+//! a request in which a call failed. That memory ran out is said only of a body that is read and of a publication, with no event:
+//! to open the file again, to keep an event and to tell anything else take none.
 #![tactic(auto)]
 
 mod commands;

@@ -24,11 +24,11 @@ use std::thread::Threads;
 
 /// What is said to a request that was read whole, at a moment.
 ///
-/// - A path that no route has and a method that the route hasn't are refused, and nothing changes.
+/// - A path that no route has and a method that the route does not have are refused, and nothing changes.
 /// - Then its body is read. That memory ran out may be said of a creation, a bid or a withdrawal, before the host is looked at.
 /// - Then a host that waits opens its file again. Where that fails the request ends with it, and the host waits on.
-/// - Then the command is answered: its reply is made, with all of its text, and all memory is taken; its event is kept; and then the reply is
-///   said.
+/// - Then the command is answered: its reply is made, with all of its text; its event is kept; and then the reply is said. Only a publication
+///   takes memory.
 ///
 /// A store fault is said only where a call of the disk failed in this request, which is counted once and not tried again. That the file is no
 /// journal is said with the place of its first fault, wherever the disk tells its bytes, and never on an honest disk. That memory ran out is said

@@ -3,7 +3,7 @@ ghost use Rattle.std.specs.Prelude.{IsTrue};
 ghost use Rattle.split_http.specs.Replies.{is_host_status};
 
 use host_results::ContentType;
-use reply_texts::DamageText;
+use reply_texts::{DamageText, ReplyBytes};
 use split_http::Allow;
 
 /// The text of a reply.
@@ -13,7 +13,9 @@ pub enum ReplyText {
     Written(Vec<u8>),
     /// It is a constant, and takes no memory.
     Constant(&'static [u8]),
-    /// It was written for this reply, and takes no memory.
+    /// It was written for this reply, and takes no memory: of a reply that is no publication.
+    Own(ReplyBytes),
+    /// It was written for this reply, and takes no memory: of a damaged file.
     Short(DamageText),
 }
 

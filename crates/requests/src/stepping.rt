@@ -19,7 +19,8 @@ use split_solve::KeptSearches;
 use std::alloc::Global;
 use std::thread::Threads;
 
-/// What is said to a command at a moment: the reply, made whole before its event is kept, or that the disk failed.
+/// What is said to a command at a moment: the reply, made whole before its event is kept, or that the disk failed. Only a publication takes
+/// memory.
 #[allow(clippy::too_many_arguments)]
 pub(crate) fn step<D: Disk, R: Threads + Sync, G: Gate + Sync>(
     alloc: Global,
@@ -44,8 +45,7 @@ pub(crate) fn step<D: Disk, R: Threads + Sync, G: Gate + Sync>(
     let answered = answer(&serving.host, moment, command);
     match content(alloc, rt, &serving.host, &answered, searches, workers, gate) {
         Err(NoMemory) => Said::out_of_memory(),
-        Ok(told) => {
-            let said = Said::told(told);
+        Ok(said) => {
             let event = answered.event;
             match event {
                 None => said,

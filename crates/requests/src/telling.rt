@@ -1,6 +1,7 @@
-// How it is said, and what is said where the journal has failed.
+// Writes the answer, or says that the journal has failed.
 ghost use Rattle.std.specs.Prelude.{◌≡◌, IsTrue, true};
 ghost use Rattle.host_results.specs.Contents.{content_view};
+ghost use Rattle.host_results.specs.declared.contents.ContentType.TheVariants.{Json};
 ghost use Rattle.reply_texts.specs.Refusals.{is_code_alone, service_row};
 ghost use Rattle.split_http.specs.Replies.{is_host_status};
 ghost use Rattle.requests.specs.Said.{bytes_of, content_said, memory_said, method_said, refused_said, said_view};
@@ -9,7 +10,7 @@ ghost use Rattle.requests.specs.Keeping.{FaultSays};
 use crate::said::{ReplyText, Said};
 use gate_log::LogFault;
 use host_results::{ContentType, ReplyContent};
-use reply_texts::{ServiceRefusal, constant_text, damage_text, memory_text};
+use reply_texts::{ReplyBytes, ServiceRefusal, constant_text, damage_text, memory_text};
 use split_http::Allow;
 
 impl ReplyText {
@@ -20,6 +21,7 @@ impl ReplyText {
         match self {
             ReplyText::Written(bytes) => bytes.as_slice(),
             ReplyText::Constant(bytes) => bytes,
+            ReplyText::Own(bytes) => bytes.as_slice(),
             ReplyText::Short(bytes) => bytes.as_slice(),
         }
     }
@@ -35,6 +37,20 @@ impl Said {
             status: content.status,
             content_type: content.content_type,
             text: ReplyText::Written(content.text),
+            allow: None,
+            memory: false,
+        }
+    }
+
+    /// A reply that is no publication. It takes no memory.
+    pub(crate) fn own(status: u16, text: ReplyBytes) -> Said
+        requires { IsTrue (is_host_status status) }
+        ensures { said_view result ≡ content_said (record { status = status; content_type = Json; text = text.items }) }
+    {
+        Said {
+            status,
+            content_type: ContentType::Json,
+            text: ReplyText::Own(text),
             allow: None,
             memory: false,
         }

@@ -1,3 +1,4 @@
+// Keys: values in cents and the order of assignments in one number, so that the greatest sum is the first of the best.
 ghost use Rattle.std.specs.Prelude.{◌≡◌, ℕ, ℤ, pos, ◌+◌, ◌*◌, ◌-◌, ◌<◌, ◌≤◌, ◌^◌, ◌+ℤ◌, ◌-ℤ◌, ◌*ℤ◌, ◌≤ℤ◌, length, All, slice_index, slice_index_or, unsigned_abs};
 ghost use Rattle.bid_rules.specs.Rent.{IsValidRentCase, value, room_count};
 ghost use Rattle.room_assignment.specs.Matrix.{IsSquare, entry};

@@ -1,3 +1,4 @@
+// The longest walks over weighted steps that have no cycle of positive weight.
 ghost use Rattle.std.specs.Prelude.{◌≡◌, ℕ, ℤ, pos, ◌+◌, ◌*◌, ◌-◌, ◌<◌, ◌≤◌, ◌^◌, ◌+ℤ◌, ◌≤ℤ◌, ◌⊎◌, replicate, length, All, slice_index_or, unsigned_abs};
 ghost use Rattle.bid_rules.specs.Walks.{AreGreatestWeights, AreRanks, HasNoPositiveCycle};
 ghost use Rattle.room_assignment.specs.Matrix.{IsSquare, entry};

@@ -1,3 +1,4 @@
+// Tests of exact fractions: sums, differences, floors, order and text.
 ghost use Rattle.std.specs.Prelude.{◌<◌, ◌≤◌, unsigned_abs};
 
 use split_frac::{Frac, add, compare, floor, gcd, make, rem, sub, sum_law, text, value_law};

@@ -1,4 +1,4 @@
-// That workers work at the same time, and draw their tasks: a gate holds the first task until others were entered or left.
+// Tests that workers work at the same time and draw their tasks. A gate holds the first task until others have been entered or left.
 use crate::goods_cases::case_of;
 use bid_rules::limits::MOST_STEPS;
 use nash_search::{start_value, tasks};

@@ -1,4 +1,4 @@
--- Two runs that a caller can't tell apart: under the caller's veil their hosts are one.
+-- Two runs that a caller cannot tell apart: under the caller's veil their hosts are one.
 use Rattle.std.proofs.Common.{◌≡◌, ◌≢◌, ℕ, zero, suc, ◌+◌, ◌-◌, ◌≤◌, inl, inr, max, Bool, true, false, ◌&&◌, ◌==◌, List, [], ◌∷◌, if◌then◌else◌, Option, None, Some, option_map, slice_get, refl, sym, ap, ◌∙◌, subst, arith, true≢false}
 use Rattle.std.proofs.lemmas.Bool.{eqb-true}
 use Rattle.bid_rules.specs.declared.bids.Bid.{Bid}

@@ -1,4 +1,4 @@
--- Which event a step has doesn't depend on what the members bid, but on whether they have.
+-- Which event a step has does not depend on what the members bid, but on whether they have.
 use Rattle.std.proofs.Common.{◌≡◌, ℕ, suc, ◌+◌, max, Bool, true, false, not, ◌&&◌, ◌==◌, List, [], ◌∷◌, map, length, if◌then◌else◌, is_some, is_none, Option, None, Some, option_map, Result, Ok, Err, refl, ap, ◌∙◌, arith}
 use Rattle.std.proofs.lemmas.Bool.{eqb-true, ne_eqb, not_from_false}
 use Rattle.bid_rules.specs.declared.bids.Bid.{Bid}

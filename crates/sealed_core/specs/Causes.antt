@@ -44,7 +44,7 @@ CauseOfWithdrawal s turn r =
     ⊎ (((s.closed ≡ false) × (turn ≡ s.turn + 1) × (s.turn ≡ MOST_TURNS) × (r ≡ refusal.TurnsUsed))
     ⊎ ((s.closed ≡ false) × (turn ≡ s.turn + 1) × (s.turn ≢ MOST_TURNS) × (s.bid ≡ None) × (r ≡ refusal.NoBid))))
 
--- a bid is refused where it isn't a checked one of the kind that the facts ask for, or for its turn
+-- a bid is refused if it isn't a checked bid of the kind that the facts ask for, or because of its turn
 abbrev pub CauseOfForm : Standing → ℕ → Option Bid → Refusal → Type 0
 CauseOfForm s turn form r =
     (((given : Bid) → form ≡ Some given → IsCheckedBid s.facts given → ⊥) × (r ≡ refusal.BadField (form_field s.facts)))
@@ -55,7 +55,7 @@ abbrev pub CauseOfBidBody : Standing → BidBody → Option ℕ → Refusal → 
 CauseOfBidBody s body None r = r ≡ refusal.BadField field.Turn
 CauseOfBidBody s body (Some turn) r = CauseOfForm s turn (form_of s.facts body) r
 
--- the body of a withdrawal is refused for its turn alone
+-- the body of a withdrawal is refused only because of its turn
 abbrev pub CauseOfWithdrawalBody : Standing → Option ℕ → Refusal → Type 0
 CauseOfWithdrawalBody s None r = r ≡ refusal.BadField field.Turn
 CauseOfWithdrawalBody s (Some turn) r = CauseOfWithdrawal s turn r

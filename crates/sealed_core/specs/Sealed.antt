@@ -166,7 +166,7 @@ same_caller None (Some m) = false
 same_caller (Some k) None = false
 same_caller (Some k) (Some m) = k == m
 
--- the reply that a caller gets to a command, where it is their own command on the instance
+-- the reply that a caller gets to a command, if it is their own command on this instance
 abbrev pub heard_of : HostView → ℕ → Caller → ℕ → CommandView → Option Reply
 heard_of h id caller t (Create body) = None
 heard_of h id caller t (To other key ask) = if (other == id) && same_caller (caller_number h other key) caller then Some (step h t (To other key ask)).reply else None

@@ -26,7 +26,8 @@ veiled_bids (Some (suc k)) bids = but_one k bids
 abbrev pub veiled : Caller → InstanceView → InstanceView
 veiled c i = record { creation = i.creation; turns = i.turns; bids = veiled_bids c i.bids; closed = i.closed }
 
--- whose bid the caller of this instance sees on the other: their own where it is the same instance, else nobody's, whatever their number there
+-- whose bid the caller of this instance sees on another one: their own if it is the same instance, otherwise nobody's, whatever their number is
+-- there
 abbrev pub shown_in : ℕ → Caller → ℕ → Caller
 shown_in id caller other = if other == id then caller else None
 

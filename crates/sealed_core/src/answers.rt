@@ -1,3 +1,4 @@
+// What the host answers to a command, and the event that goes with it.
 ghost use Rattle.std.specs.Prelude.{◌≡◌, ◌≤◌, ◌↔◌, map, length, true, false, None, Some, IfSome};
 ghost use Rattle.bid_rules.specs.Facts.{IsCheckedFacts};
 ghost use Rattle.sealed_core.specs.Causes.{Cause};
@@ -326,7 +327,7 @@ fn step(host: &Host, moment: u64, command: Command) -> Answered
 /// organiser's close have their event. What a caller may ask of an instance at or past its deadline, which isn't closed, has the close
 /// as its event, and is answered as on the closed instance. A creation equal to the one that is kept under its tag has no event and
 /// that one's reply; nor has a bid equal to the kept one with the kept turn, or a withdrawal with the turn of the last withdrawal where
-/// the member has not bid since: they get the kept turn.
+/// the member hasn't bid since: they get the kept turn.
 ///
 /// A creation in the command keeps the rules that `Creation::is_checked` tests; every other command may come as it is.
 ///

@@ -1,3 +1,4 @@
+// What can be asked of a host, by whom.
 use crate::Key;
 use case_fields::{BidBody, BodyFault, Creation};
 

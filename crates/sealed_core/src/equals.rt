@@ -1,3 +1,4 @@
+// Whether two creations, or two bids, are the same in every field.
 ghost use Rattle.std.specs.Prelude.{◌≡◌, map};
 ghost use Rattle.sealed_core.specs.Host.{creation_view, text};
 ghost use Rattle.sealed_core.specs.Sameness.{is_kept, same_bid, same_creation, same_facts, same_texts};

@@ -1,3 +1,4 @@
+// The host as kept events have made it: its instances, and how an event changes it.
 ghost use Rattle.std.specs.Prelude.{◌≡◌, ◌≤◌, [], length, map, OnErr, OnOk, All};
 ghost use Rattle.std.specs.Prelude.{◌+◌, ◌-◌, IfSome, IsSome, IsSomeAnd, replicate, false, ◌<◌, ◌⊎◌};
 ghost use Rattle.bid_rules.specs.Facts.{IsCheckedBid};

@@ -1,3 +1,4 @@
+// Keys of members and organisers: how they are made, and whose a key is.
 ghost use Rattle.std.specs.Prelude.{◌≡◌, ◌+◌, ◌≤◌, IfSome};
 ghost use Rattle.bid_rules.specs.declared.limits.TheConstants.{MEMBER_ROOM};
 ghost use Rattle.sealed_core.specs.Keys.{first_holder, key_text};

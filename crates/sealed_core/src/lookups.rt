@@ -1,3 +1,4 @@
+// What a host knows of an instance: by its id, by its tag, by the key that is shown.
 ghost use Rattle.std.specs.Prelude.{◌≡◌, ◌≤◌, ◌+◌, length, map, is_none, is_some, MatchOption, MatchResult, IfOk, IfSome, Some, None, Ok, Err};
 ghost use Rattle.std.specs.List.{list_all};
 ghost use Rattle.sealed_core.specs.declared.limits.TheConstants.{MOST_INSTANCES, MOST_TURNS};

@@ -1,3 +1,4 @@
+// What the host replies, and why it refuses.
 use crate::{Event, What};
 use case_fields::FieldName;
 

@@ -22,7 +22,7 @@ drawn view ticket = desk_view (view.tickets ++ ticket ∷ []) view.reported view
 abbrev pub stop_of : ℕ → ℕ → ℕ
 stop_of left node = cond (nat_lt left node) 1 0
 
--- the view with so many more prefixes reported, where the node word was `found` before
+-- the view after so many more prefixes were reported, if the node word was `found` before
 abbrev pub told : DeskView → ℕ → ℕ → DeskView
 told view count found = desk_view view.tickets (view.reported + count) view.allot (view.stops + stop_of view.left (found + count)) view.left view.workers
 

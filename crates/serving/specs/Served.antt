@@ -12,18 +12,19 @@ use Rattle.serving.specs.Dues.{AreBytes, DueView, IsPartOf, closes}
 use Rattle.serving.specs.Ends.{Ending, end_as, reads_after, writes_after}
 use Rattle.serving.specs.Runs.{Asks, LastHead, LinkRun, Refuses, Replies, Run, Service, Stops, end_of}
 
--- how a type of links tells the bytes that are left and those that were written, how many reads and how many writes have failed, and how many
--- writes were empty
+-- how a type of links tells the bytes that are left and those that were written, how many reads and how many writes have failed, how many
+-- writes were empty, and how many reads gave nothing
 pub record LinkTells (L : Type 0) : Type 0 where
   pub left : L → Option (List ℕ)
   pub written : L → Option (List ℕ)
   pub reads : L → ℕ
   pub writes : L → ℕ
   pub empties : L → ℕ
+  pub ends : L → ℕ
 
 -- by what the two sides of a link tell
 abbrev pub tells_of : {L : Type 0} → SourceSide L → SinkSide L → LinkTells L
-tells_of source sink = record { left = source.left; written = sink.written; reads = source.faults; writes = sink.faults; empties = sink.empty_writes }
+tells_of source sink = record { left = source.left; written = sink.written; reads = source.faults; writes = sink.faults; empties = sink.empty_writes; ends = source.empty_reads }
 
 -- a link at a moment: the bytes to come, those that were written, and its counts of failed reads, failed writes and empty writes
 pub record LinkView : Type 0 where

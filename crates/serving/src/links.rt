@@ -74,7 +74,7 @@ fn closes(head: &Head, last: bool) -> bool
 /// Serves one connection: its heads in order, at most `MAX_REQUESTS` of them, each at one answer of the clock and with one reply. It takes no
 /// memory but what a head or a request may be refused for. No write is empty.
 ///
-/// - `Ended`: no byte was left where a head would begin, or the last reply was written, closed the connection and wasn't a memory reply.
+/// - `Ended`: no byte was left where a head would begin, or the last reply was written, closed the connection and was not a memory reply.
 /// - `Cut`: the input ended within a body. Nothing is replied to its head.
 /// - `LinkFault` comes only where one of the link's two counts of faults has risen, by one. The link got a first part of the bytes due. A read
 ///   is made only while the bytes that came since the last request may still become a head, as the parser reads them, or hold less than the

@@ -1,4 +1,4 @@
-// What is said, as it is written.
+// Replies, as they are written to a link.
 ghost use Rattle.std.specs.Prelude.{◌≡◌, ◌≤◌, IfSome, IsSome, true};
 ghost use Rattle.http.specs.StatusCode.{reason_phrase};
 ghost use Rattle.split_base.specs.declared.limits.TheConstants.{LAST_MOMENT};

@@ -83,7 +83,7 @@ module _ {W : Type 0} (run : List (Exchange W)) (first : State) where
       made = tt;
       waits = subst Waits (sym is) (λ f same. let one : e ≡ f = cc in subst (IsMade run first s.secret s.kept) one (inl (x, among, (route, routed, a))));
     }
-    steps_come d disk after s new said waits (Steps.memory a is b) = comes_none s new is waits
+    steps_come d disk after s new said waits (Steps.memory id what p a is b) = comes_none s new is waits
 
   responds_come : {D : Type 0} (d : Ghosts D) (x : Exchange W) → Contains run x → (disk after : D) (s new : State) (said : SaidView) → d.is_honest disk → Waits s
       → Responds d disk after x.head x.body x.moment s new said → Comes s new

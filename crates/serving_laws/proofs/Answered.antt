@@ -1,16 +1,22 @@
 -- A request has its answer, whatever the disk.
-use Rattle.std.proofs.Common.{◌≡◌, ℕ, ◌<◌, ◌≤◌, ◌+◌, ◌-◌, ◌^◌, Some, None, sym, subst, ⊎_elim, inl, inr, arith, Ok}
+use Rattle.std.proofs.Common.{◌≡◌, ℕ, ◌<◌, ◌≤◌, ◌+◌, ◌-◌, ◌^◌, Some, None, true, sym, ap, ◌∙◌, subst, ⊎_elim, inl, inr, arith, Ok}
 use Rattle.std.proofs.Math.Nat.{min-eq_left, min-eq_right}
 use Rattle.std.proofs.lemmas.Bool.{cases_lt}
 use Rattle.split_base.specs.Faults.{HasRisen, counted}
 use Rattle.split_base.specs.declared.disk.Disk.{Ghosts}
-use Rattle.host_journal.specs.States.{State}
+use Rattle.host_journal.specs.States.{State, host_in}
 use Rattle.serving.specs.Exchanges.{Exchange}
 use Rattle.requests.specs.Cases.{Settles, Steps}
 use Rattle.requests.specs.Commands.{command_of}
+use Rattle.sealed_core.specs.declared.commands.What.{What}
+use Rattle.sealed_core.specs.declared.replies.Reply.TheVariants as reply
+use Rattle.sealed_core.specs.Host.{HostView}
+use Rattle.sealed_core.specs.Sealed.{host_after, is_closed}
+use Rattle.sealed_core.specs.Step.{CommandView, step}
 use Rattle.split_http.specs.declared.routes.Route.{Route}
 use Rattle.split_http.specs.Places.{IsRouted}
 use Rattle.serving_laws.specs.Answering.{HasAnswer}
+use Rattle.serving_laws.specs.Sealing.{IsDueResult}
 use Rattle.serving_laws.proofs.OwnSteps.{asked, kept_step, plain_step}
 
 pub counted_rises : (n : ℕ) → HasRisen n (counted n)
@@ -26,17 +32,44 @@ later_rises : (n m now : ℕ) → n ≤ m → now ≡ counted m → HasRisen n n
 later_rises n m now least is =
     subst (λ k. HasRisen n k) (sym is) (⊎_elim (λ (risen : m < counted m). inl (omega (arith, least, risen))) (λ full. inr full) (counted_rises m))
 
+-- what is published is that of an instance which is closed after the step
+abbrev pub PublishesClosed : Type 0
+PublishesClosed = (h : HostView) (t id : ℕ) (command : CommandView) (what : What) → (step h t command).reply ≡ reply.Publish id what → is_closed (host_after h t command) id ≡ true
+
+pub due_result : PublishesClosed → {W : Type 0} (x : Exchange W) (route : Route) → IsRouted x.head.verb x.head.path (Ok route) → (s : State) (id : ℕ) (what : What)
+    → (step (host_in s) x.moment (command_of route.place route.id x.head.key x.body)).reply ≡ reply.Publish id what → IsDueResult x s
+due_result shut x route routed s id what is = record {
+  route = route;
+  id = id;
+  asked = what;
+  routed = routed;
+  published = is;
+  closed = shut (host_in s) x.moment id (command_of route.place route.id x.head.key x.body) what is;
+}
+
+-- a host that goes on to the step has no event that waits
+pub settled_ready : {D : Type 0} (d : Ghosts D) (disk between : D) (s settled : State) → Settles d disk between s settled None → settled.waiting ≡ None
+settled_ready d disk between s settled (Settles.ready none same is c) = ap (λ (y : State). y.waiting) is ∙ none
+settled_ready d disk between s settled (Settles.store_fault e a up torn is c) = absurd (cc)
+settled_ready d disk between s settled (Settles.damaged e place a same first never is c) = absurd (cc)
+settled_ready d disk between s settled (Settles.opened e secret kept a same told can is c) = ap (λ (y : State). y.waiting) is
+
 module _ {D : Type 0} (d : Ghosts D) (x : Exchange (D × State)) where
   -- the reply where the request goes no further
-  pub settled_has : (settled : State) → Settles d x.before.0 x.after.0 x.before.1 x.after.1 (Some x.due.said) → HasAnswer d x settled
-  settled_has settled (Settles.ready a same is c) = absurd (cc)
-  settled_has settled (Settles.store_fault e a up torn is c) = HasAnswer.store_fault (subst (λ m. HasRisen (d.faults x.before.0) m) (sym up) (counted_rises (d.faults x.before.0))) (cc c)
-  settled_has settled (Settles.damaged e place a same first never is c) = HasAnswer.damaged e place a first never (cc c)
-  settled_has settled (Settles.opened e secret kept a same told can is c) = absurd (cc)
+  pub settled_has : (route : Route) → IsRouted x.head.verb x.head.path (Ok route) → Settles d x.before.0 x.after.0 x.before.1 x.after.1 (Some x.due.said) → HasAnswer d x x.before.1
+  settled_has route routed (Settles.ready a same is c) = absurd (cc)
+  settled_has route routed (Settles.store_fault e a up torn is c) =
+      HasAnswer.not_opened route e routed a (subst (λ m. HasRisen (d.faults x.before.0) m) (sym up) (counted_rises (d.faults x.before.0))) is (cc c)
+  settled_has route routed (Settles.damaged e place a same first never is c) = HasAnswer.damaged e place a first never is (cc c)
+  settled_has route routed (Settles.opened e secret kept a same told can is c) = absurd (cc)
 
-  pub stepped_has : (route : Route) (between : D) (settled : State) → IsRouted x.head.verb x.head.path (Ok route) → d.faults x.before.0 ≤ d.faults between
+  pub stepped_has : PublishesClosed → (route : Route) (between : D) (settled : State) → IsRouted x.head.verb x.head.path (Ok route) → settled.waiting ≡ None
+      → d.faults x.before.0 ≤ d.faults between
       → Steps d between x.after.0 x.moment (command_of route.place route.id x.head.key x.body) settled x.after.1 x.due.said → HasAnswer d x settled
-  stepped_has route between settled routed least (Steps.no_event told a b r is c) = HasAnswer.answered (asked x route) (plain_step x route routed settled told a r is c)
-  stepped_has route between settled routed least (Steps.kept told e a can same appended r is c) = HasAnswer.answered (asked x route) (kept_step x route routed settled told e a r is c)
-  stepped_has route between settled routed least (Steps.failed e a up is c) = HasAnswer.store_fault (later_rises (d.faults x.before.0) (d.faults between) (d.faults x.after.0) least up) c
-  stepped_has route between settled routed least (Steps.memory a is c) = HasAnswer.memory c
+  stepped_has shut route between settled routed ready least (Steps.no_event told a b r is c) =
+      HasAnswer.answered (asked x route) ready (plain_step x route routed settled told a r is c) (ap (λ (y : State). y.waiting) is ∙ ready)
+  stepped_has shut route between settled routed ready least (Steps.kept told e a can same appended r is c) =
+      HasAnswer.answered (asked x route) ready (kept_step x route routed settled told e a r is c) (ap (λ (y : State). y.waiting) is)
+  stepped_has shut route between settled routed ready least (Steps.failed e a up is c) =
+      HasAnswer.not_kept e ready (route, routed, a) (later_rises (d.faults x.before.0) (d.faults between) (d.faults x.after.0) least up) is c
+  stepped_has shut route between settled routed ready least (Steps.memory id what p a is c) = HasAnswer.memory (inr (due_result shut x route routed settled id what p)) is c

@@ -45,7 +45,7 @@ steps_grow d disk after moment command s new said (Steps.kept told e a can same 
     record { secret = ap (λ (x : State). x.secret) is; more = e ∷ []; kept = ap (λ (x : State). x.kept) is }
 steps_grow d disk after moment command s new said (Steps.failed e a up is c) =
     record { secret = ap (λ (x : State). x.secret) is; more = []; kept = ap (λ (x : State). x.kept) is ∙ sym (append-nil s.kept) }
-steps_grow d disk after moment command s new said (Steps.memory a is b) = grows_none s new is
+steps_grow d disk after moment command s new said (Steps.memory id what p a is b) = grows_none s new is
 
 pub responds_grows : {D : Type 0} (d : Ghosts D) (disk after : D) (head : Head) (body : List ℕ) (moment : ℕ) (s new : State) (said : SaidView) → d.is_honest disk
     → Responds d disk after head body moment s new said → Grows s new

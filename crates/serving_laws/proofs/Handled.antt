@@ -1,16 +1,15 @@
 -- How a request is handled, at the one state at which it is answered.
-use Rattle.std.proofs.Common.{◌≡◌, List, [], ◌∷◌, ◌++◌, None, Some, Ok, refl, sym, subst, inl}
+use Rattle.std.proofs.Common.{◌≡◌, List, [], ◌∷◌, ◌++◌, None, refl, sym, subst, inl}
 use Rattle.split_base.specs.declared.disk.Disk.{Ghosts}
 use Rattle.host_journal.specs.States.{State}
 use Rattle.serving.specs.Exchanges.{Answered, Exchange}
 use Rattle.serving.specs.Serving.{host_service}
-use Rattle.requests.specs.Cases.{Responds, Settles}
-use Rattle.split_http.specs.declared.routes.Route.{Route}
+use Rattle.requests.specs.Cases.{Responds}
 use Rattle.serving_laws.specs.Answering.{HasAnswer}
 use Rattle.serving_laws.specs.Handling.{AreHandled, IsHandled}
 use Rattle.serving_laws.specs.Heard.{Taken, TakesSteps, WaitsByStep}
 use Rattle.serving_laws.specs.Sealing.{IsSealedReply, TellsNoStep}
-use Rattle.serving_laws.proofs.Answered.{settled_has, stepped_has}
+use Rattle.serving_laws.proofs.Answered.{PublishesClosed, settled_has, settled_ready, stepped_has}
 use Rattle.serving_laws.proofs.HeardRuns.{GoesAt, goes_nowhere, goes_on}
 use Rattle.serving_laws.proofs.Integral.{HasOrigin, HoldsKeys, sent_by}
 use Rattle.serving_laws.proofs.Moved.{answered_at, answered_before, steps_move}
@@ -20,6 +19,7 @@ use Rattle.serving_laws.proofs.Sealed.{SendsSealed, at_once_sealed, at_once_tell
 -- the laws of the machine
 pub record StepLaws : Type 0 where
   pub publishes : PublishesQuietly
+  pub shut : PublishesClosed
   pub sends : SendsSealed
   pub origin : HasOrigin
   pub keys : HoldsKeys
@@ -33,7 +33,7 @@ module _ (laws : StepLaws) {D : Type 0} (d : Ghosts D) where
       goes : d.is_honest x.before.0 → WaitsByStep x.before.1 → GoesAt d x settled
 
     -- a request that leaves the state as it was
-    stays : x.after.1 ≡ x.before.1 → HasAnswer d x x.before.1 → IsSealedReply d x x.before.1 → (d.is_honest x.before.0 → TellsNoStep x.due.said) → Handles
+    stays : x.after.1 ≡ x.before.1 → HasAnswer d x x.before.1 → IsSealedReply d x x.before.1 → (d.is_honest x.before.0 → TellsNoStep x x.before.1) → Handles
     stays same replied sealed tells = record {
       settled = x.before.1;
       is = record {
@@ -47,29 +47,29 @@ module _ (laws : StepLaws) {D : Type 0} (d : Ghosts D) where
       goes = λ honest waits. goes_nowhere d x waits same (tells honest);
     }
 
-    -- a request that tells nothing of the host
-    quiet : x.after.1 ≡ x.before.1 → HasAnswer d x x.before.1 → TellsNoStep x.due.said → Handles
+    -- a request whose reply is that of no step
+    quiet : x.after.1 ≡ x.before.1 → HasAnswer d x x.before.1 → TellsNoStep x x.before.1 → Handles
     quiet same replied tells = stays same replied (IsSealedReply.nothing tells) (λ honest. tells)
 
     handles : Responds d x.before.0 x.after.0 x.head x.body x.moment x.before.1 x.after.1 x.due.said → Handles
-    handles (Responds.no_route a b is c) = quiet is (HasAnswer.no_route a c) (TellsNoStep.no_route c)
-    handles (Responds.method allow a b is c) = quiet is (HasAnswer.method allow a c) (TellsNoStep.method allow c)
-    handles (Responds.at_once route a settles) =
-        stays (at_once_stays d x.before.0 x.after.0 x.before.1 x.after.1 x.due.said settles) (settled_has d x x.before.1 settles) (at_once_sealed d x x.before.1 settles)
-        (λ honest. at_once_tells d x.before.0 x.after.0 x.before.1 x.after.1 x.due.said honest settles)
+    handles (Responds.no_route a b is c) = quiet is (HasAnswer.no_route a is c) (TellsNoStep.no_route a c)
+    handles (Responds.method allow a b is c) = quiet is (HasAnswer.method allow a is c) (TellsNoStep.method allow a c)
+    handles (Responds.at_once route routed settles) =
+        stays (at_once_stays d x.before.0 x.after.0 x.before.1 x.after.1 x.due.said settles) (settled_has d x route routed settles) (at_once_sealed d x x.before.1 settles)
+        (λ honest. at_once_tells d x honest settles)
     handles (Responds.stepped route between settled routed settles one steps two) = record {
       settled = settled;
       is = record {
         at = answered_at d x between settled None settles;
         moved = steps_move d x route between settled routed steps;
-        replied = stepped_has d x route between settled routed one.count steps;
+        replied = stepped_has d x laws.shut route between settled routed (settled_ready d x.before.0 between x.before.1 settled settles) one.count steps;
         refused = λ none. steps_stay d x laws.publishes none route between settled routed steps;
-        sealed = steps_sealed d x laws.sends route between settled routed steps;
+        sealed = steps_sealed d x laws.sends laws.shut route between settled routed steps;
         keyed = λ event makes. sent_by laws.origin laws.keys x settled.secret settled.kept event makes;
       };
-      goes = λ honest waits. goes_on d x route between settled routed honest waits settles steps;
+      goes = λ honest waits. goes_on d x laws.shut route between settled routed honest waits settles steps;
     }
-    handles (Responds.memory way led reads a is c) = quiet is (HasAnswer.memory c) (TellsNoStep.memory c)
+    handles (Responds.memory way led reads a is c) = quiet is (HasAnswer.memory (inl (way, led, reads)) is c) (TellsNoStep.memory (inl (way, led, reads)) c)
 
     pub one_handled : Responds d x.before.0 x.after.0 x.head x.body x.moment x.before.1 x.after.1 x.due.said → (settled : State) × IsHandled d x settled
     one_handled responds = let all = handles responds in (all.settled, all.is)

@@ -22,11 +22,11 @@ use Rattle.split_http.specs.declared.routes.Route.{Route}
 use Rattle.split_http.specs.Places.{IsRouted}
 use Rattle.serving_laws.specs.Heard.{Finds, HasKept, IsStepAt, IsStep, IsUnrouted, Taken, Takes, TakesSteps, WaitsByStep, asked_of, got_all, is_own, replied_of}
 use Rattle.serving_laws.specs.Sealing.{TellsNoStep, got}
-use Rattle.serving_laws.proofs.Answered.{not_counted}
+use Rattle.serving_laws.proofs.Answered.{PublishesClosed, due_result, not_counted}
 use Rattle.serving_laws.proofs.OwnSteps.{asked, kept_step, plain_step}
 
 -- the host of events and one more is that after it
-abbrev OneMore : Type 0
+abbrev pub OneMore : Type 0
 OneMore = (secret : List ℕ) (events : List EventView) (e : EventView) → host_of secret (events ++ e ∷ []) ≡ apply (host_of secret events) e
 
 -- what is sent of a reply on an instance that isn't closed after the step is what is told
@@ -39,7 +39,7 @@ where_both true true x y same = ap Some (same refl)
 where_both true false x y same = refl
 where_both false t x y same = refl
 
-applied_is : OneMore → (secret : List ℕ) (kept : List EventView) (o : Option EventView) → host_of secret (kept ++ option_to_list o) ≡ applied (host_of secret kept) o
+pub applied_is : OneMore → (secret : List ℕ) (kept : List EventView) (o : Option EventView) → host_of secret (kept ++ option_to_list o) ≡ applied (host_of secret kept) o
 applied_is one_more secret kept None = ap (λ (l : List EventView). host_of secret l) (append-nil kept)
 applied_is one_more secret kept (Some e) = one_more secret kept e
 
@@ -54,7 +54,7 @@ abbrev AreTold : HostView → List Taken → Type 0
 AreTold h [] = Unit {0}
 AreTold h (s ∷ steps) = ToldBy h s.asked s.said × AreTold (next h s.asked) steps
 
-host_is : (s : State) (secret : List ℕ) (kept : List EventView) → HasKept s secret kept → host_in s ≡ host_of secret kept
+pub host_is : (s : State) (secret : List ℕ) (kept : List EventView) → HasKept s secret kept → host_in s ≡ host_of secret kept
 host_is s secret kept has = ap (λ (x : List ℕ). host_of x s.kept) has.0 ∙ ap (λ (l : List EventView). host_of secret l) has.1
 
 module _ (one_more : OneMore) where
@@ -136,7 +136,7 @@ same_shown bs cs all others same alike = λ i. shown (same i) (alike i)
 
 -- ---- the steps of a run
 
-never_waits : (o : Option EventView) (e : EventView) → o ≡ None → o ≡ Some e → ⊥
+pub never_waits : (o : Option EventView) (e : EventView) → o ≡ None → o ≡ Some e → ⊥
 never_waits o e none some = absurd (cc)
 
 not_memory : (said : SaidView) → said.memory ≡ false → said ≡ memory_said → ⊥
@@ -154,7 +154,7 @@ never_at_once d disk after s new said ready (Settles.store_fault e a up torn is 
 never_at_once d disk after s new said ready (Settles.damaged e place a same first never is c) = never_waits s.waiting e ready a
 never_at_once d disk after s new said ready (Settles.opened e secret kept a same told can is c) = absurd (cc)
 
-has_kept : (s t : State) → s ≡ t → HasKept s t.secret t.kept
+pub has_kept : (s t : State) → s ≡ t → HasKept s t.secret t.kept
 has_kept s t is = (ap (λ (x : State). x.secret) is, ap (λ (x : State). x.kept) is)
 
 -- a host that is ready has no event that waits
@@ -178,23 +178,23 @@ finds_at d disk between s settled honest waits (Settles.opened e secret kept a s
 
 module _ {D : Type 0} (d : Ghosts D) (x : Exchange (D × State)) where
   module _ (route : Route) (routed : IsRouted x.head.verb x.head.path (Ok route)) where
-    takes_at : (between : D) (settled : State) → settled.waiting ≡ None → Steps d between x.after.0 x.moment (command_of route.place route.id x.head.key x.body) settled x.after.1 x.due.said
+    takes_at : PublishesClosed → (between : D) (settled : State) → settled.waiting ≡ None → Steps d between x.after.0 x.moment (command_of route.place route.id x.head.key x.body) settled x.after.1 x.due.said
         → (own : List Taken) × Takes x settled own × WaitsByStep x.after.1
-    takes_at between settled ready (Steps.no_event content event a r is c) = (
+    takes_at shut between settled ready (Steps.no_event content event a r is c) = (
       record { asked = asked x route; said = Some x.due.said } ∷ [],
       Takes.one (asked x route) (plain_step x route routed settled content event r is c) refl,
       subst WaitsByStep (sym is) (ready_waits settled ready),
     )
-    takes_at between settled ready (Steps.kept content e event can count appended r is c) = (
+    takes_at shut between settled ready (Steps.kept content e event can count appended r is c) = (
       record { asked = asked x route; said = Some x.due.said } ∷ [],
       Takes.one (asked x route) (kept_step x route routed settled content e event r is c) refl,
       subst WaitsByStep (sym is) (ready_waits (ready_with settled.secret (settled.kept ++ e ∷ [])) refl),
     )
-    takes_at between settled ready (Steps.failed e event up is c) =
+    takes_at shut between settled ready (Steps.failed e event up is c) =
         let waits : WaitsByStep (waits_with settled e) = λ other some. (asked x route, event ∙ some) in
         ([], Takes.nothing (TellsNoStep.store_fault c) (has_kept x.after.1 (waits_with settled e) is) refl, subst WaitsByStep (sym is) waits)
-    takes_at between settled ready (Steps.memory a is c) =
-        ([], Takes.nothing (TellsNoStep.memory c) (has_kept x.after.1 settled is) refl, subst WaitsByStep (sym is) (ready_waits settled ready))
+    takes_at shut between settled ready (Steps.memory id what p a is c) =
+        ([], Takes.nothing (TellsNoStep.memory (inr (due_result shut x route routed settled id what p)) c) (has_kept x.after.1 settled is) refl, subst WaitsByStep (sym is) (ready_waits settled ready))
 
     steps_go : (between : D) (settled : State) → (HasRisen (d.faults x.before.0) (d.faults x.after.0) → ⊥) → x.due.said.memory ≡ false → between ≡ x.before.0
         → Steps d between x.after.0 x.moment (command_of route.place route.id x.head.key x.body) settled x.after.1 x.due.said → IsStepAt x settled (asked x route)
@@ -202,22 +202,22 @@ module _ {D : Type 0} (d : Ghosts D) (x : Exchange (D × State)) where
     steps_go between settled none plain still (Steps.kept content e event can count appended r is c) = kept_step x route routed settled content e event r is c
     steps_go between settled none plain still (Steps.failed e event up is c) =
         absurd (not_counted (d.faults x.before.0) (d.faults x.after.0) none (subst (λ (y : D). d.faults x.after.0 ≡ counted (d.faults y)) still up))
-    steps_go between settled none plain still (Steps.memory a is c) = absurd (not_memory x.due.said plain c)
+    steps_go between settled none plain still (Steps.memory id what p a is c) = absurd (not_memory x.due.said plain c)
 
   -- the steps of the request, from the state at which it is answered
   abbrev pub GoesAt : State → Type 0
   GoesAt settled = (found own : List Taken) × Finds x.before.1 settled found × Takes x settled own × WaitsByStep x.after.1
 
-  pub goes_nowhere : WaitsByStep x.before.1 → x.after.1 ≡ x.before.1 → TellsNoStep x.due.said → GoesAt x.before.1
+  pub goes_nowhere : WaitsByStep x.before.1 → x.after.1 ≡ x.before.1 → TellsNoStep x x.before.1 → GoesAt x.before.1
   goes_nowhere waits is tells =
       ([], [], Finds.nothing (refl, refl) refl, Takes.nothing tells (has_kept x.after.1 x.before.1 is) refl, subst WaitsByStep (sym is) waits)
 
-  pub goes_on : (route : Route) (between : D) (settled : State) → IsRouted x.head.verb x.head.path (Ok route) → d.is_honest x.before.0 → WaitsByStep x.before.1
+  pub goes_on : PublishesClosed → (route : Route) (between : D) (settled : State) → IsRouted x.head.verb x.head.path (Ok route) → d.is_honest x.before.0 → WaitsByStep x.before.1
       → Settles d x.before.0 between x.before.1 settled None
       → Steps d between x.after.0 x.moment (command_of route.place route.id x.head.key x.body) settled x.after.1 x.due.said → GoesAt settled
-  goes_on route between settled routed honest waits settles steps =
+  goes_on shut route between settled routed honest waits settles steps =
       let (found, finds, ready) = finds_at d x.before.0 between x.before.1 settled honest waits settles in
-      let (own, takes, after) = takes_at route routed between settled ready steps in
+      let (own, takes, after) = takes_at route routed shut between settled ready steps in
       (found, own, finds, takes, after)
 
   pub goes_by_step : (HasRisen (d.faults x.before.0) (d.faults x.after.0) → ⊥) → x.due.said.memory ≡ false → x.before.1.waiting ≡ None

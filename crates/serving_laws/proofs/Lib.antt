@@ -14,4 +14,6 @@ mod Sealed
 mod HeardRuns
 mod OwnSteps
 mod Handled
+mod Routed
+mod Pairs
 mod Integral

@@ -29,7 +29,7 @@ steps_memory : {D : Type 0} (d : Ghosts D) (disk after : D) (moment : ℕ) (comm
 steps_memory d disk after moment command s new said says (Steps.no_event told a b r is c) = never_says said _ says c refl
 steps_memory d disk after moment command s new said says (Steps.kept told e a can same appended r is c) = never_says said _ says c refl
 steps_memory d disk after moment command s new said says (Steps.failed e a up is c) = never_says said _ says c refl
-steps_memory d disk after moment command s new said says (Steps.memory a is c) = c
+steps_memory d disk after moment command s new said says (Steps.memory id what p a is c) = c
 
 responds_memory : {D : Type 0} (d : Ghosts D) (disk after : D) (head : Head) (body : List ℕ) (moment : ℕ) (s new : State) (said : SaidView) → said.memory ≡ true
     → Responds d disk after head body moment s new said → said ≡ memory_said

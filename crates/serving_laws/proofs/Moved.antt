@@ -1,5 +1,5 @@
 -- How a request changes the state.
-use Rattle.std.proofs.Common.{◌≡◌, ℕ, List, [], ◌∷◌, ◌++◌, Option, Some, None, refl, ap, ◌∙◌, inl, inr, ⊎_elim, Ok}
+use Rattle.std.proofs.Common.{◌≡◌, ℕ, List, [], ◌∷◌, ◌++◌, Option, refl, ap, ◌∙◌, inl, inr, ⊎_elim, Ok}
 use Rattle.split_base.specs.declared.disk.Disk.{Ghosts}
 use Rattle.host_journal.specs.States.{State, ready_with}
 use Rattle.serving.specs.Exchanges.{Exchange}
@@ -40,4 +40,4 @@ module _ {D : Type 0} (d : Ghosts D) (x : Exchange (D × State)) where
   steps_move route between settled routed (Steps.no_event told a b r is c) = inl is
   steps_move route between settled routed (Steps.kept told e a can same appended r is c) = inr (e, (route, routed, a), inl is)
   steps_move route between settled routed (Steps.failed e a up is c) = inr (e, (route, routed, a), inr (is, c))
-  steps_move route between settled routed (Steps.memory a is c) = inl is
+  steps_move route between settled routed (Steps.memory id what p a is c) = inl is

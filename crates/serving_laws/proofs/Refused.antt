@@ -1,5 +1,5 @@
 -- What a request without success changes.
-use Rattle.std.proofs.Common.{◌≡◌, ◌⊎◌, ℕ, true, Option, None, Some, refl, sym, ap, subst, inl, inr, ⊎_elim, Ok}
+use Rattle.std.proofs.Common.{◌≡◌, ◌⊎◌, ℕ, true, Option, Some, refl, sym, ap, subst, inl, inr, ⊎_elim, Ok}
 use Rattle.split_base.specs.declared.disk.Disk.{Ghosts}
 use Rattle.host_journal.specs.States.{State, host_in}
 use Rattle.serving.specs.Exchanges.{Exchange}
@@ -58,4 +58,4 @@ module _ {D : Type 0} (d : Ghosts D) (x : Exchange (D × State)) (publishes : Pu
       subst (λ (o : Option EventView). IsLateClose (host_in settled) x.moment command o) a (shown_quiet publishes (host_in settled) x.moment command told failed r) in
       inr (e, inl ((route, routed, a, late), is))
   steps_stay route between settled routed (Steps.failed e a up is c) = inr (e, inr ((route, routed, a), is, c))
-  steps_stay route between settled routed (Steps.memory a is c) = inl is
+  steps_stay route between settled routed (Steps.memory id what p a is c) = inl is

@@ -1,5 +1,5 @@
 -- What a caller is told of an instance that isn't closed.
-use Rattle.std.proofs.Common.{◌≡◌, ℕ, false, List, [], Option, None, Some, ap, sym, ◌∙◌, unwrap_or, Ok}
+use Rattle.std.proofs.Common.{◌≡◌, ℕ, false, List, [], Option, Some, ap, sym, ◌∙◌, unwrap_or, inr, Ok}
 use Rattle.split_base.specs.declared.disk.Disk.{Ghosts}
 use Rattle.host_journal.specs.States.{State, host_in}
 use Rattle.serving.specs.Exchanges.{Exchange}
@@ -9,7 +9,7 @@ use Rattle.reply_texts.specs.Sealing.{Told, sealed_told}
 use Rattle.requests.specs.Cases.{Settles, Steps}
 use Rattle.requests.specs.Commands.{command_of}
 use Rattle.requests.specs.Replies.{Replies}
-use Rattle.requests.specs.Said.{SaidView, content_said, memory_said, refused_said}
+use Rattle.requests.specs.Said.{SaidView, content_said, refused_said}
 use Rattle.requests.specs.Sent.{sent}
 use Rattle.sealed_core.specs.declared.commands.Ask.{Ask}
 use Rattle.sealed_core.specs.Host.{HostView}
@@ -18,6 +18,7 @@ use Rattle.sealed_core.specs.Step.{CommandView, Create, To}
 use Rattle.split_http.specs.declared.routes.Route.{Route}
 use Rattle.split_http.specs.Places.{IsRouted}
 use Rattle.serving_laws.specs.Sealing.{IsSealedReply, IsSealedTold, TellsNoStep, got}
+use Rattle.serving_laws.proofs.Answered.{PublishesClosed, due_result}
 
 pub same_sent : (said other : SaidView) (a b : ContentView) → said ≡ content_said a → other ≡ content_said b → sent a ≡ sent b → (said.status ≡ other.status) × (said.text ≡ other.text)
 same_sent said other a b is_a is_b same = (
@@ -33,12 +34,12 @@ SendsSealed = (h : HostView) (t id : ℕ) (key : Option (List ℕ)) (ask : Ask) 
 some_same : (said other : SaidView) → Some said ≡ Some other → said ≡ other
 some_same said other is = cc
 
--- a request that goes no further tells nothing of the host, where the disk is honest
-pub at_once_tells : {D : Type 0} (d : Ghosts D) (disk after : D) (s new : State) (said : SaidView) → d.is_honest disk → Settles d disk after s new (Some said) → TellsNoStep said
-at_once_tells d disk after s new said honest (Settles.ready a b is c) = absurd (cc)
-at_once_tells d disk after s new said honest (Settles.store_fault e a up torn is c) = TellsNoStep.store_fault (some_same said (refused_said service.StoreFault) c)
-at_once_tells d disk after s new said honest (Settles.damaged e place a same first never is c) = absurd (never honest)
-at_once_tells d disk after s new said honest (Settles.opened e secret kept a same told can is c) = absurd (cc)
+-- a request that goes no further has the reply of no step, where the disk is honest
+pub at_once_tells : {D : Type 0} (d : Ghosts D) (x : Exchange (D × State)) → d.is_honest x.before.0 → Settles d x.before.0 x.after.0 x.before.1 x.after.1 (Some x.due.said) → TellsNoStep x x.before.1
+at_once_tells d x honest (Settles.ready a b is c) = absurd (cc)
+at_once_tells d x honest (Settles.store_fault e a up torn is c) = TellsNoStep.store_fault (some_same x.due.said (refused_said service.StoreFault) c)
+at_once_tells d x honest (Settles.damaged e place a same first never is c) = absurd (never honest)
+at_once_tells d x honest (Settles.opened e secret kept a same told can is c) = absurd (cc)
 
 sealed_content : SendsSealed → (h : HostView) (t : ℕ) (command : CommandView) (said : SaidView) (content : ContentView) → Replies h t command content → said ≡ content_said content → IsSealedTold h t command (got said)
 sealed_content sends h t (Create body) said content replies is = tt
@@ -51,11 +52,11 @@ module _ {D : Type 0} (d : Ghosts D) (x : Exchange (D × State)) where
   at_once_sealed settled (Settles.damaged e p a same first shut is c) = IsSealedReply.damaged (record { event = e; place = p; waits = a; first = first; never = shut; said = cc c })
   at_once_sealed settled (Settles.opened e secret kept a same told can is c) = absurd (cc)
 
-  pub steps_sealed : SendsSealed → (route : Route) (between : D) (settled : State) → IsRouted x.head.verb x.head.path (Ok route)
+  pub steps_sealed : SendsSealed → PublishesClosed → (route : Route) (between : D) (settled : State) → IsRouted x.head.verb x.head.path (Ok route)
       → Steps d between x.after.0 x.moment (command_of route.place route.id x.head.key x.body) settled x.after.1 x.due.said → IsSealedReply d x settled
-  steps_sealed sends route between settled routed (Steps.no_event told a b r is c) =
+  steps_sealed sends shut route between settled routed (Steps.no_event told a b r is c) =
       IsSealedReply.told route routed (sealed_content sends (host_in settled) x.moment (command_of route.place route.id x.head.key x.body) x.due.said told r c)
-  steps_sealed sends route between settled routed (Steps.kept told e a can same appended r is c) =
+  steps_sealed sends shut route between settled routed (Steps.kept told e a can same appended r is c) =
       IsSealedReply.told route routed (sealed_content sends (host_in settled) x.moment (command_of route.place route.id x.head.key x.body) x.due.said told r c)
-  steps_sealed sends route between settled routed (Steps.failed e a up is c) = IsSealedReply.nothing (TellsNoStep.store_fault c)
-  steps_sealed sends route between settled routed (Steps.memory a is c) = IsSealedReply.nothing (TellsNoStep.memory c)
+  steps_sealed sends shut route between settled routed (Steps.failed e a up is c) = IsSealedReply.nothing (TellsNoStep.store_fault c)
+  steps_sealed sends shut route between settled routed (Steps.memory id what p a is c) = IsSealedReply.nothing (TellsNoStep.memory (inr (due_result shut x route routed settled id what p)) c)

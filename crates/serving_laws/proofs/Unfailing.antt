@@ -50,7 +50,7 @@ module _ {D : Type 0} (d : Ghosts D) where
   rises (suc n) all answers w out new end (inr h) =
       le_trans (replies_rise (n == 0) all h.rest h.answer w h.interim h.mid h.due h.replies) (after_rises n (rises n) h.rest h.later h.mid h.due h.tail new end h.after)
 
-  -- a reply after which a link goes on or ends well doesn't say that memory ran out
+  -- a reply after which a link goes on or ends well does not say that memory ran out
   plain_due : (n : ℕ) (rest : List ℕ) (answers : List (Option ℕ)) (w : D × State) (due : DueView) (out : List ℕ) (new : D × State) (end : Ending) → IsDone end
       → After (LinkRun (host_service d) n) rest answers w due out new end → due.said.memory ≡ false
   plain_due n rest answers w due out new end done (After.torn bytes a are part same ends) = absurd (subst IsDone ends done)

@@ -57,10 +57,10 @@ pub data Finds (s settled : State) (steps : List Taken) : Type 0 where
   found : (a : Asked) (event : EventView) → s.waiting ≡ Some event → (step (host_in s) a.moment a.command).event ≡ Some event → HasKept settled s.secret (s.kept ++ event ∷ [])
       → steps ≡ record { asked = a; said = None } ∷ [] → Finds s settled steps
 
--- the steps of the request itself: none, where its reply tells nothing of the host, or that its file is no journal, which is never so on an honest
+-- the steps of the request itself: none, where its reply is that of no step, or tells that its file is no journal, which is never so on an honest
 -- disk (`IsSealedReply`); or the one that it goes by
 pub data Takes {D : Type 0} (x : Exchange (D × State)) (settled : State) (steps : List Taken) : Type 0 where
-  nothing : TellsNoStep x.due.said → HasKept x.after.1 settled.secret settled.kept → steps ≡ [] → Takes x settled steps
+  nothing : TellsNoStep x settled → HasKept x.after.1 settled.secret settled.kept → steps ≡ [] → Takes x settled steps
   damaged : (place : ℕ) → x.due.said ≡ refused_said (service.StoreDamaged place) → HasKept x.after.1 settled.secret settled.kept → steps ≡ [] → Takes x settled steps
   one : (a : Asked) → IsStepAt x settled a → steps ≡ record { asked = a; said = Some x.due.said } ∷ [] → Takes x settled steps
 

@@ -1,4 +1,4 @@
--- What came last on a link, and how the link ends by it.
+-- What came last on a link, and how that ends the link.
 use Rattle.std.specs.Prelude.{◌≡◌, ℕ, ◌<◌, Bool, true, false, List, [], ◌∷◌, ◌++◌, length, Option, Some, None}
 use Rattle.split_http.specs.declared.head.Head.{Head}
 use Rattle.split_http.specs.Turns.{IsOpen, interim_of}

@@ -9,3 +9,4 @@ pub mod Sealing
 pub mod Heard
 pub mod Integrity
 pub mod Handling
+pub mod Pairs

@@ -1,5 +1,5 @@
 -- What a caller is told of an instance that isn't closed.
-use Rattle.std.specs.Prelude.{◌≡◌, ℕ, false, List, Option, Some, Ok}
+use Rattle.std.specs.Prelude.{◌≡◌, ◌⊎◌, ℕ, true, false, List, Option, Some, Ok, Err}
 use Rattle.split_base.specs.declared.disk.Disk.{Ghosts}
 use Rattle.host_journal.specs.Journal.{IsFirstFault}
 use Rattle.host_journal.specs.States.{State, host_in}
@@ -7,15 +7,18 @@ use Rattle.serving.specs.Exchanges.{Exchange}
 use Rattle.host_results.specs.Contents.{ContentView}
 use Rattle.reply_texts.specs.declared.refusals.ServiceRefusal.TheVariants as service
 use Rattle.reply_texts.specs.Sealing.{Told, sealed_told}
-use Rattle.requests.specs.Commands.{command_of}
+use Rattle.requests.specs.Commands.{command_of, reads_body}
 use Rattle.requests.specs.Replies.{Replies}
 use Rattle.requests.specs.Said.{SaidView, content_said, memory_said, method_said, refused_said}
 use Rattle.sealed_core.specs.declared.commands.Ask.{Ask}
+use Rattle.sealed_core.specs.declared.commands.What.{What}
+use Rattle.sealed_core.specs.declared.replies.Reply.TheVariants as reply
 use Rattle.sealed_core.specs.Host.{EventView, HostView}
 use Rattle.sealed_core.specs.Sealed.{caller_number, host_after, is_closed, view}
-use Rattle.sealed_core.specs.Step.{CommandView, Create, To}
+use Rattle.sealed_core.specs.Step.{CommandView, Create, To, step}
 use Rattle.split_http.specs.declared.replies.Allow.{Allow}
 use Rattle.split_http.specs.declared.routes.Route.{Route}
+use Rattle.split_http.specs.declared.routes.RouteFault.TheVariants.{NoRoute, Method}
 use Rattle.split_http.specs.Places.{IsRouted}
 use Rattle.serving_laws.specs.Moving.{IsReadyFor}
 
@@ -35,12 +38,30 @@ pub record AsksOf {D : Type 0} (x : Exchange (D × State)) (id : ℕ) (key : Opt
 abbrev pub got : SaidView → Told
 got said = record { status = said.status; text = Some said.text }
 
--- the reply tells nothing of the host: a path or a method is refused, the store failed, or memory ran out
-pub data TellsNoStep (said : SaidView) : Type 0 where
-  no_route : said ≡ refused_said service.NoRoute → TellsNoStep said
-  method : (allow : Allow) → said ≡ method_said allow → TellsNoStep said
-  store_fault : said ≡ refused_said service.StoreFault → TellsNoStep said
-  memory : said ≡ memory_said → TellsNoStep said
+-- the body of the request is read: it is a creation, a bid or a withdrawal
+abbrev pub ReadsBody : {W : Type 0} → Exchange W → Type 0
+ReadsBody x = (route : Route) × IsRouted x.head.verb x.head.path (Ok route) × (reads_body route.place ≡ true)
+
+-- at this state the request is due what is published of an instance, which is closed after it
+pub record IsDueResult {W : Type 0} (x : Exchange W) (s : State) : Type 0 where
+  pub route : Route
+  pub id : ℕ
+  pub asked : What
+  pub routed : IsRouted x.head.verb x.head.path (Ok route)
+  pub published : (step (host_in s) x.moment (command_of route.place route.id x.head.key x.body)).reply ≡ reply.Publish id asked
+  pub closed : is_closed (host_after (host_in s) x.moment (command_of route.place route.id x.head.key x.body)) id ≡ true
+
+-- memory may run out for such a request after it was read from its link, and for no other
+abbrev pub MayLackMemory : {W : Type 0} → Exchange W → State → Type 0
+MayLackMemory x s = ReadsBody x ⊎ IsDueResult x s
+
+-- The reply is that of no step: the path or the method of the request is refused; the store failed; or memory ran out, for a body that is read or for a
+-- result of a closed instance.
+pub data TellsNoStep {D : Type 0} (x : Exchange (D × State)) (s : State) : Type 0 where
+  no_route : IsRouted x.head.verb x.head.path (Err NoRoute) → x.due.said ≡ refused_said service.NoRoute → TellsNoStep x s
+  method : (allow : Allow) → IsRouted x.head.verb x.head.path (Err (Method allow)) → x.due.said ≡ method_said allow → TellsNoStep x s
+  store_fault : x.due.said ≡ refused_said service.StoreFault → TellsNoStep x s
+  memory : MayLackMemory x s → x.due.said ≡ memory_said → TellsNoStep x s
 
 -- The reply tells of the file of a host that waits that it is no journal, with a place. It is never so on an honest disk, and where the disk tells
 -- its bytes the place is that of the file's first fault.
@@ -58,9 +79,10 @@ abbrev pub IsSealedTold : HostView → ℕ → CommandView → Told → Type 0
 IsSealedTold h t (Create body) told = Unit {0}
 IsSealedTold h t (To id key ask) told = is_closed (host_after h t (To id key ask)) id ≡ false → told ≡ sealed_told (view h id (caller_number h id key)) t id key ask
 
--- the reply tells nothing of the host, or that its file is no journal, or of an instance that isn't closed no more than what its caller may know
+-- The reply is that of no step; or it tells that the host's file is no journal; or it tells of an instance that isn't closed no more than what its caller
+-- may know. So every status, own bid and close on an instance that isn't closed has the last, or a fault of the store is told.
 pub data IsSealedReply {D : Type 0} (d : Ghosts D) (x : Exchange (D × State)) (settled : State) : Type 0 where
-  nothing : TellsNoStep x.due.said → IsSealedReply d x settled
+  nothing : TellsNoStep x settled → IsSealedReply d x settled
   damaged : TellsDamage d x → IsSealedReply d x settled
   told : (route : Route) → IsRouted x.head.verb x.head.path (Ok route)
       → IsSealedTold (host_in settled) x.moment (command_of route.place route.id x.head.key x.body) (got x.due.said) → IsSealedReply d x settled

@@ -1,4 +1,4 @@
--- The host where each request is answered in one way.
+-- A host that answers every request in exactly one way.
 use Rattle.std.specs.Prelude.{◌≡◌, ℕ, false, List, None}
 use Rattle.split_base.specs.declared.disk.Disk.{Ghosts}
 use Rattle.split_base.specs.Faults.{HasRisen}

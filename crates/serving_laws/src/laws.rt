@@ -23,6 +23,7 @@ ghost use Rattle.sealed_core.specs.Host.{HostView};
 ghost use Rattle.sealed_core.specs.Sealed.{Asked, Caller, RunAlike, caller_number, host_after, is_closed, view};
 ghost use Rattle.sealed_core.specs.Veil.{LookAlike};
 ghost use Rattle.sealed_core.specs.Step.{To};
+ghost use Rattle.serving_laws.specs.Pairs.{ArePairs, GetsSame};
 ghost use Rattle.serving_laws.specs.Sealing.{AsksOf};
 ghost use Rattle.serving_laws.specs.Writing.{AnswerAlike, Answering, IsDone, OneState, answering_so};
 
@@ -79,14 +80,16 @@ pub fn acknowledged_law<D: Disk>()
 ///
 /// - The request changes it by at most one event, which its own step makes. The event is kept; or the disk failed in its append, which is told, and it waits.
 /// - The request is answered: its path or method is refused; or it has the reply of the machine's step there, whose event, if it makes one, was kept; or
-///   memory ran out. Or a call of the disk failed in it, and this is told. Or the file of a host that waited is no journal: then the place of its first fault
-///   is told, wherever the disk tells its bytes, and it is never so on an honest disk.
+///   memory ran out, for a body that is read or for what is published of a closed instance, and for nothing else. Or a call of the disk failed in it, and
+///   this is told. Or the file of a host that waited is no journal: then the place of its first fault is told, wherever the disk tells its bytes, and it is
+///   never so on an honest disk.
 /// - Without success it changes nothing but, where the deadline of the instance that it asks has passed, by the Close of that; or its own event waits.
-/// - Its reply tells of an instance that isn't closed after it no more than what the caller may know.
+/// - Its reply tells of an instance that isn't closed after it no more than what the caller may know; or it is that of no step. So of a status, an own bid
+///   and a close it tells what the caller may know, or a fault of the store.
 /// - A bid or a withdrawal that it makes was sent under its member's key.
 ///
 /// So it is of each request of a run; and on an honest disk the run goes by steps of the machine from those same states: a request takes one, or none where
-/// its reply tells nothing of the host, as where its path or method is refused, the store failed or memory ran out; and before it the step of an event
+/// its reply is that of no step, as where its path or method is refused, the store failed or memory ran out; and before it the step of an event
 /// that waited is taken, where the file that is opened again has it.
 pub fn handled_law<D: Disk>()
     ensures one { (x : Exchange (D × State)) → IsExchange (host_service D.Disk) x → (settled : State) × IsHandled D.Disk x settled }
@@ -145,7 +148,13 @@ pub fn sealed_law<D: Disk>()
 /// Take two runs, from hosts that differ in nothing but what others than the caller have bid on the instance, and what anyone has bid on other instances, as two
 /// hosts with empty journals or two that were started again. Let their steps be equal pair by pair, but that some of them may be two such bids, by
 /// the same member on the same instance at the same moment, each of them kept; and let steps of a pair both have replies or both none. Then the
-/// caller gets the same status and text in reply to each of their own commands on the instance in both, up to the step at which it is closed.
+/// caller gets the same status and text in reply to each of their own commands on the instance in both, up to the step at which it is closed (`got`).
+///
+/// So it is where requests are compared, and not steps (`same`). Take two such runs on honest disks, from hosts at which no event waits. Let their requests
+/// be equal pair by pair, but that some may be two such bids. Let the store do the same in both requests of a pair: the file of a host that waits is opened
+/// in both or in neither, with the event that waited in both or in neither, and an event waits after both or after neither. And where a body is read, or a
+/// result of a closed instance is due, let memory run out in both or in neither. Then the steps are alike, the caller gets the same, and each reply that is
+/// that of no step is the same in both, whoever gets it. Of any other request nothing is asked about memory, since it can't run out there.
 ///
 /// A request at a host that is ready goes by a step, or its path or method is refused, where no call of the disk failed in it and memory didn't run out.
 pub fn sealed_runs_law<D: Disk>()
@@ -153,6 +162,10 @@ pub fn sealed_runs_law<D: Disk>()
         → Answered (host_service D.Disk) w run new → Answered (host_service D.Disk) v others after → LookAlike id caller (host_in w.1) (host_in v.1)
         → TakesSteps run states steps → TakesSteps others twins besides → RunAlike (host_in w.1) (host_in v.1) id caller (asked_of steps) (asked_of besides) → replied_of steps ≡ replied_of besides
         → got_all (host_in w.1) id caller steps ≡ got_all (host_in v.1) id caller besides }
+    ensures same { (id : ℕ) (caller : Caller) (run others : List (Exchange (D × State))) (states twins : List State) (w v new after : D × State)
+        → Answered (host_service D.Disk) w run new → Answered (host_service D.Disk) v others after → D.is_honest w.0 → D.is_honest v.0 → w.1.waiting ≡ None → v.1.waiting ≡ None
+        → LookAlike id caller (host_in w.1) (host_in v.1) → AreHandled D.Disk run states → AreHandled D.Disk others twins → ArePairs id caller run others states twins
+        → GetsSame id caller (host_in w.1) (host_in v.1) run others states twins }
     ensures step { (x : Exchange (D × State)) → IsExchange (host_service D.Disk) x → x.before.1.waiting ≡ None → (HasRisen (D.faults x.before.0) (D.faults x.after.0) → ⊥)
         → x.due.said.memory ≡ false → IsUnrouted x ⊎ ((a : Asked) × IsStep x a) }
 {

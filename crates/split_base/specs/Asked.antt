@@ -1,4 +1,4 @@
--- For which ports an object was asked.
+-- Which ports an object was asked for.
 use Rattle.std.specs.Prelude.{ℕ, None, Some}
 use Rattle.split_base.specs.declared.asked.Asked.{Asked}
 use Rattle.split_base.specs.Faults.{counted}

@@ -1,4 +1,4 @@
--- What hands out links in memory, a port or a dialer.
+-- Ports and dialers in memory, which hand out links.
 use Rattle.std.specs.Prelude.{Bool, ℕ, zero, suc, List, [], ◌∷◌, ◌++◌, drop}
 use Rattle.split_base.specs.Asked.{asked_again, never_asked}
 use Rattle.split_base.specs.Links.{link_faults}

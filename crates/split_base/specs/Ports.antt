@@ -1,4 +1,4 @@
--- The calls of what hands out links and takes them back, where the object tells them.
+-- The calls of an object that hands out links and takes them back, if it tells them.
 use Rattle.std.specs.Prelude.{◌≡◌, ℕ, ⊤, List, [], ◌∷◌, ◌++◌, MatchOption, MatchResult, Option, None, Some, Result, Ok, Err}
 
 -- the first link that is to come was handed out, none where no link is, and a failed call hands out none

@@ -1,4 +1,4 @@
--- What reading to the end makes of the source's count of faults.
+-- How reading to the end changes the source's count of faults.
 use Rattle.std.specs.Prelude.{ℕ, Result, Ok, Err}
 use Rattle.split_base.specs.Faults.{counted}
 use Rattle.split_base.specs.declared.whole.ReadStop.{ReadStop}

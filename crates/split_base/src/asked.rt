@@ -1,4 +1,4 @@
-// For which ports an object was asked.
+// Which ports an object was asked for.
 ghost use Rattle.std.specs.Prelude.{◌≡◌};
 ghost use Rattle.split_base.specs.Asked.{asked_again, never_asked};
 

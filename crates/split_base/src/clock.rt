@@ -1,4 +1,4 @@
-// What tells the time.
+// Clocks, as a trait.
 ghost use Rattle.std.specs.Prelude.{◌≡◌, ◌≤◌, ◌∷◌, [], ℕ, Option, IfOk, IfSome};
 ghost use Rattle.split_base.specs.Faults.{HasCause, IsCounted};
 ghost use Rattle.split_base.specs.Clocks.{ClockRun, answer_of};

@@ -1,4 +1,4 @@
-// What opens links.
+// Dialers, which open links, as a trait.
 ghost use Rattle.std.specs.Prelude.{◌≡◌, ◌<◌, ◌-◌, ℕ, List, Option, IfOk};
 ghost use Rattle.split_base.specs.Faults.{HasCause, IsCounted, counted};
 ghost use Rattle.split_base.specs.Links.{link_faults};

@@ -25,7 +25,7 @@ pub trait Disk {
     /// The images: what a crash at this moment may leave.
     ghost images: { Self → List ℕ → Type 0 };
 
-    /// The moment, a number that doesn't fall: a write or a sync that is done raises it by one, a
+    /// The moment, a number that does not fall: a write or a sync that is done raises it by one, a
     /// size and a read leave it.
     ghost moment: { Self → ℕ };
 

@@ -1,4 +1,4 @@
-// What hands out links.
+// Ports, which hand out links, as a trait.
 ghost use Rattle.std.specs.Prelude.{◌≡◌, ◌↔◌, ◌<◌, ◌-◌, ℕ, List, Option, IfOk, IsNone};
 ghost use Rattle.split_base.specs.Faults.{HasCause, IsCounted};
 ghost use Rattle.split_base.specs.Asked.{asked_again};

@@ -20,7 +20,7 @@ pub enum ReadStop {
 }
 
 /// Reads to the end, and gives all the bytes, at most `most` of them. Once a read has met the end it
-/// doesn't read again.
+/// does not read again.
 ///
 /// - `Fault` comes only where the source's count of faults has risen. A failed read ends the
 ///   reading: it is not tried again, so the count has risen by one then, and not at all with
@@ -66,7 +66,7 @@ pub fn read_all<S: Source>(alloc: Global, source: &mut S, most: usize) -> Result
     }
 }
 
-/// Writes all the bytes. It takes no memory. Where there is no byte, it doesn't call the sink, and it
+/// Writes all the bytes. It takes no memory. Where there is no byte, it does not call the sink, and it
 /// never gives the sink a piece of no bytes.
 ///
 /// `Failed` comes only where the sink's count of faults has risen. A first part of the bytes was

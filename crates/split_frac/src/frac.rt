@@ -1,4 +1,4 @@
-// The struct is alone here, since it imports each ghost name of its file.
+// The struct of fractions, in a file of its own because it imports every ghost name of its file.
 ghost use Rattle.std.specs.Prelude.{◌≡◌, ℕ, ℤ, pos, ◌<◌, unsigned_abs};
 ghost use Rattle.std.specs.Int.{IsGcd};
 

@@ -1,3 +1,4 @@
+// Exact fractions as text.
 ghost use Rattle.std.specs.Prelude.{◌≡◌, IfOk, Some};
 ghost use Rattle.std.specs.String.{string_bytes};
 ghost use Rattle.split_frac.specs.Frac.{frac_text};

@@ -1,4 +1,4 @@
-// The same without threads, for a caller that has none.
+// Solves a case without threads, for callers that have none.
 ghost use Rattle.std.specs.Prelude.{◌≡◌, ℕ, ◌<◌, ◌↔◌, All, IfSome, Ok, length};
 ghost use Rattle.bid_rules.specs.declared.cases.Case.TheVariants as case;
 ghost use Rattle.bid_rules.specs.declared.goods.GoodsCase.{GoodsCase};

@@ -2,6 +2,7 @@
 ghost use Rattle.std.specs.Prelude.{◌≡◌, IfSome};
 ghost use Rattle.split_solve.specs.Searches.{IsSearched};
 
+use crate::certificates_kept::KeptCertificate;
 use crate::limits::MOST_KEPT_SEARCHES;
 use arrayvec::ArrayVec;
 use bid_rules::limits::{MemberList, ValueTable, Values};
@@ -41,13 +42,15 @@ impl KeptSearch {
     }
 }
 
-/// What the last searches of goods found, `MOST_KEPT_SEARCHES` of them at most.
+/// What the last searches of goods found, and the last certificates that were written of goods: `MOST_KEPT_SEARCHES` of each at most, and
+/// `MOST_KEPT_BYTES` of certificates.
 ///
 /// The key is the whole case, with its points: so what is found for it is its answer wherever the case comes from, and nothing has to be
 /// forgotten. Keeping changes how soon an answer comes, and never the answer. If memory is refused, nothing is kept.
 #[derive(Drop)]
 pub struct KeptSearches {
     searches: Vec<KeptSearch>,
+    pub(crate) certificates: Vec<KeptCertificate>,
 }
 
 impl KeptSearches {
@@ -55,6 +58,7 @@ impl KeptSearches {
     pub fn new(alloc: Global) -> Self {
         KeptSearches {
             searches: Vec::new(alloc),
+            certificates: Vec::new(alloc),
         }
     }
 
@@ -85,7 +89,7 @@ impl KeptSearches {
 }
 
 /// The same case once more.
-fn same_case(case: &GoodsCase) -> GoodsCase
+pub(crate) fn same_case(case: &GoodsCase) -> GoodsCase
     ensures { result ≡ case.now }
 {
     GoodsCase {

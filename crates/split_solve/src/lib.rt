@@ -2,16 +2,19 @@
 //!
 //! Bids are missing, or the limit is passed, exactly where the definitions say so. Except where
 //! memory runs out, checked facts and bids have one end (`solve_law`). So neither the number of
-//! workers nor a kept search changes the answer. `solve_alone` gives it without threads.
+//! workers nor a kept search changes the answer. `solve_alone` gives it without threads, and
+//! `certificate_once` keeps the last certificates of goods.
 #![tactic(auto)]
 
 mod alone;
+mod certificates_kept;
 mod kept;
 mod laws;
 pub mod limits;
 mod solving;
 
 pub use alone::solve_alone;
+pub use certificates_kept::certificate_once;
 pub use kept::KeptSearches;
 pub use laws::solve_law;
 pub use solving::{SolveFault, solve, solve_once};

@@ -1,3 +1,4 @@
+// One call for all kinds: the case of facts and bids, and its best division, kept or found anew.
 ghost use Rattle.std.specs.Prelude.{◌≡◌, ℕ, ◌<◌, ◌≤◌, ◌↔◌, All, Err, IfSome, Ok, length};
 ghost use Rattle.bid_rules.specs.declared.cases.Case.TheVariants as case;
 ghost use Rattle.bid_rules.specs.declared.cases.Missing.{Missing};

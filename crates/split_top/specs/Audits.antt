@@ -10,7 +10,7 @@ use Rattle.remote_check.specs.declared.ends.FetchEnd.TheVariants.{LinkFault, Not
 use Rattle.remote_check.specs.declared.ends.FetchEnd.TheVariants as fetch
 use Rattle.remote_check.specs.declared.request.Words.{Words}
 use Rattle.remote_check.specs.Fetched.{FetchSays}
-use Rattle.remote_check.specs.Requests.{AsksOnce, request_of}
+use Rattle.remote_check.specs.Requests.{AsksOnce, MeetsEndOnce, request_of}
 use Rattle.split_base.specs.Asked.{asked_again}
 use Rattle.split_base.specs.declared.dial.Dial.{Ghosts}
 use Rattle.split_base.specs.declared.streams.Failed.{Failed}
@@ -45,7 +45,8 @@ pub record NoLink {L X : Type 0} (dialer : Ghosts X L) (before after : X) (endin
   pub fault : dialer.faults after ≡ counted (dialer.faults before)
   pub is : ending ≡ Err PortFault
 
--- a link was given, a certificate asked for over it, by no empty write, and judged as it came, and the link given back, whatever came
+-- a link was given, a certificate asked for over it, by no empty write, and judged as it came, by no read after the end of the input, and the link
+-- given back, whatever came
 pub record Fetches {L X : Type 0} (dialer : Ghosts X L) (tells : LinkTells L) (before after : X) (asked : Words) (ending : Result (List ℕ) Stop) : Type 0 where
   pub link : L
   pub link_now : L
@@ -56,6 +57,7 @@ pub record Fetches {L X : Type 0} (dialer : Ghosts X L) (tells : LinkTells L) (b
   pub asks : AsksOnce (tells.left link) (tells.left link_now) (tells.written link) (tells.written link_now)
       (tells.reads link) (tells.reads link_now) (tells.writes link) (tells.writes link_now) (request_of asked) answer
   pub empty : tells.empties link_now ≡ tells.empties link
+  pub over : MeetsEndOnce (tells.ends link) (tells.ends link_now) (tells.reads link_now) answer
   pub back : 0 < dialer.places before → TakesBack (dialer.given_back before) (dialer.given_back after) link_now
   pub dropped : dialer.places before ≡ 0 → dialer.given_back after ≡ dialer.given_back before
   pub fault : dialer.faults after ≡ faults_behind (dialer.faults before) answer

@@ -75,9 +75,9 @@ abbrev pub IsComplete : {D P L C X M : Type 0} → OutsideTells D P L C X M → 
 IsComplete tells outside words status =
     IsSound outside.output → (AreNoRow words × (status ≡ 2)) ⊎ ((command : Command) × Names words command × Finishes tells outside command status)
 
--- What holds of the words of `serve`, by the ending whose line was due. Where the file was not opened, that line has status 4, 7 or 9, and neither
--- the port nor the clock was called. Else the headline holds of so many links, at most COUNT, as `IsOpened` says: the line has status 0 and tells their
--- number, and no call of the port failed; or 8, where one failed. Where that was the call to listen, they are none.
+-- What holds of the words of `serve`, for each ending whose line was due. If the file was not opened, that line has status 4, 7 or 9, and neither
+-- the port nor the clock was called. Else the headline holds of so many links, at most COUNT, as `IsOpened` says: the line has status 0 and tells
+-- their number, and no call of the port failed; or 8, where one failed. Where that was the call to listen, they are none.
 pub record IsServed {D P L C X M : Type 0} (tells : OutsideTells D P L C X M) (outside : Outside D P C X) (port count status : ℕ) : Type 0 where
   pub ending : Result (List ℕ) Stop
   pub serves : Serves tells.disk tells.port tells.links tells.clock outside.disk outside.disk_now outside.port outside.port_now outside.clock outside.clock_now port count ending

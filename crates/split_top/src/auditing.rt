@@ -1,4 +1,4 @@
-// A certificate asked for and judged.
+// Fetches a certificate and judges it.
 ghost use Rattle.std.specs.Prelude.{◌≡◌};
 ghost use Rattle.command_results.specs.Endings.{ending_of};
 ghost use Rattle.serving.specs.Served.{tells_of};

@@ -56,7 +56,7 @@ pub struct Status {
 /// | 8 | only where the port's count rose in `listen` or `accept`, or the dialer's, by one | `port fault` |
 /// | 9 | only where there was no memory; never for `init`, `check`, `checkwinner` and `audit`, nor for `serve` once it listens | `no memory` |
 ///
-/// The tests come in the order of the work: words, reading, file, port, solving or judging, writing. What a command doesn't use is untouched: it is not
+/// The tests come in the order of the work: words, reading, file, port, solving or judging, writing. What a command does not use is untouched: it is not
 /// called. The port comes with no link out, and has not answered yet that none comes. `serve` asks it once to listen, at PORT and at no other, and for one link
 /// after the other. `audit` asks the dialer once for a link, to PORT and to no other. No write of no bytes reaches the output.
 #[allow(clippy::too_many_arguments)]

@@ -35,6 +35,7 @@ pub fn check_pair_text<S: Source>(source: &mut S) -> Result<Verdict, TextEnd>
 }
 
 /// Checks the text of adjusted winner as `check_pair_text` does, and answers with the reasons of a reader who keeps what it reads. `NoMemory` never comes.
+/// The program asks `check_pair_text`; this is for a caller who handles the ends of `read_certificate` and wants the same ones here.
 pub fn check_winner<S: Source>(source: &mut S) -> Result<Verdict, ReadEnd>
     ensures judged { (taken : List ℕ) × Consumes (S.left source.old) (S.left source.new) taken × OfAnswer (IsPairJudgement (S.left source.new) taken) result }
     ensures fair { result ≡ Ok Verdict.Yes → (taken : List ℕ) × Consumes (S.left source.old) (S.left source.new) taken × PrintsFair taken }

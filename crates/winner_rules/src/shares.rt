@@ -1,4 +1,4 @@
-// Player 1's shares: that each is one, that at most one good is split, and how many parts they are counted in.
+// Player 1's shares: whether each is from 0 to 1, whether at most one good is split, and how many parts they are counted in.
 ghost use Rattle.std.specs.Prelude.{◌≡◌, ◌≤◌, ◌↔◌, All, IsTrue, length, map};
 ghost use Rattle.bid_rules.specs.Fractions.{Fraction};
 ghost use Rattle.cert_reader.specs.Numbers.{AreShort};

@@ -1,4 +1,4 @@
-// Weights by which each good lies where it is worth most.
+// Weights that put each good with the player to whom it is worth most.
 ghost use Rattle.std.specs.Prelude.{◌≡◌, ℕ, ◌*◌, ◌<◌, ◌≤◌, ◌<ℤ◌, ◌↔◌, List, [], ◌∷◌, IsTrue, MatchOption, length, map, pos};
 ghost use Rattle.bid_rules.specs.Goods.{IsValidGoodsCase, player_count, points};
 ghost use Rattle.winner_laws.specs.Printed.{SupportShares};

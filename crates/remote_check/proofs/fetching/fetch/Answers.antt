@@ -1,7 +1,7 @@
 use Rattle.std.proofs.Common.{subst}
 use Rattle.remote_check.specs.Fetched.{FetchSays}
 use Rattle.remote_check.specs.Taken.{IsUnsettled}
-use Rattle.remote_check.proofs.FetchLemmas.{asks_heard, asks_part}
+use Rattle.remote_check.proofs.FetchLemmas.{asks_heard, asks_part, met_heard, met_nowhere}
 use Rattle.remote_check.proofs.LawLemmas.{yes_told}
 use Rattle.remote_check.proofs.fetching.fetch.Goals as goal
 
@@ -16,3 +16,9 @@ returns-in-Ok-clause-asked g c =
 
 pub returns-in-Err-clause-asked : goal.returns-in-Err-clause-asked
 returns-in-Err-clause-asked g c = asks_part _ _ _ _ _ _ _ _ _ c.in-Err.ensures.prefix c.in-Err.ensures.reads c.in-Err.ensures.count
+
+pub returns-in-Ok-clause-over : goal.returns-in-Ok-clause-over
+returns-in-Ok-clause-over g c = met_heard _ _ _ _ c.hear.result c.in-Ok.ensures.over c.hear.ensures.once c.hear.ensures.before_end
+
+pub returns-in-Err-clause-over : goal.returns-in-Err-clause-over
+returns-in-Err-clause-over g c = met_nowhere _ _ _ _ c.in-Err.ensures.over

@@ -1,5 +1,4 @@
 use Rattle.std.proofs.Common.{Some, option_map, sym, ap, ◌∙◌}
-use Rattle.std.proofs.lemmas.Result.{IfOk-weaker}
 use Rattle.sealed_core.specs.Host.{event_view, instance_view}
 use Rattle.reply_texts.specs.Replies.{of_status}
 use Rattle.reply_texts.specs.Telling.{public_if}
@@ -11,4 +10,8 @@ returns c =
     let i = instance_view c.in-Some.instance.now in
     let after = public_after c.args.host.now.content (option_map event_view c.args.event.now) c.args.id i c.in-Some.ensures.found c.requires.1 in
     let closed = ap (λ b. of_status c.args.id c.args.you (public_if b i)) c.is_closed_after-closed.ensures in
-    IfOk-weaker c.status_value.result _ _ (λ v h. ap (option_map (of_status c.args.id c.args.you)) after ∙ ap Some (sym closed ∙ sym h)) c.status_value.ensures
+    record {
+      value = of_status c.args.id c.args.you (public_if c.is_closed_after-closed.result i);
+      is = ap (option_map (of_status c.args.id c.args.you)) after ∙ ap Some (sym closed);
+      told = c.status_text.ensures;
+    }

@@ -1,8 +1,23 @@
-use Rattle.std.proofs.Common.{option_map}
+use Rattle.std.proofs.Common.{option_map, refl, sym, subst}
+use Rattle.sealed_core.specs.declared.replies.Reply.{Reply}
 use Rattle.sealed_core.specs.Host.{event_view}
 use Rattle.sealed_core.specs.Sealed.{applied}
-use Rattle.reply_texts.proofs.PlainTexts.{plain_reply}
+use Rattle.reply_texts.specs.Pages.{IsTextAt}
+use Rattle.reply_texts.specs.Refusals.{of_refusal}
+use Rattle.reply_texts.specs.Replies.{of_closed, of_reply, of_turn}
 use Rattle.reply_texts.proofs.replies.text_after.Goals as goal
 
-pub written-requires : goal.written-requires
-written-requires c = plain_reply (applied c.args.host.now.content (option_map event_view c.args.answered.now.event)) c.args.answered.now.reply _ c.in_ok-value.ensures
+pub returns-in-Kept : goal.returns-in-Kept
+returns-in-Kept c =
+    subst (λ (r : Reply). IsTextAt (of_reply (applied c.args.host.now.content (option_map event_view c.args.event.now)) r) c.turn_text.result) (sym c.in-Kept.is)
+    (record { value = of_turn c.in-Kept.turn; is = refl; told = c.turn_text.ensures })
+
+pub returns-in-Closed : goal.returns-in-Closed
+returns-in-Closed c =
+    subst (λ (r : Reply). IsTextAt (of_reply (applied c.args.host.now.content (option_map event_view c.args.event.now)) r) c.closed_text.result) (sym c.in-Closed.is)
+    (record { value = of_closed; is = refl; told = c.closed_text.ensures })
+
+pub returns-in-Refused : goal.returns-in-Refused
+returns-in-Refused c =
+    subst (λ (r : Reply). IsTextAt (of_reply (applied c.args.host.now.content (option_map event_view c.args.event.now)) r) c.refusal_text.result) (sym c.in-Refused.is)
+    (record { value = of_refusal c.in-Refused.refusal; is = refl; told = c.refusal_text.ensures })

@@ -5,6 +5,7 @@ use Rattle.serving_laws.proofs.laws.handled_law.Goals as goal
 step_laws : (g : Over) (c : goal.After-sent_sealing_law g) → StepLaws
 step_laws g c = record {
   publishes = c.publication_law.ensures.event;
+  shut = c.publication_law.ensures.closed;
   sends = c.sent_sealing_law.ensures.from_view;
   origin = c.machine_law.ensures.origin;
   keys = c.sameness_law.ensures.holder;

@@ -16,6 +16,7 @@ returns g c = (
     says = c.fetch-answer.ensures.says;
     asks = c.fetch-answer.ensures.asked;
     empty = c.fetch-answer.ensures.empty;
+    over = c.fetch-answer.ensures.over;
     back = λ room. subst (λ given. TakesBack given (g.X.Dial.given_back c.done.new.self) c.fetch-answer.new.link) c.in-Ok.ensures.back
         (c.done.ensures.back (subst (λ n. 0 < n) (sym c.in-Ok.ensures.places) room));
     dropped = λ none. c.done.ensures.dropped (c.in-Ok.ensures.places ∙ none) ∙ c.in-Ok.ensures.back;

@@ -1,0 +1,125 @@
+#!/usr/bin/env python3
+"""A host to try: a free port, the program that serves there, the wait until it listens, and the keys of its rounds.
+
+Scripts in Python import this. A script of the shell calls it:
+
+.ci/host.py port                        writes a port that nobody listens at
+.ci/host.py wait PORT PID               waits until somebody listens at PORT, and fails if this process ends first
+.ci/host.py key SECRET ROUND MEMBER     writes the key of a member of a round, or of its organiser, 0
+"""
+import hashlib
+import os
+import random
+import re
+import socket
+import subprocess
+import sys
+import time
+
+# Below the ports that the system gives to outgoing connections, so that none of these has the port before the host does.
+PORTS = range(20000, 32000)
+# How long a busy machine may take until a host listens, in seconds.
+PATIENCE = 60
+# How often a host is started where another program takes its port first.
+TRIES = 8
+
+
+class Silent(OSError):
+    """Nobody listens, where somebody should."""
+
+
+def free_port(count=1):
+    """A port of this machine that nobody listens at; the first of so many, one behind the other."""
+    draw = random.SystemRandom()
+    while True:
+        first = draw.choice(PORTS)
+        try:
+            for port in range(first, first + count):
+                with socket.socket() as free:
+                    free.bind(('127.0.0.1', port))
+            return first
+        except OSError:
+            continue
+
+
+def listens(port):
+    """Whether somebody listens at a port of this machine. This looks, and doesn't connect, since a host counts its connections."""
+    for name in ('/proc/net/tcp', '/proc/net/tcp6'):
+        if os.path.exists(name):
+            with open(name, encoding='ascii') as table:
+                if re.search(rf':{port:04X} 0+:0000 0A ', table.read()):
+                    return True
+    return False
+
+
+def wait_for(port, is_gone=lambda: False):
+    """Waits until somebody listens at a port. Raises Silent if nobody does in time, or if whoever should is gone."""
+    end = time.monotonic() + PATIENCE
+    while time.monotonic() < end and not is_gone():
+        if listens(port):
+            return
+        time.sleep(0.01)
+    raise Silent(f'nobody listens at {port}')
+
+
+def key_of(secret, number, member):
+    """The key of a member of a round, or of its organiser, 0: a digest of the host's secret, as bytes, and the two numbers."""
+    return hashlib.sha256(secret + f'{number}/{member}'.encode()).hexdigest()
+
+
+class Host:
+    """The program, as it serves so many connections with so many workers at a free port, in a folder with a journal. What it writes can be read from its
+    process, which takes more words for Popen."""
+    # The processes of all hosts, for a script that is cut off.
+    started = []
+
+    def __init__(self, program, folder, count=1_000_000, workers=1, **more):
+        for _ in range(TRIES):
+            self.port = free_port()
+            words = [program, 'serve', str(self.port), str(workers), str(count)]
+            self.process = subprocess.Popen(words, cwd=folder, stdin=subprocess.DEVNULL, stdout=subprocess.PIPE, **more)
+            self.started.append(self.process)
+            try:
+                wait_for(self.port, lambda: self.process.poll() is not None)
+                return
+            except Silent:
+                self.end()
+            except BaseException:
+                self.end()
+                raise
+        raise Silent(f'{program} does not serve in {folder}')
+
+    def end(self):
+        """It is killed, in the middle of whatever it does."""
+        self.process.kill()
+        self.process.communicate()
+
+
+def is_gone(pid):
+    """Whether a process has ended, though its parent may not have asked for its status yet."""
+    try:
+        with open(f'/proc/{pid}/stat', encoding='ascii', errors='replace') as file:
+            return file.read().rpartition(') ')[2][:1] in 'ZX'
+    except OSError:
+        return True
+
+
+def main(words):
+    """What a script of the shell asks for; the status."""
+    if words == ['port']:
+        print(free_port())
+    elif len(words) == 3 and words[0] == 'wait':
+        try:
+            wait_for(int(words[1]), lambda: is_gone(words[2]))
+        except Silent:
+            return 1
+    elif len(words) == 4 and words[0] == 'key':
+        print(key_of(bytes.fromhex(words[1]), words[2], words[3]))
+    else:
+        print(__doc__, file=sys.stderr)
+        return 2
+    return 0
+
+
+if __name__ == '__main__':
+    sys.exit(main(sys.argv[1:]))

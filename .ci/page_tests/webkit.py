@@ -1,0 +1,116 @@
+"""WebKit for the tests of the page: WebKitGTK's small browser by its driver, on a screen of Xvfb of its own, where a window manager gives windows their
+sizes. The browser has no other look than that with which it was started, so all of it is light."""
+import base64
+import glob
+import http.client
+import os
+import shutil
+import subprocess
+
+from driver import PATIENCE, Browser, Fault, ended
+from rig import free_port, wait_for
+
+DRIVER = shutil.which('WebKitWebDriver')
+SMALL_BROWSER = next(iter(sorted(glob.glob('/usr/lib/*/webkit2gtk-4.*/MiniBrowser'))), None)
+SCREEN = shutil.which('Xvfb')
+MANAGER = next(filter(None, map(shutil.which, ('metacity', 'openbox', 'xfwm4'))), None)
+LOCALES = shutil.which('localedef')
+# Without this the bar of its buttons keeps a window from being narrower than 447 pixels.
+NARROW = '* { min-width: 0; min-height: 0; padding: 0; margin: 0; border: 0; font-size: 1px; }\n'
+STILL = '[Settings]\ngtk-enable-animations=0\n'
+ALONE = {'WEBKIT_DISABLE_SANDBOX_THIS_IS_DANGEROUS': '1', 'WEBKIT_DISABLE_COMPOSITING_MODE': '1', 'LIBGL_ALWAYS_SOFTWARE': '1', 'NO_AT_BRIDGE': '1', 'DBUS_SESSION_BUS_ADDRESS': 'disabled:', 'GDK_BACKEND': 'x11'}
+
+
+class WebKit:
+    """WebKit: nothing is started before the first browser."""
+    name = 'WebKit'
+    needs = {'WebKitWebDriver': DRIVER, 'MiniBrowser of WebKitGTK': SMALL_BROWSER, 'Xvfb': SCREEN, 'window manager': MANAGER, 'localedef': LOCALES}
+
+    def browser(self, phone=False, language='en-GB'):
+        return WebKitBrowser(phone, language)
+
+    def end(self):
+        pass
+
+
+class Screen:
+    """A screen with a window manager. Each browser has its own: of several windows on one, only one would have the focus."""
+
+    def __init__(self):
+        self.started = []
+        ready, write = os.pipe()
+        self.begin([SCREEN, '-displayfd', str(write), '-screen', '0', '1400x1000x24', '-nolisten', 'tcp'], pass_fds=[write])
+        os.close(write)
+        with os.fdopen(ready, encoding='ascii') as line:
+            self.display = ':' + line.readline().strip()  # the first that is free
+        self.begin([MANAGER], env={**os.environ, **ALONE, 'DISPLAY': self.display})
+
+    def begin(self, words, **more):
+        self.started.append(subprocess.Popen(words, stdout=subprocess.DEVNULL, stderr=subprocess.DEVNULL, **more))
+
+    def end(self):
+        for process in reversed(self.started):
+            ended(process)
+
+
+class WebKitBrowser(Browser):
+    """WebKitGTK's small browser, and a driver of its own, which allows one session. What it saves goes to the home of its profile."""
+
+    def __init__(self, phone, language):
+        super().__init__(phone)
+        self.screen = Screen()
+        os.makedirs(self.profile + '/config/gtk-3.0')
+        for name, words in (('gtk.css', NARROW), ('settings.ini', STILL)):
+            with open(f'{self.profile}/config/gtk-3.0/{name}', 'w', encoding='utf-8') as file:
+                file.write(words)
+        port = free_port()
+        tongue = language.replace('-', '_')
+        made = self.profile + '/locales'  # its languages are those of the machine, which rarely has them all
+        os.mkdir(made)
+        subprocess.run([LOCALES, '-i', tongue, '-f', 'UTF-8', f'{made}/{tongue}.UTF-8'], stdout=subprocess.DEVNULL, stderr=subprocess.DEVNULL, check=False)
+        places = {'HOME': 'files', 'XDG_CONFIG_HOME': 'config', 'XDG_CACHE_HOME': 'cache', 'XDG_DATA_HOME': 'data', 'XDG_RUNTIME_DIR': 'run'}
+        os.mkdir(self.profile + '/run', 0o700)
+        around = {**os.environ, **ALONE, **{name: f'{self.profile}/{place}' for name, place in places.items()}, 'DISPLAY': self.screen.display,
+                  'LOCPATH': made, 'LANG': tongue + '.UTF-8', 'LC_ALL': tongue + '.UTF-8', 'LANGUAGE': tongue}
+        self.process = subprocess.Popen([DRIVER, f'--port={port}'], stdout=subprocess.DEVNULL, stderr=subprocess.DEVNULL, env=around)
+        try:
+            self.begin(port)
+        except BaseException:
+            self.end()
+            raise
+
+    def begin(self, port):
+        """Waits for the driver, and opens the session, with which the browser starts."""
+        wait_for(port)
+        self.link = http.client.HTTPConnection('127.0.0.1', port, timeout=PATIENCE)
+        options = {'binary': SMALL_BROWSER, 'args': ['--automation']}
+        wanted = {'acceptInsecureCerts': True, 'unhandledPromptBehavior': 'ignore', 'webkitgtk:browserOptions': options}
+        self.session = self.call('POST', '/session', {'capabilities': {'alwaysMatch': wanted}})['sessionId']
+        self.size(*self.home)
+
+    def look(self, dark, forced=False):
+        """Nothing: it looks as it was started."""
+
+    def size(self, width, height):
+        self.ask('POST', '/window/rect', {'x': 0, 'y': 0, 'width': width, 'height': height})
+        self.until(lambda: self.run('return innerWidth') == width, 10, f'the page does not become {width} wide')
+
+    def shot(self, path, selector=None, quality=None):
+        """A picture of what is seen, or of one element."""
+        data = self.ask('GET', f'/element/{self.all(selector)[0]}/screenshot' if selector else '/screenshot')
+        with open(path, 'wb') as file:
+            file.write(base64.b64decode(data))
+
+    def complaints(self):
+        """None: its driver does not tell them."""
+        return []
+
+    def end(self):
+        try:
+            if self.session:
+                self.ask('DELETE', '')
+        except (OSError, Fault, http.client.HTTPException):
+            pass
+        ended(self.process)
+        self.screen.end()
+        shutil.rmtree(self.profile, ignore_errors=True)

@@ -1,0 +1,10 @@
+-- The items from this one on are left.
+use Rattle.std.proofs.Common.{drop, false, map}
+use Rattle.serde_json.specs.View.{items_of}
+use Rattle.serde_json.specs.Written.{items_text}
+use Rattle.reply_texts.specs.Pages.{Leaves}
+use Rattle.reply_texts.specs.Values.{of_number}
+use Rattle.reply_texts.proofs.objects.put_numbers.Given as goal
+
+abbrev pub invariant-loop-number : goal.invariant-loop-number
+invariant-loop-number l = Leaves l.initial.page l.page (items_text false (items_of (map of_number l.numbers))) (items_text l.later (items_of (map of_number (drop l.number-index l.numbers))))

@@ -1,0 +1,139 @@
+// A page of fixed size, into which the text of a reply is written as JSON. It takes no memory.
+ghost use Rattle.std.specs.Prelude.{◌≡◌, ◌<◌, ◌∷◌, ◌++◌, [], List, ℕ, codes, decimal, length, MatchResult, cond};
+ghost use Rattle.std.specs.Char.{digit_char};
+ghost use Rattle.json.specs.Print.{escape, escape_byte, escape_letter, quoted};
+ghost use Rattle.serde_json.specs.Data.{boolean};
+ghost use Rattle.serde_json.specs.Written.{comma_if, compact_text};
+ghost use Rattle.reply_texts.specs.Pages.{Holds, Puts};
+ghost use Rattle.reply_texts.specs.declared.sizes.TheConstants.{REPLY_MOST};
+
+use crate::sizes::REPLY_MOST;
+use arrayvec::ArrayVec;
+use itoa::Buffer;
+
+/// The text of a reply that is no publication, in room that takes no memory.
+pub type ReplyBytes = ArrayVec<u8, REPLY_MOST>;
+
+/// The text of a reply is longer than its room.
+#[derive(Debug, Drop)]
+pub struct TooLong;
+
+/// What is written so far, unless it was more than there is room for: then nothing more is written.
+#[derive(Drop)]
+pub(crate) struct Page {
+    pub(crate) bytes: ReplyBytes,
+    pub(crate) full: bool,
+}
+
+/// A page with nothing on it.
+pub(crate) fn blank() -> Page
+    ensures { Holds result [] }
+{
+    Page {
+        bytes: ReplyBytes::new(),
+        full: false,
+    }
+}
+
+/// What was written, if there was room for it.
+pub(crate) fn finished(page: Page) -> Result<ReplyBytes, TooLong>
+    ensures { (text : List ℕ) → Holds page text → MatchResult result (λ bytes. bytes.items ≡ text) (λ _. REPLY_MOST < length text) }
+{
+    if page.full {
+        return Err(TooLong);
+    }
+    Ok(page.bytes)
+}
+
+pub(crate) fn put(page: &mut Page, bytes: &[u8])
+    ensures { Puts page.old page.new bytes.now }
+{
+    if page.full {
+        return;
+    }
+    if page.bytes.try_extend_from_slice(bytes).is_err() {
+        page.full = true;
+    }
+}
+
+/// A comma, where something stands before.
+pub(crate) fn put_comma(page: &mut Page, later: bool)
+    ensures { Puts page.old page.new (comma_if later) }
+{
+    if later {
+        put(page, b",");
+    }
+}
+
+pub(crate) fn put_number(page: &mut Page, number: u64)
+    ensures { Puts page.old page.new (decimal number) }
+{
+    let mut buffer = Buffer::new();
+    put(page, buffer.format(number).as_bytes());
+}
+
+pub(crate) fn put_flag(page: &mut Page, flag: bool)
+    ensures { Puts page.old page.new (compact_text (boolean flag)) }
+{
+    let text: &'static [u8] = if flag { b"true" } else { b"false" };
+    put(page, text);
+}
+
+/// A text in quotes, with its escapes.
+pub(crate) fn put_quoted(page: &mut Page, text: &[u8])
+    ensures { Puts page.old page.new (quoted text.now) }
+{
+    put(page, b"\"");
+    put_escaped(page, text);
+    put(page, b"\"");
+}
+
+fn put_escaped(page: &mut Page, text: &[u8])
+    ensures { Puts page.old page.new (escape text.now) }
+{
+    for byte in text {
+        put_byte(page, *byte);
+    }
+}
+
+/// A byte of a text, or its escape.
+#[tactic(auto, unfolding(json::specs::Print::escape_byte))]
+fn put_byte(page: &mut Page, byte: u8)
+    ensures { Puts page.old page.new (escape_byte byte) }
+{
+    let letter = escape_letter(byte);
+    if letter > 0 {
+        put(page, &[b'\\', letter]);
+    } else if byte < 0x20 {
+        let (high, low) = (hex_digit(byte / 16), hex_digit(byte % 16));
+        put(page, &[b'\\', b'u', b'0', b'0', high, low]);
+    } else {
+        put(page, &[byte]);
+    }
+}
+
+/// The letter of a byte's short escape, or 0 where it has none.
+fn escape_letter(byte: u8) -> u8
+    ensures { result ≡ escape_letter byte }
+{
+    match byte {
+        b'"' | b'\\' => byte,
+        8 => b'b',
+        12 => b'f',
+        b'\n' => b'n',
+        b'\r' => b'r',
+        b'\t' => b't',
+        _ => 0,
+    }
+}
+
+fn hex_digit(digit: u8) -> u8
+    requires { digit < 16 }
+    ensures { result ≡ digit_char digit }
+{
+    if digit < 10 {
+        b'0' + digit
+    } else {
+        b'a' - 10 + digit
+    }
+}
