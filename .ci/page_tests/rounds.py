@@ -33,7 +33,7 @@ from smaller import smaller
 from tally import PROGRAM, TALLY, TOP, api, check, money, program, same, soon, tag
 from tampering import copied, tampered_fares, tampered_goods, tampered_rent
 
-SECONDS = 1500
+SECONDS = 900
 PICTURE = os.path.join(TOP, 'docs/pictures/result.png')
 with open(os.path.join(HERE, 'audit.js'), encoding='utf-8') as audit_file:
     AUDIT = audit_file.read()
