@@ -94,6 +94,8 @@ def divided(p, address, case, is_passed, look_at, shots):
 def alone(rig, olive, ann, ben, look_at, shots):
     """Divisions without a server: in the page, and in the file from a disk."""
     page, file = rig.url + '#divide', 'file://' + os.path.join(os.path.realpath(PAGE), 'divide.html')
+    for p in (olive, ann, ben):
+        p.leave()
     asked = len(rig.lossy.seen)
     divided(ann, page, FLAT, True, look_at, shots)
     divided(ben, page, ESTATE, False, look_at, shots)

@@ -33,6 +33,7 @@ NOT_TOLD = (' status of 4', ' status of 50', 'Failed to load resource', 'Blocked
 
 
 SLOWNESS = 3  # how much longer than usual a busy machine may take
+PAUSES = (0.01, 0.1)  # between two looks, in seconds: the first, which doubles, and the longest
 PATIENCE = 300  # seconds for one command of a driver
 
 
@@ -83,7 +84,7 @@ class Browser:
         self.link.request(method, path, None if body is None else json.dumps(body), {'Content-Type': 'application/json'})
         value = json.loads(self.link.getresponse().read())['value']
         if isinstance(value, dict) and value.get('error'):
-            raise Fault(f"{value['error']}: {value['message'].splitlines()[0]}")
+            raise Fault(f"{value['error']}: {value['message'].partition(chr(10))[0]}")
         return value
 
     def ask(self, method, path, body=None):
@@ -111,13 +112,15 @@ class Browser:
     def until(self, what, seconds=30, why='it does not come'):
         """Waits until this gives something, and gives that."""
         end = time.time() + seconds * SLOWNESS
+        pause, longest = PAUSES
         while True:
             got = what()
             if got:
                 return got
             if time.time() > end:
                 raise AssertionError(why)
-            time.sleep(0.1)
+            time.sleep(pause)
+            pause = min(2 * pause, longest)
 
     def text(self, selector='main'):
         return self.run('return (document.querySelector(arguments[0]) || {innerText: ""}).innerText', selector)
@@ -169,9 +172,20 @@ class Browser:
         self.one('#languages select')
         self.run('const list = document.querySelector("#languages select"); list.value = arguments[0]; list.dispatchEvent(new Event("change"))', code)
 
+    @staticmethod
+    def strokes(words):
+        """The body of a command that sends keys."""
+        strokes = [{'type': kind, 'value': key} for key in words for kind in ('keyDown', 'keyUp')]
+        return {'actions': [{'type': 'key', 'id': 'keys', 'actions': strokes}]}
+
     def keys(self, words):
         """Sends keys to whatever has the focus."""
-        self.ask('POST', '/actions', {'actions': [{'type': 'key', 'id': 'keys', 'actions': [{'type': kind, 'value': key} for key in words for kind in ('keyDown', 'keyUp')]}]})
+        self.ask('POST', '/actions', self.strokes(words))
+
+    def keys_that_ask(self, words):
+        """Sends keys that make the page ask something, and says yes."""
+        self.keys(words)
+        self.accept()
 
     def focused(self):
         """The element with the focus: its id, tag, text and address, and whether one can see the focus."""
@@ -187,6 +201,33 @@ class Browser:
         except (OSError, Fault, http.client.HTTPException):
             pass
         shutil.rmtree(self.profile, ignore_errors=True)
+
+
+class Later:
+    """A browser that starts once it is needed."""
+
+    def __init__(self, begin):
+        self.__dict__.update(begin=begin, browser=None)
+
+    def started(self):
+        if self.browser is None:
+            self.__dict__['browser'] = self.begin()
+        return self.browser
+
+    def __getattr__(self, name):
+        return getattr(self.started(), name)
+
+    def __setattr__(self, name, value):
+        setattr(self.started(), name, value)
+
+    def leave(self):
+        """Leaves the view that is shown, which may ask the server now and then."""
+        if self.browser is not None:
+            self.browser.open('about:blank')
+
+    def end(self):
+        if self.browser is not None:
+            self.browser.end()
 
 
 class ChromiumBrowser(Browser):

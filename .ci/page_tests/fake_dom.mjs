@@ -1,5 +1,20 @@
 // As much of a browser's document as the page's modules ask for, so that views can be drawn and read in node.
 
+const isPart = (some, all) => some.every((one) => all.includes(one));
+const SELECTOR = /^([a-z]\w*)?(?:#([\w-]+))?((?:\.[\w-]+)*)(?:\[([\w-]+)\])?$/;
+const known = new Map(); // selectors that were taken apart before
+
+/** What a selector asks for: any of these. */
+function selectorParts(selector) {
+  if (!known.has(selector)) {
+    known.set(selector, selector.split(',').map((one) => {
+      const [, tag, id, classes, attribute] = SELECTOR.exec(one.trim());
+      return { tag: tag?.toUpperCase(), id, classes: classes.split('.').filter(Boolean), attribute };
+    }));
+  }
+  return known.get(selector);
+}
+
 class FakeNode {
   constructor(tag) {
     Object.assign(this, { tagName: tag.toUpperCase(), attributes: {}, children: [], listeners: {}, parentNode: null, value: '' });
@@ -34,14 +49,15 @@ class FakeNode {
   get textContent() { return this.tagName === '#TEXT' ? this.data : this.children.map((child) => child.textContent).join(''); }
   set textContent(value) { this.children = []; if (value) this.append(value); }
   /** All nodes below this one, and itself. */
-  all() { return [this, ...this.children.flatMap((child) => child.all())]; }
+  all(found = []) {
+    found.push(this);
+    for (const child of this.children) child.all(found);
+    return found;
+  }
   matches(selector) {
-    return selector.split(',').some((one) => {
-      const [, tag, id, classes, attribute] = /^([a-z]\w*)?(?:#([\w-]+))?((?:\.[\w-]+)*)(?:\[([\w-]+)\])?$/.exec(one.trim());
-      const own = (this.attributes.class ?? '').split(' ');
-      return (!tag || this.tagName === tag.toUpperCase()) && (!id || this.id === id) && (!attribute || attribute in this.attributes)
-        && classes.split('.').filter(Boolean).every((each) => own.includes(each));
-    });
+    return selectorParts(selector).some(({ tag, id, classes, attribute }) => (!tag || this.tagName === tag)
+      && (!id || this.id === id) && (!attribute || attribute in this.attributes)
+      && (!classes.length || isPart(classes, (this.attributes.class ?? '').split(' '))));
   }
   querySelectorAll(selector) { return this.all().slice(1).filter((node) => node.tagName !== '#TEXT' && node.matches(selector)); }
   querySelector(selector) { return this.querySelectorAll(selector)[0] ?? null; }

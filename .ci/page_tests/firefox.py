@@ -50,6 +50,8 @@ class Firefox:
 
 class FirefoxBrowser(Browser):
     """Firefox without a window."""
+    switches = ('--headless',)
+    around = {}  # of the environment that it is started in
 
     def __init__(self, phone, language):
         super().__init__(phone)
@@ -57,8 +59,8 @@ class FirefoxBrowser(Browser):
         settings = {**SETTINGS, 'marionette.port': port, 'intl.accept_languages': language, 'intl.locale.requested': language, 'browser.download.dir': self.profile + '/files'}
         with open(self.profile + '/user.js', 'w', encoding='utf-8') as file:
             file.writelines(f'user_pref({json.dumps(name)}, {json.dumps(value)});\n' for name, value in settings.items())
-        words = [FIREFOX, '--headless', '--marionette', '--remote-allow-system-access', '--no-remote', '--profile', self.profile]
-        around = {**os.environ, 'HOME': self.profile, 'MOZ_HEADLESS_WIDTH': '1400', 'MOZ_HEADLESS_HEIGHT': '1000'}
+        words = [FIREFOX, *self.switches, '--marionette', '--remote-allow-system-access', '--no-remote', '--profile', self.profile]
+        around = {**os.environ, **self.around, 'HOME': self.profile, 'MOZ_HEADLESS_WIDTH': '1400', 'MOZ_HEADLESS_HEIGHT': '1000'}
         self.process = subprocess.Popen(words, stdout=subprocess.DEVNULL, stderr=subprocess.DEVNULL, env=around)
         try:
             self.begin(port)

@@ -9,8 +9,8 @@ FLAT = {'kind': 'rent', 'title': 'Mill Road', 'members': ['Ann', 'Ben'], 'rooms'
 # Headings and controls of the bid, in the order in which a reader meets them: what they are called, by the driver's words for it.
 READ = 'main h1, main h2, main input, main button'
 BID = [
-    ('heading', 'Mill Road'), ('heading', '0 of 2 have bid'), ('heading', 'Your bid'), ('slider', 'Attic, slider'), ('textbox', 'Attic'),
-    ('button', 'Rest here: Attic'), ('slider', 'Back room, slider'), ('textbox', 'Back room'), ('button', 'Rest here: Back room'), ('button', 'Scale to total'),
+    ('heading', 'Mill Road'), ('heading', '0 of 2 have bid'), ('heading', 'Your bid'), ('slider', 'Attic'), ('textbox', 'Attic'),
+    ('button', 'Rest here: Attic'), ('slider', 'Back room'), ('textbox', 'Back room'), ('button', 'Rest here: Back room'), ('button', 'Scale to total'),
     ('button', 'All to 0'), ('button', 'Send my bid'), ('checkbox', 'Remember this round in this browser'),
 ]
 UNANSWERED = 'const { fetch } = window; window.fetch = (path, how) => (how?.method === "POST" ? fetch(path, how) : new Promise(() => {}))'
@@ -61,6 +61,7 @@ def read_aloud(rig, olive, ann, ben):
     ann.press('Send my bid')
     ann.until(lambda: 'Your bid is saved' in ann.run('return document.getElementById("live").textContent'), 20, 'it is not spoken')
     same('the place for what is spoken', told(ann, '#live')[0][0], 'status')
+    same('what stands is not spoken a second time', ann.values('#stands', 'aria-live'), [None])
     ann.click('#languages button')
     ann.one('dialog.help[open]')
     same('the help is a dialog with a name', told(ann, 'dialog.help'), [('dialog', 'How to bid')])

@@ -1,15 +1,16 @@
 """Rung (c) of .ci/page: whole rounds of the three kinds through the page, in real browsers against a real host behind nginx. What is shown is compared with
 what the program writes of the same case.
 
-rounds.py [--engine ENGINE] [--shots FOLDER] [--picture] [PART..]
+rounds.py [--engine ENGINE] [--group GROUP] [--seconds N] [--shots FOLDER] [--picture] [PART..]
 
-It plays the parts named, or those of the gate, in chromium, firefox or webkit; chromium if none is said. --shots puts pictures of each view into FOLDER,
-and --picture writes the README's anew. The gate plays all its parts in Chromium, and in the two others those that tell most; any part can be played by name.
-Some of Chromium's need its own protocol: CHROMIUM_ONLY. The parts of the gate take less than SECONDS on two processors. One for which no time is left
-counts as wrong.
+It plays the parts named, or those of the gate, in chromium, firefox or webkit; chromium if none is said. --group plays only one group of them: the gate
+plays the groups of Chromium side by side. --shots puts pictures of each view into FOLDER, and --picture writes the README's anew. The gate plays all its
+parts in Chromium, and in the two others those that tell most; any part can be played by name. Some of Chromium's need its own protocol: CHROMIUM_ONLY.
+After so many seconds no part is begun any more: one for which no time was left counts as wrong.
 """
 import argparse
 import json
+import math
 import os
 import random
 import re
@@ -26,22 +27,25 @@ import keeping
 import proving
 import reading
 import speaking
-from driver import KEYS
+from driver import KEYS, Later
 from engines import ENGINES, lacking
 from rig import HERE, PAGE, Rig
 from smaller import smaller
 from tally import PROGRAM, TALLY, TOP, api, check, money, program, same, soon, tag
 from tampering import copied, tampered_fares, tampered_goods, tampered_rent
 
-SECONDS = 900
 PICTURE = os.path.join(TOP, 'docs/pictures/result.png')
 with open(os.path.join(HERE, 'audit.js'), encoding='utf-8') as audit_file:
     AUDIT = audit_file.read()
 
 
+# No colour depends on the width, and nothing that is seen on a desktop is hidden on a phone: so dark is audited at one width.
+AUDITED = ((320, False, True), (320, True, False), (1200, False, False))
+
+
 def look_at(p, what):
     """Audits a view at the widths of a small phone and of a desktop, light and dark."""
-    for width, dark, spaced in ((320, False, True), (320, True, False), (1200, False, False), (1200, True, False)):
+    for width, dark, spaced in AUDITED:
         p.look(dark)
         p.size(width, 844)
         faults, texts = p.run(AUDIT, width, spaced)
@@ -164,6 +168,7 @@ def rent(rig, olive, ann, ben):
     check('an empty form is not sent', 'need your attention' in olive.text() and not any(s[0].startswith('POST') for s in lossy.seen))
     check('the summary has the focus', olive.run('return document.activeElement.parentElement.id') == 'summary')
     check('the title says so', olive.run('return document.title').startswith('Error: Split the rent'))
+    same('what it says of the title', olive.texts('#summary a')[0], 'What is it about? Enter a title.')
     olive.click('#summary a')
     same('a line of it leads to the field', olive.focused()['id'], 'title')
     fill_form(rig, olive, 'rent', 'Flat in Mill Road', people, rooms)
@@ -552,9 +557,9 @@ def keys_alone(rig, olive, ann, ben):
             tab_to(lambda e: e['id'] == id_)
             p.keys(list(words))
 
-    def press(words):
+    def press(words, send=p.keys):
         tab_to(lambda e: e['text'].startswith(words))
-        p.keys([KEYS['enter']])
+        send([KEYS['enter']])
     p.open(rig.url)
     p.one('.kinds')
     tab_to(lambda e: 'new-goods' in e['href'])
@@ -583,8 +588,7 @@ def keys_alone(rig, olive, ann, ben):
         p.until(lambda: 'Your bid is saved' in p.run('return document.getElementById("live").textContent'), 5, 'it is not spoken')
     p.open(urls['link-0'])
     p.until(lambda: p.enabled('Close the round and'), 60, 'close is not offered')
-    press('Close the round and')
-    p.accept()
+    press('Close the round and', p.keys_that_ask)
     p.one('#verdict[data-verdict=yes]', 60)
     same('and then the focus is at the heading', p.focused()['tag'], 'H1')
     press('Certificate')
@@ -737,21 +741,26 @@ def german(rig, olive, ann, ben):
         hanna.end()
 
 
-OF_THE_GATE = [rent, goods, fares, heirs, tampered_rent, tampered_goods, tampered_fares, copied, refusals, keys_alone, checker, dividing.judges, divided, demo, policy, german, proving.modules,
-               *reading.READING, *speaking.SPEAKING, *keeping.KEEPING]
-PARTS = OF_THE_GATE + [room, greatest, proving.many_modules]
-# In Firefox: a round of goods by keys, divisions without a server from a disk too, the policy, and the proved modules under it.
-OF_FIREFOX = [keys_alone, divided, demo, german, policy, proving.modules, reading.read_aloud]
-# In WebKit the same, but the round by keys, which is played by name: its driver has once not answered a key.
-OF_WEBKIT = OF_FIREFOX[1:]
-CHROMIUM_ONLY = [copied, keeping.unanswered]
+# The parts of the gate in Chromium, in groups that take about as long as each other.
+GROUPS = {
+    'rounds': [rent, goods, fares, heirs, refusals, keys_alone, checker, dividing.judges, policy, german, proving.modules],
+    'lies': [tampered_rent, tampered_goods, tampered_fares, copied, divided, demo],
+    'people': [*reading.READING, *speaking.SPEAKING, *keeping.KEEPING],
+}
+OF_THE_GATE = sum(GROUPS.values(), [])
+PARTS = OF_THE_GATE + [room, greatest, proving.many_modules, keeping.slow_network]
+# In Firefox and in WebKit: a round of goods by keys, divisions without a server from a disk too, the policy, and the proved modules under it.
+OF_THE_OTHERS = [keys_alone, divided, demo, german, policy, proving.modules, reading.read_aloud]
+CHROMIUM_ONLY = [copied, keeping.unanswered, keeping.slow_network]
 
 
-def chosen(engine, names):
-    """The parts with these names, or those of the gate in this engine if none are named."""
-    if names:
-        return [part for part in PARTS if part.__name__ in names]
-    return {'chromium': OF_THE_GATE, 'firefox': OF_FIREFOX, 'webkit': OF_WEBKIT}[engine]
+def chosen(asked):
+    """The parts that are named, those of a group, or those of the gate in this engine."""
+    if asked.parts:
+        return [part for part in PARTS if part.__name__ in asked.parts]
+    if asked.group:
+        return GROUPS[asked.group]
+    return OF_THE_GATE if asked.engine == 'chromium' else OF_THE_OTHERS
 
 
 def play_part(rig, people, part, is_timed):
@@ -768,22 +777,21 @@ def play_part(rig, people, part, is_timed):
         print(f'page: {part.__name__} took {time.time() - at:.0f} seconds', flush=True)
 
 
-def play(engine, names):
-    """Plays the parts with these names, or those of the gate if none are named. Gives those for which no time was left."""
+def play(asked):
+    """Plays what was asked for. Gives the parts for which no time was left."""
     began = time.time()
     rig, people, left = Rig(PROGRAM), [], []
     rig.engine = None
     try:
-        rig.engine = ENGINES[engine]()
-        for phone in (False, True, False):
-            people.append(rig.engine.browser(phone))
-        for part in chosen(engine, names):
-            if time.time() - began > SECONDS and not names:
+        rig.engine = ENGINES[asked.engine]()
+        people += [Later(lambda phone=phone: rig.engine.browser(phone)) for phone in (False, True, False)]
+        for part in chosen(asked):
+            if time.time() - began > asked.seconds:
                 left.append(part.__name__)
             else:
-                play_part(rig, people, part, TALLY.shots or names)
+                play_part(rig, people, part, TALLY.shots or asked.parts)
         for p, who in zip(people, ('organiser', 'phone', 'desk')):
-            same(f'complaints of the browser of the {who}', p.complaints(), [])
+            same(f'complaints of the browser of the {who}', p.browser and p.complaints(), p.browser and [])
         return left, len(rig.lossy.seen), time.time() - began
     finally:
         for opened in [*people, *filter(None, [rig.engine]), rig]:
@@ -794,6 +802,8 @@ def arguments():
     """What was asked for."""
     parser = argparse.ArgumentParser(description='Plays parts of rung (c) of .ci/page.')
     parser.add_argument('--engine', choices=ENGINES, default='chromium')
+    parser.add_argument('--group', choices=GROUPS, help='play only these parts of the gate in Chromium')
+    parser.add_argument('--seconds', metavar='N', type=float, default=math.inf, help='after so long no part is begun any more')
     parser.add_argument('--shots', metavar='FOLDER', help='where pictures of each view go')
     parser.add_argument('--picture', action='store_true', help="write the README's picture anew")
     parser.add_argument('parts', nargs='*', metavar='PART')
@@ -815,9 +825,9 @@ def main():
     if TALLY.shots:
         os.makedirs(TALLY.shots, exist_ok=True)
     signal.signal(signal.SIGTERM, lambda *_: sys.exit(1))  # so that what was started is ended
-    left, requests, seconds = play(asked.engine, asked.parts)
+    left, requests, seconds = play(asked)
     late = f'; no time was left for {", ".join(left)}' if left else ''
-    print(f'rounds in {ENGINES[asked.engine].name}: {TALLY.right} right, {TALLY.wrong} wrong, contrast of {TALLY.texts} texts, {requests} requests, '
+    print(f'{asked.group or "rounds"} in {ENGINES[asked.engine].name}: {TALLY.right} right, {TALLY.wrong} wrong, contrast of {TALLY.texts} texts, {requests} requests, '
           f'{seconds:.0f} seconds{late}')
     sys.exit(TALLY.wrong > 0 or bool(left))
 

@@ -25,9 +25,16 @@ PEOPLE = ['Ann~', 'Ben~', 'Çağla~']
 FIELDS_OF_NAMES = ('title', 'members', 'rooms', 'goods', 'places', 'you')
 
 
+# The page asks the server for everything again, as after a reload, but its scripts are not loaded again, which takes longest.
+DRAW_AGAIN = 'document.querySelector("main").replaceChildren(); dispatchEvent(new HashChangeEvent("hashchange"))'
+
+
 def looked(p, url):
     """The result as a person reads it."""
-    p.open(url)
+    if p.run('return location.href') == url:
+        p.run(DRAW_AGAIN)
+    else:
+        p.open(url)
     p.until(lambda: p.run(IS_DRAWN), 30, f'nothing is drawn: {p.text()!r}')
     return p.run(LOOKED)
 

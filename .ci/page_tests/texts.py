@@ -21,6 +21,7 @@ MOST_BYTES = 200_000
 MOST_APART = 60_000
 MOST_FOR_A_BID = 32_000
 MOST_OF_A_PICTURE = 60_000
+MOST_LINES, MOST_SIGNS = 40, 120  # of a function, and in a line
 BID = ['index.html', 'style.css', 'icon.svg'] + [f'js/{name}.js' for name in (
     'main', 'dom', 'language', 'link', 'round', 'api', 'money', 'money_field', 'bid', 'value_fields', 'rules', 'seen', 'store')]
 with open(os.path.join(PAGE, 'js/language.js'), encoding='utf-8') as language_file:
@@ -91,7 +92,9 @@ def look_for_danger(texts):
     check('a script in line', re.findall(r'<script[^>]*>', index) == ['<script type="module" src="js/main.js">'])
     check('a handler in markup', not re.search(r'\son[a-z]+=', index))
     loaded = reached()
-    check(f'imports of a bid beside its list: {loaded ^ set(BID[3:])}', loaded == set(BID[3:]) )
+    check(f'imports of a bid beside its list: {loaded ^ set(BID[3:])}', loaded == set(BID[3:]))
+    ahead = re.findall(r'<link rel="modulepreload" href="([^"]*)">', index)  # so that a bid doesn't wait for one module after the other
+    check(f'modules of a bid beside those that are loaded ahead: {loaded ^ {"js/main.js", *ahead}}', sorted(['js/main.js', *ahead]) == sorted(loaded))
 
 
 def imports_of(module, dynamic):
@@ -303,6 +306,24 @@ def measure_bars():
             check(f'the bar of member {member + 1} has a contrast of {contrast:.2f} on #{paper}', contrast >= 3)
 
 
+# A line that opens a function, with what stands before it.
+OPENS = re.compile(r'^( *)(?!(?:if|for|while|switch|else|\}|try|catch|class)\b)\S.*(?:\)|=>) \{$')
+
+
+def look_at_shape(texts):
+    """Functions are short, and lines fit on a screen; those of the languages are sentences."""
+    for name, text in texts.items():
+        if not name.startswith('js/') or name.startswith('js/words'):
+            continue
+        lines = text.split('\n')
+        for at, line in enumerate(lines):
+            check(f'line {at + 1} of {name} has {len(line)} signs', len(line) <= MOST_SIGNS)
+            opens = OPENS.match(line)
+            if opens:
+                size = next(size for size, last in enumerate(lines[at + 1:], 2) if re.match(opens[1] + r'\}', last))
+                check(f'{name} has a function of {size} lines at line {at + 1}', size <= MOST_LINES)
+
+
 def outside_of_proof():
     """The documents say that the page is outside what is proved, README has a picture of it, and the picture is small."""
     for name in ('docs/HEADLINE.md', 'docs/PROVED.md', 'README.md'):
@@ -319,6 +340,7 @@ def main():
     weight = weigh(texts)
     look_for_danger(texts)
     follow_imports(texts)
+    look_at_shape(texts)
     policies = compare_policies()
     words = compare_words(texts)
     compare_limits(texts, words)

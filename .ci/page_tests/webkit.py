@@ -3,6 +3,7 @@ sizes. The browser has no other look than that with which it was started, so all
 import base64
 import glob
 import http.client
+import json
 import os
 import shutil
 import subprocess
@@ -94,6 +95,22 @@ class WebKitBrowser(Browser):
     def size(self, width, height):
         self.ask('POST', '/window/rect', {'x': 0, 'y': 0, 'width': width, 'height': height})
         self.until(lambda: self.run('return innerWidth') == width, 10, f'the page does not become {width} wide')
+
+    def keys_that_ask(self, words):
+        """The driver answers keys once the page has gone on, and that waits for the question: so the answer is not waited for before."""
+        beside = http.client.HTTPConnection(self.link.host, self.link.port, timeout=PATIENCE)
+        beside.request('POST', f'/session/{self.session}/actions', json.dumps(self.strokes(words)), {'Content-Type': 'application/json'})
+        self.until(self.accepted, 30, 'nothing is asked')
+        beside.getresponse().read()
+        beside.close()
+
+    def accepted(self):
+        """Whether there was a question to say yes to."""
+        try:
+            self.accept()
+            return True
+        except Fault:
+            return False
 
     def shot(self, path, selector=None, quality=None):
         """A picture of what is seen, or of one element."""

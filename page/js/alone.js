@@ -2,12 +2,12 @@
 // network.
 import { action, byId, fill } from './dom.js';
 import { help } from './help.js';
-import { languageSwitch, learn, learnMore, t, text } from './language.js';
+import { entitle, languageSwitch, learn, learnMore, t, text } from './language.js';
 import { checkView } from './checkview.js';
 
 async function show() {
   await learnMore();
-  document.title = text('check.link');
+  entitle(text('check.link'));
   byId('main').dataset.view = 'check';
   const opens = { class: 'language', click: () => help(true) };
   fill(byId('languages'), action(opens, t('help')), languageSwitch(show));

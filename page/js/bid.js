@@ -24,7 +24,7 @@ class BidForm {
     const { round, bid, alive, link } = view;
     Object.assign(this, { view, bid, open: null }); // open: what was sent and not answered, to be sent again as it is
     this.typed = bidDraft(link);
-    this.stands = h('div', { id: 'stands', 'aria-live': 'polite' });
+    this.stands = h('div', { id: 'stands' });
     this.along = h('div', {});
     this.earlier = h('div', {});
     this.message = h('div', { id: 'message' });

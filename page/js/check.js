@@ -1,5 +1,5 @@
-// The second checker of certificates, by the rules of docs/CERTIFICATES.md, with exact arithmetic. Pure, and not proved: the proved one is
-// in judge/, and shares no code with it. Each rule is [its sentence in words.js, whether it holds].
+// The second checker of certificates by the rules of docs/CERTIFICATES.md, with exact arithmetic. Pure, and not proved:
+// the proved one is in judge/, and shares no code with it. Each rule is [its sentence in words.js, whether it holds].
 import { frac, same, total } from './fractions.js';
 import { LIMITS } from './rules.js';
 
@@ -7,89 +7,144 @@ const NUMBER = new RegExp(`^(0|-?[1-9]\\d{0,${LIMITS.digits - 1}})$`);
 const sum = (list) => list.reduce((a, b) => a + b, 0n);
 const range = (n, from = 0) => Array.from({ length: n }, (_, i) => i + from);
 const power = (base, exponent) => BigInt(base) ** BigInt(exponent);
+/** The sets of riders but the empty one, each as its bits, and the riders of one. */
+const setsOf = (n) => range((1 << n) - 1, 1);
+const ridersOf = (set, n) => range(n).filter((r) => set & (1 << r));
+const isAtMost = (a, b) => a.n * b.d <= b.n * a.d;
 const rising = (list, most) => list.every((x, i) => x >= 1n && x <= most && (i === 0 || list[i - 1] < x));
 const isOrder = (list) => [...list].sort((a, b) => (a < b ? -1 : 1)).every((x, i) => x === BigInt(i + 1));
 /** Lists of small numbers in the order of dictionaries: below 0, 0 or above. */
-const compare = (a, b) => { for (let i = 0; i < a.length; i++) if (a[i] !== b[i]) return a[i] - b[i]; return 0; };
+function compare(a, b) {
+  const i = a.findIndex((x, at) => x !== b[at]);
+  return i < 0 ? 0 : a[i] - b[i];
+}
+/** A page can go on after so many marks of a tree. */
+const YIELDS = 20_000;
 
 class BadLine extends Error { constructor(line) { super(`line ${line}`); this.line = line; } }
+
+/** The lines of a certificate, read one by one. Each method throws at a line that is not valid. */
+class Lines {
+  constructor(text) { Object.assign(this, { lines: text.split('\n'), at: 0 }); }
+
+  bad() { throw new BadLine(this.at); }
+
+  next() {
+    const line = this.lines[this.at++];
+    return this.at < this.lines.length ? line : this.bad();
+  }
+
+  literal(wanted) { if (this.next() !== wanted) this.bad(); }
+
+  /** What a pattern finds in the next line. */
+  match(pattern) { return pattern.exec(this.next())?.[1] ?? this.bad(); }
+
+  number(word) { return NUMBER.test(word) ? BigInt(word) : this.bad(); }
+
+  /** A whole number, or a fraction in lowest terms. */
+  fraction(word) {
+    const [n, d, ...more] = word.split('/');
+    if (d === undefined) return frac(this.number(n));
+    const got = { n: this.number(n), d: this.number(d) };
+    const isValid = more.length === 0 && got.d >= 2n && got.d <= LIMITS.denominator && same(got, frac(got.n, got.d));
+    return isValid ? got : this.bad();
+  }
+
+  words(word, n) {
+    const [first, ...rest] = this.next().split(' ');
+    return first === word && rest.length === n ? rest : this.bad();
+  }
+
+  row(word, n) { return this.words(word, n).map((one) => this.number(one)); }
+  rows(word, n, m) { return range(n).map(() => this.row(word, m)); }
+  fractions(word, n) { return this.words(word, n).map((one) => this.fraction(one)); }
+  one(word) { return this.row(word, 1)[0]; }
+
+  /** How many there are of something. */
+  count(word, most) {
+    const got = this.one(word);
+    return got >= 1n && got <= most ? Number(got) : this.bad();
+  }
+
+  /** The last line, with nothing behind it. */
+  end() {
+    this.literal('end');
+    this.at++;
+    if (this.lines.length !== this.at || this.lines[this.at - 1] !== '') this.bad();
+  }
+}
+
+/** What the lines between the kind and the end say. */
+const READS = {
+  rent(lines) {
+    const n = lines.count('members', LIMITS.members[1]);
+    const said = { n, rent: lines.one('rent'), values: lines.rows('values', n, n) };
+    for (const word of ['rooms', 'left', 'right', 'walks', 'ranks']) said[word] = lines.row(word, n);
+    return { ...said, prices: lines.fractions('prices', n) };
+  },
+  goods(lines) {
+    const n = lines.count('players', LIMITS.members[1]);
+    const g = lines.count('goods', LIMITS.goods[1]);
+    return { n, g, limit: lines.one('limit'), who: lines.row('who', n), values: lines.rows('values', n, g),
+      owners: lines.row('owners', g), steps: lines.one('steps'), tree: lines.match(/^tree ([-+=]*)$/) };
+  },
+  fares(lines) {
+    const n = lines.count('riders', LIMITS.riders[1]);
+    const places = lines.count('places', LIMITS.places[1]);
+    const said = { n, places, flag: lines.one('flag'), legs: lines.rows('legs', places + 1, places),
+      who: lines.row('who', n), at: lines.row('at', n), sets: [null] };
+    for (const set of setsOf(n)) {
+      const [number, ...costs] = lines.row('set', 2 + n - ridersOf(set, n).length);
+      said.sets.push(number === BigInt(set) ? costs : lines.bad());
+    }
+    return { ...said, route: lines.row('route', n), fares: lines.fractions('fares', n) };
+  },
+};
 
 /** Reads a certificate: what its lines say, as BigInts. Throws at the first line that is not valid. */
 export function read(text) {
   if (new TextEncoder().encode(text).length > LIMITS.certificate) throw new BadLine('too long');
-  const lines = text.split('\n');
-  let at = 0;
-  const bad = () => { throw new BadLine(at); };
-  const line = () => { const got = lines[at++]; if (at >= lines.length) bad(); return got; };
-  const number = (word) => (NUMBER.test(word) ? BigInt(word) : bad());
-  const fraction = (word) => {
-    const [n, d] = word.split('/');
-    if (d === undefined) return frac(number(n));
-    const got = { n: number(n), d: number(d) };
-    return word.split('/').length === 2 && got.d >= 2n && got.d <= LIMITS.denominator && same(got, frac(got.n, got.d)) ? got : bad();
-  };
-  const row = (word, n, kind = number) => {
-    const words = line().split(' ');
-    if (words[0] !== word || words.length !== n + 1) bad();
-    return words.slice(1).map((w) => kind(w));
-  };
-  const count = (word, most) => { const [got] = row(word, 1); return got >= 1n && got <= most ? Number(got) : bad(); };
-  const rows = (word, n, m) => range(n).map(() => row(word, m));
-  const literal = (wanted) => { if (line() !== wanted) bad(); };
-  literal('fairsplit 1');
-  const kind = /^kind (rent|goods|fares)$/.exec(line())?.[1] ?? bad();
-  const said = { kind };
-  if (kind === 'rent') {
-    const n = (said.n = count('members', LIMITS.members[1]));
-    [said.rent] = row('rent', 1);
-    Object.assign(said, { values: rows('values', n, n), rooms: row('rooms', n), left: row('left', n), right: row('right', n), walks: row('walks', n), ranks: row('ranks', n), prices: row('prices', n, fraction) });
-  } else if (kind === 'goods') {
-    const n = (said.n = count('players', LIMITS.members[1]));
-    const g = (said.g = count('goods', LIMITS.goods[1]));
-    [said.limit] = row('limit', 1);
-    Object.assign(said, { who: row('who', n), values: rows('values', n, g), owners: row('owners', g) });
-    [said.steps] = row('steps', 1);
-    said.tree = /^tree ([-+=]*)$/.exec(line())?.[1] ?? bad();
-  } else {
-    const n = (said.n = count('riders', LIMITS.riders[1]));
-    const places = (said.places = count('places', LIMITS.places[1]));
-    [said.flag] = row('flag', 1);
-    Object.assign(said, { legs: rows('legs', places + 1, places), who: row('who', n), at: row('at', n), sets: [null] });
-    for (let set = 1; set < 1 << n; set++) {
-      const got = row('set', 2 + n - range(n).filter((r) => set & (1 << r)).length);
-      if (got.shift() !== BigInt(set)) bad();
-      said.sets.push(got);
-    }
-    Object.assign(said, { route: row('route', n), fares: row('fares', n, fraction) });
-  }
-  literal('end');
-  at++;
-  if (lines.length !== at || lines[at - 1] !== '') bad();
+  const lines = new Lines(text);
+  lines.literal('fairsplit 1');
+  const kind = lines.match(/^kind (rent|goods|fares)$/);
+  const said = { kind, ...READS[kind](lines) };
+  lines.end();
   return said;
 }
 
 const RENT = [
-  ['rules.rent.1', ({ n, rent, values }) => n >= LIMITS.members[0] && rent >= 1n && rent <= LIMITS.rent && values.every((row) => row.every((v) => v >= 0n) && sum(row) === rent)],
+  ['rules.rent.1', ({ n, rent, values }) => n >= LIMITS.members[0] && rent >= 1n && rent <= LIMITS.rent
+    && values.every((row) => row.every((v) => v >= 0n) && sum(row) === rent)],
   ['rules.rent.2', ({ rooms }) => isOrder(rooms)],
   ['rules.rent.3', (c) => range(c.n).every((m) => range(c.n).every((r) => c.left[m] + c.right[r] >= c.key(m, r)))],
   ['rules.rent.4', (c) => range(c.n).every((m) => c.left[m] + c.right[c.own(m)] === c.key(m, c.own(m)))],
-  ['rules.rent.5', (c) => range(c.n).every((to) => c.walks[to] >= 0n && range(c.n).every((from) => c.walks[from] + c.step(from, to) <= c.walks[to]))],
-  ['rules.rent.6', (c) => range(c.n).every((to) => (c.ranks[to] === 0n && c.walks[to] === 0n) || (c.ranks[to] >= 1n && c.ranks[to] < BigInt(c.n) && range(c.n).some((from) => c.ranks[from] + 1n === c.ranks[to] && c.walks[from] + c.step(from, to) === c.walks[to])))],
+  ['rules.rent.5', (c) => range(c.n).every((to) => c.walks[to] >= 0n
+    && range(c.n).every((from) => c.walks[from] + c.step(from, to) <= c.walks[to]))],
+  ['rules.rent.6', (c) => range(c.n).every((to) => (c.ranks[to] === 0n && c.walks[to] === 0n) || isReached(c, to))],
   ['rules.rent.7', (c) => {
     const n = BigInt(c.n);
     const least = sum(range(c.n).map((m) => c.values[m][c.own(m)])) - c.rent - sum(c.walks);
-    return range(c.n).every((m) => same(c.prices[c.own(m)], frac(n * c.values[m][c.own(m)] - least - n * c.walks[m], n)));
+    const price = (m) => frac(n * c.values[m][c.own(m)] - least - n * c.walks[m], n);
+    return range(c.n).every((m) => same(c.prices[c.own(m)], price(m)));
   }],
 ];
 
+/** Whether the walk to a member goes on from one of the rank below. */
+function isReached({ n, ranks, walks, step }, to) {
+  const isBefore = (from) => ranks[from] + 1n === ranks[to] && walks[from] + step(from, to) === walks[to];
+  return ranks[to] >= 1n && ranks[to] < BigInt(n) && range(n).some(isBefore);
+}
+
 function rentCase(said) {
-  const { n, values, rooms } = said;
+  const { n, values, rooms, prices } = said;
   const c = { ...said, own: (m) => Number(rooms[m]) - 1 };
   c.key = (m, r) => values[m][r] * power(n, n) - BigInt(r) * power(n, n - 1 - m);
   c.step = (from, to) => values[to][c.own(from)] - values[from][c.own(from)];
+  const gain = (m, r) => frac(values[m][r] * prices[r].d - prices[r].n, prices[r].d);
+  const isContent = (m) => range(n).every((r) => isAtMost(gain(m, r), gain(m, c.own(m))));
   c.facts = () => [
-    ['facts.prices', same(total(c.prices), frac(c.rent))],
-    ['facts.envyFree', range(n).every((m) => { const gain = (r) => frac(values[m][r] * c.prices[r].d - c.prices[r].n, c.prices[r].d); const mine = gain(c.own(m)); return range(n).every((r) => { const other = gain(r); return other.n * mine.d <= mine.n * other.d; }); })],
+    ['facts.prices', same(total(prices), frac(c.rent))],
+    ['facts.envyFree', range(n).every(isContent)],
   ];
   return c;
 }
@@ -97,36 +152,46 @@ function rentCase(said) {
 /** The cost of the cheapest way for each set of riders, from each place, found anew and not read off the lines. */
 function costsOf({ n, legs, at }) {
   const costs = [Array(legs.length).fill(0n)];
-  for (let set = 1; set < 1 << n; set++) {
-    costs.push(range(legs.length).map((from) => {
-      let least = null;
-      for (let r = 0; r < n; r++) if (set & (1 << r)) { const to = Number(at[r]); const all = legs[from][to - 1] + costs[set ^ (1 << r)][to]; if (least === null || all < least) least = all; }
-      return least;
-    }));
+  const first = (set, from) => (r) => {
+    const to = Number(at[r]);
+    return legs[from][to - 1] + costs[set ^ (1 << r)][to];
+  };
+  const least = (all) => all.reduce((a, b) => (b < a ? b : a));
+  for (const set of setsOf(n)) {
+    const riders = ridersOf(set, n);
+    costs.push(range(legs.length).map((from) => least(riders.map(first(set, from)))));
   }
   return costs;
 }
 
-/** The Shapley value of each rider: over all sets of others, what the rider adds, times in how many orders just these go before. */
+/** The Shapley value of each rider: over all sets of others, what the rider adds, times in how many orders just these
+    go before. */
 function shapley({ n, flag }, costs) {
   const factorial = (k) => (k < 2 ? 1n : BigInt(k) * factorial(k - 1));
-  const size = (set) => range(n).filter((r) => set & (1 << r)).length;
+  const orders = (set) => factorial(ridersOf(set, n).length) * factorial(n - ridersOf(set, n).length - 1);
   const worth = (set) => (set ? flag + costs[set][0] : 0n);
-  return range(n).map((r) => {
-    let all = 0n;
-    for (let set = 0; set < 1 << n; set++) if (!(set & (1 << r))) all += factorial(size(set)) * factorial(n - size(set) - 1) * (worth(set | (1 << r)) - worth(set));
-    return frac(all, factorial(n));
-  });
+  const others = (r) => [0, ...setsOf(n)].filter((set) => !(set & (1 << r)));
+  const added = (r) => sum(others(r).map((set) => orders(set) * (worth(set | (1 << r)) - worth(set))));
+  return range(n).map((r) => frac(added(r), factorial(n)));
 }
 
+const isCost = (cents) => cents >= 0n && cents <= LIMITS.cost;
+
 const FARES = [
-  ['rules.fares.1', ({ flag, legs, who, at, places }) => flag >= 0n && flag <= LIMITS.cost && legs.every((row, from) => row.every((leg, to) => leg >= 0n && leg <= LIMITS.cost && (from !== to + 1 || leg === 0n))) && rising(who, LIMITS.riders[1]) && at.every((p) => p >= 1n && p <= BigInt(places))],
-  ['rules.fares.2', (c) => range((1 << c.n) - 1, 1).every((set) => { const froms = [0, ...range(c.n).filter((r) => !(set & (1 << r))).map((r) => Number(c.at[r]))]; return froms.every((from, i) => c.sets[set][i] === c.costs[set][from]); })],
+  ['rules.fares.1', ({ flag, legs, who, at, places }) => isCost(flag)
+    && legs.every((row, from) => row.every((leg, to) => isCost(leg) && (from !== to + 1 || leg === 0n)))
+    && rising(who, LIMITS.riders[1]) && at.every((place) => place >= 1n && place <= BigInt(places))],
+  ['rules.fares.2', (c) => setsOf(c.n).every((set) => {
+    const others = range(c.n).filter((r) => !(set & (1 << r)));
+    return [0, ...others.map((r) => Number(c.at[r]))].every((from, i) => c.sets[set][i] === c.costs[set][from]);
+  })],
   ['rules.fares.3', ({ route }) => isOrder(route)],
   ['rules.fares.4', (c) => {
     let left = (1 << c.n) - 1, from = 0;
+    const isCheapest = (r) => left & (1 << r)
+      && c.legs[from][Number(c.at[r]) - 1] + c.costs[left ^ (1 << r)][Number(c.at[r])] === c.costs[left][from];
     return c.route.every((rider) => {
-      const lowest = range(c.n).find((r) => left & (1 << r) && c.legs[from][Number(c.at[r]) - 1] + c.costs[left ^ (1 << r)][Number(c.at[r])] === c.costs[left][from]);
+      const lowest = range(c.n).find(isCheapest);
       left ^= 1 << lowest; from = Number(c.at[lowest]);
       return BigInt(lowest + 1) === rider;
     });
@@ -136,21 +201,30 @@ const FARES = [
 
 function fareCase(said) {
   const c = { ...said };
-  if (FARES[0][1](c)) { c.costs = costsOf(c); c.values = shapley(c, c.costs); c.total = c.flag + c.costs[(1 << c.n) - 1][0]; }
+  if (FARES[0][1](c)) {
+    c.costs = costsOf(c);
+    c.values = shapley(c, c.costs);
+    c.total = c.flag + c.costs[(1 << c.n) - 1][0];
+  }
   c.facts = () => {
     let from = 0, along = c.flag;
-    for (const rider of c.route) { const to = Number(c.at[Number(rider) - 1]); along += c.legs[from][to - 1]; from = to; }
-    return [
-      ['facts.fares', same(total(c.fares), frac(c.total))],
-      ['facts.route', along === c.total],
-    ];
+    for (const rider of c.route) {
+      const to = Number(c.at[Number(rider) - 1]);
+      along += c.legs[from][to - 1];
+      from = to;
+    }
+    return [['facts.fares', same(total(c.fares), frac(c.total))], ['facts.route', along === c.total]];
   };
   return c;
 }
 
 /** A pair: how many have points at all, and the product of their points. */
-const pairOf = (points) => { const some = points.filter((p) => p > 0); return { count: some.length, product: some.reduce((a, p) => a * BigInt(p), 1n) }; };
+function pairOf(points) {
+  const some = points.filter((p) => p > 0);
+  return { count: some.length, product: some.reduce((a, p) => a * BigInt(p), 1n) };
+}
 const comparePairs = (a, b) => a.count - b.count || (a.product < b.product ? -1 : a.product > b.product ? 1 : 0);
+const sum0 = (list) => { let all = 0; for (const x of list) all += x; return all; };
 
 /** The greatest pair of whole points between low and high with a sum of at most top. */
 function bound(low, high, top) {
@@ -166,13 +240,15 @@ function bound(low, high, top) {
   while (to - from > 1) { const mid = (from + to) >> 1; if (sum0(filled(mid)) <= room) from = mid; else to = mid; }
   const points = filled(from);
   left = room - sum0(points);
-  for (let i = 0; i < points.length && left > 0; i++) if (points[i] === from && highs[i] > from) { points[i]++; left--; }
+  for (let i = 0; i < points.length && left > 0; i++) {
+    if (points[i] === from && highs[i] > from) { points[i]++; left--; }
+  }
   return pairOf(points);
 }
-const sum0 = (list) => { let all = 0; for (const x of list) all += x; return all; };
 
 const GOODS = [
-  ['rules.goods.1', ({ limit, who, values }) => limit >= 1n && limit <= LIMITS.steps && rising(who, LIMITS.members[1]) && values.every((row) => row.every((v) => v >= 0n) && sum(row) === BigInt(LIMITS.points))],
+  ['rules.goods.1', ({ limit, who, values }) => limit >= 1n && limit <= LIMITS.steps && rising(who, LIMITS.members[1])
+    && values.every((row) => row.every((v) => v >= 0n) && sum(row) === BigInt(LIMITS.points))],
   ['rules.goods.2', ({ owners, n }) => owners.every((o) => o >= 1n && o <= BigInt(n))],
   ['rules.goods.3', ({ walk }) => walk.tree],
   ['rules.goods.4', ({ walk }) => walk.tree && walk.cuts],
@@ -180,69 +256,112 @@ const GOODS = [
   ['rules.goods.6', ({ walk }) => walk.tree && walk.answer],
 ];
 
-/** Walks the tree of bounds. Yields now and then, so that a page can go on; returns what it saw. */
-function* walkTree({ n, g, values, owners, tree }) {
-  const points = values.map((row) => row.map(Number));
-  const greatest = range(g).map((good) => Math.max(...points.map((row) => row[good])));
-  const order = range(g).sort((a, b) => greatest[b] - greatest[a] || a - b);
-  const answer = order.map((good) => Number(owners[good]) - 1);
-  const have = Array(n).fill(0);
-  answer.forEach((owner, i) => { have[owner] += points[owner][order[i]]; });
-  const goal = pairOf(have);
-  // what lies behind a depth: for each player all points still to come, and the sum of the greatest
-  const tails = range(g + 1).map((depth) => points.map((row) => sum0(order.slice(depth).map((good) => row[good]))));
-  const tops = range(g + 1).map((depth) => sum0(order.slice(depth).map((good) => greatest[good])));
-  const seen = { tree: true, cuts: true, leaves: true, answer: true, marks: tree.length, order, pair: goal };
-  const prefix = [], low = Array(n).fill(0);
-  let at = 0, over = false; // over: the whole tree was read
-  const up = () => { // goes on to the next sibling, or up
-    while (prefix.length) {
-      const owner = prefix.pop();
-      low[owner] -= points[owner][order[prefix.length]];
-      if (owner + 1 < n) { down(owner + 1); return; }
-    }
-    over = true;
-  };
-  const down = (owner) => { low[owner] += points[owner][order[prefix.length]]; prefix.push(owner); };
-  for (; at < tree.length && !over; at++) {
-    if (at % 20_000 === 19_999) yield at;
-    const mark = tree[at], whole = prefix.length === g;
-    if (mark === '+') { if (whole) { seen.tree = false; return seen; } down(0); continue; }
-    if (mark === '=') { if (!whole) { seen.tree = false; return seen; } if (compare(prefix, answer) !== 0) seen.answer = false; up(); continue; }
-    const depth = prefix.length;
-    const best = whole ? pairOf(low) : bound(low, low.map((l, i) => l + tails[depth][i]), sum0(low) + tops[depth]);
-    const by = comparePairs(best, goal);
-    if (by > 0 || (by === 0 && compare(prefix, answer) <= 0)) seen[whole ? 'leaves' : 'cuts'] = false;
-    up();
+/** A walk through the tree of bounds, mark by mark: where it is, what each player has there, and what it saw. */
+class Walk {
+  constructor({ n, g, values, owners, tree }) {
+    const points = values.map((row) => row.map(Number));
+    const greatest = range(g).map((good) => Math.max(...points.map((row) => row[good])));
+    const order = range(g).sort((a, b) => greatest[b] - greatest[a] || a - b);
+    const answer = order.map((good) => Number(owners[good]) - 1);
+    const have = Array(n).fill(0);
+    answer.forEach((owner, i) => { have[owner] += points[owner][order[i]]; });
+    // what lies behind a depth: for each player all points still to come, and the sum of the greatest
+    const tails = range(g + 1).map((depth) => points.map((row) => sum0(order.slice(depth).map((good) => row[good]))));
+    const tops = range(g + 1).map((depth) => sum0(order.slice(depth).map((good) => greatest[good])));
+    const seen = { tree: true, cuts: true, leaves: true, answer: true, marks: tree.length, order, pair: pairOf(have) };
+    Object.assign(this, { n, g, points, order, answer, tails, tops, seen });
+    Object.assign(this, { prefix: [], low: Array(n).fill(0), isOver: false }); // over: the whole tree was read
   }
-  seen.tree = over && at === tree.length;
-  return seen;
+
+  get isWhole() { return this.prefix.length === this.g; }
+
+  down(owner) {
+    this.low[owner] += this.points[owner][this.order[this.prefix.length]];
+    this.prefix.push(owner);
+  }
+
+  /** Goes on to the next sibling, or up. */
+  up() {
+    while (this.prefix.length) {
+      const owner = this.prefix.pop();
+      this.low[owner] -= this.points[owner][this.order[this.prefix.length]];
+      if (owner + 1 < this.n) { this.down(owner + 1); return; }
+    }
+    this.isOver = true;
+  }
+
+  /** The best pair that can lie at this place or below. */
+  best() {
+    const { low, prefix: { length } } = this;
+    if (this.isWhole) return pairOf(low);
+    return bound(low, low.map((l, i) => l + this.tails[length][i]), sum0(low) + this.tops[length]);
+  }
+
+  /** A mark where nothing better may lie. */
+  cut() {
+    const by = comparePairs(this.best(), this.seen.pair);
+    const isBetter = by > 0 || (by === 0 && compare(this.prefix, this.answer) <= 0);
+    if (isBetter) this.seen[this.isWhole ? 'leaves' : 'cuts'] = false;
+  }
+
+  /** Takes one mark; whether it may stand here. */
+  take(mark) {
+    if (mark === '+') {
+      if (this.isWhole) return false;
+      this.down(0);
+      return true;
+    }
+    if (mark === '=' && !this.isWhole) return false;
+    if (mark === '=') this.seen.answer &&= compare(this.prefix, this.answer) === 0;
+    else this.cut();
+    this.up();
+    return true;
+  }
+}
+
+/** Walks the tree of bounds. Yields now and then, so that a page can go on; returns what it saw. */
+function* walkTree(said) {
+  const walk = new Walk(said);
+  const { tree } = said;
+  let at = 0;
+  for (; at < tree.length && !walk.isOver; at++) {
+    if (at % YIELDS === YIELDS - 1) yield at;
+    if (!walk.take(tree[at])) return { ...walk.seen, tree: false };
+  }
+  walk.seen.tree = walk.isOver && at === tree.length;
+  return walk.seen;
 }
 
 function goodsCase(said, walk) {
-  const c = { ...said, walk };
-  const has = (player, other, without) => sum(c.owners.map((o, good) => (Number(o) === other + 1 && good !== without ? c.values[player][good] : 0n)));
-  c.facts = () => [['facts.envyOne', range(c.n).every((p) => range(c.n).every((q) => has(p, q) <= has(p, p) || c.owners.some((o, good) => Number(o) === q + 1 && has(p, q, good) <= has(p, p))))]];
-  return c;
+  const { n, owners, values } = said;
+  const owned = (other) => range(owners.length).filter((good) => Number(owners[good]) === other + 1);
+  const has = (player, other, without) => sum(owned(other).map((g) => (g === without ? 0n : values[player][g])));
+  const isContent = (p, q) => has(p, q) <= has(p, p) || owned(q).some((good) => has(p, q, good) <= has(p, p));
+  const facts = () => [['facts.envyOne', range(n).every((p) => range(n).every((q) => isContent(p, q)))]];
+  return { ...said, walk, facts };
 }
 
+const CASES = { rent: [RENT, rentCase], goods: [GOODS, goodsCase], fares: [FARES, fareCase] };
+
 /** Judges a certificate: a generator that yields while it walks a long tree, and returns
-    { verdict: 'yes' | 'no' | 'refused', rule, line, rules: [[text, holds]], facts: [[text, holds]] }, and what the lines say as `said`. */
+    { verdict: 'yes' | 'no' | 'refused', rule, line, rules: [[text, holds]], facts: [[text, holds]] },
+    and what the lines say as `said`. */
 export function* judging(text) {
   let said;
-  try { said = read(text); } catch (fault) { if (fault instanceof BadLine) return { verdict: 'refused', line: fault.line, rules: [], facts: [] }; throw fault; }
-  const table = { rent: RENT, goods: GOODS, fares: FARES }[said.kind];
-  const first = said.kind === 'goods' && table[0][1](said) && table[1][1](said);
-  const c = said.kind === 'rent' ? rentCase(said) : said.kind === 'fares' ? fareCase(said) : goodsCase(said, first ? yield* walkTree(said) : null);
-  const rules = [];
-  let rule = 0;
-  for (const [says, holds] of table) {
-    const ok = rule === 0 && Boolean(holds(c));
-    if (rule > 0) break;
-    rules.push([says, ok]);
-    if (!ok) rule = rules.length;
+  try { said = read(text); } catch (fault) {
+    if (!(fault instanceof BadLine)) throw fault;
+    return { verdict: 'refused', line: fault.line, rules: [], facts: [] };
   }
-  return { verdict: rule ? 'no' : 'yes', rule, rules, facts: rule ? [] : c.facts(), said };
+  const [table, caseOf] = CASES[said.kind];
+  const isWalked = said.kind === 'goods' && table[0][1](said) && table[1][1](said);
+  const c = caseOf(said, isWalked ? yield* walkTree(said) : null);
+  const rules = [];
+  for (const [says, holds] of table) {
+    const ok = Boolean(holds(c));
+    rules.push([says, ok]);
+    if (!ok) return { verdict: 'no', rule: rules.length, rules, facts: [], said };
+  }
+  return { verdict: 'yes', rule: 0, rules, facts: c.facts(), said };
 }
 
 /** A verdict as the line that `fairsplit check` writes. */

@@ -1,6 +1,6 @@
 // The form that makes a round.
 import { announce, box, byId, faultLine, field, fill, h, heading, p, showFault } from './dom.js';
-import { locale, names, t, text } from './language.js';
+import { entitle, locale, names, t, text } from './language.js';
 import { LIMITS, STEP, THINGS } from './rules.js';
 import { odds } from './odds.js';
 import { doubles, faults, rowsThatCount } from './faults.js';
@@ -230,11 +230,9 @@ class CreationForm {
 
   /** All that is wrong, on top, with the way to each; and the word for it in the title. */
   summarise(wrong) {
-    document.title = [wrong.size > 0 && text('form.error'), text(`kinds.${this.kind}.title`), '–', text('site')]
-      .filter(Boolean).join(' ');
+    entitle([wrong.size > 0 && text('form.error'), text(`kinds.${this.kind}.title`)].filter(Boolean).join(' '));
     const to = (id) => (event) => { event.preventDefault(); byId(id)?.focus(); };
-    const line = ([id, says]) => h('li', {},
-      h('a', { href: location.hash, click: to(id) }, this.labelOf(id), ': ', says));
+    const line = ([id, says]) => h('li', {}, h('a', { href: location.hash, click: to(id) }, this.about(id, says)));
     fill(this.summary, wrong.size > 0 && h('div', { class: 'box bad', tabindex: -1 },
       h('h2', {}, t('form.mend', { n: wrong.size })), h('ul', {}, [...wrong].map(line))));
   }
@@ -244,6 +242,12 @@ class CreationForm {
     if (which === 'legs') return this.ways.way(...at.map(Number));
     if (which === 'members') return `${this.people.label} ${Number(at[0]) + 1}`;
     return which === 'things' ? `${this.things.label} ${Number(at[0]) + 1}` : text(`form.${which}`);
+  }
+
+  /** A sentence about a field, behind its label; there is no colon behind a question. */
+  about(id, says) {
+    const label = this.labelOf(id);
+    return label.endsWith('?') ? `${label} ${says}` : text('titles.member', { title: label, name: says });
   }
 
   async send(event) {

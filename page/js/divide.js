@@ -2,7 +2,7 @@
 // proved solver, and is shown only when the proved judge says yes to it.
 import { action, announce, box, fill, h, heading, name, p } from './dom.js';
 import { card, download } from './parts.js';
-import { number, t, text } from './language.js';
+import { entitle, number, t, text } from './language.js';
 import { THINGS } from './rules.js';
 import { judge } from './judges.js';
 import { findings, showVerdicts, tellBranches, verdictBox } from './proof.js';
@@ -23,7 +23,9 @@ class Division {
 
   draw(...children) {
     fill(this.root, !this.alone && p(h('a', { href: '#' }, '← ', t('toStart'))), ...children);
-    this.root.querySelector('h1').focus();
+    const title = this.root.querySelector('h1');
+    title.focus();
+    entitle(title.textContent);
   }
 
   /** The first view: which kind? */

@@ -38,7 +38,7 @@ export function faults(creation, now) {
   const found = [];
   const wrong = (field, says, at = '') => { if (says) found.push({ field, at, says }); };
   const list = (field) => creation[field].forEach((text, i) => wrong(field, nameFault(text), i));
-  wrong('title', nameFault(creation.title));
+  wrong('title', creation.title === '' ? ['faults.title'] : nameFault(creation.title));
   list('members');
   list(THINGS[kind]);
   if (kind === 'rent') wrong('rent', amountFault(creation.rent, 1, LIMITS.rent));

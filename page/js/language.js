@@ -72,6 +72,9 @@ export function t(path, given = {}) {
 export const text = (path, given) => (
   t(path, given).flat(Infinity).map((part) => part?.textContent ?? String(part)).join(''));
 
+/** Gives the window a title of its own for each view. */
+export function entitle(...words) { document.title = [...words, text('site')].filter(Boolean).join(' – '); }
+
 /** Names in a row, with commas and an "and". */
 export const names = (list) => new Intl.ListFormat(locale()).formatToParts(list)
   .map(({ type, value }) => (type === 'element' ? name(value) : value));

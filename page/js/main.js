@@ -1,6 +1,6 @@
 // Which view is shown goes by the fragment: nothing, #new-KIND, #check, or the link of a round.
 import { action, announce, box, byId, fill, h, heading, p, tableStyle } from './dom.js';
-import { languageSwitch, learn, t, text } from './language.js';
+import { entitle, languageSwitch, learn, t, text } from './language.js';
 import { parse } from './link.js';
 import { askBeforeLeaving } from './store.js';
 
@@ -12,8 +12,10 @@ let view = null; // the round that is shown, as its module
 function notLoaded(isAll) {
   const again = action({ class: 'main', click: () => location.reload() }, t('again'));
   const says = box('bad', p(t('load.why')), h('p', { class: 'row' }, again));
-  if (isAll) fill(root, heading(t('load.title')), says);
-  else root.prepend(says);
+  if (isAll) {
+    entitle(text('load.title'));
+    fill(root, heading(t('load.title')), says);
+  } else root.prepend(says);
   announce(text('load.why'));
 }
 

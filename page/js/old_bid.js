@@ -40,7 +40,7 @@ function comparison(round, old) {
   const now = rounded(old);
   const rows = round.goods.map((good, i) => h('tr', {}, h('th', { scope: 'row' }, name(good)),
     h('td', {}, old[i]), h('td', {}, h('strong', {}, now[i]))));
-  return table(text('old.table'), [t('goods.thing'), t('old.then'), t('old.now')], rows);
+  return table(text('old.table'), [t('kinds.goods.thing'), t('old.then'), t('old.now')], rows);
 }
 
 /** Offers the old numbers in `place`; `take` puts the rounded ones into the form. */

@@ -1,7 +1,7 @@
 // A round as its link shows it. Who has bid, one's own bid, the organiser's links and the result have files of their
 // own, loaded when needed.
 import { action, box, fill, h, heading, name, p, turn } from './dom.js';
-import { locale, t, text } from './language.js';
+import { entitle, locale, t, text } from './language.js';
 import { setCurrency } from './money.js';
 import { NoReply, SLOW, get, isRound, sentence } from './api.js';
 import { seen } from './seen.js';
@@ -36,14 +36,19 @@ const topOf = ({ kind, title, members, you }, link) => h('header', { class: 'top
 const ways = (retry) => h('p', { class: 'row' }, action({ class: 'main', click: retry }, t('again')),
   h('a', { href: '#' }, t('toStart')));
 
-/** Why nothing can be shown. */
-const shut = (refused, retry) => (refused instanceof NoReply
-  ? [heading(t('noReply.title')), box('bad', sentence(refused)), ways(retry)]
-  : [heading(t('link.shut')), box('bad', sentence(refused)), p(t('link.lost')), p(t('link.lostOwn')), ways(retry)]);
+/** Says why nothing can be shown. */
+function shut(root, refused, retry) {
+  const isLost = refused instanceof NoReply;
+  const title = isLost ? 'noReply.title' : 'link.shut';
+  entitle(text(title));
+  turn(root, heading(t(title)), box('bad', sentence(refused)),
+    !isLost && [p(t('link.lost')), p(t('link.lostOwn'))], ways(retry));
+}
 
 /** Says that the host is asked, and after a while that it takes long; answers how to end that. */
 function waiting(root, retry) {
   const status = h('div', { role: 'status' }, p(t('asking')));
+  entitle(text('wait'));
   turn(root, heading(t('wait')), status);
   const slow = setTimeout(() => fill(status, p(t('noReply.slow')), ways(retry)), SLOW);
   return () => clearTimeout(slow);
@@ -65,13 +70,13 @@ async function draw(root, link, reload, closing = false) {
   try { ({ round, bid } = await ask(path, link)); } catch (refused) {
     if (!alive()) return;
     if (refused.code === 'closed' && !closing) await draw(root, link, reload, true);
-    else turn(root, shut(refused, reload));
+    else shut(root, refused, reload);
     return;
   } finally { answered(); }
   if (!alive()) return;
   const view = { link, path, round, bid, alive, reload };
   const face = (round.closed && seen(link)) || round;
-  document.title = `${roleOf(face)} – ${text('site')}`;
+  entitle(roleOf(face));
   root.dataset.view = round.closed ? 'result' : round.you > 0 ? 'bid' : 'organiser';
   const top = topOf(face, link);
   await (round.closed ? (await import('./closed.js')).showClosed : showOpen)(root, top, view);

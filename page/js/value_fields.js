@@ -60,7 +60,7 @@ export class ValueFields {
       ?? h('input', { ...attributes, inputmode: 'numeric', autocomplete: 'off', input: () => this.count() });
     const slide = () => { this.write(i, this.written(Number(slider.value))); this.count(); };
     const slider = h('input', { type: 'range', min: 0, max: this.total, step: this.step, value: 0, input: slide,
-      'aria-label': text('bid.slider', { thing }) });
+      'aria-label': thing });
     const toRest = { class: 'small', 'aria-label': text('bid.fitOf', { thing }), click: () => this.fit(i) };
     const fit = action(toRest, t('bid.fit'));
     this.lines.push({ input, field, slider, fit });

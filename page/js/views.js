@@ -1,6 +1,6 @@
 // The views that belong to no round.
 import { box, fill, h, heading, p } from './dom.js';
-import { learnMore, t, text } from './language.js';
+import { entitle, learnMore, t, text } from './language.js';
 import { choose } from './start.js';
 import { pending } from './creation.js';
 
@@ -12,14 +12,13 @@ export async function showOwn(root, hash) {
   const { divideView } = hash === '#divide' ? await import('./divide.js') : {};
   await learnMore();
   if (hash !== location.hash) return;
-  const named = { '#check': 'check.link', '#divide': 'divide.title' }[hash];
-  document.title = named ? `${text(named)} – ${text('site')}` : text('site');
   root.dataset.view = made ? 'form' : { '#check': 'check', '#divide': 'divide' }[hash] ?? 'start';
   if (made) create(root, made[1]);
-  else if (checkView) checkView(root);
+  else if (checkView) { entitle(text('check.link')); checkView(root); }
   else if (divideView) divideView(root);
-  else if (hash === '' || hash === '#') choose(root);
+  else if (hash === '' || hash === '#') { entitle(); choose(root); }
   else {
+    entitle(text('link.broken'));
     fill(root, heading(t('link.broken')), box('bad', t('link.brokenWhy')), p(t('link.lost')), p(t('link.lostOwn')),
       p(h('a', { href: '#' }, t('toStart'))));
   }

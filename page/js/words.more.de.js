@@ -1,5 +1,44 @@
 // The sentences in German of what nobody needs to bid: of results, checks, divisions without a server, and the help.
 export const words = {
+  rent: {
+    title: 'Wer welches Zimmer bekommt', mine: 'Du bekommst *{room}* und zahlst *{amount}*', minePaid: 'Du bekommst *{room}* und dazu *{amount}*',
+    mineWorth: 'Du hast gesagt, dass es dir {worth} wert ist: {gain} mehr, als es kostet.', worth: 'geboten: {worth}',
+    bars: 'Voller Balken: der Preis. Umrandeter Balken: was die Person für das Zimmer geboten hat. Zusammen: *{all}*.', fractions: 'Die genauen Preise haben Bruchteile von Cents. Gezahlt wird so gerundet, dass die Summe stimmt.',
+    envy: 'Niemand würde lieber tauschen', envyWhy: 'Mit einem anderen Zimmer zu dessen Preis stünde niemand besser da. Von allen solchen Preisen geht es bei diesen der am wenigsten zufriedenen Person so gut wie möglich ({least}).',
+    envyTable: 'Gewinn bei Tausch mit', saidTable: 'Was jedes Zimmer jeder Person wert ist. Umrahmt ist, wer es bekommt',
+  },
+  goods: {
+    title: 'Wer was bekommt', mine: 'Du bekommst *{share}*', mineWorth: 'Dir sind das *{points}* von deinen 1000 Punkten wert.', noBid: 'Du hattest nicht geboten, als die Runde schloss, und bist deshalb nicht dabei.',
+    nothing: 'nichts', points: '{points} Punkte: {share}', without: 'Ohne Gebot und deshalb ohne Anteil: {names}.',
+    bars: 'Jeder Balken zeigt den Anteil an den eigenen 1000 Punkten der Person. Möglichst viele bekommen etwas; unter diesen Aufteilungen ist das Produkt aller Punkte so groß wie möglich ({product}, die Nash-Wohlfahrt).',
+    envy: 'Würde jemand lieber tauschen?', content: 'Nein: Niemand beneidet jemanden.', envyOne: '{a} hätte lieber, was {b} hat, aber nicht mehr, wenn man *{good}* davon wegnimmt (EF1).', envyAll: '{a} hätte lieber, was {b} hat, welchen Gegenstand man auch davon wegnimmt.',
+    pareto: 'Keine andere Aufteilung gibt allen mindestens ebenso viel und jemandem mehr (Pareto).', envyTable: 'Gewinn an Punkten bei Tausch mit', saidTable: 'Punkte für jeden Gegenstand. Umrahmt ist, wer ihn bekommt', thing: 'Gegenstand',
+  },
+  fares: {
+    title: 'Wer was zahlt', mine: 'Du steigst hier aus: *{place}*. Du zahlst *{amount}*', minePaid: 'Du steigst hier aus: *{place}*. Du bekommst *{amount}*', mineSaves: 'Allein würdest du {alone} zahlen: Du sparst {saved}.', mineAlone: 'Allein würdest du {alone} zahlen.',
+    noBid: 'Du hattest nicht geboten, als die Runde schloss, und fährst deshalb nicht mit.',
+    route: 'Die Route', start: 'Start', getOn: '{n} steigen ein; Grundpreis {flag}', way: 'Strecke {amount}', total: 'Die Fahrt kostet zusammen *{total}*. Keine andere Reihenfolge ist billiger.',
+    alone: 'allein {amount}', bars: 'Voller Balken: der Anteil. Umrandeter Balken: eine Fahrt allein. Ein Anteil ist der Durchschnitt dessen, was eine Person zu den Kosten hinzufügt, über alle Reihenfolgen, in denen alle dazukommen können (Shapley 1953). Zusammen: {all}.',
+    groupsNone: 'Keine der {of} Gruppen käme mit einer eigenen Fahrt billiger weg.', groups: 'Gruppen, die mit einer eigenen Fahrt billiger wegkämen: {n} von {of}.', worst: 'Am meisten {names}, um {amount}.',
+    ways: 'Was die Strecken kosten', waysTable: 'Ohne den Grundpreis',
+  },
+  none: {
+    title: 'Es gibt kein Ergebnis.', again: 'Neue Runde erstellen', askAgain: 'Bitte die Person, die diese Runde erstellt hat, um eine neue.',
+    oneTap: 'Dieselbe Runde gleich noch einmal',
+    void: '*Es gibt kein Ergebnis.* Ohne Gebot, als die Runde schloss: {names}. Eine geschlossene Runde bleibt geschlossen.', voidRent: '*Es gibt kein Ergebnis.* Ohne Gebot, als die Runde schloss: {names}. Für eine Miete braucht es alle Gebote, und eine geschlossene Runde bleibt geschlossen.',
+    limit: '*Es gibt kein Ergebnis.* Die Suche braucht mehr als {limit} Schritte und hat dort aufgehört.', left: 'Was jetzt noch geht',
+    proposal: 'Oder einigt euch selbst', proposalHow: 'Gebt die Punkte von allen ein, und wählt, wer was bekommt. Ihr seht sofort, wer wen beneiden würde. Das Programm fairsplit sagt auch, ob etwas anderes für alle besser wäre.',
+    proposalTable: 'Wer jeden Gegenstand bekommt, und die Punkte von allen', owner: 'geht an', ownerOf: 'Wer bekommt {thing}?', pointsOf: '{name}: Punkte für {thing}',
+    pointsFault: 'Die Punkte von {name} müssen ganze Zahlen sein, die zusammen {all} ergeben. Jetzt ergeben sie {has}.',
+    has: { one: '{name} bekommt {n} von den eigenen 1000 Punkten.', other: '{name} bekommt {n} von den eigenen 1000 Punkten.' },
+    envyOne: '{a} hätte lieber, was {b} hat, um {n} Punkte, aber nicht mehr, wenn man einen Gegenstand davon wegnimmt (EF1).', envyMore: '{a} hätte lieber, was {b} hat, um {n} Punkte, welchen Gegenstand man auch davon wegnimmt.',
+    notProved: 'Diese Seite hat das aus euren Eingaben berechnet. Nichts davon ist bewiesen.',
+    proposalFile: 'Datei speichern', proposalThen: 'Um den Vorschlag prüfen zu lassen: {command}',
+    round: 'Eine neue Runde', roundHow: 'Ein Tippen erstellt eine Runde mit denselben Personen und Gegenständen, die in einer Woche endet. Schick dann allen den neuen Link: Er hat einen Knopf, der die alten Punkte noch einmal bietet, auf Vielfache von 50 gerundet. Damit ist eine Antwort viel wahrscheinlicher.',
+    roundAsk: 'Bitte die Person, die diese Runde erstellt hat, um eine neue. Dein neuer Link hat einen Knopf, der deine alten Punkte noch einmal bietet, auf Vielfache von 50 gerundet. Damit ist eine Antwort viel wahrscheinlicher.',
+  },
+  files: { title: 'Dateien', whose: 'Das Urteil oben gilt dem Zertifikat. Die anderen Dateien sind nur, was der Server sagt: Davon wurde hier nichts geprüft.', report: 'Bericht', certificate: 'Zertifikat', audit: 'Prüfbericht', winner: 'Adjusted Winner', print: 'Drucken' },
+  unchecked: { title: 'Was der Server sagt' },
   judge: {
     proved: 'So urteilt ein Programm, dessen Richtigkeit bewiesen ist. Es lief hier, in deinem Browser.',
     lowered: 'So urteilt ein Programm, dessen Richtigkeit bewiesen ist. Es lief hier, in deinem Browser, für den es ein weiteres, nicht bewiesenes Werkzeug übersetzt hat.',
@@ -41,7 +80,7 @@ export const words = {
   },
   demo: {
     begin: 'Mit drei erfundenen Personen ausprobieren',
-    title: 'Zum Ausprobieren', lead: 'Drei erfundene Personen. Verschieb, was einer von ihnen etwas wert ist, und sieh, was sich ändert. Jede Aufteilung berechnet bewiesener Code in deinem Browser, und sie wird geprüft, bevor du sie siehst.',
+    title: 'Zum Ausprobieren', lead: 'Drei erfundene Personen. Verschieb einen Regler für das, was jemandem etwas wert ist, und sieh, was sich ändert. Jede Aufteilung berechnet bewiesener Code in deinem Browser, und sie wird geprüft, bevor du sie siehst.',
     of: 'Was {name} sagt', none: 'Dazu gibt es keine Aufteilung.', rent: 'Miete', goods: 'Gegenstände', fares: 'Taxi',
     rentThings: 'Großes Zimmer, Balkonzimmer, Kleines Zimmer', goodsThings: 'Klavier, Uhr, Bilder, Fahrrad', faresThings: 'Bahnhof, Altstadt, Flughafen',
   },

@@ -7,7 +7,7 @@ abbrev pub IsArgument : List (List ℕ) → ℕ → Option (List ℕ) → Type 0
 IsArgument all place (Some bytes) = (place < length all) × (bytes ≡ get_or all place [])
 IsArgument all place None = length all ≤ place
 
--- the words: all arguments after the program's own path, in order; none at all where one of those is no UTF-8
+-- the words: all arguments after the program's own path, in order; or no words at all if one of those isn't UTF-8
 abbrev pub IsWords : List (List ℕ) → List (List ℕ) → Type 0
 IsWords all words =
     (All (λ word. IsUtf8 word) (drop 1 all) × (words ≡ drop 1 all))

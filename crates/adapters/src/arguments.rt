@@ -9,14 +9,16 @@ use std::rt::Env;
 
 /// The arguments of a program by place, from 0: its own path comes first.
 pub trait Arguments {
-    /// All of them; `None` where the object doesn't tell them.
+    /// All of them; `None` if the object doesn't tell them.
     ghost told: { Self → Option (List (List ℕ)) };
 
     /// The bytes of the argument at a place, or none after the last.
     ///
-    /// `NoMemory` comes where there was no memory for the bytes.
+    /// `NoMemory` comes if there was no memory for the bytes.
     fn argument(&self, alloc: Global, place: usize) -> Result<Option<Vec<u8>>, NoMemory>
-        ensures { IfOk result (λ found. IfSome (told self.now) (λ all. IsArgument all place (option_map (λ bytes. bytes.items) found))) };
+        ensures { IfOk result (λ found.
+            IfSome (told self.now) (λ all.
+            IsArgument all place (option_map (λ bytes. bytes.items) found))) };
 }
 
 /// The most bytes of an argument that are asked for first.

@@ -40,7 +40,7 @@ impl<'r, C: time::Clock> Clock for SystemClock<'r, C> {
     }
 }
 
-// The second of the system's clock, where it is one that a date can tell.
+// The second of the system's clock, if it is one that a date can tell.
 fn moment_of<C: time::Clock>(clock: &C) -> Option<u64>
     ensures { IfSome result (λ moment. moment ≤ LAST_MOMENT) }
 {

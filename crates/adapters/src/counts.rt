@@ -15,7 +15,7 @@ pub fn fault(faults: &mut u64) -> Failed
     Failed
 }
 
-/// What was found, or a counted fault where nothing was.
+/// What was found, or a counted fault if nothing was.
 pub fn answered<T: Drop>(found: Option<T>, faults: &mut u64) -> Result<T, Failed>
     ensures cause { HasCause faults.old faults.new result }
     ensures count { IsCounted faults.old faults.new result }

@@ -23,6 +23,17 @@ enum FolderSync {
     Lost,
 }
 
+/// How far an append has come: a piece at the file's end, a sync, the byte in front of the piece, and a sync, with no other call
+/// between them.
+#[derive(Clone, Copy, PartialEq, Eq)]
+enum Append {
+    Idle,
+    /// The piece behind this byte was written, and waits for its sync alone.
+    Written { gate: u64 },
+    /// The piece behind this byte is stable.
+    Stable { gate: u64 },
+}
+
 /// A file of a folder as a disk.
 ///
 /// The first call opens the file, creates it empty where there is none, and takes its exclusive lock without waiting. Where that
@@ -32,6 +43,10 @@ enum FolderSync {
 /// Another program may delete, move, replace or cut the file all the same. So a sync fails where the path does not lead to the
 /// file that is open, and so does a write after a good sync, also where the file has not the length that it had when it was last
 /// measured or written here. No other file is opened for it: the calls succeed again where the path leads to it again.
+///
+/// Within an append the path is not looked at: its first write and its last sync do so. An append is a piece at the end of a file
+/// that isn't empty, a sync, a write of the byte in front of that piece, and a sync. That byte tells whether the piece counts, so
+/// nothing is acknowledged before the last sync. The length is looked at before that byte too.
 ///
 /// A sync makes the whole file stable, and the first one the folder too. The system may take bytes for stored that a failed sync
 /// has lost. So what was written since the last good sync is kept, `MOST_PIECES` pieces of at most `LONGEST_PIECE` bytes, and the
@@ -46,6 +61,7 @@ pub struct JournalFile<'r, R> {
     folder_sync: FolderSync,
     is_doubtful: bool,
     pieces: ArrayVec<Piece, MOST_PIECES>,
+    append: Append,
     faults: u64,
 }
 
@@ -62,6 +78,7 @@ impl<'r, R: Files<File = File>> JournalFile<'r, R> {
             folder_sync: FolderSync::Due,
             is_doubtful: false,
             pieces: ArrayVec::new(),
+            append: Append::Idle,
             faults: 0,
         }
     }
@@ -83,10 +100,21 @@ impl<'r, R: Files<File = File>> JournalFile<'r, R> {
         self.held.is_some()
     }
 
+    // How far an append had come before this call, which goes on from there or ends it.
+    fn take_append(&mut self) -> Append
+        ensures count { self.new.faults ≡ self.old.faults }
+    {
+        let append = self.append;
+        self.append = Append::Idle;
+        append
+    }
+
+    // Without a count of the fault, which `size` adds.
     fn size_now(&mut self) -> Option<u64>
         ensures count { self.new.faults ≡ self.old.faults }
         ensures least { IfSome result (λ n. n ≤ 2 ^ 63) }
     {
+        self.append = Append::Idle;
         if !self.opens() {
             return None;
         }
@@ -96,6 +124,7 @@ impl<'r, R: Files<File = File>> JournalFile<'r, R> {
         held.size()
     }
 
+    // Without a count of the fault, which `read_at` adds. No place after the greatest one is read.
     fn read_now(&mut self, place: u64, into: &mut [u8]) -> Option<usize>
         ensures count { self.new.faults ≡ self.old.faults }
         ensures size { IfSome result (λ n. n ≤ length into.old) }
@@ -116,10 +145,12 @@ impl<'r, R: Files<File = File>> JournalFile<'r, R> {
         held.read_full(place, &mut into[..room])
     }
 
+    // Without a count of the fault, which `write_at` adds. What was written is kept until the next good sync.
     fn write_now(&mut self, place: u64, bytes: &[u8]) -> Option<()>
         ensures count { self.new.faults ≡ self.old.faults }
         ensures least { IsSome result → place + length bytes.now ≤ 2 ^ 63 }
     {
+        let append = self.take_append();
         if place > MOST_FILE_BYTES || bytes.len() as u64 > MOST_FILE_BYTES - place {
             return None;
         }
@@ -129,19 +160,32 @@ impl<'r, R: Files<File = File>> JournalFile<'r, R> {
         let Some(held) = &mut self.held else {
             return None;
         };
-        if self.pieces.is_empty() && !held.is_as_left(self.files, self.path) {
-            return None;
+        if self.pieces.is_empty() {
+            let opens_gate = append == (Append::Stable { gate: place });
+            if !held.is_as_long() || !opens_gate && !held.is_at(self.files, self.path) {
+                return None;
+            }
         }
+        let is_append = self.pieces.is_empty() && held.is_end(place);
         let done = held.write_front(place, bytes);
         let mut kept = ArrayVec::new();
         let _ = kept.try_extend_from_slice(&bytes[..done]);
         self.pieces.push(Piece { place, bytes: kept });
-        if done == bytes.len() { Some(()) } else { None }
+        if done < bytes.len() {
+            return None;
+        }
+        if is_append {
+            self.append = Append::Written { gate: place - 1 };
+        }
+        Some(())
     }
 
+    // Without a count of the fault, which `sync` adds. After a failed sync, the pieces are written again before the
+    // next one.
     fn sync_now(&mut self) -> Option<()>
         ensures count { self.new.faults ≡ self.old.faults }
     {
+        let append = self.take_append();
         if !self.opens() {
             return None;
         }
@@ -157,7 +201,9 @@ impl<'r, R: Files<File = File>> JournalFile<'r, R> {
         }
         self.is_doubtful = false;
         self.pieces.clear();
-        if !held.is_at(self.files, self.path) {
+        if let Append::Written { gate } = append {
+            self.append = Append::Stable { gate };
+        } else if !held.is_at(self.files, self.path) {
             return None;
         }
         self.syncs_folder()
@@ -226,7 +272,7 @@ impl<'r, R: Files<File = File>> Disk for JournalFile<'r, R> {
     ghost seen_is_image = { λ disk honest. absurd honest };
 }
 
-// Writes each piece again, in order, and tells whether all were.
+// Writes each piece again, in order, and tells whether all were written.
 fn writes_again(held: &mut HeldFile, pieces: &[Piece]) -> bool {
     for piece in pieces {
         if held.write_front(piece.place, &piece.bytes) < piece.bytes.len() {

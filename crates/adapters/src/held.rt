@@ -1,8 +1,9 @@
 // A file that is held open and locked, and whether its path still leads to it.
-ghost use Rattle.std.specs.Prelude.{◌≡◌, ◌≤◌, ◌+◌, ◌^◌, length, IfSome};
+ghost use Rattle.std.specs.Prelude.{◌≡◌, ◌<◌, ◌≤◌, ◌+◌, ◌^◌, length, IfSome, IsTrue};
 
 use crate::limits::{JOURNAL_MODE, MOST_FILE_BYTES};
 use std::fs::{File, Files, Metadata, OpenOptions};
+use std::io::{Seek, SeekFrom};
 use std::os::unix::fs::{FileExt, MetadataExt, OpenOptionsExt};
 
 /// A file that is open and locked. No other file has its device and inode while it is open.
@@ -15,7 +16,7 @@ pub(crate) struct HeldFile {
 }
 
 impl HeldFile {
-    // Opens the file at a path, creates it empty and for its owner alone where there is none, and takes its lock without waiting.
+    // Opens the file at a path, creates it empty and only for its owner if there is none, and takes its lock without waiting.
     pub(crate) fn open<R: Files<File = File>>(files: &R, path: &str) -> Option<Self> {
         let opened = OpenOptions::new()
             .read(true)
@@ -53,12 +54,20 @@ impl HeldFile {
         }
     }
 
-    // Whether the path leads to this file, and it is as long as it was when it was last measured or written here.
-    pub(crate) fn is_as_left<R: Files<File = File>>(&self, files: &R, path: &str) -> bool {
-        match files.metadata(path) {
-            Ok(found) => self.is(&found) && found.len() == self.length,
+    // Whether the file is as long as it was when it was last measured or written here. A seek doesn't ask for the file's times, so
+    // the next write needn't set new ones, and the next sync needn't store them.
+    pub(crate) fn is_as_long(&mut self) -> bool {
+        match self.file.seek(SeekFrom::End(0)) {
+            Ok(end) => end == self.length,
             Err(_) => false,
         }
+    }
+
+    // Whether a place is the end of a file that isn't empty, by the length that it had when it was last measured or written here.
+    pub(crate) fn is_end(&self, place: u64) -> bool
+        ensures { IsTrue result → 0 < place }
+    {
+        place > 0 && place == self.length
     }
 
     // Measures the file.

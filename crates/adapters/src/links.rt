@@ -24,9 +24,9 @@ pub struct TcpLink<'r, S, C> {
 }
 
 impl<'r, S: Read + Write + OpenStream + Drop, C: Clock> TcpLink<'r, S, C> {
-    /// The link over this connection, whose time begins now. Small writes go out at once.
-    ///
-    /// Where the clock or an option of the connection fails, as where the client has gone already, each call of the link fails.
+    // The link over this connection, whose time begins now. Small writes go out at once.
+    //
+    // If the clock or an option of the connection fails, as when the client has gone already, each call of the link fails.
     pub(crate) fn new(stream: S, clock: &'r C, limits: LinkLimits) -> Self
         ensures reads { result.read_faults ≡ 0 }
         ensures writes { result.write_faults ≡ 0 }
@@ -53,7 +53,7 @@ impl<'r, S: Read + Write + OpenStream + Drop, C: Clock> TcpLink<'r, S, C> {
         self.read_faults > 0 || self.write_faults > 0
     }
 
-    // Whether the link's time isn't over. Where less is left of it than one call may take, the next call may take that much.
+    // Whether the link's time isn't over. If less is left of it than one call may take, the next call may take that much.
     fn goes_on(&self) -> bool {
         let Some(begun) = self.begun else {
             return false;
@@ -68,6 +68,7 @@ impl<'r, S: Read + Write + OpenStream + Drop, C: Clock> TcpLink<'r, S, C> {
         }
     }
 
+    // Without a count of the fault, which `read` adds.
     fn read_now(&mut self, into: &mut [u8]) -> Option<usize>
         ensures size { IfSome result (λ n. n ≤ length into.new) }
         ensures reads { self.new.read_faults ≡ self.old.read_faults }
@@ -81,7 +82,8 @@ impl<'r, S: Read + Write + OpenStream + Drop, C: Clock> TcpLink<'r, S, C> {
 
     // A write that takes nothing of a piece has failed.
     fn write_now(&mut self, piece: &[u8]) -> Option<usize>
-        ensures size { IfSome result (λ n. (n ≤ length piece.now) × (0 < length piece.now → 0 < n)) }
+        ensures size { IfSome result (λ n.
+            (n ≤ length piece.now) × (0 < length piece.now → 0 < n)) }
         ensures reads { self.new.read_faults ≡ self.old.read_faults }
         ensures writes { self.new.write_faults ≡ self.old.write_faults }
     {
@@ -94,10 +96,10 @@ impl<'r, S: Read + Write + OpenStream + Drop, C: Clock> TcpLink<'r, S, C> {
         }
     }
 
-    /// Tells the client that no more comes, and then waits for it to close, dropping what it still sends, for a short time in all.
-    ///
-    /// A connection that is closed while bytes of the client are unread may be reset, and the client may lose the last reply (RFC
-    /// 9112, section 9.6). A link that has had a fault is closed at once.
+    // Tells the client that no more comes, and then waits for it to close, dropping what it still sends, for a short time in all.
+    //
+    // A connection that is closed while bytes of the client are unread may be reset, and the client may lose the last reply (RFC
+    // 9112, section 9.6). A link that has had a fault is closed at once.
     pub(crate) fn close(self) {
         if self.has_failed() {
             return;

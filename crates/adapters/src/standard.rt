@@ -28,7 +28,7 @@ impl StandardDescriptors {
     /// What takes the place of the input is open only for writing, and what takes that of an output only for reading. So a read of a closed
     /// input fails, and so does a write to a closed output.
     ///
-    /// `Failed` comes where the null device can't be opened.
+    /// `Failed` comes if the null device can't be opened.
     pub fn take<R: Files<File = File>>(files: &R) -> Result<Self, Failed> {
         Ok(StandardDescriptors {
             _first: in_place_of_input(files)?,
@@ -38,7 +38,7 @@ impl StandardDescriptors {
     }
 }
 
-// The null device, to be written where it takes the place of the standard input, and else to be read.
+// The null device, to be written where it takes the place of the standard input, and otherwise to be read.
 fn in_place_of_input<R: Files<File = File>>(files: &R) -> Result<File, Failed> {
     let written = OpenOptions::new()
         .write(true)

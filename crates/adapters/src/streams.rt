@@ -6,7 +6,7 @@ use crate::counts::fault;
 use split_base::{Failed, Sink, Source};
 use std::io::{Read, Write};
 
-/// A reader as a source. It tells what is left where the reader does.
+/// A reader as a source. It tells what is left if the reader does.
 #[derive(Drop)]
 pub struct Reading<R> {
     inner: R,
@@ -42,7 +42,7 @@ impl<R: Read> Source for Reading<R> {
     }
 }
 
-/// A writer as a sink. It tells what was written where the writer does.
+/// A writer as a sink. It tells what was written if the writer does.
 #[derive(Drop)]
 pub struct Writing<W> {
     inner: W,

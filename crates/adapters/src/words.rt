@@ -6,12 +6,13 @@ use crate::arguments::Arguments;
 use split_base::NoMemory;
 use std::alloc::Global;
 
-/// The words of a command: all arguments after the program's own path, in order. Where one of
+/// The words of a command: all arguments after the program's own path, in order. If one of
 /// those is no UTF-8 there are no words at all. The program's own path may be any bytes.
 ///
-/// `NoMemory` comes where there was no memory for the words.
+/// `NoMemory` comes if there was no memory for the words.
 pub fn words_of<A: Arguments>(alloc: Global, arguments: &A) -> Result<Vec<String>, NoMemory>
-    ensures { IfOk result (λ words. IfSome (A.told arguments.now) (λ all. IsWords all (map string_bytes words.items))) }
+    ensures { IfOk result (λ words.
+        IfSome (A.told arguments.now) (λ all. IsWords all (map string_bytes words.items))) }
 {
     let mut words = Vec::new(alloc);
     for place in 1..usize::MAX {

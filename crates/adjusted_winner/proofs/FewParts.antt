@@ -10,9 +10,9 @@ use Rattle.bid_rules.specs.declared.limits.TheConstants.{WHOLE_POINTS}
 use Rattle.bid_rules.specs.Fractions.{Fraction, IsQuotient}
 use Rattle.bid_rules.specs.Goods.{IsValidGoodsCase, player_count, points}
 use Rattle.cert_reader.specs.Numbers.{AreShort, IsSmall}
-use Rattle.winner_laws.specs.Divisions.{IsDivision, first_points, parts_held}
-use Rattle.winner_laws.specs.Procedure.{EndsBy, EndsMoved, EndsUnmoved, HaveMoved, IsOutcome, first_share, other_player}
-use Rattle.winner_laws.specs.Winners.{IsWinner, share_at_first}
+use Rattle.winner_definition.specs.Divisions.{IsDivision, first_points, parts_held}
+use Rattle.winner_definition.specs.Procedure.{EndsBy, EndsMoved, EndsUnmoved, HaveMoved, IsOutcome, first_share, other_player}
+use Rattle.winner_definition.specs.Winners.{IsWinner, share_at_first}
 use Rattle.split_frac.specs.declared.frac.Frac.{Frac}
 use Rattle.split_frac.specs.Frac.{HasValue, fraction_of}
 

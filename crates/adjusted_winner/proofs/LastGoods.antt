@@ -4,9 +4,9 @@ use Rattle.std.specs.List.{range_with_len}
 use Rattle.std.proofs.lemmas.Bool.{cases_lt}
 use Rattle.bid_rules.specs.declared.goods.GoodsCase.{GoodsCase}
 use Rattle.bid_rules.specs.Goods.{IsValidGoodsCase, player_count, points}
-use Rattle.winner_laws.specs.Moving.{IsNextOf, latest}
-use Rattle.winner_laws.specs.Procedure.{EndsBy, HaveMoved, IsNextToMove, IsOutcome, first_share, other_player}
-use Rattle.winner_laws.specs.Winners.{first_owner, greater_points, lesser_points}
+use Rattle.winner_definition.specs.Moving.{IsNextOf, latest}
+use Rattle.winner_definition.specs.Procedure.{EndsBy, HaveMoved, IsNextToMove, IsOutcome, first_share, other_player}
+use Rattle.winner_definition.specs.Winners.{first_owner, greater_points, lesser_points}
 use Rattle.adjusted_winner.specs.Moves.{IsLastToMove, MovedUpTo}
 
 -- what is known of goods that have moved and of the next one

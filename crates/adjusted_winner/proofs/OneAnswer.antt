@@ -6,9 +6,9 @@ use Rattle.bid_rules.specs.Fractions.{Fraction, IsQuotient}
 use Rattle.split_frac.specs.declared.frac.Frac.{Frac}
 use Rattle.split_frac.specs.Frac.{HasValue, fraction_of}
 use Rattle.split_lemmas.proofs.FractionLaws.{same_value}
-use Rattle.winner_laws.specs.Divisions.{IsDivision, first_points, parts_held}
-use Rattle.winner_laws.specs.Procedure.{IsOutcome}
-use Rattle.winner_laws.specs.Winners.{IsWinner}
+use Rattle.winner_definition.specs.Divisions.{IsDivision, first_points, parts_held}
+use Rattle.winner_definition.specs.Procedure.{IsOutcome}
+use Rattle.winner_definition.specs.Winners.{IsWinner}
 use Rattle.adjusted_winner.specs.declared.winner.Winner.{Winner}
 use Rattle.adjusted_winner.specs.Answers.{HasWinner}
 

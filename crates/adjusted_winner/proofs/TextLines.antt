@@ -15,14 +15,14 @@ use Rattle.cert_reader.specs.Text.{Said, text_of, wholes}
 use Rattle.cert_reader.specs.Views.{says}
 use Rattle.split_frac.specs.declared.frac.Frac.{Frac}
 use Rattle.split_frac.specs.Frac.{frac_text, fraction_of}
-use Rattle.split_frac.specs.Texts.{line, numbers_text, spaced, word_line}
+use Rattle.split_frac.specs.Texts.{line, numbers_text, with_spaces, word_line}
 use Rattle.adjusted_winner.specs.Lines.{winner_view}
 use Rattle.adjusted_winner.proofs.TextFits.{answer_forms, answer_said}
 
 -- numbers that follow a space each are one text, however they are given
 pub record NumberFacts : Type 0 where
-  pub naturals : (numbers : List ℕ) → spaced (map decimal numbers) ≡ numbers_text (map (λ number. (pos number, 1)) numbers)
-  pub fractions : (numbers : List Frac) → spaced (map frac_text numbers) ≡ numbers_text (map fraction_of numbers)
+  pub naturals : (numbers : List ℕ) → with_spaces (map decimal numbers) ≡ numbers_text (map (λ number. (pos number, 1)) numbers)
+  pub fractions : (numbers : List Frac) → with_spaces (map frac_text numbers) ≡ numbers_text (map fraction_of numbers)
 
 -- natural numbers are whole numbers
 wholes_are : (numbers : List ℕ) → map (λ number. (pos number, 1)) numbers ≡ wholes (map pos numbers)

@@ -8,7 +8,7 @@ use Rattle.bid_rules.specs.declared.limits.TheConstants.{ITEM_ROOM, MOST_MEMBERS
 use Rattle.bid_rules.specs.Goods.{IsValidGoodsCase, player_count}
 use Rattle.bid_rules.specs.Fractions.{Fraction}
 use Rattle.cert_reader.specs.Layout.{PairView}
-use Rattle.winner_laws.specs.Printed.{AreProperShares, HaveTotal, SupportShares}
+use Rattle.winner_definition.specs.Printed.{AreProperShares, HaveTotal, SupportShares}
 use Rattle.split_frac.specs.Frac.{fraction_of}
 use Rattle.split_lemmas.proofs.SignedRows.{rows_again, rows_low, signed_again, signed_low}
 use Rattle.winner_rules.specs.Rules.{printed_case, winner_rule}

@@ -3,8 +3,8 @@ use Rattle.std.specs.Prelude.{◌≡◌, ℕ, pos, List, [], ◌∷◌}
 use Rattle.std.specs.List.{AllZip}
 use Rattle.bid_rules.specs.declared.goods.GoodsCase.{GoodsCase}
 use Rattle.split_frac.specs.Frac.{HasValue}
-use Rattle.winner_laws.specs.Divisions.{first_points}
-use Rattle.winner_laws.specs.Procedure.{IsOutcome}
+use Rattle.winner_definition.specs.Divisions.{first_points}
+use Rattle.winner_definition.specs.Procedure.{IsOutcome}
 use Rattle.adjusted_winner.specs.declared.winner.Winner.{Winner}
 
 -- the answer is what the rule of adjusted winner comes to for the case: its weights, and its shares and total as fractions

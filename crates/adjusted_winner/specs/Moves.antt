@@ -2,8 +2,8 @@
 use Rattle.std.specs.Prelude.{◌≡◌, ℕ, ◌+◌, ◌<◌, ◌≤◌, List}
 use Rattle.bid_rules.specs.declared.goods.GoodsCase.{GoodsCase}
 use Rattle.bid_rules.specs.Goods.{points}
-use Rattle.winner_laws.specs.Moving.{latest}
-use Rattle.winner_laws.specs.Procedure.{HaveMoved, IsNextToMove, other_player}
+use Rattle.winner_definition.specs.Moving.{latest}
+use Rattle.winner_definition.specs.Procedure.{HaveMoved, IsNextToMove, other_player}
 
 -- goods have moved whole, this one last, or none if it is 0; and one player still has more points than the other
 pub record MovedUpTo (case : GoodsCase) (richer last rich poor : ℕ) : Type 0 where

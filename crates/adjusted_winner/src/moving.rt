@@ -1,17 +1,17 @@
 // What the players have while goods move one by one, and which good moves next.
 ghost use Rattle.std.specs.Prelude.{◌≡◌, ◌+◌, ◌*◌, ◌<◌, ◌≤◌, cond, ◌==◌};
 ghost use Rattle.bid_rules.specs.Goods.{IsValidGoodsCase, player_count, points};
-ghost use Rattle.winner_laws.specs.Moving.{IsNextOf, is_gone};
-ghost use Rattle.winner_laws.specs.Procedure.{points_at_first};
-ghost use Rattle.winner_laws.specs.Winners.{first_owner, greater_points, lesser_points, may_move, moves_before};
+ghost use Rattle.winner_definition.specs.Moving.{IsNextOf, is_gone};
+ghost use Rattle.winner_definition.specs.Procedure.{points_at_first};
+ghost use Rattle.winner_definition.specs.Winners.{first_owner, greater_points, lesser_points, may_move, moves_before};
 ghost use Rattle.adjusted_winner.specs.Moves.{IsLastToMove, MovedUpTo};
 ghost use Rattle.bid_rules.specs.declared.limits.TheConstants.{PAIR};
 
 use bid_rules::GoodsCase;
 use bid_rules::limits::{MOST_GOODS, WHOLE_POINTS};
-use winner_laws::{next_good_law, next_to_move_law};
+use winner_definition::{next_good_law, next_to_move_law};
 
-/// The points that its first owner gives the good.
+// The points that its first owner gives the good.
 pub(crate) fn greater_points(case: &GoodsCase, good: u8) -> u32
     requires case { IsValidGoodsCase case.now }
     requires two { player_count case.now ≡ PAIR }
@@ -23,7 +23,7 @@ pub(crate) fn greater_points(case: &GoodsCase, good: u8) -> u32
     case.points(1, good).max(case.points(2, good))
 }
 
-/// The points that the other player gives it.
+// The points that the other player gives it.
 pub(crate) fn lesser_points(case: &GoodsCase, good: u8) -> u32
     requires case { IsValidGoodsCase case.now }
     requires two { player_count case.now ≡ PAIR }
@@ -35,7 +35,7 @@ pub(crate) fn lesser_points(case: &GoodsCase, good: u8) -> u32
     case.points(1, good).min(case.points(2, good))
 }
 
-/// Who has the good at first: the player who gives it more points, ties to player 1.
+// Who has the good at first: the player who gives it more points, ties to player 1.
 pub(crate) fn first_owner(case: &GoodsCase, good: u8) -> u8
     requires case { IsValidGoodsCase case.now }
     requires two { player_count case.now ≡ PAIR }
@@ -50,7 +50,7 @@ pub(crate) fn first_owner(case: &GoodsCase, good: u8) -> u8
     }
 }
 
-/// Whether the player may give the good up: they have it at first, and the other gives it points.
+// Whether the player may give the good up: they have it at first, and the other gives it points.
 pub(crate) fn may_move(case: &GoodsCase, player: u8, good: u8) -> bool
     requires case { IsValidGoodsCase case.now }
     requires two { player_count case.now ≡ PAIR }
@@ -61,7 +61,7 @@ pub(crate) fn may_move(case: &GoodsCase, player: u8, good: u8) -> bool
     first_owner(case, good) == player && lesser_points(case, good) > 0
 }
 
-/// Whether the first good moves before the second: its ratio of points is lower, or the same and its number is lower.
+// Whether the first good moves before the second: its ratio of points is lower, or the same and its number is lower.
 pub(crate) fn moves_before(case: &GoodsCase, good: u8, other: u8) -> bool
     requires case { IsValidGoodsCase case.now }
     requires two { player_count case.now ≡ PAIR }
@@ -76,7 +76,7 @@ pub(crate) fn moves_before(case: &GoodsCase, good: u8, other: u8) -> bool
     here < there || (here == there && good < other)
 }
 
-/// Whether the player has given the good up, where the last that they gave up is `last`, or none where that is 0.
+// Whether the player has given the good up, if the last that they gave up is `last`, or none if that is 0.
 fn is_gone(case: &GoodsCase, player: u8, last: u8, good: u8) -> bool
     requires case { IsValidGoodsCase case.now }
     requires two { player_count case.now ≡ PAIR }
@@ -88,7 +88,7 @@ fn is_gone(case: &GoodsCase, player: u8, last: u8, good: u8) -> bool
     last != 0 && may_move(case, player, good) && (good == last || moves_before(case, good, last))
 }
 
-/// What the player has of a good before any moves.
+// What the player has of a good before any moves.
 fn good_at_first(case: &GoodsCase, player: u8, good: u8) -> u32
     requires case { IsValidGoodsCase case.now }
     requires two { player_count case.now ≡ PAIR }
@@ -96,7 +96,8 @@ fn good_at_first(case: &GoodsCase, player: u8, good: u8) -> u32
     requires player_high { player ≤ 2 }
     requires low { 1 ≤ good }
     requires high { good ≤ case.now.facts.goods }
-    ensures value { result ≡ cond (first_owner case.now good == player) (points case.now player good) 0 }
+    ensures value { result
+        ≡ cond (first_owner case.now good == player) (points case.now player good) 0 }
     ensures small { result ≤ WHOLE_POINTS }
 {
     if first_owner(case, good) == player {
@@ -106,7 +107,7 @@ fn good_at_first(case: &GoodsCase, player: u8, good: u8) -> u32
     }
 }
 
-/// What the player has before any good moves.
+// What the player has before any good moves.
 pub(crate) fn points_at_first(case: &GoodsCase, player: u8) -> u32
     requires case { IsValidGoodsCase case.now }
     requires two { player_count case.now ≡ PAIR }
@@ -122,7 +123,7 @@ pub(crate) fn points_at_first(case: &GoodsCase, player: u8) -> u32
     sum
 }
 
-/// Which good moves next: the first to move of the first `count` goods, or the one after them.
+// Which good moves next: the first to move of the first `count` goods, or the one after them.
 fn next_of(case: &GoodsCase, player: u8, last: u8, next: u8, count: u8) -> u8
     requires case { IsValidGoodsCase case.now }
     requires two { player_count case.now ≡ PAIR }
@@ -148,7 +149,7 @@ fn next_of(case: &GoodsCase, player: u8, last: u8, next: u8, count: u8) -> u8
     next
 }
 
-/// The first good that the player may give up and has not, in the order in which they move, or 0.
+// The first good that the player may give up and has not, in the order in which they move, or 0.
 fn next_good(case: &GoodsCase, player: u8, last: u8) -> u8
     requires case { IsValidGoodsCase case.now }
     requires two { player_count case.now ≡ PAIR }
@@ -173,7 +174,7 @@ pub(crate) struct Last {
     pub poor: u32,
 }
 
-/// Moves goods of the richer player one by one, until only the last is left to move, in whole or in part.
+// Moves goods of the richer player one by one, until only the last is left to move, in whole or in part.
 pub(crate) fn last_good(case: &GoodsCase, player: u8, rich: u32, poor: u32) -> Last
     requires case { IsValidGoodsCase case.now }
     requires two { player_count case.now ≡ PAIR }

@@ -14,19 +14,24 @@ ghost use Rattle.bid_rules.specs.declared.limits.TheConstants.{PAIR};
 use crate::{answer_law, winner_text_law};
 use cert_reader::pair_law;
 use split_frac::{number_law, value_law};
-use winner_laws::{
+use winner_definition::{
     next_to_move_law, one_winner_law, parts_law, printed_law, procedure_law, winner_law,
 };
 
 /// The text of the winner is the text of a pair. It says the case, of the most members and steps that there may be, and the winner's shares, weights and total;
 /// all its rules hold, so that the verdict on it is yes. It has at most 4,000,000 bytes, and a case has one.
 pub fn winner_lines_law()
-    ensures case { (case : GoodsCase) (winner : Winner) → printed_case (winner_view case winner) ≡ with_most case }
-    ensures text { (case : GoodsCase) (text : List ℕ) → IsValidGoodsCase case → player_count case ≡ PAIR → (is : IsWinnerText case text)
+    ensures case { (case : GoodsCase) (winner : Winner)
+        → printed_case (winner_view case winner) ≡ with_most case }
+    ensures text { (case : GoodsCase) (text : List ℕ) → IsValidGoodsCase case
+        → player_count case ≡ PAIR → (is : IsWinnerText case text)
         → IsPairText text (winner_view case is.0) }
-    ensures judged { (case : GoodsCase) (text : List ℕ) → IsValidGoodsCase case → player_count case ≡ PAIR → IsWinnerText case text → IsWinnerCertificate text }
-    ensures short { (case : GoodsCase) (text : List ℕ) → IsValidGoodsCase case → player_count case ≡ PAIR → IsWinnerText case text → length text ≤ MOST_BYTES }
-    ensures one { (case : GoodsCase) (text other : List ℕ) → IsWinnerText case text → IsWinnerText case other → text ≡ other }
+    ensures judged { (case : GoodsCase) (text : List ℕ) → IsValidGoodsCase case
+        → player_count case ≡ PAIR → IsWinnerText case text → IsWinnerCertificate text }
+    ensures short { (case : GoodsCase) (text : List ℕ) → IsValidGoodsCase case
+        → player_count case ≡ PAIR → IsWinnerText case text → length text ≤ MOST_BYTES }
+    ensures one { (case : GoodsCase) (text other : List ℕ) → IsWinnerText case text
+        → IsWinnerText case other → text ≡ other }
 {
     answer_law();
     next_to_move_law();

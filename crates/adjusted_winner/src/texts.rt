@@ -14,9 +14,11 @@ use split_base::NoMemory;
 use split_frac::push_numbers;
 use std::alloc::Global;
 
-/// Appends a line of points for each player.
+// Appends a line of points for each player.
 fn push_values(text: &mut String, values: &[Values]) -> Result<(), NoMemory>
-    ensures { OnOk result (string_bytes text.new ≡ string_bytes text.old ++ flat_map (λ row. word_line (codes "values") (map decimal row.items)) values.now) }
+    ensures { OnOk result (string_bytes text.new
+        ≡ string_bytes text.old
+        ++ flat_map (λ row. word_line (codes "values") (map decimal row.items)) values.now) }
 {
     for row in values {
         push_numbers(text, "values", row.as_slice())?;
@@ -24,7 +26,7 @@ fn push_values(text: &mut String, values: &[Values]) -> Result<(), NoMemory>
     Ok(())
 }
 
-/// Appends the lines of the case.
+// Appends the lines of the case.
 fn push_case(text: &mut String, case: &GoodsCase) -> Result<(), NoMemory>
     ensures { OnOk result (string_bytes text.new ≡ string_bytes text.old ++ case_lines case.now) }
 {
@@ -36,9 +38,10 @@ fn push_case(text: &mut String, case: &GoodsCase) -> Result<(), NoMemory>
     Ok(())
 }
 
-/// Appends the lines of the division.
+// Appends the lines of the division.
 fn push_winner(text: &mut String, winner: &Winner) -> Result<(), NoMemory>
-    ensures { OnOk result (string_bytes text.new ≡ string_bytes text.old ++ answer_lines winner.now) }
+    ensures { OnOk result
+        (string_bytes text.new ≡ string_bytes text.old ++ answer_lines winner.now) }
 {
     let nothing: [u8; 0] = [];
     push_numbers(text, "shares", winner.shares.as_slice())?;

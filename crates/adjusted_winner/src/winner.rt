@@ -3,7 +3,7 @@ ghost use Rattle.std.specs.Prelude.{◌≡◌, ℕ, ◌+◌, ◌*◌, ◌<◌, �
 ghost use Rattle.std.specs.List.{AllZip, range_with_len};
 ghost use Rattle.bid_rules.specs.Goods.{IsValidGoodsCase, player_count};
 ghost use Rattle.split_frac.specs.Frac.{HasValue};
-ghost use Rattle.winner_laws.specs.Winners.{given_up, share_after, share_at_first};
+ghost use Rattle.winner_definition.specs.Winners.{given_up, share_after, share_at_first};
 ghost use Rattle.adjusted_winner.specs.Answers.{HasWinner};
 ghost use Rattle.adjusted_winner.specs.Moves.{MovedUpTo};
 ghost use Rattle.bid_rules.specs.declared.limits.TheConstants.{PAIR};
@@ -15,7 +15,7 @@ use arrayvec::ArrayVec;
 use bid_rules::GoodsCase;
 use bid_rules::limits::{ITEM_ROOM, MOST_GOODS, WHOLE_POINTS};
 use split_frac::{Frac, make};
-use winner_laws::{last_good_law, next_to_move_law};
+use winner_definition::{last_good_law, next_to_move_law};
 
 /// The division between two players.
 #[derive(Drop)]
@@ -28,7 +28,7 @@ pub struct Winner {
     pub total: Frac,
 }
 
-/// So many of a number of parts.
+// So many of a number of parts.
 fn fraction(number: u32, parts: u32) -> Frac
     requires low { 1 ≤ parts }
     requires high { parts ≤ 2 * WHOLE_POINTS }
@@ -37,7 +37,7 @@ fn fraction(number: u32, parts: u32) -> Frac
     make(i128::from(number), u64::from(parts))
 }
 
-/// The parts of a good that its first owner has given up, once the last good has moved this many.
+// The parts of a good that its first owner has given up, once the last good has moved this many.
 fn given_up(case: &GoodsCase, parts: u32, last: u8, moved: u32, good: u8) -> u32
     requires case { IsValidGoodsCase case.now }
     requires two { player_count case.now ≡ PAIR }
@@ -58,7 +58,7 @@ fn given_up(case: &GoodsCase, parts: u32, last: u8, moved: u32, good: u8) -> u32
     0
 }
 
-/// Player 1's parts of a good then.
+// Player 1's parts of a good then.
 fn share_after(case: &GoodsCase, parts: u32, last: u8, moved: u32, good: u8) -> u32
     requires case { IsValidGoodsCase case.now }
     requires two { player_count case.now ≡ PAIR }
@@ -77,7 +77,7 @@ fn share_after(case: &GoodsCase, parts: u32, last: u8, moved: u32, good: u8) -> 
     }
 }
 
-/// Player 1's shares then.
+// Player 1's shares then.
 fn shares_after(case: &GoodsCase, parts: u32, last: u8, moved: u32) -> ArrayVec<Frac, ITEM_ROOM>
     requires case { IsValidGoodsCase case.now }
     requires two { player_count case.now ≡ PAIR }
@@ -86,7 +86,8 @@ fn shares_after(case: &GoodsCase, parts: u32, last: u8, moved: u32) -> ArrayVec<
     requires moved { moved ≤ parts }
     requires parts_low { 1 ≤ parts }
     requires parts_high { parts ≤ 2 * WHOLE_POINTS }
-    ensures { AllZip (λ share part. HasValue share (pos part) parts) result.items (map (share_after case.now parts last moved 1) (range_with_len 1 case.now.facts.goods)) }
+    ensures { AllZip (λ share part. HasValue share (pos part) parts) result.items
+        (map (share_after case.now parts last moved 1) (range_with_len 1 case.now.facts.goods)) }
 {
     let mut shares = ArrayVec::new();
     for k in 0..case.facts.goods {
@@ -95,7 +96,7 @@ fn shares_after(case: &GoodsCase, parts: u32, last: u8, moved: u32) -> ArrayVec<
     shares
 }
 
-/// Player 1's share of a good at first: all of it or nothing.
+// Player 1's share of a good at first: all of it or nothing.
 fn share_at_first(case: &GoodsCase, good: u8) -> u32
     requires case { IsValidGoodsCase case.now }
     requires two { player_count case.now ≡ PAIR }
@@ -106,11 +107,12 @@ fn share_at_first(case: &GoodsCase, good: u8) -> u32
     if first_owner(case, good) == 1 { 1 } else { 0 }
 }
 
-/// Player 1's shares at first.
+// Player 1's shares at first.
 fn shares_at_first(case: &GoodsCase) -> ArrayVec<Frac, ITEM_ROOM>
     requires case { IsValidGoodsCase case.now }
     requires two { player_count case.now ≡ PAIR }
-    ensures { AllZip (λ share part. HasValue share (pos part) 1) result.items (map (share_at_first case.now 1 1) (range_with_len 1 case.now.facts.goods)) }
+    ensures { AllZip (λ share part. HasValue share (pos part) 1) result.items
+        (map (share_at_first case.now 1 1) (range_with_len 1 case.now.facts.goods)) }
 {
     let mut shares = ArrayVec::new();
     for k in 0..case.facts.goods {
@@ -119,7 +121,7 @@ fn shares_at_first(case: &GoodsCase) -> ArrayVec<Frac, ITEM_ROOM>
     shares
 }
 
-/// The division where one player is richer at first.
+// The division when one player is richer at first.
 fn moved(case: &GoodsCase, player: u8, rich: u32, poor: u32) -> Winner
     requires case { IsValidGoodsCase case.now }
     requires two { player_count case.now ≡ PAIR }

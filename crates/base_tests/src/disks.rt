@@ -1,4 +1,4 @@
-// Tests of the disk in memory: what a crash may leave of it, and calls that fail where they are told to.
+// Tests of the disk in memory: what a crash may leave of it, and calls that fail when they are told to.
 use crate::objects::{crashed, disk_of};
 use split_base::{Disk, MemDisk, write_synced};
 use std::alloc::Global;
@@ -14,6 +14,7 @@ fn written(rt: &impl Abort, alloc: Global) -> MemDisk {
     disk
 }
 
+// Of what came after the last sync, a crash keeps some first part, cut anywhere.
 #[test]
 fn a_crash_keeps_a_part_of_the_later_writes(rt: HostRuntime) {
     let alloc = rt.alloc();
@@ -41,6 +42,7 @@ fn failing(disk: &mut MemDisk) -> [bool; 4] {
     ]
 }
 
+// Tests of hosts rely on just the listed calls failing.
 #[test]
 fn calls_fail_where_told(rt: HostRuntime) {
     let alloc = rt.alloc();
@@ -57,6 +59,7 @@ fn calls_fail_where_told(rt: HostRuntime) {
     }
 }
 
+// Without faults, the disk in memory is an ordinary file.
 #[test]
 fn a_disk_gives_what_was_written(rt: HostRuntime) {
     let mut disk = disk_of(&rt, rt.alloc(), b"abc", &[], None);

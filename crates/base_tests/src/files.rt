@@ -2,8 +2,9 @@
 use adapters::JournalFile;
 use split_base::{Disk, Failed};
 use std::fs;
+use std::fs::OpenOptions;
 
-/// How many of these pieces a disk takes, each at its place, up to the first that it refuses.
+// How many of these pieces a disk takes, each at its place, up to the first that it refuses.
 fn taken(disk: &mut impl Disk, pieces: &[(u64, &[u8])]) -> usize {
     let mut count = 0usize;
     for (place, piece) in pieces {
@@ -15,13 +16,14 @@ fn taken(disk: &mut impl Disk, pieces: &[(u64, &[u8])]) -> usize {
     count
 }
 
-/// How many bytes a disk gives from this place on, of at most four, and these.
+// How many bytes a disk gives from this place on, of at most four, and these.
 fn given(disk: &mut impl Disk, place: u64) -> (Result<usize, Failed>, [u8; 4]) {
     let mut into = [0; 4];
     let count = disk.read_at(place, &mut into);
     (count, into)
 }
 
+// No more is kept than a journal writes between two syncs.
 #[test]
 fn two_pieces_wait_for_a_sync(rt: HostRuntime) {
     let mut disk = JournalFile::new(&rt, "waiting.journal", ".");
@@ -32,6 +34,7 @@ fn two_pieces_wait_for_a_sync(rt: HostRuntime) {
     assert!(rt; disk.faults() == 2);
 }
 
+// The file is made when it's first written, and a read past its end gives nothing.
 #[test]
 fn makes_writes_and_reads_a_file(rt: HostRuntime) {
     let mut disk = JournalFile::new(&rt, "made.journal", ".");
@@ -41,6 +44,7 @@ fn makes_writes_and_reads_a_file(rt: HostRuntime) {
     assert!(rt; given(&mut disk, 9) == (Ok(0), [0; 4]));
 }
 
+// Two hosts must never write to one journal.
 #[test]
 fn the_lock_goes_with_the_adapter_that_holds_it(rt: HostRuntime) {
     let mut first = JournalFile::new(&rt, "held.journal", ".");
@@ -51,6 +55,7 @@ fn the_lock_goes_with_the_adapter_that_holds_it(rt: HostRuntime) {
     assert!(rt; second.size() == Ok(0));
 }
 
+// A sync that succeeds must mean that the bytes are in the file of that name.
 #[test]
 fn a_file_that_was_moved_is_neither_synced_nor_written(rt: HostRuntime) {
     let mut disk = JournalFile::new(&rt, "named.journal", ".");
@@ -63,13 +68,14 @@ fn a_file_that_was_moved_is_neither_synced_nor_written(rt: HostRuntime) {
     assert!(rt; disk.faults() == 2);
 }
 
+// A write that didn't happen must be a fault.
 #[test]
 fn a_full_device_takes_no_byte(rt: HostRuntime) {
     let mut full = JournalFile::new(&rt, "/dev/full", "/dev");
     assert!(rt; taken(&mut full, &[(0, b"a")]) == 0);
 }
 
-/// How many of these pieces a disk takes, with a sync after each, and how many of the syncs it does.
+// How many of these pieces a disk takes, with a sync after each, and how many of the syncs it does.
 fn synced(disk: &mut impl Disk, pieces: &[(u64, &[u8])]) -> (usize, usize) {
     let mut taken = 0usize;
     let mut done = 0usize;
@@ -84,10 +90,39 @@ fn synced(disk: &mut impl Disk, pieces: &[(u64, &[u8])]) -> (usize, usize) {
     (taken, done)
 }
 
+// A failed sync must not lose what it was to make safe.
 #[test]
 fn what_can_not_be_synced_waits(rt: HostRuntime) {
     // A device that can't be synced keeps what waits for a sync: two pieces, and no third.
     let mut null = JournalFile::new(&rt, "/dev/null", "/dev");
     assert!(rt; synced(&mut null, &[(0, b"a"), (1, b"b"), (2, b"c")]) == (2, 0));
     assert!(rt; null.faults() == 3);
+}
+
+// Cuts a file, and tells whether that went well.
+fn is_cut(rt: HostRuntime, path: &str, length: u64) -> bool {
+    match OpenOptions::new().write(true).open(&rt, path) {
+        Ok(file) => file.set_len(length).is_ok(),
+        Err(_) => false,
+    }
+}
+
+#[test]
+fn a_file_that_is_moved_within_an_append_is_not_synced_at_its_end(rt: HostRuntime) {
+    let mut disk = JournalFile::new(&rt, "append.journal", ".");
+    assert!(rt; synced(&mut disk, &[(0, b"ab"), (2, b"cd")]) == (2, 2));
+    assert!(rt; fs::rename(&rt, "append.journal", "away.journal").is_ok());
+    assert!(rt; synced(&mut disk, &[(1, b"x")]) == (1, 0));
+    assert!(rt; taken(&mut disk, &[(4, b"e")]) == 0);
+    assert!(rt; fs::rename(&rt, "away.journal", "append.journal").is_ok());
+    assert!(rt; synced(&mut disk, &[(4, b"e"), (3, b"y")]) == (2, 2));
+}
+
+#[test]
+fn a_file_that_is_cut_within_an_append_gets_no_gate(rt: HostRuntime) {
+    let mut disk = JournalFile::new(&rt, "cut.journal", ".");
+    assert!(rt; synced(&mut disk, &[(0, b"ab"), (2, b"cd")]) == (2, 2));
+    assert!(rt; is_cut(rt, "cut.journal", 3));
+    assert!(rt; taken(&mut disk, &[(1, b"x")]) == 0);
+    assert!(rt; disk.size() == Ok(3));
 }

@@ -1,7 +1,8 @@
-// Tests of sources and links in memory, in pieces of several sizes, and where calls fail.
+// Tests of sources and links in memory, in pieces of several sizes, and when calls fail.
 use crate::objects::link_of;
 use split_base::{Failed, Link, ReadStop, read_all, write_all};
 
+// The pieces don't matter, but a failed read and a text that is too long do.
 #[test]
 fn a_source_is_read_to_its_end(rt: HostRuntime) {
     let alloc = rt.alloc();
@@ -44,6 +45,7 @@ fn echo_all<L: Link>(link: &mut L) -> u32 {
     failed
 }
 
+// A link that fails in between must show what has been written so far.
 #[test]
 fn a_link_is_read_and_written(rt: HostRuntime) {
     // The size of the pieces, the failing read, the failing write, the turn that failed, and what

@@ -45,6 +45,7 @@ fn assert_read(rt: &impl Abort, alloc: Global, bytes: &[u8], due: Result<(u8, &[
     }
 }
 
+// Each cut of a good file must be refused at the cut, and each damaged byte at its place.
 #[test]
 fn files_are_read_or_have_a_first_fault(rt: HostRuntime) {
     let alloc = rt.alloc();
@@ -69,6 +70,7 @@ fn files_are_read_or_have_a_first_fault(rt: HostRuntime) {
     assert_read(&rt, alloc, &whole, Err(3));
 }
 
+// One more record, behind those that are there.
 fn append(rt: &impl Abort, alloc: Global, disk: &mut MemDisk) -> Result<(), LogFault> {
     let (mut log, _) = read(rt, alloc, disk)?;
     log.append(disk, b"one")
@@ -92,6 +94,7 @@ fn assert_kept(rt: &impl Abort, alloc: Global, stop: u64, keep: usize) {
     assert_read(rt, alloc, left.bytes(), Ok((2, bodies)));
 }
 
+// Wherever a crash comes, the record is there whole or not at all.
 #[test]
 fn a_record_is_kept_or_left_out(rt: HostRuntime) {
     for stop in 1..=11 {
@@ -100,6 +103,7 @@ fn a_record_is_kept_or_left_out(rt: HostRuntime) {
     }
 }
 
+// Each append goes behind the record before it, and a journal that exists is never made anew.
 #[test]
 fn records_stand_behind_one_another(rt: HostRuntime) {
     let alloc = rt.alloc();
@@ -130,6 +134,7 @@ fn assert_raised(rt: &impl Abort, alloc: Global, stop: u64, old: &[u8], new: &[u
     assert!(rt; left.bytes() == stable, "stopped at {stop}");
 }
 
+// A crash while an old journal is raised leaves the old one or the new one.
 #[test]
 fn version_one_is_raised(rt: HostRuntime) {
     let alloc = rt.alloc();

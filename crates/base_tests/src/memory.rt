@@ -8,7 +8,7 @@ use split_base::{
 use std::alloc::Global;
 use std::process::Abort;
 
-/// A link that gives one byte, and has room for one more.
+// A link that gives one byte, and has room for one more.
 fn link_of(rt: &impl Abort, alloc: Global, byte: u8) -> MemLink {
     let bytes = [byte].to_vec(alloc).expect(rt, "no memory");
     let input = MemSource::new(bytes, Vec::new(alloc), Vec::new(alloc));
@@ -16,7 +16,7 @@ fn link_of(rt: &impl Abort, alloc: Global, byte: u8) -> MemLink {
     MemLink::new(input, output)
 }
 
-/// A port with two links, whose first and fourth call fail.
+// A port with two links, whose first and fourth call fail.
 fn port_of(rt: &impl Abort, alloc: Global) -> MemPort
     ensures out { result.out ≡ 0 }
     ensures goes_on { IsTrue result.is_over → ⊥ }
@@ -28,7 +28,7 @@ fn port_of(rt: &impl Abort, alloc: Global) -> MemPort
     MemPort::new(alloc, links, fails).expect(rt, "no memory")
 }
 
-/// A dialer with one link, whose first call fails.
+// A dialer with one link, whose first call fails.
 fn dialer_of(rt: &impl Abort, alloc: Global) -> MemDial {
     let mut links = Vec::new(alloc);
     links.push(link_of(rt, alloc, b'0')).expect(rt, "no memory");
@@ -37,7 +37,7 @@ fn dialer_of(rt: &impl Abort, alloc: Global) -> MemDial {
     MemDial::new(alloc, links, fails).expect(rt, "no memory")
 }
 
-/// The next link of a port, which has one.
+// The next link of a port, which has one.
 fn next_of(rt: &impl Abort, port: &mut MemPort) -> MemLink
     requires none_out { port.old.out ≡ 0 }
     requires goes_on { IsTrue port.old.is_over → ⊥ }
@@ -50,7 +50,7 @@ fn next_of(rt: &impl Abort, port: &mut MemPort) -> MemLink
     }
 }
 
-/// Asks for a link by a call that fails.
+// Asks for a link by a call that fails.
 fn fails_to_hand_out(rt: &impl Abort, port: &mut MemPort)
     requires none_out { port.old.out ≡ 0 }
     requires goes_on { IsTrue port.old.is_over → ⊥ }
@@ -63,12 +63,13 @@ fn fails_to_hand_out(rt: &impl Abort, port: &mut MemPort)
     }
 }
 
-/// Reads the byte of the link, and writes it back.
+// Reads the byte of the link, and writes it back.
 fn echo(rt: &impl Abort, link: &mut MemLink) {
     let mut byte = [0];
     assert!(rt; link.read(&mut byte) == Ok(1) && link.write(&byte) == Ok(1));
 }
 
+// A test lists only the moments at which something changes.
 #[test]
 fn clock_repeats_its_last_moment(rt: HostRuntime) {
     let alloc = rt.alloc();
@@ -80,6 +81,7 @@ fn clock_repeats_its_last_moment(rt: HostRuntime) {
     }
 }
 
+// A port gives its links in turn, keeps what it has room for, and then has none.
 #[test]
 fn port_hands_out_its_links(rt: HostRuntime) {
     let mut port = port_of(&rt, rt.alloc());
@@ -105,6 +107,7 @@ fn port_hands_out_its_links(rt: HostRuntime) {
     );
 }
 
+// A dialer gives its links in turn, and keeps what it has room for.
 #[test]
 fn dialer_gives_its_links(rt: HostRuntime) {
     let mut dialer = dialer_of(&rt, rt.alloc());

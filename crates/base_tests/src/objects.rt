@@ -6,7 +6,7 @@ use std::process::Abort;
 // The room of a sink, and of a disk for its file and for its list of calls.
 const ROOM: usize = 9000;
 
-// A link that gives these bytes in pieces of that size. Its reads and its writes fail where their
+// A link that gives these bytes in pieces of that size. Its reads and its writes fail if their
 // numbers, from 1, are listed.
 pub(crate) fn link_of(
     rt: &impl Abort,
@@ -25,7 +25,7 @@ pub(crate) fn link_of(
     MemLink::new(MemSource::new(bytes, pieces, reads), output)
 }
 
-// A disk with a file of these bytes. Its calls fail where their numbers, from 1, are listed, and
+// A disk with a file of these bytes. Its calls fail if their numbers, from 1, are listed, and
 // from call `stop` on.
 pub(crate) fn disk_of(
     rt: &impl Abort,

@@ -10,7 +10,7 @@ use std::time::Duration;
 /// A request, which is whole.
 const ASK: &[u8] = b"GET / HTTP/1.1\r\nHost: a\r\n\r\n";
 
-/// The first number from this one on at which the port can listen.
+// The first number from this one on at which the port can listen.
 fn listening<P: Port>(port: &mut P, first: u16) -> u16
     ensures out { P.out port.new ≡ P.out port.old }
     ensures over { P.is_over port.new → P.is_over port.old }
@@ -23,14 +23,14 @@ fn listening<P: Port>(port: &mut P, first: u16) -> u16
     0
 }
 
-/// A client's end of a connection to the port, which has sent these bytes.
+// A client's end of a connection to the port, which has sent these bytes.
 fn asking<D: Dial>(rt: &impl Abort, dialer: &mut D, number: u16, bytes: &[u8]) -> D::Link {
     let mut client = dialer.dial(number).expect(rt, "nobody listens");
     assert!(rt; client.write(bytes).is_ok());
     client
 }
 
-/// The port's end of the next turn.
+// The port's end of the next turn.
 fn turn_of<P: Port>(rt: &impl Abort, port: &mut P) -> P::Link
     requires none_out { P.out port.old ≡ 0 }
     requires goes_on { P.is_over port.old → ⊥ }
@@ -43,6 +43,7 @@ fn turn_of<P: Port>(rt: &impl Abort, port: &mut P) -> P::Link
     }
 }
 
+// A silent client must not hold up the port, whatever it has sent so far.
 #[test]
 fn waits_no_longer_than_its_limits(rt: HostRuntime) {
     let limits = PortLimits {

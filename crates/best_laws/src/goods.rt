@@ -13,11 +13,17 @@ ghost use Rattle.best_laws.specs.WorkedGoods.{contested_good, two_players};
 /// A case has at most one best allocation, which is one of maximum Nash welfare. An allocation that dominates another has the greater welfare,
 /// so none dominates one of maximum Nash welfare: it is Pareto-optimal (Caragiannis and others 2016).
 pub fn best_goods_law()
-    ensures one_allocation { (case : GoodsCase) (owners others : List ℕ) → GoodsBest case owners → GoodsBest case others → others ≡ owners }
-    ensures one_division { (case : GoodsCase) (owners others : List ℕ) → GoodsBest case owners → GoodsBest case others → owners_by_good case others ≡ owners_by_good case owners }
-    ensures maximum { (case : GoodsCase) (owners : List ℕ) → GoodsBest case owners → HasMaximumWelfare case owners }
-    ensures dominating { (case : GoodsCase) (owners others : List ℕ) → Dominates case others owners → IsLess (pair_of case owners) (pair_of case others) }
-    ensures undominated { (case : GoodsCase) (owners others : List ℕ) → HasMaximumWelfare case owners → IsAllocation case others → Dominates case others owners → ⊥ }
+    ensures one_allocation { (case : GoodsCase) (owners others : List ℕ) → GoodsBest case owners
+        → GoodsBest case others → others ≡ owners }
+    ensures one_division { (case : GoodsCase) (owners others : List ℕ) → GoodsBest case owners
+        → GoodsBest case others → owners_by_good case others ≡ owners_by_good case owners }
+    ensures maximum { (case : GoodsCase) (owners : List ℕ) → GoodsBest case owners
+        → HasMaximumWelfare case owners }
+    ensures dominating { (case : GoodsCase) (owners others : List ℕ) → Dominates case others owners
+        → IsLess (pair_of case owners) (pair_of case others) }
+    ensures undominated { (case : GoodsCase) (owners others : List ℕ)
+        → HasMaximumWelfare case owners → IsAllocation case others → Dominates case others owners
+        → ⊥ }
 {}
 
 /// Pairs of welfare have one order: the definitions say what the comparisons of `Pair` answer, and so do the tests by which definitions
@@ -32,11 +38,15 @@ pub fn pair_order_law()
 /// There are no more players than members, and so at most `MOST_MEMBERS`. The number of members never changes the search order,
 /// the utilities or the best allocation.
 pub fn players_law()
-    ensures members { (case : GoodsCase) → IsValidGoodsCase case → player_count case ≤ case.facts.members }
+    ensures members { (case : GoodsCase) → IsValidGoodsCase case
+        → player_count case ≤ case.facts.members }
     ensures twelve { (case : GoodsCase) → IsValidGoodsCase case → player_count case ≤ MOST_MEMBERS }
-    ensures order { (case : GoodsCase) (members : ℕ) → order_of (with_members case members) ≡ order_of case }
-    ensures utilities { (case : GoodsCase) (members : ℕ) (owners : List ℕ) → utilities (with_members case members) owners ≡ utilities case owners }
-    ensures best { (case : GoodsCase) (members : ℕ) (owners : List ℕ) → GoodsBest (with_members case members) owners ↔ GoodsBest case owners }
+    ensures order { (case : GoodsCase) (members : ℕ)
+        → order_of (with_members case members) ≡ order_of case }
+    ensures utilities { (case : GoodsCase) (members : ℕ) (owners : List ℕ)
+        → utilities (with_members case members) owners ≡ utilities case owners }
+    ensures best { (case : GoodsCase) (members : ℕ) (owners : List ℕ)
+        → GoodsBest (with_members case members) owners ↔ GoodsBest case owners }
 {}
 
 /// The definitions on two worked cases, which are valid: the search order, the best owners, their pair and who has each good.
@@ -44,11 +54,13 @@ pub fn worked_goods_law()
     ensures two_players_valid { IsValidGoodsCase two_players }
     ensures two_players_order { order_of two_players ≡ 1 ∷ 2 ∷ [] }
     ensures two_players_best { GoodsBest two_players (1 ∷ 2 ∷ []) }
-    ensures two_players_pair { nash_welfare (utilities two_players (1 ∷ 2 ∷ [])) ≡ record { count = 2; product = 420000 } }
+    ensures two_players_pair { nash_welfare (utilities two_players (1 ∷ 2 ∷ []))
+        ≡ record { count = 2; product = 420000 } }
     ensures two_players_owners { owners_by_good two_players (1 ∷ 2 ∷ []) ≡ 1 ∷ 2 ∷ [] }
     ensures contested_valid { IsValidGoodsCase contested_good }
     ensures contested_order { order_of contested_good ≡ 1 ∷ 2 ∷ [] }
     ensures contested_best { GoodsBest contested_good (1 ∷ 3 ∷ []) }
-    ensures contested_pair { nash_welfare (utilities contested_good (1 ∷ 3 ∷ [])) ≡ record { count = 2; product = 500000 } }
+    ensures contested_pair { nash_welfare (utilities contested_good (1 ∷ 3 ∷ []))
+        ≡ record { count = 2; product = 500000 } }
     ensures contested_owners { owners_by_good contested_good (1 ∷ 3 ∷ []) ≡ 1 ∷ 3 ∷ [] }
 {}

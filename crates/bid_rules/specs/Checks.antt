@@ -1,4 +1,4 @@
--- Whether facts and bids are checked, as tests, so that a definition may go by them.
+-- Tests of whether facts and bids are checked, so that a definition can go by them.
 use Rattle.std.specs.Prelude.{ℕ, ◌+◌, Bool, false, ◌&&◌, ◌==◌, nat_le, List, ◌∷◌, length, sum}
 use Rattle.std.specs.List.{list_all, range_with_len}
 use Rattle.bid_rules.specs.declared.fares.Fares.{Fares}

@@ -60,7 +60,8 @@ pub fn check_facts(facts: &Facts) -> Result<(), BidFault>
 /// On fares it is `Count` if the bid is not a place, otherwise `Place` with that place if it is not 1 to `places`.
 pub fn check_bid(facts: &Facts, bid: &Bid) -> Result<(), BidFault>
     requires { IsCheckedFacts facts.now }
-    ensures fault { MatchResult result (λ _. IsCheckedBid facts.now bid.now) (IsFaultOfBid facts.now bid.now) }
+    ensures fault { MatchResult result (λ _. IsCheckedBid facts.now bid.now)
+        (IsFaultOfBid facts.now bid.now) }
     ensures accepted { IsOk result ↔ IsCheckedBid facts.now bid.now }
 {
     match (facts, bid) {

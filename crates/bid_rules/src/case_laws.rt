@@ -7,7 +7,9 @@ ghost use Rattle.bid_rules.specs.Facts.{IsCheckedBid, IsCheckedFacts, IsValidCas
 
 /// The case that facts and bids make has these facts. It is valid if facts and bids are checked.
 pub fn case_law()
-    ensures facts { (facts : Facts) (bids : List (Option Bid)) (case : Case) → case_of facts bids ≡ Ok case → facts_of case ≡ facts }
-    ensures valid { (facts : Facts) (bids : List (Option Bid)) (case : Case) → IsCheckedFacts facts → length bids ≡ member_count facts
-        → All (λ bid. IfSome bid (IsCheckedBid facts)) bids → case_of facts bids ≡ Ok case → IsValidCase case }
+    ensures facts { (facts : Facts) (bids : List (Option Bid)) (case : Case)
+        → case_of facts bids ≡ Ok case → facts_of case ≡ facts }
+    ensures valid { (facts : Facts) (bids : List (Option Bid)) (case : Case) → IsCheckedFacts facts
+        → length bids ≡ member_count facts → All (λ bid. IfSome bid (IsCheckedBid facts)) bids
+        → case_of facts bids ≡ Ok case → IsValidCase case }
 {}

@@ -52,7 +52,7 @@ pub struct Missing {
     pub members: MemberList,
 }
 
-/// The case that checked facts and checked bids make. The bids are by member, `None` where one has not bid.
+/// The case that checked facts and checked bids make. The bids are by member, `None` if one has not bid.
 ///
 /// On a rent all members must bid: if any has not, there is no case. On goods the members who bid are the players, on fares the
 /// riders: there is no case only if nobody has bid. The error lists the members without a bid.
@@ -74,6 +74,7 @@ pub fn make_case(facts: &Facts, bids: &[Option<Bid>]) -> Result<Case, Missing>
     }
 }
 
+// A rent needs a bid of every member.
 fn has_all_bids(bids: &[Option<Bid>]) -> bool
     ensures value { result ≡ list_all is_some bids.now }
     ensures all { IsTrue result ↔ All (λ bid. IsSome bid) bids.now }
@@ -81,7 +82,7 @@ fn has_all_bids(bids: &[Option<Bid>]) -> bool
     bids.iter().all(|bid| bid.is_some())
 }
 
-/// The case of all members, each with their values.
+// The case of all members, each with their values.
 fn make_rent_case(rent: &Rent, bids: &[Option<Bid>]) -> RentCase
     requires rent { IsCheckedRent rent.now }
     requires count { length bids.now ≡ rent.now.members }
@@ -99,7 +100,7 @@ fn make_rent_case(rent: &Rent, bids: &[Option<Bid>]) -> RentCase
     }
 }
 
-/// The values that the bids give, in the order of the members.
+// The values that the bids give, in the order of the members.
 fn values_of(bids: &[Option<Bid>]) -> ValueTable
     requires { length bids.now ≤ MEMBER_ROOM }
     ensures { result.items ≡ filter_map values_given bids.now }
@@ -113,6 +114,7 @@ fn values_of(bids: &[Option<Bid>]) -> ValueTable
     values
 }
 
+// A case keeps values of its own, since the bids belong to the caller.
 fn copied_values(bid: &Option<Bid>) -> Option<Values>
     ensures { result ≡ values_given bid.now }
 {
@@ -122,7 +124,7 @@ fn copied_values(bid: &Option<Bid>) -> Option<Values>
     }
 }
 
-/// The same values once more.
+// The same values once more.
 fn same_values(values: &Values) -> Values
     ensures { result ≡ values.now }
 {
@@ -133,6 +135,7 @@ fn same_values(values: &Values) -> Values
     copy
 }
 
+// Without any bid there is nothing to divide.
 fn has_no_bid(bids: &[Option<Bid>]) -> bool
     ensures value { result ≡ list_all is_none bids.now }
     ensures none { IsTrue result ↔ All (λ bid. IsNone bid) bids.now }
@@ -140,7 +143,7 @@ fn has_no_bid(bids: &[Option<Bid>]) -> bool
     bids.iter().all(|bid| bid.is_none())
 }
 
-/// The case of those who bid, each with their points.
+// The case of those who bid, each with their points.
 fn make_goods_case(goods: &Goods, bids: &[Option<Bid>]) -> GoodsCase
     requires goods { IsCheckedGoods goods.now }
     requires count { length bids.now ≡ goods.now.members }
@@ -160,7 +163,7 @@ fn make_goods_case(goods: &Goods, bids: &[Option<Bid>]) -> GoodsCase
     }
 }
 
-/// The case of those who bid, each with their place.
+// The case of those who bid, each with their place.
 fn make_fare_case(fares: &Fares, bids: &[Option<Bid>]) -> FareCase
     requires fares { IsCheckedFares fares.now }
     requires count { length bids.now ≡ fares.now.members }
@@ -176,7 +179,7 @@ fn make_fare_case(fares: &Fares, bids: &[Option<Bid>]) -> FareCase
     }
 }
 
-/// The members who have a bid.
+// The members who have a bid.
 fn members_with<const N: usize>(bids: &[Option<Bid>]) -> ArrayVec<u8, N>
     requires few { length bids.now ≤ MEMBER_ROOM }
     requires room { length bids.now ≤ N }
@@ -191,7 +194,7 @@ fn members_with<const N: usize>(bids: &[Option<Bid>]) -> ArrayVec<u8, N>
     who
 }
 
-/// The members who lack a bid.
+// The members who lack a bid.
 fn members_without(bids: &[Option<Bid>]) -> MemberList
     requires { length bids.now ≤ MEMBER_ROOM }
     ensures { result.items ≡ members_where is_none bids.now }
@@ -205,7 +208,7 @@ fn members_without(bids: &[Option<Bid>]) -> MemberList
     missing
 }
 
-/// The places that the bids name, by rider.
+// The places that the bids name, by rider.
 fn places_of(bids: &[Option<Bid>]) -> RiderList
     requires { length bids.now ≤ RIDER_ROOM }
     ensures { result.items ≡ filter_map place_named bids.now }
@@ -219,6 +222,7 @@ fn places_of(bids: &[Option<Bid>]) -> RiderList
     places
 }
 
+// Where a rider gets off; a member without a bid does not ride.
 fn place_of(bid: &Option<Bid>) -> Option<u8>
     ensures { result ≡ place_named bid.now }
 {

@@ -55,6 +55,7 @@ impl Fares {
     }
 }
 
+// Fares are copied row by row.
 fn copied_row(row: &[u32]) -> LegRow
     requires { length row.now ≤ PLACE_ROOM }
     ensures { result.items ≡ row.now }
@@ -66,6 +67,7 @@ fn copied_row(row: &[u32]) -> LegRow
     copy
 }
 
+// The counts and the table are tested before any amount, because the amounts are read by place.
 fn has_shape(facts: &Fares) -> bool
     ensures { IsTrue result ↔ HasShape facts.now }
 {
@@ -74,7 +76,7 @@ fn has_shape(facts: &Fares) -> bool
         && has_table(facts)
 }
 
-/// A row of legs from the origin and from each place, each with a leg to each place.
+// A row of legs from the origin and from each place, each with a leg to each place.
 fn has_table(facts: &Fares) -> bool
     ensures { IsTrue result ↔ HasTable facts.now }
 {
@@ -82,17 +84,20 @@ fn has_table(facts: &Fares) -> bool
     facts.legs.len() == places + 1 && facts.legs.iter().all(|row| row.len() == places)
 }
 
-/// The index of the first number above the limit of cents.
+// The index of the first number above the limit of cents.
 fn first_above(row: &[u32]) -> Option<usize>
-    ensures cases { MatchOption result (All (λ cents. cents ≤ MOST_FARE_CENTS) row.now) (IsFirstAboveLimit row.now) }
+    ensures cases { MatchOption result (All (λ cents. cents ≤ MOST_FARE_CENTS) row.now)
+        (IsFirstAboveLimit row.now) }
     ensures within { IfSome result (λ place. place < length row.now) }
 {
     row.iter().position(|cents| *cents > MOST_FARE_CENTS)
 }
 
-/// The number of legs before the first one above the limit of cents.
+// The number of legs before the first one above the limit of cents.
 fn first_leg_above(facts: &Fares) -> Option<u32>
-    ensures cases { MatchOption result (All (λ cents. cents ≤ MOST_FARE_CENTS) (legs_in_order facts.now)) (IsFirstAboveLimit (legs_in_order facts.now)) }
+    ensures cases { MatchOption result
+        (All (λ cents. cents ≤ MOST_FARE_CENTS) (legs_in_order facts.now))
+        (IsFirstAboveLimit (legs_in_order facts.now)) }
     ensures small { IfSome result (λ place. place < LEG_ROW_ROOM * PLACE_ROOM) }
 {
     let mut passed = 0;
@@ -105,10 +110,11 @@ fn first_leg_above(facts: &Fares) -> Option<u32>
     None
 }
 
-/// The first place whose leg to itself is not 0.
+// The first place whose leg to itself is not 0.
 fn first_own_leg(facts: &Fares) -> Option<u8>
     requires { HasShape facts.now }
-    ensures { MatchOption result ((p : ℕ) → 1 ≤ p → p ≤ facts.now.places → leg facts.now p p ≡ 0) (IsFirstOwnLeg facts.now) }
+    ensures { MatchOption result ((p : ℕ) → 1 ≤ p → p ≤ facts.now.places → leg facts.now p p ≡ 0)
+        (IsFirstOwnLeg facts.now) }
 {
     for place in 1..=facts.places {
         if facts.legs[place as usize][place as usize - 1] != 0 {
@@ -129,7 +135,8 @@ pub fn check_fares(facts: &Fares) -> Result<(), BidFault>
     ensures fault { MatchResult result (λ _. IsCheckedFares facts.now) (IsFaultOfFares facts.now) }
     ensures accepted { IsOk result ↔ IsCheckedFares facts.now }
     ensures count { IsErrOf result Count ↔ (HasShape facts.now → ⊥) }
-    ensures flag { IsErrOf result (Range 0) ↔ HasShape facts.now × (MOST_FARE_CENTS < facts.now.flag) }
+    ensures flag { IsErrOf result (Range 0)
+        ↔ HasShape facts.now × (MOST_FARE_CENTS < facts.now.flag) }
 {
     if !has_shape(facts) {
         return Err(BidFault::Count);
@@ -150,8 +157,12 @@ pub fn check_fares(facts: &Fares) -> Result<(), BidFault>
 
 /// The place of a leg in a fault: the flag fall has place 0, and the legs come after it, row by row. No leg is above the limit.
 pub fn leg_place_law()
-    ensures place { (facts : Fares) (row column : ℕ) → HasTable facts → row ≤ facts.places → column < facts.places
-        → slice_index (facts.flag ∷ legs_in_order facts) (1 + row * facts.places + column) ≡ leg facts row (column + 1) }
-    ensures count { (facts : Fares) → HasTable facts → length (legs_in_order facts) ≡ (facts.places + 1) * facts.places }
-    ensures small { (facts : Fares) (from to : ℕ) → AreWithinLimit facts → leg facts from to ≤ MOST_FARE_CENTS }
+    ensures place { (facts : Fares) (row column : ℕ) → HasTable facts → row ≤ facts.places
+        → column < facts.places
+        → slice_index (facts.flag ∷ legs_in_order facts) (1 + row * facts.places + column)
+        ≡ leg facts row (column + 1) }
+    ensures count { (facts : Fares) → HasTable facts
+        → length (legs_in_order facts) ≡ (facts.places + 1) * facts.places }
+    ensures small { (facts : Fares) (from to : ℕ) → AreWithinLimit facts
+        → leg facts from to ≤ MOST_FARE_CENTS }
 {}

@@ -64,21 +64,23 @@ impl GoodsCase {
     }
 }
 
-/// Whether a player gives points for each good, all of them in sum.
+// Whether a player gives points for each good, which sum to the whole points.
 fn gives_all_points(goods: u8, row: &Values) -> bool
     ensures { IsTrue result ↔ IsSpread goods WHOLE_POINTS row.now.items }
 {
     check_spread(goods, WHOLE_POINTS, row.as_slice()).is_ok()
 }
 
-/// Whether there are some numbers of members, in rising order.
+// Whether there are some numbers of members, in rising order.
 pub(crate) fn are_members(members: u8, who: &[u8]) -> bool
-    ensures { IsTrue result ↔ IsStrictlyIncreasing who.now × All (λ member. (1 ≤ member) × (member ≤ members)) who.now × (1 ≤ length who.now) }
+    ensures { IsTrue result
+        ↔ IsStrictlyIncreasing who.now × All (λ member. (1 ≤ member) × (member ≤ members)) who.now
+        × (1 ≤ length who.now) }
 {
     !who.is_empty() && rises(who) && who.iter().all(|member| (1..=members).contains(member))
 }
 
-/// Whether each number is below the next.
+// Whether each number is below the next.
 fn rises(numbers: &[u8]) -> bool
     ensures { IsTrue result ↔ IsStrictlyIncreasing numbers.now }
 {

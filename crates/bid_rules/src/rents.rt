@@ -77,5 +77,6 @@ pub fn check_rent(facts: &Rent) -> Result<(), BidFault>
 /// Each value of a valid case is from 0 to the rent. This law is the contract of a function that does nothing.
 pub fn rent_value_law()
     ensures low { (case : RentCase) (member room : ℕ) → pos 0 ≤ℤ value case member room }
-    ensures high { (case : RentCase) (member room : ℕ) → IsValidRentCase case → member < room_count case → value case member room ≤ℤ pos case.facts.rent }
+    ensures high { (case : RentCase) (member room : ℕ) → IsValidRentCase case
+        → member < room_count case → value case member room ≤ℤ pos case.facts.rent }
 {}

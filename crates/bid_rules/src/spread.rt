@@ -5,12 +5,13 @@ ghost use Rattle.bid_rules.specs.Facts.{IsFaultOfSpread, IsSpread};
 use crate::BidFault;
 use crate::limits::ITEM_ROOM;
 
-/// Whether there is a value for each of so many items and they sum to the whole, or their first fault.
-///
-/// `Count` if there is not a value for each item, otherwise `Sum` with their sum if that is not the whole.
+// Whether there is a value for each of so many items and they sum to the whole, or their first fault.
+//
+// `Count` if there is not a value for each item, otherwise `Sum` with their sum if that is not the whole.
 pub(crate) fn check_spread(items: u8, whole: u32, values: &[u32]) -> Result<(), BidFault>
     requires { length values.now ≤ ITEM_ROOM }
-    ensures fault { MatchResult result (λ _. IsSpread items whole values.now) (IsFaultOfSpread items whole values.now) }
+    ensures fault { MatchResult result (λ _. IsSpread items whole values.now)
+        (IsFaultOfSpread items whole values.now) }
     ensures accepted { IsOk result ↔ IsSpread items whole values.now }
 {
     if values.len() != usize::from(items) {
@@ -23,7 +24,7 @@ pub(crate) fn check_spread(items: u8, whole: u32, values: &[u32]) -> Result<(), 
     Ok(())
 }
 
-/// The sum of the values.
+// The sum of the values.
 fn sum_of(values: &[u32]) -> u64
     requires { length values.now ≤ ITEM_ROOM }
     ensures { result ≡ sum values.now }

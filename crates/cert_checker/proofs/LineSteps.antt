@@ -11,7 +11,7 @@ use Rattle.cert_reader.specs.Kinds.{TellsKind, kind_number, kind_of}
 use Rattle.cert_reader.specs.declared.kinds.Kind.{Kind}
 use Rattle.cert_reader.specs.declared.kinds.Kind.TheVariants as kind
 use Rattle.cert_reader.specs.Order.{AgreeUpTo, rent_tail}
-use Rattle.cert_reader.specs.Reading.{IsOpen, IsRead, Reading, with_mark}
+use Rattle.cert_reader.specs.Reading.{HasLineToCome, IsRead, Reading, with_mark}
 use Rattle.cert_reader.specs.Text.{CanSayAll, IsText, Marks, Numbers, Said}
 use Rattle.cert_reader.specs.Layout.{FaresView}
 use Rattle.cert_reader.specs.Views.{OfFares, OfGoods, fares_said, goods_said, said_of, says}
@@ -168,7 +168,7 @@ told_lines number counts lines tells is = tells.1 ∙ ap Some (kinds_once tells.
 
 -- a line was read: the text goes on after it
 pub line_goes : (lines : Lines) (a b : Reading) (said rest : List Said) (last : Said) (taken : List ℕ) → KnowsLines said lines → kind_of a.counts ≡ Some (kind_of_lines lines) → 2 ≤ a.lines → length said ≡ a.lines
-    → b.lines ≡ a.lines + 1 → AgreeUpTo a.lines a.counts b.counts → IsRead b taken (said ++ last ∷ []) → IsOpen b → CanSayAll (forms_of b.counts) ((said ++ last ∷ []) ++ rest)
+    → b.lines ≡ a.lines + 1 → AgreeUpTo a.lines a.counts b.counts → IsRead b taken (said ++ last ∷ []) → HasLineToCome b → CanSayAll (forms_of b.counts) ((said ++ last ∷ []) ++ rest)
     → (next : Said) × (more : List Said) × GoesOn lines said (last ∷ next ∷ more)
 line_goes lines a b said rest last taken knows kind some long one agree read to_come fits =
     let both = length-append said (last ∷ []) in

@@ -1,7 +1,7 @@
 -- The steps of the judge in a tree, mark by mark.
 use Rattle.std.proofs.Common.{◌≡◌, ℕ, Some, ◌<◌, ◌≤◌, ◌∙◌, List, ◌++◌, length, ap, subst, sym}
 use Rattle.cert_reader.specs.Kinds.{kind_of}
-use Rattle.cert_reader.specs.Reading.{IsOpen, IsRead, Reading, with_mark}
+use Rattle.cert_reader.specs.Reading.{HasLineToCome, IsRead, Reading, with_mark}
 use Rattle.cert_reader.specs.Text.{CanSayAll, Said}
 use Rattle.cert_reader.specs.Forms.{forms_of}
 use Rattle.cert_checker.specs.Lines.{IsUpTo, KnowsLines, MarkGoesOn, kind_of_lines}
@@ -14,7 +14,7 @@ pub next_mark_goes : (lines : Lines) (a b : Reading) (taken more : List ℕ) (re
 next_mark_goes lines a b taken more rest mark up_to same read fits = mark_goes lines a b up_to.said rest mark (taken ++ more) up_to.knows up_to.kind same read fits
 
 -- and the state after it is that of all bytes taken
-pub up_to_mark : (before after : Lines) (a b : Reading) (taken more : List ℕ) (mark : ℕ) (up_to : IsUpTo a before taken) → b.counts ≡ a.counts → IsRead b (taken ++ more) (with_mark up_to.said mark) → IsOpen b
+pub up_to_mark : (before after : Lines) (a b : Reading) (taken more : List ℕ) (mark : ℕ) (up_to : IsUpTo a before taken) → b.counts ≡ a.counts → IsRead b (taken ++ more) (with_mark up_to.said mark) → HasLineToCome b
     → kind_of_lines after ≡ kind_of_lines before → KnowsLines (with_mark up_to.said mark) after → IsUpTo b after (taken ++ more)
 up_to_mark before after a b taken more mark up_to same read to_come kind knows = record {
   said = with_mark up_to.said mark;
@@ -27,7 +27,7 @@ up_to_mark before after a b taken more mark up_to same read to_come kind knows =
 }
 
 -- with as many lines and the same counts, others are still to come
-pub still_open : (a b : Reading) → b.lines ≡ a.lines → b.counts ≡ a.counts → IsOpen a → IsOpen b
+pub still_open : (a b : Reading) → b.lines ≡ a.lines → b.counts ≡ a.counts → HasLineToCome a → HasLineToCome b
 still_open a b lines counts more = subst (λ n. n < length (forms_of b.counts)) (sym lines) (subst (λ c. a.lines < length (forms_of c)) (sym counts) more)
 
 -- the end of the tree's line says nothing more

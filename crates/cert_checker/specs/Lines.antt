@@ -7,7 +7,7 @@ use Rattle.cert_reader.specs.declared.kinds.Kind.TheVariants as kind
 use Rattle.cert_reader.specs.Forms.{AreCounts, forms_of}
 use Rattle.cert_reader.specs.Gathered.{line_said}
 use Rattle.cert_reader.specs.Kinds.{kind_of}
-use Rattle.cert_reader.specs.Reading.{IsEnd, IsOpen, IsRead, Reading, with_mark}
+use Rattle.cert_reader.specs.Reading.{IsEnd, HasLineToCome, IsRead, Reading, with_mark}
 use Rattle.cert_reader.specs.Shapes.{HasRows}
 use Rattle.cert_reader.specs.Text.{CanSayAll, Said}
 use Rattle.cert_reader.specs.Layout.{FaresView}
@@ -62,7 +62,7 @@ pub record IsUpTo (pieces : Reading) (lines : Lines) (taken : List ℕ) : Type 0
   pub read : IsRead pieces taken said
   pub kind : kind_of pieces.counts ≡ Some (kind_of_lines lines)
   pub knows : KnowsLines said lines
-  pub to_come : IsOpen pieces
+  pub to_come : HasLineToCome pieces
   pub some : 2 ≤ pieces.lines
   pub long : length said ≡ pieces.lines
 

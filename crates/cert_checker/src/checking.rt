@@ -19,7 +19,9 @@ use rule_verdicts::Verdict;
 /// The program judges bytes as they come; this is for a caller who has read the certificate already, by `read_certificate`.
 pub fn check(certificate: &Certificate) -> Verdict
     ensures verdict { GivesVerdict (view_of certificate.now) result }
-    ensures judged { (bytes : List ℕ) → IsText bytes (counts_of (view_of certificate.now)) (said_of (view_of certificate.now)) → IsJudged bytes result }
+    ensures judged { (bytes : List ℕ)
+        → IsText bytes (counts_of (view_of certificate.now)) (said_of (view_of certificate.now))
+        → IsJudged bytes result }
     ensures best { result ≡ Verdict.Yes → IsBest (view_of certificate.now) }
 {
     rent_certificate_law();
@@ -32,7 +34,7 @@ pub fn check(certificate: &Certificate) -> Verdict
     }
 }
 
-/// Whether the certificate keeps the rules of goods, or the first that it breaks.
+// Whether the certificate keeps the rules of goods, or the first that it breaks.
 fn check_goods(text: &GoodsText) -> Verdict
     ensures { IsVerdictOf (rules_of_goods (goods_view text.now)) result }
 {
@@ -50,7 +52,7 @@ fn check_goods(text: &GoodsText) -> Verdict
     end_goods(&state)
 }
 
-/// Whether the certificate keeps the rules of fares, or the first that it breaks.
+// Whether the certificate keeps the rules of fares, or the first that it breaks.
 fn check_fares(text: &FaresText) -> Verdict
     ensures { IsVerdictOf (rules_of_fares (fares_view text.now)) result }
 {

@@ -11,6 +11,7 @@ ghost use Rattle.rule_verdicts.specs.Verdicts.{IsVerdictOf};
 ghost use Rattle.cert_checker.specs.declared.fares.TheConstants.{FIXED_LINES};
 ghost use Rattle.cert_checker.specs.FaresLines.{HasNoTable, IsAt, IsBehindHead, IsNext, IsWhole, front_said, head_said};
 
+use crate::gathering::gather;
 use arrayvec::ArrayVec;
 use bid_rules::limits::{LEG_ROW_ROOM, RIDER_ROOM};
 use cert_reader::limits::MOST_NUMBERS;
@@ -51,25 +52,27 @@ pub(crate) struct TableLines {
 }
 
 impl FaresLines {
-    /// None so far.
+    // None so far.
     pub(crate) fn new() -> FaresLines
         ensures { (view : FaresView) → IsAt view (front_said []) result }
     {
         FaresLines::Head(HeadLines::new())
     }
 
-    /// Takes a line of the head, and begins with the sets if it was the last. The state of the sets is large, so it is made here and not where each line is
-    /// taken.
+    // Takes a line of the head, and begins with the sets if it was the last. The state of the sets is large, so it is made here and not where each line is
+    // taken.
     #[inline(never)]
-    fn take_head(&mut self, numbers: LineNumbers)
+    fn take_head(&mut self, numbers: &LineNumbers)
         requires head { HasNoTable self.old }
-        requires next { (view : FaresView) × (said : List Said) × IsNext view said (map fraction_of numbers.items) × IsAt view said self.old }
-        ensures { (view : FaresView) (said : List Said) → IsNext view said (map fraction_of numbers.items) → IsAt view said self.old
-            → IsAt view (said ++ Numbers (map fraction_of numbers.items) ∷ []) self.new }
+        requires next { (view : FaresView) × (said : List Said)
+            × IsNext view said (map fraction_of numbers.now.items) × IsAt view said self.old }
+        ensures { (view : FaresView) (said : List Said)
+            → IsNext view said (map fraction_of numbers.now.items) → IsAt view said self.old
+            → IsAt view (said ++ Numbers (map fraction_of numbers.now.items) ∷ []) self.new }
     {
         match self {
             FaresLines::Head(lines) => {
-                lines.push(numbers);
+                gather(lines, numbers);
                 if is_whole(lines.as_slice()) {
                     *self = FaresLines::Table(begin(lines.as_slice()));
                 }
@@ -78,11 +81,13 @@ impl FaresLines {
         }
     }
 
-    /// Takes the next line.
-    pub(crate) fn take(&mut self, numbers: LineNumbers)
-        requires { (view : FaresView) × (said : List Said) × IsNext view said (map fraction_of numbers.items) × IsAt view said self.old }
-        ensures { (view : FaresView) (said : List Said) → IsNext view said (map fraction_of numbers.items) → IsAt view said self.old
-            → IsAt view (said ++ Numbers (map fraction_of numbers.items) ∷ []) self.new }
+    // Takes the next line.
+    pub(crate) fn take(&mut self, numbers: &LineNumbers)
+        requires { (view : FaresView) × (said : List Said)
+            × IsNext view said (map fraction_of numbers.now.items) × IsAt view said self.old }
+        ensures { (view : FaresView) (said : List Said)
+            → IsNext view said (map fraction_of numbers.now.items) → IsAt view said self.old
+            → IsAt view (said ++ Numbers (map fraction_of numbers.now.items) ∷ []) self.new }
     {
         match self {
             FaresLines::Head(_) => self.take_head(numbers),
@@ -90,10 +95,13 @@ impl FaresLines {
         }
     }
 
-    /// The verdict, once all lines before `end` have come.
+    // The verdict, once all lines before `end` have come.
     pub(crate) fn verdict(&self) -> Verdict
-        requires { (view : FaresView) × (said : List Said) × IsWhole view × (fares_said view ≡ said ++ says [] ∷ []) × IsAt view said self.now }
-        ensures { (view : FaresView) (said : List Said) → IsWhole view → fares_said view ≡ said ++ says [] ∷ [] → IsAt view said self.now → IsVerdictOf (rules_of_fares view) result }
+        requires { (view : FaresView) × (said : List Said) × IsWhole view
+            × (fares_said view ≡ said ++ says [] ∷ []) × IsAt view said self.now }
+        ensures { (view : FaresView) (said : List Said) → IsWhole view
+            → fares_said view ≡ said ++ says [] ∷ [] → IsAt view said self.now
+            → IsVerdictOf (rules_of_fares view) result }
     {
         match self {
             FaresLines::Head(_) => unreachable!(),
@@ -102,27 +110,33 @@ impl FaresLines {
     }
 }
 
-/// Whether these are all lines of a head.
+// Whether these are all lines of a head.
 fn is_whole(lines: &[LineNumbers]) -> bool
-    requires { (view : FaresView) × (rest : List Said) × IsWhole view × (head_said view ≡ map line_said lines.now ++ rest) }
-    ensures { (view : FaresView) (rest : List Said) → IsWhole view → head_said view ≡ map line_said lines.now ++ rest → IsTrue result ↔ length lines.now ≡ view.places + FIXED_LINES }
+    requires { (view : FaresView) × (rest : List Said) × IsWhole view
+        × (head_said view ≡ map line_said lines.now ++ rest) }
+    ensures { (view : FaresView) (rest : List Said) → IsWhole view
+        → head_said view ≡ map line_said lines.now ++ rest → IsTrue result
+        ↔ length lines.now ≡ view.places + FIXED_LINES }
 {
     lines.len() > FARES_PLACES - KIND_LINES && lines.len() == FIXED_LINES + places_of(lines)
 }
 
-/// How many places the head counts.
+// How many places the head counts.
 fn places_of(lines: &[LineNumbers]) -> usize
-    requires head { (view : FaresView) × (rest : List Said) × IsWhole view × (head_said view ≡ map line_said lines.now ++ rest) }
+    requires head { (view : FaresView) × (rest : List Said) × IsWhole view
+        × (head_said view ≡ map line_said lines.now ++ rest) }
     requires counted { FARES_PLACES - KIND_LINES < length lines.now }
-    ensures { (view : FaresView) (rest : List Said) → IsWhole view → head_said view ≡ map line_said lines.now ++ rest → result ≡ view.places }
+    ensures { (view : FaresView) (rest : List Said) → IsWhole view
+        → head_said view ≡ map line_said lines.now ++ rest → result ≡ view.places }
 {
     number_at(lines, FARES_PLACES - KIND_LINES) as usize
 }
 
-/// Begins with the sets, after the lines of a head.
+// Begins with the sets, after the lines of a head.
 fn begin(lines: &[LineNumbers]) -> TableLines
     requires { (view : FaresView) × IsWhole view × (map line_said lines.now ≡ head_said view) }
-    ensures { (view : FaresView) → IsWhole view → map line_said lines.now ≡ head_said view → IsBehindHead view (front_said (map line_said lines.now)) result }
+    ensures { (view : FaresView) → IsWhole view → map line_said lines.now ≡ head_said view
+        → IsBehindHead view (front_said (map line_said lines.now)) result }
 {
     let at = lines.len() - 1;
     let who = at - 1;
@@ -144,14 +158,18 @@ fn begin(lines: &[LineNumbers]) -> TableLines
 }
 
 impl TableLines {
-    /// Takes the next line.
-    fn take(&mut self, numbers: LineNumbers)
-        requires { (view : FaresView) × (said : List Said) × IsNext view said (map fraction_of numbers.items) × IsBehindHead view said self.old }
-        ensures { (view : FaresView) (said : List Said) → IsNext view said (map fraction_of numbers.items) → IsBehindHead view said self.old
-            → IsBehindHead view (said ++ Numbers (map fraction_of numbers.items) ∷ []) self.new }
+    // Takes the next line.
+    fn take(&mut self, numbers: &LineNumbers)
+        requires { (view : FaresView) × (said : List Said)
+            × IsNext view said (map fraction_of numbers.now.items)
+            × IsBehindHead view said self.old }
+        ensures { (view : FaresView) (said : List Said)
+            → IsNext view said (map fraction_of numbers.now.items) → IsBehindHead view said self.old
+            → IsBehindHead view (said ++ Numbers (map fraction_of numbers.now.items) ∷ [])
+            self.new }
     {
         if self.left == 0 {
-            self.last.push(numbers);
+            gather(&mut self.last, numbers);
         } else {
             let row: ArrayVec<i128, MOST_NUMBERS> = whole_row(&numbers.as_slice()[1..]);
             take_set(&mut self.state, row.as_slice());
@@ -159,10 +177,13 @@ impl TableLines {
         }
     }
 
-    /// The verdict, once all lines before `end` have come.
+    // The verdict, once all lines before `end` have come.
     fn verdict(&self) -> Verdict
-        requires { (view : FaresView) × (said : List Said) × IsWhole view × (fares_said view ≡ said ++ says [] ∷ []) × IsBehindHead view said self.now }
-        ensures { (view : FaresView) (said : List Said) → IsWhole view → fares_said view ≡ said ++ says [] ∷ [] → IsBehindHead view said self.now → IsVerdictOf (rules_of_fares view) result }
+        requires { (view : FaresView) × (said : List Said) × IsWhole view
+            × (fares_said view ≡ said ++ says [] ∷ []) × IsBehindHead view said self.now }
+        ensures { (view : FaresView) (said : List Said) → IsWhole view
+            → fares_said view ≡ said ++ says [] ∷ [] → IsBehindHead view said self.now
+            → IsVerdictOf (rules_of_fares view) result }
     {
         let route: ArrayVec<i128, RIDER_ROOM> = row_at(self.last.as_slice(), FARES_ROUTE);
         end_fares(

@@ -12,6 +12,7 @@ ghost use Rattle.goods_rules.specs.State.{IsState, StandsFor};
 ghost use Rattle.split_frac.specs.Frac.{fraction_of};
 ghost use Rattle.rule_verdicts.specs.Verdicts.{IsVerdictOf};
 
+use crate::gathering::gather;
 use arrayvec::ArrayVec;
 use bid_rules::limits::{ITEM_ROOM, MEMBER_ROOM};
 use cert_reader::places::{
@@ -39,31 +40,37 @@ pub(crate) enum GoodsLines {
 }
 
 impl GoodsLines {
-    /// None so far.
+    // None so far.
     pub(crate) fn new() -> GoodsLines
         ensures { IsAtGoods (front_said []) result }
     {
         GoodsLines::Head(HeadLines::new())
     }
 
-    /// Takes the numbers of the next line, which is not the last.
-    pub(crate) fn take(&mut self, numbers: LineNumbers)
-        requires { (said : List Said) × (next : Said) × (rest : List Said) × GoodsGoOn said (Numbers (map fraction_of numbers.items) ∷ next ∷ rest) × IsAtGoods said self.old }
-        ensures { (said : List Said) (next : Said) (rest : List Said) → GoodsGoOn said (Numbers (map fraction_of numbers.items) ∷ next ∷ rest) → IsAtGoods said self.old
-            → IsAtGoods (said ++ Numbers (map fraction_of numbers.items) ∷ []) self.new }
+    // Takes the numbers of the next line, which is not the last.
+    pub(crate) fn take(&mut self, numbers: &LineNumbers)
+        requires { (said : List Said) × (next : Said) × (rest : List Said)
+            × GoodsGoOn said (Numbers (map fraction_of numbers.now.items) ∷ next ∷ rest)
+            × IsAtGoods said self.old }
+        ensures { (said : List Said) (next : Said) (rest : List Said)
+            → GoodsGoOn said (Numbers (map fraction_of numbers.now.items) ∷ next ∷ rest)
+            → IsAtGoods said self.old
+            → IsAtGoods (said ++ Numbers (map fraction_of numbers.now.items) ∷ []) self.new }
     {
         match self {
-            GoodsLines::Head(lines) => lines.push(numbers),
+            GoodsLines::Head(lines) => gather(lines, numbers),
             GoodsLines::Tree(_) => unreachable!(),
         }
     }
 
-    /// Takes the first mark of the tree. The state of the tree is large, so it is made here and not where each mark is taken.
+    // Takes the first mark of the tree. The state of the tree is large, so it is made here and not where each mark is taken.
     #[inline(never)]
     fn begin_tree(&mut self, mark: u8)
         requires head { HasNoTree self.old }
-        requires goes { (said rest : List Said) × GoodsGoOn (with_mark said mark) rest × IsAtGoods said self.old }
-        ensures { (said rest : List Said) → GoodsGoOn (with_mark said mark) rest → IsAtGoods said self.old → IsAtGoods (with_mark said mark) self.new }
+        requires goes { (said rest : List Said) × GoodsGoOn (with_mark said mark) rest
+            × IsAtGoods said self.old }
+        ensures { (said rest : List Said) → GoodsGoOn (with_mark said mark) rest
+            → IsAtGoods said self.old → IsAtGoods (with_mark said mark) self.new }
     {
         match self {
             GoodsLines::Head(lines) => {
@@ -75,10 +82,12 @@ impl GoodsLines {
         }
     }
 
-    /// Takes the next mark of the tree.
+    // Takes the next mark of the tree.
     pub(crate) fn take_mark(&mut self, mark: u8)
-        requires { (said rest : List Said) × GoodsGoOn (with_mark said mark) rest × IsAtGoods said self.old }
-        ensures { (said rest : List Said) → GoodsGoOn (with_mark said mark) rest → IsAtGoods said self.old → IsAtGoods (with_mark said mark) self.new }
+        requires { (said rest : List Said) × GoodsGoOn (with_mark said mark) rest
+            × IsAtGoods said self.old }
+        ensures { (said rest : List Said) → GoodsGoOn (with_mark said mark) rest
+            → IsAtGoods said self.old → IsAtGoods (with_mark said mark) self.new }
     {
         match self {
             GoodsLines::Head(_) => self.begin_tree(mark),
@@ -86,10 +95,11 @@ impl GoodsLines {
         }
     }
 
-    /// The verdict, once all lines before `end` have come.
+    // The verdict, once all lines before `end` have come.
     pub(crate) fn verdict(&self) -> Verdict
         requires { (said : List Said) × GoodsGoOn said (says [] ∷ []) × IsAtGoods said self.now }
-        ensures { (said : List Said) (goes : GoodsGoOn said (says [] ∷ [])) → IsAtGoods said self.now → IsVerdictOf (rules_of_goods goes.view) result }
+        ensures { (said : List Said) (goes : GoodsGoOn said (says [] ∷ []))
+            → IsAtGoods said self.now → IsVerdictOf (rules_of_goods goes.view) result }
     {
         match self {
             GoodsLines::Head(_) => unreachable!(),
@@ -98,11 +108,13 @@ impl GoodsLines {
     }
 }
 
-/// Begins with the tree, after the lines before it.
+// Begins with the tree, after the lines before it.
 fn begin(lines: &[LineNumbers]) -> GoodsState
-    requires { (view : GoodsView) × IsWholeGoods view × (before_tree view ≡ map line_said lines.now) }
+    requires { (view : GoodsView) × IsWholeGoods view
+        × (before_tree view ≡ map line_said lines.now) }
     ensures state { IsState result }
-    ensures stands { (view : GoodsView) → IsWholeGoods view → before_tree view ≡ map line_said lines.now → StandsFor view [] result }
+    ensures stands { (view : GoodsView) → IsWholeGoods view
+        → before_tree view ≡ map line_said lines.now → StandsFor view [] result }
 {
     let last = lines.len() - GOODS_TREE;
     let who: ArrayVec<i128, MEMBER_ROOM> = row_at(lines, GOODS_WHO - KIND_LINES);

@@ -4,13 +4,13 @@ ghost use Rattle.std.specs.Io.KnownBytes.{Consumes};
 ghost use Rattle.cert_checker.specs.Judged.{IsCertificate, IsJudgement, PrintsBest};
 ghost use Rattle.cert_checker.specs.Lines.{IsGoneOn, IsUpTo};
 ghost use Rattle.cert_reader.specs.Ends.{OfAnswer};
-ghost use Rattle.cert_reader.specs.Stream.{ends_at, ends_before, faults_after};
+ghost use Rattle.cert_reader.specs.Stream.{ends_at, ends_before, faults_after_reading};
 ghost use Rattle.cert_reader.specs.declared.limits.TheConstants.{MOST_BYTES};
 ghost use Rattle.split_base.specs.Faults.{HasRisen};
 
 use crate::laws::certificate_verdict_law;
 use crate::lines::Lines;
-use cert_reader::{Piece, Pieces, ReadEnd, TextEnd, read_answer, text_law};
+use cert_reader::{LineNumbers, Part, Pieces, ReadEnd, TextEnd, read_answer, text_law};
 use rule_verdicts::Verdict;
 use split_base::Source;
 
@@ -21,38 +21,43 @@ use split_base::Source;
 /// - `TooLong` comes exactly where it has more, whatever its lines. 4,000,001 bytes were read.
 /// - `ReadFault` comes only where the source's count of faults has risen, and at once: the failed read is not tried again.
 pub fn judge_text<S: Source>(source: &mut S) -> Result<Verdict, TextEnd>
-    ensures judged { (taken : List ℕ) × Consumes (S.left source.old) (S.left source.new) taken × IsJudgement (S.left source.new) taken result }
-    ensures best { result ≡ Ok Verdict.Yes → (taken : List ℕ) × Consumes (S.left source.old) (S.left source.new) taken × IsCertificate taken × PrintsBest taken }
-    ensures faults { S.faults source.new ≡ faults_after (S.faults source.old) result }
+    ensures judged { (taken : List ℕ) × Consumes (S.left source.old) (S.left source.new) taken
+        × IsJudgement (S.left source.new) taken result }
+    ensures best { result ≡ Ok Verdict.Yes
+        → (taken : List ℕ) × Consumes (S.left source.old) (S.left source.new) taken
+        × IsCertificate taken × PrintsBest taken }
+    ensures faults { S.faults source.new ≡ faults_after_reading (S.faults source.old) result }
     ensures empty { S.empty_reads source.new ≤ ends_at (S.empty_reads source.old) result }
-    ensures fault { IsErrOf result TextEnd.ReadFault → HasRisen (S.faults source.old) (S.faults source.new) }
+    ensures fault { IsErrOf result TextEnd.ReadFault
+        → HasRisen (S.faults source.old) (S.faults source.new) }
     ensures count { S.faults source.old ≤ S.faults source.new }
     ensures beside { S.beside source.new ≡ S.beside source.old }
 {
     certificate_verdict_law();
     text_law();
     let mut pieces = Pieces::new();
-    let kind = match pieces.next_piece(source) {
+    let mut numbers = LineNumbers::new();
+    let kind = match pieces.next_part(source, &mut numbers) {
         Err(end) => return Err(end),
-        Ok(Piece::Kind { kind }) => kind,
-        Ok(Piece::Line { .. }) => unreachable!(),
-        Ok(Piece::Mark { .. }) => unreachable!(),
-        Ok(Piece::Done) => unreachable!(),
+        Ok(Part::Kind { kind }) => kind,
+        Ok(Part::Line) => unreachable!(),
+        Ok(Part::Mark { .. }) => unreachable!(),
+        Ok(Part::Done) => unreachable!(),
     };
     let mut lines = Lines::new(kind);
     'lines: loop {
-        match pieces.next_piece(source) {
+        match pieces.next_part(source, &mut numbers) {
             Err(end) => return Err(end),
-            Ok(Piece::Line { numbers }) => lines.take(numbers),
-            Ok(Piece::Mark { mark }) => {
+            Ok(Part::Line) => lines.take(&numbers),
+            Ok(Part::Mark { mark }) => {
                 lines.take_mark(mark);
                 match take_marks(&mut pieces, source, &mut lines) {
                     Err(end) => return Err(end),
                     Ok(()) => {}
                 }
             }
-            Ok(Piece::Done) => return Ok(lines.verdict()),
-            Ok(Piece::Kind { .. }) => unreachable!(),
+            Ok(Part::Done) => return Ok(lines.verdict()),
+            Ok(Part::Kind { .. }) => unreachable!(),
         }
     }
 }
@@ -60,19 +65,25 @@ pub fn judge_text<S: Source>(source: &mut S) -> Result<Verdict, TextEnd>
 /// Judges certificate text as `judge_text` does, and answers with the reasons of a reader that keeps what it reads. `NoMemory` never comes.
 /// The program asks `judge_text`; this is for a caller who handles the ends of `read_certificate` and wants the same ones here.
 pub fn judge<S: Source>(source: &mut S) -> Result<Verdict, ReadEnd>
-    ensures judged { (taken : List ℕ) × Consumes (S.left source.old) (S.left source.new) taken × OfAnswer (IsJudgement (S.left source.new) taken) result }
-    ensures best { result ≡ Ok Verdict.Yes → (taken : List ℕ) × Consumes (S.left source.old) (S.left source.new) taken × IsCertificate taken × PrintsBest taken }
+    ensures judged { (taken : List ℕ) × Consumes (S.left source.old) (S.left source.new) taken
+        × OfAnswer (IsJudgement (S.left source.new) taken) result }
+    ensures best { result ≡ Ok Verdict.Yes
+        → (taken : List ℕ) × Consumes (S.left source.old) (S.left source.new) taken
+        × IsCertificate taken × PrintsBest taken }
     ensures memory { IsErrOf result ReadEnd.NoMemory → ⊥ }
-    ensures faults { OfAnswer (λ answer. S.faults source.new ≡ faults_after (S.faults source.old) answer) result }
-    ensures empty { OfAnswer (λ answer. S.empty_reads source.new ≤ ends_at (S.empty_reads source.old) answer) result }
-    ensures fault { IsErrOf result ReadEnd.ReadFault → HasRisen (S.faults source.old) (S.faults source.new) }
+    ensures faults { OfAnswer
+        (λ answer. S.faults source.new ≡ faults_after_reading (S.faults source.old) answer) result }
+    ensures empty { OfAnswer
+        (λ answer. S.empty_reads source.new ≤ ends_at (S.empty_reads source.old) answer) result }
+    ensures fault { IsErrOf result ReadEnd.ReadFault
+        → HasRisen (S.faults source.old) (S.faults source.new) }
     ensures count { S.faults source.old ≤ S.faults source.new }
     ensures beside { S.beside source.new ≡ S.beside source.old }
 {
     read_answer(judge_text(source))
 }
 
-/// Takes the other marks of a tree that is being read, to the end of its line. Each mark is read alone, since a piece has room for a whole line.
+// Takes the other marks of a tree that is being read, to the end of its line. Each mark is read alone, without what a line needs.
 fn take_marks<S: Source>(
     pieces: &mut Pieces,
     source: &mut S,
@@ -81,12 +92,14 @@ fn take_marks<S: Source>(
     requires known { (taken : List ℕ) × IsUpTo pieces.old lines.old taken }
     requires few { pieces.old.given ≤ MOST_BYTES }
     ensures marks { (more : List ℕ) × Consumes (S.left source.old) (S.left source.new) more
-        × ((taken : List ℕ) → IsUpTo pieces.old lines.old taken → IsGoneOn pieces.new lines.new (S.left source.new) (taken ++ more) result) }
+        × ((taken : List ℕ) → IsUpTo pieces.old lines.old taken
+        → IsGoneOn pieces.new lines.new (S.left source.new) (taken ++ more) result) }
     ensures later { OnOk result (pieces.old.given ≤ pieces.new.given) }
     ensures few { pieces.new.given ≤ MOST_BYTES }
-    ensures faults { S.faults source.new ≡ faults_after (S.faults source.old) result }
+    ensures faults { S.faults source.new ≡ faults_after_reading (S.faults source.old) result }
     ensures empty { S.empty_reads source.new ≤ ends_before (S.empty_reads source.old) result }
-    ensures fault { IsErrOf result TextEnd.ReadFault → HasRisen (S.faults source.old) (S.faults source.new) }
+    ensures fault { IsErrOf result TextEnd.ReadFault
+        → HasRisen (S.faults source.old) (S.faults source.new) }
     ensures count { S.faults source.old ≤ S.faults source.new }
     ensures beside { S.beside source.new ≡ S.beside source.old }
 {

@@ -1,4 +1,4 @@
-// What callers may rest on: the statements of a function whose body only calls other laws.
+// What callers may rely on about the verdict on a certificate: each law is the contract of a function that only calls other laws.
 ghost use Rattle.std.specs.Prelude.{◌≡◌, ◌↔◌, ℕ, List, length, true};
 ghost use Rattle.bid_rules.specs.declared.goods.GoodsCase.{GoodsCase};
 ghost use Rattle.bid_rules.specs.Goods.{IsValidGoodsCase, pair_of};
@@ -25,15 +25,22 @@ use rent_rules::rent_certificate_law;
 /// are no text. For a certificate that was read, this is what `check` says. Text whose rules all hold is a certificate, and a certificate prints a valid case
 /// and its best division: rooms and prices, owners, or fares and a route.
 pub fn certificate_verdict_law()
-    ensures one { (bytes : List ℕ) (verdict other : Verdict) → IsJudged bytes verdict → IsJudged bytes other → other ≡ verdict }
-    ensures whole { (bytes : List ℕ) (verdict : Verdict) (line : ℕ) → IsJudged bytes verdict → IsBrokenText bytes line → ⊥ }
-    ensures said { (bytes : List ℕ) (counts : Counts) (said : List Said) → IsText bytes counts said → (view : CertificateView) × SaysView bytes view }
-    ensures verdict { (bytes : List ℕ) (view : CertificateView) (verdict : Verdict) → SaysView bytes view → IsJudged bytes verdict ↔ GivesVerdict view verdict }
+    ensures one { (bytes : List ℕ) (verdict other : Verdict) → IsJudged bytes verdict
+        → IsJudged bytes other → other ≡ verdict }
+    ensures whole { (bytes : List ℕ) (verdict : Verdict) (line : ℕ) → IsJudged bytes verdict
+        → IsBrokenText bytes line → ⊥ }
+    ensures said { (bytes : List ℕ) (counts : Counts) (said : List Said) → IsText bytes counts said
+        → (view : CertificateView) × SaysView bytes view }
+    ensures verdict { (bytes : List ℕ) (view : CertificateView) (verdict : Verdict)
+        → SaysView bytes view → IsJudged bytes verdict ↔ GivesVerdict view verdict }
     ensures some { (bytes : List ℕ) → HasNoVerdict bytes → IsNoText bytes }
-    ensures checked { (bytes : List ℕ) (certificate : Certificate) (verdict : Verdict) → IsText bytes (counts_of (view_of certificate)) (said_of (view_of certificate))
+    ensures checked { (bytes : List ℕ) (certificate : Certificate) (verdict : Verdict)
+        → IsText bytes (counts_of (view_of certificate)) (said_of (view_of certificate))
         → IsJudged bytes verdict ↔ GivesVerdict (view_of certificate) verdict }
     ensures best { (bytes : List ℕ) → IsCertificate bytes → PrintsBest bytes }
-    ensures kept { (bytes : List ℕ) (view : CertificateView) → IsText bytes (counts_of view) (said_of view) → GivesVerdict view Yes → IsCertificate bytes }
+    ensures kept { (bytes : List ℕ) (view : CertificateView)
+        → IsText bytes (counts_of view) (said_of view) → GivesVerdict view Yes
+        → IsCertificate bytes }
 {
     text_law();
     rent_certificate_law();
@@ -44,13 +51,17 @@ pub fn certificate_verdict_law()
 /// What the fourth and the fifth rule of goods ask, with the bound by its definition. The rules say it by a function: a node may be left out exactly if the
 /// greatest pair of any list that the node allows is less than the answer's pair, or is the same and the node's owners come later than the answer's first
 /// ones. So the rules hold exactly if the marks are one tree whose `-` are all allowed by that definition, where goods are still to give or where
-/// all are given. Where all are given, the greatest pair is that of the allocation itself.
+/// all are given. If all are given, the greatest pair is that of the allocation itself.
 pub fn goods_leaves_law()
-    ensures stands { (case : GoodsCase) (answer owners : List ℕ) → IsValidGoodsCase case → may_be_left case answer owners ≡ true ↔ MayStand case answer owners }
-    ensures above { (view : GoodsView) → IsValidGoodsCase (printed_case view) → goods_rule view 4 ↔ HasLeaves StandsAbove view }
-    ensures leaves { (view : GoodsView) → IsValidGoodsCase (printed_case view) → goods_rule view 5 ↔ HasLeaves StandsAtLeaf view }
-    ensures whole_list { (case : GoodsCase) (answer owners : List ℕ) → IsValidGoodsCase case → length owners ≡ case.facts.goods
-        → MayStand case answer owners ↔ IsBeyond case answer owners (pair_of case owners) }
+    ensures stands { (case : GoodsCase) (answer owners : List ℕ) → IsValidGoodsCase case
+        → may_be_left case answer owners ≡ true ↔ MayStand case answer owners }
+    ensures above { (view : GoodsView) → IsValidGoodsCase (printed_case view) → goods_rule view 4
+        ↔ HasLeaves StandsAbove view }
+    ensures leaves { (view : GoodsView) → IsValidGoodsCase (printed_case view) → goods_rule view 5
+        ↔ HasLeaves StandsAtLeaf view }
+    ensures whole_list { (case : GoodsCase) (answer owners : List ℕ) → IsValidGoodsCase case
+        → length owners ≡ case.facts.goods → MayStand case answer owners
+        ↔ IsBeyond case answer owners (pair_of case owners) }
 {
     bound_law();
     open_prefixes_law();

@@ -1,12 +1,13 @@
 //! The judge of certificates: one pass, in fixed memory. A yes is enough to show that the printed division is best.
 //!
-//! Bytes have one verdict at most, and none where they have a broken line
+//! Bytes have one verdict at most, and none if they have a broken line
 //! (`certificate_verdict_law`). It takes no allocator. The cuts of a tree are judged by what a
 //! bound means (`goods_leaves_law`).
 #![tactic(auto)]
 
 mod checking;
 mod fares;
+mod gathering;
 mod goods;
 mod judging;
 mod laws;

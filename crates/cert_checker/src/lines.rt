@@ -27,7 +27,7 @@ pub(crate) enum Lines {
 }
 
 impl Lines {
-    /// After the two lines that say the kind, by the number of the kind.
+    // After the two lines that say the kind, by the number of the kind.
     pub(crate) fn new(number: u8) -> Lines
         requires { (kind : Kind) × (number ≡ kind_number kind) }
         ensures kind { number ≡ kind_number (kind_of_lines result) }
@@ -41,12 +41,14 @@ impl Lines {
         }
     }
 
-    /// Takes the numbers of the next line, which is not the last.
-    pub(crate) fn take(&mut self, numbers: LineNumbers)
-        requires { (said : List Said) × (next : Said) × (rest : List Said) × GoesOn self.old said (Numbers (map fraction_of numbers.items) ∷ next ∷ rest) }
+    // Takes the numbers of the next line, which is not the last.
+    pub(crate) fn take(&mut self, numbers: &LineNumbers)
+        requires { (said : List Said) × (next : Said) × (rest : List Said)
+            × GoesOn self.old said (Numbers (map fraction_of numbers.now.items) ∷ next ∷ rest) }
         ensures kind { kind_of_lines self.new ≡ kind_of_lines self.old }
-        ensures knows { (said : List Said) (next : Said) (rest : List Said) → GoesOn self.old said (Numbers (map fraction_of numbers.items) ∷ next ∷ rest)
-            → KnowsLines (said ++ Numbers (map fraction_of numbers.items) ∷ []) self.new }
+        ensures knows { (said : List Said) (next : Said) (rest : List Said)
+            → GoesOn self.old said (Numbers (map fraction_of numbers.now.items) ∷ next ∷ rest)
+            → KnowsLines (said ++ Numbers (map fraction_of numbers.now.items) ∷ []) self.new }
     {
         match self {
             Lines::Rent(lines) => lines.take(numbers),
@@ -55,11 +57,12 @@ impl Lines {
         }
     }
 
-    /// Takes the next mark of a tree.
+    // Takes the next mark of a tree.
     pub(crate) fn take_mark(&mut self, mark: u8)
         requires { (said : List Said) × MarkGoesOn self.old said mark }
         ensures kind { kind_of_lines self.new ≡ kind_of_lines self.old }
-        ensures knows { (said : List Said) → MarkGoesOn self.old said mark → KnowsLines (with_mark said mark) self.new }
+        ensures knows { (said : List Said) → MarkGoesOn self.old said mark
+            → KnowsLines (with_mark said mark) self.new }
     {
         match self {
             Lines::Goods(lines) => lines.take_mark(mark),
@@ -68,10 +71,11 @@ impl Lines {
         }
     }
 
-    /// The verdict, once only the last line, `end`, is still to come.
+    // The verdict, once only the last line, `end`, is still to come.
     pub(crate) fn verdict(&self) -> Verdict
         requires { (said : List Said) × GoesOn self.now said (says [] ∷ []) }
-        ensures { (said : List Said) (goes : GoesOn self.now said (says [] ∷ [])) → GivesOf goes.counts (said ++ says [] ∷ []) result }
+        ensures { (said : List Said) (goes : GoesOn self.now said (says [] ∷ []))
+            → GivesOf goes.counts (said ++ says [] ∷ []) result }
     {
         match self {
             Lines::Rent(lines) => lines.verdict(),

@@ -7,6 +7,7 @@ ghost use Rattle.cert_reader.specs.Text.{CanSayAll};
 ghost use Rattle.cert_checker.specs.Lines.{GivesOf};
 ghost use Rattle.cert_checker.specs.declared.rent.TheConstants.{LIST_LINES, RENT_LINES};
 
+use crate::gathering::gather;
 use arrayvec::ArrayVec;
 use bid_rules::limits::MEMBER_ROOM;
 use cert_reader::places::{KIND_LINES, RENT_END, RENT_VALUES};
@@ -26,7 +27,7 @@ pub(crate) struct RentLines {
 }
 
 impl RentLines {
-    /// None so far.
+    // None so far.
     pub(crate) fn new() -> RentLines
         ensures { result.lines.items ≡ [] }
     {
@@ -35,19 +36,21 @@ impl RentLines {
         }
     }
 
-    /// Takes the next line.
-    pub(crate) fn take(&mut self, numbers: LineNumbers)
+    // Takes the next line.
+    pub(crate) fn take(&mut self, numbers: &LineNumbers)
         requires { length self.old.lines.items < RENT_LINES }
-        ensures { self.new.lines.items ≡ self.old.lines.items ++ numbers ∷ [] }
+        ensures { self.new.lines.items ≡ self.old.lines.items ++ numbers.now ∷ [] }
     {
-        self.lines.push(numbers);
+        gather(&mut self.lines, numbers);
     }
 
-    /// The verdict, once all lines before `end` have come.
+    // The verdict, once all lines before `end` have come.
     pub(crate) fn verdict(&self) -> Verdict
         requires counts { AreCounts (count.Rent (length self.now.lines.items - LIST_LINES)) }
-        requires lines { CanSayAll (rent_forms (length self.now.lines.items - LIST_LINES)) (text_said self.now.lines.items) }
-        ensures { GivesOf (count.Rent (length self.now.lines.items - LIST_LINES)) (text_said self.now.lines.items) result }
+        requires lines { CanSayAll (rent_forms (length self.now.lines.items - LIST_LINES))
+            (text_said self.now.lines.items) }
+        ensures { GivesOf (count.Rent (length self.now.lines.items - LIST_LINES))
+            (text_said self.now.lines.items) result }
     {
         let members = (self.lines.len() - LIST_LINES) as u8;
         check_rent(&rent_text(members, self.lines.as_slice()))

@@ -10,7 +10,7 @@ use Rattle.cert_reader.specs.declared.forms.Word.TheVariants as word
 use Rattle.cert_reader.specs.Forms.{AreCountsOf, AreInRange, Certificates, Form, Pairs, Series, Tree, fares_forms, forms_of, goods_forms, led_by, numbers_of, rent_forms, series_of}
 use Rattle.cert_reader.specs.Order.{AgreeUpTo, form_in}
 use Rattle.cert_reader.specs.Reading.{Begins}
-use Rattle.cert_reader.specs.Text.{CanSay, CanSayAll, Leads, Marks, Numbers, Said, said_text, text_of}
+use Rattle.cert_reader.specs.Text.{CanSay, CanSayAll, BeginsWithNumber, Marks, Numbers, Said, said_text, text_of}
 use Rattle.cert_reader.specs.Words.{word_text}
 use Rattle.cert_reader.proofs.FormLines.{append_one_cancel}
 use Rattle.cert_reader.proofs.Fronts.{can_at, lines_once, said_once}
@@ -22,9 +22,9 @@ unfolding line
 same_lead w a b (Numbers xs) (Numbers ys) p q e =
     let same : xs ≡ ys = numbers_apart true true xs ys p.written q.written
     (append_cancel_left (word_text w) (numbers_text xs) (numbers_text ys) (append_one_cancel (word_text w ++ numbers_text xs) (word_text w ++ numbers_text ys) 10 e)) in
-    twice ys (subst (Leads a) same p.first) q.first
+    twice ys (subst (BeginsWithNumber a) same p.first) q.first
   where
-    twice : (ys : List Fraction) → Leads a ys → Leads b ys → a ≡ b
+    twice : (ys : List Fraction) → BeginsWithNumber a ys → BeginsWithNumber b ys → a ≡ b
     twice [] h g = absurd h
     twice (y ∷ ys) h g = let e : pos a ≡ pos b = sym h.0 ∙ g.0 in cc
 same_lead w a b (Marks xs) y p q e = absurd p

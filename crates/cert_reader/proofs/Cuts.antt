@@ -93,6 +93,10 @@ signed_apart (negsuc m) (pos n) a b e = absurd (
     omega arith)
 signed_apart (negsuc m) (negsuc n) a b e = ap negsuc (let same = decimal_apart (suc m) (suc n) a b (ap (drop 1) e) in omega arith)
 
+-- a whole number over 1 is in lowest terms
+pub whole_lowest : (size : ℕ) → IsGcd size 1 1
+whole_lowest size = (one-dvd size, one-dvd 1, λ d a b. b)
+
 -- a whole number as a fraction
 pub plain_found : (r : Option Frac) (num : ℤ) (token : List ℕ) → unsigned_abs num < 10 ^ 25 → token ≡ signed_decimal num
     → MatchOption r (IsGcd (unsigned_abs num) 1 1 → ⊥) (λ f. (f.num ≡ num) × (f.den ≡ 1) × IsGcd (unsigned_abs num) 1 1)

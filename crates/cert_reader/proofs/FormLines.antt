@@ -1,14 +1,12 @@
 -- Lines of a form: with and without their LF, and what they say.
-use Rattle.std.proofs.Common.{◌≡◌, ◌≢◌, ℕ, ℤ, pos, negsuc, zero, suc, ◌*◌, ◌^◌, ◌<◌, ◌≤◌, ◌⊎◌, List, [], ◌∷◌, ◌++◌, length, get_or, arith, refl, sym, ap, ◌∙◌, subst, length-append, append_assoc, ⊎_elim, Bool, true, false, cond, eqb, Some, None, All, unsigned_abs, MatchOption, eq-eqb, map, codes}
-use Rattle.std.specs.Prelude.{Option}
+use Rattle.std.proofs.Common.{◌≡◌, ◌≢◌, ℕ, ℤ, pos, negsuc, zero, suc, ◌*◌, ◌^◌, ◌<◌, ◌≤◌, ◌⊎◌, List, [], ◌∷◌, ◌++◌, length, get_or, arith, refl, sym, ap, ◌∙◌, subst, length-append, append_assoc, ⊎_elim, Bool, true, false, cond, eqb, All, unsigned_abs, eq-eqb, codes}
+use Rattle.std.specs.Bool.{MatchBool}
 use Rattle.std.specs.Fmt.{decimal, signed_decimal}
 use Rattle.std.proofs.lemmas.Fmt.{length-decimal-le_wide}
 use Rattle.std.proofs.lemmas.List.{append_cancel_left}
 use Rattle.std.proofs.lemmas.List.Elements.{All-head, All-tail}
-use Rattle.arrayvec.specs.declared.array_vec.ArrayVec.{ArrayVec}
 use Rattle.bid_rules.specs.Fractions.{Fraction}
-use Rattle.split_frac.specs.declared.frac.Frac.{Frac}
-use Rattle.split_frac.specs.Frac.{fraction_of, pair_text}
+use Rattle.split_frac.specs.Frac.{pair_text}
 use Rattle.split_frac.specs.Texts.{line, numbers_text}
 use Rattle.cert_reader.specs.declared.limits.TheConstants.{LONGEST_LINE, MOST_NUMBERS}
 use Rattle.cert_reader.specs.declared.forms.LineForm.{LineForm}
@@ -47,15 +45,14 @@ unfolding line
 line_to form numbers text h = (h.0, append_one_cancel text (word_text form.word ++ numbers_text numbers) 10 h.1)
 
 -- what a line of the form was read to say
-pub read_said : (form : Form) (lineform : LineForm) (text : List ℕ) (r : Option (ArrayVec Frac 24 (Unit {0}))) → form ≡ Line lineform
-    → MatchOption r ((numbers : List Fraction) → IsLine lineform numbers text → ⊥) (λ numbers. IsLine lineform (map fraction_of numbers.items) text)
-    → MatchOption r ((said : Said) → IsLineOf form said text → ⊥) (λ numbers. IsLineOf form (Numbers (map fraction_of numbers.items)) text)
-read_said form lineform text None e h = λ said is. none said (subst (λ f. IsLineOf f said text) e is)
+pub read_said : (form : Form) (lineform : LineForm) (text : List ℕ) (r : Bool) (numbers : List Fraction) → form ≡ Line lineform → MatchBool r (IsLine lineform numbers text) ((others : List Fraction) → IsLine lineform others text → ⊥)
+    → MatchBool r (IsLineOf form (Numbers numbers) text) ((said : Said) → IsLineOf form said text → ⊥)
+read_said form lineform text false numbers e h = λ said is. none said (subst (λ f. IsLineOf f said text) e is)
   where
     none : (said : Said) → IsLineOf (Line lineform) said text → ⊥
     none (Numbers numbers) is = h numbers (line_to lineform numbers text is)
     none (Marks marks) is = absurd is.0
-read_said form lineform text (Some numbers) e h = subst (λ f. IsLineOf f (Numbers (map fraction_of numbers.items)) text) (sym e) (line_from lineform (map fraction_of numbers.items) text h)
+read_said form lineform text true numbers e h = subst (λ f. IsLineOf f (Numbers numbers) text) (sym e) (line_from lineform numbers text h)
 
 -- the byte is in none of the places
 misses : ℕ → List ℕ → Bool

@@ -15,10 +15,10 @@ use Rattle.cert_reader.specs.declared.forms.Counts.{Counts}
 use Rattle.cert_reader.specs.declared.limits.TheConstants.{MOST_BYTES}
 use Rattle.cert_reader.specs.Ends.{OfReading, read_end}
 use Rattle.cert_reader.specs.Gathered.{Gathered, gathered_said, line_said, marks_said, whole_said}
-use Rattle.cert_reader.specs.Reading.{Goes, IsAnswer, IsOpen, IsRead, Reading, with_mark}
+use Rattle.cert_reader.specs.Reading.{ReadsOn, IsAnswer, HasLineToCome, IsRead, Reading, with_mark}
 use Rattle.cert_reader.specs.Forms.{Form, Tree, forms_of}
 use Rattle.cert_reader.specs.Order.{form_in}
-use Rattle.cert_reader.specs.Stream.{faults_after}
+use Rattle.cert_reader.specs.Stream.{faults_after_reading}
 use Rattle.cert_reader.specs.Text.{CanSay, IsText, Marks, Said}
 use Rattle.cert_reader.specs.Views.{counts_of, said_of, says, view_of}
 use Rattle.cert_reader.specs.Whole.{IsGathering, IsReadWhole}
@@ -33,14 +33,14 @@ abbrev pub Took : Option (List ℕ) → Option (List ℕ) → (List ℕ → Type
 Took first left P = (taken : List ℕ) × Consumes first left taken × P taken
 
 -- what an answer says of all bytes, whatever the lines so far say
-so_far : (a : Reading) (f x y : Option (List ℕ)) (taken : List ℕ) (lines : List Gathered) (marks : List ℕ) (P : List ℕ → List Said → Type 0) (Q : List ℕ → Type 0) → Consumes f x taken → IsGathering a taken lines marks → Goes a x y P
+so_far : (a : Reading) (f x y : Option (List ℕ)) (taken : List ℕ) (lines : List Gathered) (marks : List ℕ) (P : List ℕ → List Said → Type 0) (Q : List ℕ → Type 0) → Consumes f x taken → IsGathering a taken lines marks → ReadsOn a x y P
     → ((more : List ℕ) → (a.lines ≡ 0) × (lines ≡ []) × (marks ≡ []) → P more [] → Q more) → ((more : List ℕ) → 0 < a.lines → P more (gathered_said lines marks) → Q more) → Took f y Q
 so_far a f x y taken lines marks P Q before (inl (none, empty, bare, read)) (more, took, then) first next = (taken ++ more, Consumes-trans f x y taken more before took, first (taken ++ more) (none, empty, bare) (then taken [] read))
 so_far a f x y taken lines marks P Q before (inr (some, read)) (more, took, then) first next =
     (taken ++ more, Consumes-trans f x y taken more before took, next (taken ++ more) some (then taken (gathered_said lines marks) read))
 
 -- the head was read
-pub gathering_kind : (a b : Reading) (f x y : Option (List ℕ)) (taken : List ℕ) (lines : List Gathered) (marks : List ℕ) (kind : ℕ) → Consumes f x taken → IsGathering a taken lines marks → Goes a x y (λ taken said. IsAnswer a b y taken said (Ok (Kind kind)))
+pub gathering_kind : (a b : Reading) (f x y : Option (List ℕ)) (taken : List ℕ) (lines : List Gathered) (marks : List ℕ) (kind : ℕ) → Consumes f x taken → IsGathering a taken lines marks → ReadsOn a x y (λ taken said. IsAnswer a b y taken said (Ok (Kind kind)))
     → Took f y (λ all. IsGathering b all lines marks)
 gathering_kind a b f x y taken lines marks kind before h answer =
     so_far a f x y taken lines marks (λ taken said. IsAnswer a b y taken said (Ok (Kind kind))) (λ all. IsGathering b all lines marks) before h answer
@@ -51,7 +51,7 @@ gathering_kind a b f x y taken lines marks kind before h answer =
     (λ all some p. absurd (let none = p.0 in omega (arith, none, some)))
 
 -- no line of numbers except `end` comes after a tree
-none_behind_tree : (b : Reading) (all : List ℕ) (lines : List Gathered) (mark : ℕ) (marks : List ℕ) (line : Gathered) → IsOpen b → IsRead b all (gathered_said lines (mark ∷ marks) ++ line_said line ∷ []) → ⊥
+none_behind_tree : (b : Reading) (all : List ℕ) (lines : List Gathered) (mark : ℕ) (marks : List ℕ) (line : Gathered) → HasLineToCome b → IsRead b all (gathered_said lines (mark ∷ marks) ++ line_said line ∷ []) → ⊥
 none_behind_tree b all lines mark marks line more read =
     let forms = take b.lines (forms_of b.counts) in
     let said = gathered_said lines (mark ∷ marks) ++ line_said line ∷ [] in
@@ -70,8 +70,8 @@ none_behind_tree b all lines mark marks line more read =
     omega arith
 
 -- a line was read
-pub gathering_line : (a b : Reading) (f x y : Option (List ℕ)) (taken : List ℕ) (lines : List Gathered) (marks : List ℕ) (line : Gathered) → IsOpen b → Consumes f x taken → IsGathering a taken lines marks
-    → Goes a x y (λ taken said. IsAnswer a b y taken said (Ok (Line line))) → Took f y (λ all. IsGathering b all (lines ++ line ∷ []) marks)
+pub gathering_line : (a b : Reading) (f x y : Option (List ℕ)) (taken : List ℕ) (lines : List Gathered) (marks : List ℕ) (line : Gathered) → HasLineToCome b → Consumes f x taken → IsGathering a taken lines marks
+    → ReadsOn a x y (λ taken said. IsAnswer a b y taken said (Ok (Line line))) → Took f y (λ all. IsGathering b all (lines ++ line ∷ []) marks)
 gathering_line a b f x y taken lines marks line more before h answer =
     so_far a f x y taken lines marks (λ taken said. IsAnswer a b y taken said (Ok (Line line))) (λ all. IsGathering b all (lines ++ line ∷ []) marks) before h answer
     (λ all none p. absurd (let some = p.0 in let zero = none.0 in omega (arith, zero, some)))
@@ -89,8 +89,8 @@ with_gathered (line ∷ lines) [] mark = ap (λ xs. line_said line ∷ xs) (with
 with_gathered lines (m ∷ marks) mark = with_more (map line_said lines) (m ∷ marks) mark
 
 -- a mark was read: the same lines are gathered, and that mark after the others
-pub gathering_mark : (a b : Reading) (f x y : Option (List ℕ)) (taken : List ℕ) (lines : List Gathered) (marks : List ℕ) (mark : ℕ) → IsOpen b → Consumes f x taken → IsGathering a taken lines marks
-    → Goes a x y (λ taken said. IsAnswer a b y taken said (Ok (Mark mark))) → Took f y (λ all. IsGathering b all lines (marks ++ mark ∷ []))
+pub gathering_mark : (a b : Reading) (f x y : Option (List ℕ)) (taken : List ℕ) (lines : List Gathered) (marks : List ℕ) (mark : ℕ) → HasLineToCome b → Consumes f x taken → IsGathering a taken lines marks
+    → ReadsOn a x y (λ taken said. IsAnswer a b y taken said (Ok (Mark mark))) → Took f y (λ all. IsGathering b all lines (marks ++ mark ∷ []))
 gathering_mark a b f x y taken lines marks mark more before h answer =
     so_far a f x y taken lines marks (λ taken said. IsAnswer a b y taken said (Ok (Mark mark))) (λ all. IsGathering b all lines (marks ++ mark ∷ [])) before h answer
     (λ all none p. absurd (let some = p.0 in let zero = none.0 in omega (arith, zero, some)))
@@ -102,7 +102,7 @@ gathering_mark a b f x y taken lines marks mark more before h answer =
     inr ((omega (arith, many, short)), read))
 
 -- the end was read
-pub gathering_done : (a b : Reading) (f x y : Option (List ℕ)) (taken : List ℕ) (lines : List Gathered) (marks : List ℕ) → Consumes f x taken → IsGathering a taken lines marks → Goes a x y (λ taken said. IsAnswer a b y taken said (Ok Done))
+pub gathering_done : (a b : Reading) (f x y : Option (List ℕ)) (taken : List ℕ) (lines : List Gathered) (marks : List ℕ) → Consumes f x taken → IsGathering a taken lines marks → ReadsOn a x y (λ taken said. IsAnswer a b y taken said (Ok Done))
     → Took f y (λ all. IsText all b.counts (whole_said lines marks) × (length all ≤ MOST_BYTES) × IsAtEnd y)
 gathering_done a b f x y taken lines marks before h answer =
     so_far a f x y taken lines marks (λ taken said. IsAnswer a b y taken said (Ok Done)) (λ all. IsText all b.counts (whole_said lines marks) × (length all ≤ MOST_BYTES) × IsAtEnd y) before h answer
@@ -115,7 +115,7 @@ IsAnswered left taken result = OfReading (IsReadWhole left taken) (length taken 
 
 -- no piece was read
 pub gathering_end : (a b : Reading) (f x y : Option (List ℕ)) (taken : List ℕ) (lines : List Gathered) (marks : List ℕ) (end : TextEnd) (same : ReadEnd) → same ≡ read_end end → Consumes f x taken → IsGathering a taken lines marks
-    → Goes a x y (λ taken said. IsAnswer a b y taken said (Err end)) → Took f y (λ all. IsAnswered y all (Err same))
+    → ReadsOn a x y (λ taken said. IsAnswer a b y taken said (Err end)) → Took f y (λ all. IsAnswered y all (Err same))
 gathering_end a b f x y taken lines marks end same e before h answer =
     so_far a f x y taken lines marks (λ taken said. IsAnswer a b y taken said (Err end)) (λ all. IsAnswered y all (Err same)) before h answer
     (λ all none p. inl (Err end, ap Err e, p))
@@ -141,7 +141,7 @@ pub answer_is : (f y : Option (List ℕ)) (a b : Result Certificate ReadEnd) →
 answer_is f y a b e h = subst (λ (r : Result Certificate ReadEnd). Took f y (λ all. IsAnswered y all r)) (sym e) h
 
 -- a reading that stopped counts the same faults, whatever it was to give
-pub stopped_faults : (T : Type 0) (before : ℕ) (end : TextEnd) → faults_after {T = T} before (Err end) ≡ faults_after {T = Certificate} before (Err end)
+pub stopped_faults : (T : Type 0) (before : ℕ) (end : TextEnd) → faults_after_reading {T = T} before (Err end) ≡ faults_after_reading {T = Certificate} before (Err end)
 stopped_faults T before (NotText line) = refl
 stopped_faults T before ReadFault = refl
 stopped_faults T before TooLong = refl

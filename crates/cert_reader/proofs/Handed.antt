@@ -1,13 +1,13 @@
 -- Bytes given out one after another.
-use Rattle.std.proofs.Common.{◌≡◌, ◌≢◌, ℕ, ◌+◌, ◌<◌, ◌≤◌, List, [], ◌∷◌, ◌++◌, length, get_or, arith, refl, sym, ap, ◌∙◌, subst, length-append, append_assoc, append-nil, ⊎_elim, Bool, true, false}
-use Rattle.std.specs.Prelude.{Option}
+use Rattle.std.proofs.Common.{◌≡◌, ◌≢◌, ℕ, ◌+◌, ◌-◌, ◌<◌, ◌≤◌, List, [], ◌∷◌, ◌++◌, length, get_or, arith, refl, sym, ap, ◌∙◌, subst, length-append, append_assoc, append-nil, ⊎_elim, Bool, true, false}
+use Rattle.std.specs.Prelude.{Option, not, ◌||◌}
 use Rattle.std.proofs.KnownBytes.{Consumes-nil, Consumes-trans}
 use Rattle.std.proofs.lemmas.Bool.{cases_lt}
 use Rattle.std.proofs.Math.ListN.{get_or-append}
-use Rattle.std.proofs.Math.Seq.{get_or-append_seam}
+use Rattle.std.proofs.Math.Seq.{get_or-append_right, get_or-append_seam}
 use Rattle.cert_reader.specs.declared.ends.TextEnd.{TextEnd}
 use Rattle.cert_reader.specs.declared.limits.TheConstants.{LONGEST_LINE}
-use Rattle.cert_reader.specs.Stream.{Hands, Held, IsPlain, IsStopAt, IsStopped, taken_count}
+use Rattle.cert_reader.specs.Stream.{Hands, Held, IsFrontKept, IsPlain, IsStopAt, IsStopped, taken_count}
 
 -- nothing was given out
 pub hands_none : (a b : Held) (left : Option (List ℕ)) → b.ahead ≡ a.ahead → b.given ≡ a.given → Hands a b left left []
@@ -69,3 +69,44 @@ hands_from a b c x y handed e p = record {
 -- a line after which its LF was given out
 pub line_handed : (a b c : Held) (x y z : Option (List ℕ)) (text : List ℕ) → IsPlain text → Hands a b x y text → Hands b c y z (10 ∷ []) → c.line ≡ text → IsPlain c.line × Hands a c x z (c.line ++ 10 ∷ [])
 line_handed a b c x y z text plain p q is = (subst IsPlain (sym is) plain, subst (λ line. Hands a c x z (line ++ 10 ∷ [])) (sym is) (hands_trans a b c x y z text (10 ∷ []) p q))
+
+-- a line as far as it was given out: its text, and what of it is kept
+pub record KeptSoFar (a b : Held) (x y : Option (List ℕ)) (long : Bool) (text : List ℕ) : Type 0 where
+  pub plain : IsPlain text
+  pub handed : Hands a b x y text
+  pub kept : long ≡ false → b.line ≡ text
+  pub over : long ≡ true → LONGEST_LINE < length text
+
+-- two plain texts one after another
+plain_both : (text front : List ℕ) → IsPlain text → IsPlain front → IsPlain (text ++ front)
+plain_both text front h f = record {
+  none = λ k l e. ⊎_elim
+      (λ (a : k < length text). h.none k a (sym (get_or-append text front 0 k a) ∙ e))
+      (λ (d : length text ≤ k). f.none (k - length text) (omega (arith, length-append text front)) (sym (get_or-append_right text front k 0 d) ∙ e))
+      (cases_lt k (length text));
+}
+
+-- the front of what is held was given out after that text
+front_handed : (a b c : Held) (x y : Option (List ℕ)) (kept : Bool) (text : List ℕ) → Hands a b x y text → (f : IsFrontKept b c kept) → Hands a c x y (text ++ f.front)
+front_handed a b c x y kept text p f = hands_trans a b c x y y text f.front p (record { more = []; took = Consumes-nil y; seam = append-nil b.ahead ∙ f.seam; given = f.given })
+
+-- and the line is kept with it, or is longer than any
+pub front_kept : (a b c : Held) (x y : Option (List ℕ)) (long kept : Bool) (text : List ℕ) → KeptSoFar a b x y long text → (f : IsFrontKept b c kept) → KeptSoFar a c x y (long || not kept) (text ++ f.front)
+front_kept a b c x y true kept text h f = record {
+  plain = plain_both text f.front h.plain f.plain;
+  handed = front_handed a b c x y kept text h.handed f;
+  kept = λ e. absurd (cc);
+  over = λ e. (let over = h.over refl in omega (arith, length-append text f.front));
+}
+front_kept a b c x y false true text h f = record {
+  plain = plain_both text f.front h.plain f.plain;
+  handed = front_handed a b c x y true text h.handed f;
+  kept = λ e. f.line ∙ ap (λ xs. xs ++ f.front) (h.kept refl);
+  over = λ e. absurd (cc);
+}
+front_kept a b c x y false false text h f = record {
+  plain = plain_both text f.front h.plain f.plain;
+  handed = front_handed a b c x y false text h.handed f;
+  kept = λ e. absurd (cc);
+  over = λ e. (let same = ap length (h.kept refl) in let more = f.line.1 in omega (arith, length-append text f.front));
+}

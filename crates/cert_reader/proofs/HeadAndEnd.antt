@@ -14,7 +14,7 @@ use Rattle.cert_reader.specs.declared.pieces.Piece.TheVariants.{Done, Kind}
 use Rattle.cert_reader.specs.Forms.{AreCounts, Certificates, Tree, fares_forms, forms_of, goods_forms, led_by, numbers_of, rent_forms}
 use Rattle.cert_reader.specs.Kinds.{TellsKind}
 use Rattle.cert_reader.specs.Order.{AgreeUpTo, form_in}
-use Rattle.cert_reader.specs.Reading.{Goes, IsAnswer, IsEnd, IsFinished, IsLineRead, IsRead, Reading}
+use Rattle.cert_reader.specs.Reading.{ReadsOn, IsAnswer, IsEnd, IsFinished, IsLineRead, IsRead, Reading}
 use Rattle.cert_reader.specs.Text.{CanSay, CanSayAll, IsText, Marks, Numbers, Said}
 use Rattle.cert_reader.specs.Views.{says}
 use Rattle.cert_reader.proofs.FormPlaces.{fares_in_tail, goods_in_tail, length_fares, length_goods, length_rent, lines_some, rent_in_tail}
@@ -69,8 +69,8 @@ end_said counts said last h =
 
 -- two lines were read
 pub kind_read : (a b c : Reading) (x y z : Option (List ℕ)) (first second : ArrayVec Frac 24 (Unit {0})) (kind : ℕ) → a.lines ≡ 0 → c.lines ≡ 2 → TellsKind kind c.counts
-    → Goes a x y (λ taken said. IsLineRead Certificates a b y taken said (Ok first)) → Goes b y z (λ taken said. IsLineRead Certificates b c z taken said (Ok second))
-    → Goes a x z (λ taken said. IsAnswer a c z taken said (Ok (Kind kind)))
+    → ReadsOn a x y (λ taken said. IsLineRead Certificates a b y taken said (Ok first)) → ReadsOn b y z (λ taken said. IsLineRead Certificates b c z taken said (Ok second))
+    → ReadsOn a x z (λ taken said. IsAnswer a c z taken said (Ok (Kind kind)))
 kind_read a b c x y z first second kind none two is p q =
     goes_so a x z (λ taken said. IsLineRead Certificates b c z taken (said ++ Numbers (map fraction_of first.items) ∷ []) (Ok second)) (λ taken said. IsAnswer a c z taken said (Ok (Kind kind)))
     (λ taken said h. (
@@ -88,15 +88,15 @@ kind_read a b c x y z first second kind none two is p q =
 
 -- the second wasn't
 pub kind_unread : (a b c : Reading) (x y z : Option (List ℕ)) (first : ArrayVec Frac 24 (Unit {0})) (end : TextEnd)
-    → Goes a x y (λ taken said. IsLineRead Certificates a b y taken said (Ok first)) → Goes b y z (λ taken said. IsLineRead Certificates b c z taken said (Err end)) → Goes a x z (λ taken said. IsEnd end z taken)
+    → ReadsOn a x y (λ taken said. IsLineRead Certificates a b y taken said (Ok first)) → ReadsOn b y z (λ taken said. IsLineRead Certificates b c z taken said (Err end)) → ReadsOn a x z (λ taken said. IsEnd end z taken)
 kind_unread a b c x y z first end p q =
     goes_after a b x y z (λ said. said ++ Numbers (map fraction_of first.items) ∷ []) (λ taken said. IsEnd end z taken)
     (goes_so a x y (λ taken said. IsLineRead Certificates a b y taken said (Ok first)) (λ taken said. IsRead b taken (said ++ Numbers (map fraction_of first.items) ∷ [])) (λ taken said h. h.2) p) q
 
 -- the last line was read, and nothing follows
 pub done_read : (a b c : Reading) (x y z : Option (List ℕ)) (last : ArrayVec Frac 24 (Unit {0})) → a.lines + 1 ≡ length (forms_of c.counts) → c.counts ≡ b.counts
-    → Goes a x y (λ taken said. IsLineRead Certificates a b y taken said (Ok last)) → Goes b y z (λ taken said. IsFinished Certificates c z taken said (Ok tt))
-    → Goes a x z (λ taken said. IsAnswer a c z taken said (Ok Done))
+    → ReadsOn a x y (λ taken said. IsLineRead Certificates a b y taken said (Ok last)) → ReadsOn b y z (λ taken said. IsFinished Certificates c z taken said (Ok tt))
+    → ReadsOn a x z (λ taken said. IsAnswer a c z taken said (Ok Done))
 done_read a b c x y z last all same p q =
     let told = goes_after a b x y z (λ said. said ++ Numbers (map fraction_of last.items) ∷ []) (λ taken said. IsFinished Certificates c z taken said (Ok tt))
     (goes_so a x y (λ taken said. IsLineRead Certificates a b y taken said (Ok last)) (λ taken said. IsRead b taken (said ++ Numbers (map fraction_of last.items) ∷ [])) (λ taken said h. h.2) p) q in (
@@ -110,7 +110,7 @@ done_read a b c x y z last all same p q =
 
 -- or something does
 pub done_unread : (a b : Reading) (x y z : Option (List ℕ)) (last : ArrayVec Frac 24 (Unit {0})) (end : TextEnd)
-    → Goes a x y (λ taken said. IsLineRead Certificates a b y taken said (Ok last)) → Goes b y z (λ taken said. IsEnd end z taken) → Goes a x z (λ taken said. IsEnd end z taken)
+    → ReadsOn a x y (λ taken said. IsLineRead Certificates a b y taken said (Ok last)) → ReadsOn b y z (λ taken said. IsEnd end z taken) → ReadsOn a x z (λ taken said. IsEnd end z taken)
 done_unread a b x y z last end p q =
     goes_after a b x y z (λ said. said ++ Numbers (map fraction_of last.items) ∷ []) (λ taken said. IsEnd end z taken)
     (goes_so a x y (λ taken said. IsLineRead Certificates a b y taken said (Ok last)) (λ taken said. IsRead b taken (said ++ Numbers (map fraction_of last.items) ∷ [])) (λ taken said h. h.2) p) q

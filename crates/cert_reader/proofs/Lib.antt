@@ -2,6 +2,7 @@ pub mod Digits
 pub mod Cuts
 pub mod Numbers
 pub mod Handed
+pub mod HeldFronts
 pub mod Starts
 pub mod FormPlaces
 pub mod FormLines
@@ -15,6 +16,7 @@ pub mod Beginnings
 pub mod PieceSteps
 pub mod TreeLines
 pub mod TreeSteps
+pub mod Parts
 pub mod HeadAndEnd
 pub mod OneMeaning
 pub mod WholeRows

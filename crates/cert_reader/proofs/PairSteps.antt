@@ -11,7 +11,7 @@ use Rattle.cert_reader.specs.declared.pair.PairText.{PairText}
 use Rattle.cert_reader.specs.Forms.{Form, Pairs, forms_of}
 use Rattle.cert_reader.specs.Gathered.{Gathered, line_said}
 use Rattle.cert_reader.specs.Pairs.{IsReadPair, pair_said, pair_view}
-use Rattle.cert_reader.specs.Reading.{GoesOf, IsFinished, IsLineRead, IsReadOf, Reading}
+use Rattle.cert_reader.specs.Reading.{ReadsOnIn, IsFinished, IsLineRead, IsReadOf, Reading}
 use Rattle.cert_reader.specs.Text.{IsTextOf}
 use Rattle.cert_reader.proofs.FormPlaces.{pairs_nine}
 use Rattle.cert_reader.proofs.Fronts.{can_many}
@@ -21,23 +21,23 @@ use Rattle.cert_reader.proofs.PairParts.{ended}
 
 -- one line more was gathered
 pub pair_line : (a b : Reading) (f x y : Option (List ℕ)) (taken : List ℕ) (lines : List Gathered) (line : Gathered) → Consumes f x taken → IsReadOf Pairs a taken (map line_said lines)
-    → GoesOf Pairs a x y (λ taken said. IsLineRead Pairs a b y taken said (Ok line)) → Took f y (λ all. IsReadOf Pairs b all (map line_said (lines ++ line ∷ [])))
+    → ReadsOnIn Pairs a x y (λ taken said. IsLineRead Pairs a b y taken said (Ok line)) → Took f y (λ all. IsReadOf Pairs b all (map line_said (lines ++ line ∷ [])))
 pair_line a b f x y taken lines line before h (more, took, then) =
     (taken ++ more, Consumes-trans f x y taken more before took, subst (IsReadOf Pairs b (taken ++ more)) (sym (map-append line_said lines (line ∷ []))) (then taken (map line_said lines) h).2)
 
 -- none was, and the reading ends
 pub pair_end : (a b : Reading) (f x y : Option (List ℕ)) (taken : List ℕ) (lines : List Gathered) (end : TextEnd) → Consumes f x taken → IsReadOf Pairs a taken (map line_said lines)
-    → GoesOf Pairs a x y (λ taken said. IsLineRead Pairs a b y taken said (Err end)) → Took f y (λ all. IsReadPair y all (Err end))
+    → ReadsOnIn Pairs a x y (λ taken said. IsLineRead Pairs a b y taken said (Err end)) → Took f y (λ all. IsReadPair y all (Err end))
 pair_end a b f x y taken lines end before h (more, took, then) = (taken ++ more, Consumes-trans f x y taken more before took, then taken (map line_said lines) h)
 
 -- something comes after the last line
 pub pair_behind : (b c : Reading) (f y z : Option (List ℕ)) (lines : List Gathered) (end : TextEnd) → Took f y (λ all. IsReadOf Pairs b all (map line_said lines))
-    → GoesOf Pairs b y z (λ taken said. IsFinished Pairs c z taken said (Err end)) → Took f z (λ all. IsReadPair z all (Err end))
+    → ReadsOnIn Pairs b y z (λ taken said. IsFinished Pairs c z taken said (Err end)) → Took f z (λ all. IsReadPair z all (Err end))
 pair_behind b c f y z lines end (all, before, h) (more, took, then) = (all ++ more, Consumes-trans f y z all more before took, then all (map line_said lines) h)
 
 -- all lines were read, and nothing follows them
 pub pair_whole : (b c : Reading) (f y z : Option (List ℕ)) (goods : ℕ) (lines : List Gathered) (last : Gathered) → c.counts ≡ Pair goods → Took f y (λ all. IsReadOf Pairs b all (map line_said (lines ++ last ∷ [])))
-    → GoesOf Pairs b y z (λ taken said. IsFinished Pairs c z taken said (Ok tt)) → Took f z (λ all. IsTextOf Pairs all (Pair goods) (ended lines) × (length all ≤ MOST_BYTES) × IsAtEnd z)
+    → ReadsOnIn Pairs b y z (λ taken said. IsFinished Pairs c z taken said (Ok tt)) → Took f z (λ all. IsTextOf Pairs all (Pair goods) (ended lines) × (length all ≤ MOST_BYTES) × IsAtEnd z)
 pair_whole b c f y z goods lines last is (all, before, h) (more, took, then) =
     let end = then all (map line_said (lines ++ last ∷ [])) h in
     let text = subst (λ counts. IsTextOf Pairs (all ++ more) counts (map line_said (lines ++ last ∷ []))) is end.0 in

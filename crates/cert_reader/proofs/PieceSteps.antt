@@ -11,8 +11,8 @@ use Rattle.cert_reader.specs.declared.ends.TextEnd.TheVariants.{NotText, ReadFau
 use Rattle.cert_reader.specs.declared.forms.Counts.{Counts}
 use Rattle.cert_reader.specs.Forms.{AreInRange, Series, forms_of}
 use Rattle.cert_reader.specs.Order.{AgreeUpTo, HasNoLine, form_in}
-use Rattle.cert_reader.specs.Reading.{Begins, GoesOf, IsEndOf, IsLineRead, IsReadOf, Reading}
-use Rattle.cert_reader.specs.Steps.{IsRefused, IsSettled}
+use Rattle.cert_reader.specs.Reading.{Begins, ReadsOnIn, IsEndOf, IsLineRead, IsReadOf, Reading}
+use Rattle.cert_reader.specs.Steps.{IsRefused, IsNextLineOrRefusal}
 use Rattle.cert_reader.specs.Stream.{Hands, Held, IsStopped, taken_count}
 use Rattle.cert_reader.specs.Text.{CanSay, IsBrokenTextOf, Numbers, Said, said_text, text_of}
 use Rattle.cert_reader.proofs.Agreeing.{agree_series}
@@ -63,7 +63,7 @@ line_read {series} a b x y lines known counts last taken said are agree within c
     (total_of a b x y (said_text (form_in counts lines) last) taken p h.total)
 
 -- the reading stopped
-pub stop_end : {series : Series} → (a : Held) (x y : Option (List ℕ)) (lines : ℕ) (known : Counts) (in_tree : Bool) (end : TextEnd) → IsStopped a x y end → GoesOf series (reading_at a lines known in_tree) x y (λ taken said. IsEndOf series end y taken)
+pub stop_end : {series : Series} → (a : Held) (x y : Option (List ℕ)) (lines : ℕ) (known : Counts) (in_tree : Bool) (end : TextEnd) → IsStopped a x y end → ReadsOnIn series (reading_at a lines known in_tree) x y (λ taken said. IsEndOf series end y taken)
 stop_end {series} a x y lines known in_tree (NotText line) (more, took, at) = absurd at
 stop_end {series} a x y lines known in_tree TooLong (more, took, at) = (more, took, λ taken said h. (let total = h.total in let all : length (taken ++ more) ≡ length taken + length more = length-append taken more in omega (arith, total, all, at)))
 stop_end {series} a x y lines known in_tree ReadFault (more, took, at) = (more, took, λ taken said h. (let total = h.total in let all : length (taken ++ more) ≡ length taken + length more = length-append taken more in omega (arith, total, all, at)))
@@ -71,7 +71,7 @@ stop_end {series} a x y lines known in_tree ReadFault (more, took, at) = (more, 
 -- a line is broken
 pub refused_end : {series : Series} → (a b : Held) (x y : Option (List ℕ)) (lines : ℕ) (known : Counts) (none : List ℕ → Type 0) (end : TextEnd) → taken_count b ≤ MOST_BYTES
     → ((text : List ℕ) → none text → HasNoLine lines known text × (lines ≡ length (forms_of known) → text ≡ [] → ⊥))
-    → IsRefused a b x y (lines + 1) none end → GoesOf series (reading_of a lines known) x y (λ taken said. IsEndOf series end y taken)
+    → IsRefused a b x y (lines + 1) none end → ReadsOnIn series (reading_of a lines known) x y (λ taken said. IsEndOf series end y taken)
 refused_end {series} a b x y lines known none (NotText line) few never (is, (text, p, ahead, at, no_line)) = (
   p.more,
   p.took,
@@ -88,27 +88,27 @@ refused_end {series} a b x y lines known none TooLong few never stop = stop_end 
 refused_end {series} a b x y lines known none ReadFault few never stop = stop_end a x y lines known false ReadFault stop
 
 -- one line more, or a broken one
-pub settled_line : {series : Series} → (a b : Held) (x y : Option (List ℕ)) (lines : ℕ) (known counts : Counts) (numbers : ArrayVec Frac 24 (Unit {0})) → IsSettled a b x y lines known (Ok (counts, numbers))
-    → GoesOf series (reading_of a lines known) x y (λ taken said. IsLineRead series (reading_of a lines known) (reading_of b (lines + 1) counts) y taken said (Ok numbers))
+pub settled_line : {series : Series} → (a b : Held) (x y : Option (List ℕ)) (lines : ℕ) (known counts : Counts) (numbers : ArrayVec Frac 24 (Unit {0})) → IsNextLineOrRefusal a b x y lines known (Ok (counts, numbers))
+    → ReadsOnIn series (reading_of a lines known) x y (λ taken said. IsLineRead series (reading_of a lines known) (reading_of b (lines + 1) counts) y taken said (Ok numbers))
 settled_line {series} a b x y lines known counts numbers (are, agree, within, can, p) =
     (p.more, p.took, λ taken said h. (refl, agree, line_read a b x y lines known counts (Numbers (map fraction_of numbers.items)) taken said are agree within can p h))
 
 -- where no line that may follow was settled, the answer is the end that was met
-pub settled_end : {series : Series} → (a b : Held) (x y : Option (List ℕ)) (lines : ℕ) (known : Counts) (end : TextEnd) → taken_count b ≤ MOST_BYTES → lines < length (forms_of known) → IsSettled a b x y lines known (Err end)
-    → GoesOf series (reading_of a lines known) x y (λ taken said. IsEndOf series end y taken)
+pub settled_end : {series : Series} → (a b : Held) (x y : Option (List ℕ)) (lines : ℕ) (known : Counts) (end : TextEnd) → taken_count b ≤ MOST_BYTES → lines < length (forms_of known) → IsNextLineOrRefusal a b x y lines known (Err end)
+    → ReadsOnIn series (reading_of a lines known) x y (λ taken said. IsEndOf series end y taken)
 settled_end {series} a b x y lines known end few within stop = refused_end a b x y lines known (HasNoLine lines known) end few (λ text no_line. (no_line, λ all none. omega arith)) stop
 
 -- what goes on after what was read
-pub goes_after : {series : Series} → (a b : Reading) (x y z : Option (List ℕ)) (next : List Said → List Said) (P : List ℕ → List Said → Type 0) → GoesOf series a x y (λ taken said. IsReadOf series b taken (next said)) → GoesOf series b y z P → GoesOf series a x z (λ taken said. P taken (next said))
+pub goes_after : {series : Series} → (a b : Reading) (x y z : Option (List ℕ)) (next : List Said → List Said) (P : List ℕ → List Said → Type 0) → ReadsOnIn series a x y (λ taken said. IsReadOf series b taken (next said)) → ReadsOnIn series b y z P → ReadsOnIn series a x z (λ taken said. P taken (next said))
 goes_after {series} a b x y z next P (more, took, read) (others, took_others, then) =
     (more ++ others, Consumes-trans x y z more others took took_others, λ taken said h. subst (λ bytes. P bytes (next said)) (append_assoc taken more others) (then (taken ++ more) (next said) (read taken said h)))
 
 -- and what holds of it
-pub goes_so : {series : Series} → (a : Reading) (x y : Option (List ℕ)) (P Q : List ℕ → List Said → Type 0) → ((taken : List ℕ) (said : List Said) → P taken said → Q taken said) → GoesOf series a x y P → GoesOf series a x y Q
+pub goes_so : {series : Series} → (a : Reading) (x y : Option (List ℕ)) (P Q : List ℕ → List Said → Type 0) → ((taken : List ℕ) (said : List Said) → P taken said → Q taken said) → ReadsOnIn series a x y P → ReadsOnIn series a x y Q
 goes_so {series} a x y P Q so (more, took, then) = (more, took, λ taken said h. so (taken ++ more) said (then taken said h))
 
 -- a line that was read took bytes
-pub line_given : (a b : Held) (x y : Option (List ℕ)) (lines : ℕ) (known counts : Counts) (numbers : ArrayVec Frac 24 (Unit {0})) → IsSettled a b x y lines known (Ok (counts, numbers)) → a.given < b.given
+pub line_given : (a b : Held) (x y : Option (List ℕ)) (lines : ℕ) (known counts : Counts) (numbers : ArrayVec Frac 24 (Unit {0})) → IsNextLineOrRefusal a b x y lines known (Ok (counts, numbers)) → a.given < b.given
 line_given a b x y lines known counts numbers (are, agree, within, can, p) =
     let line = said_line (form_in counts lines) (Numbers (map fraction_of numbers.items)) can in
     let given = p.given in
@@ -117,7 +117,7 @@ line_given a b x y lines known counts numbers (are, agree, within, can, p) =
 
 -- a byte after the last line breaks the text
 pub refused_behind_all : {series : Series} → (a b c : Held) (x y z : Option (List ℕ)) (lines : ℕ) (known : Counts) (byte : ℕ) (end : TextEnd) → taken_count c ≤ MOST_BYTES → lines ≡ length (forms_of known) → Hands a b x y (byte ∷ [])
-    → IsRefused b c y z (lines + 1) (λ _. Unit {0}) end → GoesOf series (reading_of a lines known) x z (λ taken said. IsEndOf series end z taken)
+    → IsRefused b c y z (lines + 1) (λ _. Unit {0}) end → ReadsOnIn series (reading_of a lines known) x z (λ taken said. IsEndOf series end z taken)
 refused_behind_all {series} a b c x y z lines known byte (NotText line) few all p (is, (text, q, ahead, at, _)) =
     refused_end a c x z lines known (λ bytes. bytes ≡ byte ∷ text) (NotText line) few (λ bytes e. (none_behind lines known bytes all, λ _ none. cc (e, none)))
     (is, (byte ∷ text, hands_trans a b c x y z (byte ∷ []) text p q, ahead, at, refl))
@@ -126,19 +126,19 @@ refused_behind_all {series} a b c x y z lines known byte ReadFault few all p sto
 
 -- a line was settled: a reading that is given by its fields has read it
 pub settled_line_at : {series : Series} → (r : Reading) (a b : Held) (x y : Option (List ℕ)) (lines : ℕ) (known counts : Counts) (in_tree : Bool) (numbers : ArrayVec Frac 24 (Unit {0})) → reading_at a lines known in_tree ≡ r → r.in_tree ≡ false
-    → IsSettled a b x y lines known (Ok (counts, numbers)) → GoesOf series r x y (λ taken said. IsLineRead series r (reading_at b (lines + 1) counts in_tree) y taken said (Ok numbers))
+    → IsNextLineOrRefusal a b x y lines known (Ok (counts, numbers)) → ReadsOnIn series r x y (λ taken said. IsLineRead series r (reading_at b (lines + 1) counts in_tree) y taken said (Ok numbers))
 settled_line_at {series} r a b x y lines known counts in_tree numbers e whole settled =
-    subst (λ t. GoesOf series r x y (λ taken said. IsLineRead series r (reading_at b (lines + 1) counts t) y taken said (Ok numbers))) (sym (ap (λ s. s.in_tree) e ∙ whole))
-    (subst (λ s. GoesOf series s x y (λ taken said. IsLineRead series s (reading_of b (lines + 1) counts) y taken said (Ok numbers))) (reading_is r a lines known in_tree false e whole) (settled_line a b x y lines known counts numbers settled))
+    subst (λ t. ReadsOnIn series r x y (λ taken said. IsLineRead series r (reading_at b (lines + 1) counts t) y taken said (Ok numbers))) (sym (ap (λ s. s.in_tree) e ∙ whole))
+    (subst (λ s. ReadsOnIn series s x y (λ taken said. IsLineRead series s (reading_of b (lines + 1) counts) y taken said (Ok numbers))) (reading_is r a lines known in_tree false e whole) (settled_line a b x y lines known counts numbers settled))
 
 -- where no line was settled, a reading that is given by its fields ends so
 pub settled_end_at : {series : Series} → (r : Reading) (a b : Held) (x y : Option (List ℕ)) (lines : ℕ) (known : Counts) (in_tree : Bool) (end : TextEnd) → reading_at a lines known in_tree ≡ r → r.in_tree ≡ false → taken_count b ≤ MOST_BYTES
-    → lines < length (forms_of known) → IsSettled a b x y lines known (Err end) → GoesOf series r x y (λ taken said. IsEndOf series end y taken)
+    → lines < length (forms_of known) → IsNextLineOrRefusal a b x y lines known (Err end) → ReadsOnIn series r x y (λ taken said. IsEndOf series end y taken)
 settled_end_at {series} r a b x y lines known in_tree end e whole few within stop =
-    subst (λ s. GoesOf series s x y (λ taken said. IsEndOf series end y taken)) (reading_is r a lines known in_tree false e whole) (settled_end a b x y lines known end few within stop)
+    subst (λ s. ReadsOnIn series s x y (λ taken said. IsEndOf series end y taken)) (reading_is r a lines known in_tree false e whole) (settled_end a b x y lines known end few within stop)
 
 -- a byte after the last line ends a reading that is given by its fields
 pub refused_behind_all_at : {series : Series} → (r : Reading) (a b c : Held) (x y z : Option (List ℕ)) (lines : ℕ) (known : Counts) (in_tree : Bool) (byte : ℕ) (end : TextEnd) → reading_at a lines known in_tree ≡ r → r.in_tree ≡ false
-    → taken_count c ≤ MOST_BYTES → lines ≡ length (forms_of known) → Hands a b x y (byte ∷ []) → IsRefused b c y z (lines + 1) (λ _. Unit {0}) end → GoesOf series r x z (λ taken said. IsEndOf series end z taken)
+    → taken_count c ≤ MOST_BYTES → lines ≡ length (forms_of known) → Hands a b x y (byte ∷ []) → IsRefused b c y z (lines + 1) (λ _. Unit {0}) end → ReadsOnIn series r x z (λ taken said. IsEndOf series end z taken)
 refused_behind_all_at {series} r a b c x y z lines known in_tree byte end e whole few all p stop =
-    subst (λ s. GoesOf series s x z (λ taken said. IsEndOf series end z taken)) (reading_is r a lines known in_tree false e whole) (refused_behind_all a b c x y z lines known byte end few all p stop)
+    subst (λ s. ReadsOnIn series s x z (λ taken said. IsEndOf series end z taken)) (reading_is r a lines known in_tree false e whole) (refused_behind_all a b c x y z lines known byte end few all p stop)

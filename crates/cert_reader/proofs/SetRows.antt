@@ -11,14 +11,14 @@ use Rattle.cert_reader.specs.Forms.{set_form}
 use Rattle.cert_reader.specs.Gathered.{Gathered, line_said, numbers_at}
 use Rattle.cert_reader.specs.Numbers.{IsNumber, table_size}
 use Rattle.cert_reader.specs.Sets.{set_sizes, starts}
-use Rattle.cert_reader.specs.Text.{CanSay, Leads, Numbers, wholes}
+use Rattle.cert_reader.specs.Text.{CanSay, BeginsWithNumber, Numbers, wholes}
 use Rattle.cert_reader.specs.Views.{cut_into, says}
 
 -- whole numbers: the first is the number of the set, and so many come after it
 pub record SetRow (set size : ℕ) (numbers : List Fraction) : Type 0 where
   pub long : length numbers ≡ size + 1
   pub whole : All (IsNumber true) numbers
-  pub lead : Leads set numbers
+  pub lead : BeginsWithNumber set numbers
 
 -- lines of sets one after another, from this one on, with so many numbers each
 abbrev pub SetRows : ℕ → List ℕ → List Gathered → Type 0
@@ -78,7 +78,7 @@ table_long set (size ∷ sizes) (line ∷ lines) h =
     ∙ sym (sum_by-cons (λ (n : ℕ). n) size sizes)
 
 -- a list is its first number and the others
-lead_first : (set : ℕ) (numbers : List Fraction) → Leads set numbers → numbers ≡ (pos set, 1) ∷ drop 1 numbers
+lead_first : (set : ℕ) (numbers : List Fraction) → BeginsWithNumber set numbers → numbers ≡ (pos set, 1) ∷ drop 1 numbers
 lead_first set [] h = absurd h
 lead_first set ((a, b) ∷ numbers) h = ap (λ x. (x, b) ∷ numbers) h.0 ∙ ap (λ y. (pos set, y) ∷ numbers) h.1
 

@@ -12,7 +12,7 @@ use Rattle.cert_reader.specs.declared.pieces.Piece.{Piece}
 use Rattle.cert_reader.specs.declared.pieces.Piece.TheVariants.{Done, Kind, Line, Mark}
 use Rattle.cert_reader.specs.Forms.{AreCounts, Certificates, Tree, forms_of}
 use Rattle.cert_reader.specs.Order.{AgreeUpTo, form_in}
-use Rattle.cert_reader.specs.Reading.{Begins, EndsInTree, Goes, IsAnswer, IsEnd, IsMarkRead, IsRead, IsTreeRead, Reading, with_mark}
+use Rattle.cert_reader.specs.Reading.{Begins, EndsInTree, ReadsOn, IsAnswer, IsEnd, IsMarkRead, IsRead, IsTreeRead, Reading, with_mark}
 use Rattle.cert_reader.specs.Stream.{Held, taken_count}
 use Rattle.cert_reader.specs.Text.{CanSay, CanSayAll, IsBrokenText, IsMark, Marks, Numbers, Said, said_text, text_of}
 use Rattle.cert_reader.specs.TreeLines.{HasNoTree, IsFirstMark, IsNextMark, tree_front}
@@ -99,7 +99,7 @@ read_part held k counts taken said tree h =
 
 -- the first mark was given out
 pub first_read : (a b : Held) (x y : Option (List ℕ)) (lines : ℕ) (known : Counts) (mark : ℕ) → lines < length (forms_of known) → form_in known lines ≡ Tree → IsFirstMark a b x y (lines + 1) (Ok mark)
-    → Goes (reading_of a lines known) x y (λ taken said. IsMarkRead (reading_of a lines known) (reading_at b (lines + 1) known true) y taken said (Ok mark))
+    → ReadsOn (reading_of a lines known) x y (λ taken said. IsMarkRead (reading_of a lines known) (reading_at b (lines + 1) known true) y taken said (Ok mark))
 first_read a b x y lines known mark within tree (is, p) = (p.more, p.took, λ taken said h. (refl, read taken said h))
   where
     read : (taken : List ℕ) (said : List Said) → IsRead (reading_of a lines known) taken said → IsRead (reading_at b (lines + 1) known true) (taken ++ p.more) (with_mark said mark)
@@ -120,12 +120,12 @@ first_read a b x y lines known mark within tree (is, p) = (p.more, p.took, λ ta
 
 -- no line of a tree comes where one is due
 pub first_unread : (a b : Held) (x y : Option (List ℕ)) (lines : ℕ) (known : Counts) (end : TextEnd) → taken_count b ≤ MOST_BYTES → lines < length (forms_of known) → form_in known lines ≡ Tree
-    → IsFirstMark a b x y (lines + 1) (Err end) → Goes (reading_of a lines known) x y (λ taken said. IsEnd end y taken)
+    → IsFirstMark a b x y (lines + 1) (Err end) → ReadsOn (reading_of a lines known) x y (λ taken said. IsEnd end y taken)
 first_unread a b x y lines known end few within tree stop = refused_end a b x y lines known HasNoTree end few (λ text none. (no_tree lines known text tree none, λ all rest. omega arith)) stop
 
 -- one mark more was given out
 pub mark_read : (a b : Held) (x y : Option (List ℕ)) (k : ℕ) (known : Counts) (mark : ℕ) → form_in known k ≡ Tree → IsNextMark a b x y (k + 1) (Ok (Some mark))
-    → Goes (reading_at a (k + 1) known true) x y (λ taken said. IsTreeRead (reading_at a (k + 1) known true) (reading_at b (k + 1) known true) y taken said (Ok (Some mark)))
+    → ReadsOn (reading_at a (k + 1) known true) x y (λ taken said. IsTreeRead (reading_at a (k + 1) known true) (reading_at b (k + 1) known true) y taken said (Ok (Some mark)))
 mark_read a b x y k known mark tree (is, p) = (p.more, p.took, λ taken said h. (refl, read taken said (read_part a k known taken said tree h)))
   where
     read : (taken : List ℕ) (said : List Said) → HasPart a k known taken said → IsRead (reading_at b (k + 1) known true) (taken ++ p.more) (with_mark said mark)
@@ -148,7 +148,7 @@ mark_read a b x y k known mark tree (is, p) = (p.more, p.took, λ taken said h. 
 
 -- its LF was
 pub tree_closed : (a b : Held) (x y : Option (List ℕ)) (k : ℕ) (known : Counts) → form_in known k ≡ Tree → IsNextMark a b x y (k + 1) (Ok None)
-    → Goes (reading_at a (k + 1) known true) x y (λ taken said. IsTreeRead (reading_at a (k + 1) known true) (reading_of b (k + 1) known) y taken said (Ok None))
+    → ReadsOn (reading_at a (k + 1) known true) x y (λ taken said. IsTreeRead (reading_at a (k + 1) known true) (reading_of b (k + 1) known) y taken said (Ok None))
 tree_closed a b x y k known tree p = (p.more, p.took, λ taken said h. read taken said (read_part a k known taken said tree h))
   where
     read : (taken : List ℕ) (said : List Said) → HasPart a k known taken said → IsRead (reading_of b (k + 1) known) (taken ++ p.more) said
@@ -165,7 +165,7 @@ tree_closed a b x y k known tree p = (p.more, p.took, λ taken said h. read take
 
 -- the tree goes on otherwise
 pub tree_unread : (a b : Held) (x y : Option (List ℕ)) (k : ℕ) (known : Counts) (end : TextEnd) → taken_count b ≤ MOST_BYTES → form_in known k ≡ Tree → IsNextMark a b x y (k + 1) (Err end)
-    → Goes (reading_at a (k + 1) known true) x y (λ taken said. IsEnd end y taken)
+    → ReadsOn (reading_at a (k + 1) known true) x y (λ taken said. IsEnd end y taken)
 tree_unread a b x y k known (NotText line) few tree (is, (text, p, ahead, at, never)) = (
   p.more,
   p.took,
@@ -191,16 +191,16 @@ tree_unread a b x y k known ReadFault few tree stop = stop_end a x y (k + 1) kno
 
 -- the first mark was given out: a reading that is given by its fields has read it
 pub first_read_at : (r : Reading) (a b : Held) (x y : Option (List ℕ)) (lines : ℕ) (known : Counts) (in_tree : Bool) (mark : ℕ) → reading_at a lines known in_tree ≡ r → r.in_tree ≡ false → lines < length (forms_of known)
-    → form_in known lines ≡ Tree → IsFirstMark a b x y (lines + 1) (Ok mark) → Goes r x y (λ taken said. IsMarkRead r (reading_at b (lines + 1) known true) y taken said (Ok mark))
+    → form_in known lines ≡ Tree → IsFirstMark a b x y (lines + 1) (Ok mark) → ReadsOn r x y (λ taken said. IsMarkRead r (reading_at b (lines + 1) known true) y taken said (Ok mark))
 first_read_at r a b x y lines known in_tree mark e whole within tree first =
-    subst (λ s. Goes s x y (λ taken said. IsMarkRead s (reading_at b (lines + 1) known true) y taken said (Ok mark))) (reading_is r a lines known in_tree false e whole)
+    subst (λ s. ReadsOn s x y (λ taken said. IsMarkRead s (reading_at b (lines + 1) known true) y taken said (Ok mark))) (reading_is r a lines known in_tree false e whole)
     (first_read a b x y lines known mark within tree first)
 
 -- where no first mark was given out, a reading that is given by its fields ends so
 pub first_unread_at : (r : Reading) (a b : Held) (x y : Option (List ℕ)) (lines : ℕ) (known : Counts) (in_tree : Bool) (end : TextEnd) → reading_at a lines known in_tree ≡ r → r.in_tree ≡ false → taken_count b ≤ MOST_BYTES
-    → lines < length (forms_of known) → form_in known lines ≡ Tree → IsFirstMark a b x y (lines + 1) (Err end) → Goes r x y (λ taken said. IsEnd end y taken)
+    → lines < length (forms_of known) → form_in known lines ≡ Tree → IsFirstMark a b x y (lines + 1) (Err end) → ReadsOn r x y (λ taken said. IsEnd end y taken)
 first_unread_at r a b x y lines known in_tree end e whole few within tree stop =
-    subst (λ s. Goes s x y (λ taken said. IsEnd end y taken)) (reading_is r a lines known in_tree false e whole) (first_unread a b x y lines known end few within tree stop)
+    subst (λ s. ReadsOn s x y (λ taken said. IsEnd end y taken)) (reading_is r a lines known in_tree false e whole) (first_unread a b x y lines known end few within tree stop)
 
 -- the tree's place is one less than the lines
 lines_back : (lines : ℕ) → 0 < lines → lines - 1 + 1 ≡ lines
@@ -208,31 +208,31 @@ lines_back lines some = omega arith
 
 -- a reading within a tree that is given by its fields read one mark more
 pub mark_read_at : (r : Reading) (a b : Held) (x y : Option (List ℕ)) (lines : ℕ) (known : Counts) (in_tree : Bool) (mark : ℕ) → reading_at a lines known in_tree ≡ r → r.in_tree ≡ true → EndsInTree lines known
-    → IsNextMark a b x y lines (Ok (Some mark)) → Goes r x y (λ taken said. IsTreeRead r (reading_at b lines known in_tree) y taken said (Ok (Some mark)))
+    → IsNextMark a b x y lines (Ok (Some mark)) → ReadsOn r x y (λ taken said. IsTreeRead r (reading_at b lines known in_tree) y taken said (Ok (Some mark)))
 mark_read_at r a b x y lines known in_tree mark e within (some, tree) next =
-    subst (λ t. Goes r x y (λ taken said. IsTreeRead r (reading_at b lines known t) y taken said (Ok (Some mark)))) (sym (ap (λ s. s.in_tree) e ∙ within))
-    (subst (λ s. Goes s x y (λ taken said. IsTreeRead s (reading_at b lines known true) y taken said (Ok (Some mark)))) (reading_is r a lines known in_tree true e within)
-    (subst (λ n. Goes (reading_at a n known true) x y (λ taken said. IsTreeRead (reading_at a n known true) (reading_at b n known true) y taken said (Ok (Some mark)))) (lines_back lines some)
+    subst (λ t. ReadsOn r x y (λ taken said. IsTreeRead r (reading_at b lines known t) y taken said (Ok (Some mark)))) (sym (ap (λ s. s.in_tree) e ∙ within))
+    (subst (λ s. ReadsOn s x y (λ taken said. IsTreeRead s (reading_at b lines known true) y taken said (Ok (Some mark)))) (reading_is r a lines known in_tree true e within)
+    (subst (λ n. ReadsOn (reading_at a n known true) x y (λ taken said. IsTreeRead (reading_at a n known true) (reading_at b n known true) y taken said (Ok (Some mark)))) (lines_back lines some)
     (mark_read a b x y (lines - 1) known mark tree (subst (λ n. IsNextMark a b x y n (Ok (Some mark))) (sym (lines_back lines some)) next))))
 
 -- a reading within a tree that is given by its fields read the LF after its marks
 pub tree_closed_at : (r : Reading) (a b : Held) (x y : Option (List ℕ)) (lines : ℕ) (known : Counts) (in_tree : Bool) → reading_at a lines known in_tree ≡ r → r.in_tree ≡ true → EndsInTree lines known
-    → IsNextMark a b x y lines (Ok None) → Goes r x y (λ taken said. IsTreeRead r (reading_of b lines known) y taken said (Ok None))
+    → IsNextMark a b x y lines (Ok None) → ReadsOn r x y (λ taken said. IsTreeRead r (reading_of b lines known) y taken said (Ok None))
 tree_closed_at r a b x y lines known in_tree e within (some, tree) next =
-    subst (λ s. Goes s x y (λ taken said. IsTreeRead s (reading_of b lines known) y taken said (Ok None))) (reading_is r a lines known in_tree true e within)
-    (subst (λ n. Goes (reading_at a n known true) x y (λ taken said. IsTreeRead (reading_at a n known true) (reading_of b n known) y taken said (Ok None))) (lines_back lines some)
+    subst (λ s. ReadsOn s x y (λ taken said. IsTreeRead s (reading_of b lines known) y taken said (Ok None))) (reading_is r a lines known in_tree true e within)
+    (subst (λ n. ReadsOn (reading_at a n known true) x y (λ taken said. IsTreeRead (reading_at a n known true) (reading_of b n known) y taken said (Ok None))) (lines_back lines some)
     (tree_closed a b x y (lines - 1) known tree (subst (λ n. IsNextMark a b x y n (Ok None)) (sym (lines_back lines some)) next)))
 
 -- where the tree goes on otherwise, a reading that is given by its fields ends so
 pub tree_unread_at : (r : Reading) (a b : Held) (x y : Option (List ℕ)) (lines : ℕ) (known : Counts) (in_tree : Bool) (end : TextEnd) → reading_at a lines known in_tree ≡ r → r.in_tree ≡ true → EndsInTree lines known
-    → taken_count b ≤ MOST_BYTES → IsNextMark a b x y lines (Err end) → Goes r x y (λ taken said. IsEnd end y taken)
+    → taken_count b ≤ MOST_BYTES → IsNextMark a b x y lines (Err end) → ReadsOn r x y (λ taken said. IsEnd end y taken)
 tree_unread_at r a b x y lines known in_tree end e within (some, tree) few stop =
-    subst (λ s. Goes s x y (λ taken said. IsEnd end y taken)) (reading_is r a lines known in_tree true e within)
-    (subst (λ n. Goes (reading_at a n known true) x y (λ taken said. IsEnd end y taken)) (lines_back lines some)
+    subst (λ s. ReadsOn s x y (λ taken said. IsEnd end y taken)) (reading_is r a lines known in_tree true e within)
+    (subst (λ n. ReadsOn (reading_at a n known true) x y (λ taken said. IsEnd end y taken)) (lines_back lines some)
     (tree_unread a b x y (lines - 1) known end few tree (subst (λ n. IsNextMark a b x y n (Err end)) (sym (lines_back lines some)) stop)))
 
 -- a mark that was read is a piece
-pub mark_piece : (a b : Reading) (x y : Option (List ℕ)) (mark : ℕ) → 0 < a.lines → Goes a x y (λ taken said. IsTreeRead a b y taken said (Ok (Some mark))) → Goes a x y (λ taken said. IsAnswer a b y taken said (Ok (Mark mark)))
+pub mark_piece : (a b : Reading) (x y : Option (List ℕ)) (mark : ℕ) → 0 < a.lines → ReadsOn a x y (λ taken said. IsTreeRead a b y taken said (Ok (Some mark))) → ReadsOn a x y (λ taken said. IsAnswer a b y taken said (Ok (Mark mark)))
 mark_piece a b x y mark some p = goes_so a x y (λ taken said. IsTreeRead a b y taken said (Ok (Some mark))) (λ taken said. IsAnswer a b y taken said (Ok (Mark mark))) (λ taken said h. (some, h.0, h.1)) p
 
 -- an answer stays one where the lines and counts before it are the same
@@ -245,8 +245,8 @@ answer_same a b c z taken said (Ok Done) lines counts h = (ap (λ n. n + 1) (sym
 answer_same a b c z taken said (Err end) lines counts h = h
 
 -- what follows a tree whose line ended is an answer to the reading before it, too
-pub answer_behind_tree : (a b c : Reading) (x y z : Option (List ℕ)) (r : Result Piece TextEnd) → b.lines ≡ a.lines → b.counts ≡ a.counts → Goes a x y (λ taken said. IsTreeRead a b y taken said (Ok None))
-    → Goes b y z (λ taken said. IsAnswer b c z taken said r) → Goes a x z (λ taken said. IsAnswer a c z taken said r)
+pub answer_behind_tree : (a b c : Reading) (x y z : Option (List ℕ)) (r : Result Piece TextEnd) → b.lines ≡ a.lines → b.counts ≡ a.counts → ReadsOn a x y (λ taken said. IsTreeRead a b y taken said (Ok None))
+    → ReadsOn b y z (λ taken said. IsAnswer b c z taken said r) → ReadsOn a x z (λ taken said. IsAnswer a c z taken said r)
 answer_behind_tree a b c x y z r lines counts p q =
     goes_so a x z (λ taken said. IsAnswer b c z taken said r) (λ taken said. IsAnswer a c z taken said r) (λ taken said h. answer_same a b c z taken said r lines counts h)
     (goes_after a b x y z (λ said. said) (λ taken said. IsAnswer b c z taken said r) p q)

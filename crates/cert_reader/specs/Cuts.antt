@@ -6,7 +6,7 @@ use Rattle.cert_reader.specs.declared.forms.LineForm.{LineForm}
 use Rattle.cert_reader.specs.Text.{HasNumbers}
 use Rattle.cert_reader.specs.Words.{word_text}
 
--- this many bytes come before the first byte that is `stop`; where no byte is, they are all of the bytes
+-- this many bytes come before the first byte that is `stop`; if no byte is, they are all of the bytes
 pub record IsFront (stop : ℕ) (bytes : List ℕ) (count : ℕ) : Type 0 where
   pub within : count ≤ length bytes
   pub before : (k : ℕ) → k < count → slice_index bytes k ≢ stop

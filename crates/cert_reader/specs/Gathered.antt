@@ -25,7 +25,7 @@ text_said lines = says (pos 1 ∷ []) ∷ says [] ∷ (map line_said lines ++ sa
 abbrev pub tree_said : List Gathered → List ℕ → List Said
 tree_said lines marks = says (pos 1 ∷ []) ∷ says [] ∷ (map line_said lines ++ Marks marks ∷ says [] ∷ [])
 
--- what the line of a tree with these marks says; where there are no marks, there is no such line
+-- what the line of a tree with these marks says; if there are no marks, there is no such line
 abbrev pub marks_said : List ℕ → List Said
 marks_said [] = []
 marks_said (mark ∷ marks) = Marks (mark ∷ marks) ∷ []

@@ -18,7 +18,7 @@ AreSmall numbers = All IsSmall numbers
 abbrev pub AreShort : List Frac → Type 0
 AreShort fractions = All (λ fraction. IsSmall fraction.num × (fraction.den ≤ MOST_PRINTED_DENOMINATOR)) fractions
 
--- a text can hold this number: a whole number, written over 1, or where fractions may come, a fraction in lowest terms
+-- a text can hold this number: a whole number, written over 1, or, if fractions may come, a fraction in lowest terms
 pub record IsNumber (whole : Bool) (number : Fraction) : Type 0 where
   pub size : IsSmall number.0
   pub positive : 1 ≤ number.1

@@ -1,4 +1,4 @@
--- Which line comes where, and what the lines before it leave open about it.
+-- Which line comes at which place, and what the lines before leave open about it.
 use Rattle.std.specs.Prelude.{◌≡◌, ℕ, zero, suc, ◌+◌, ◌<◌, ◌≤◌, List, [], ◌∷◌, ◌++◌, length, take, drop, if◌then◌else◌, ◌==◌, slice_index_or}
 use Rattle.bid_rules.specs.declared.limits.TheConstants.{MOST_GOODS, MOST_MEMBERS, MOST_PLACES, MOST_RIDERS}
 use Rattle.cert_reader.specs.declared.forms.Counts.{Counts}

@@ -8,11 +8,13 @@ use Rattle.cert_reader.specs.declared.forms.Counts.{Counts}
 use Rattle.cert_reader.specs.declared.limits.TheConstants.{MOST_BYTES}
 use Rattle.cert_reader.specs.declared.pieces.Piece.{Piece}
 use Rattle.cert_reader.specs.declared.pieces.Piece.TheVariants.{Done, Kind, Line, Mark}
+use Rattle.cert_reader.specs.declared.pieces.Part.{Part}
+use Rattle.cert_reader.specs.declared.pieces.Part.TheVariants as part
 use Rattle.cert_reader.specs.Forms.{AreCountsOf, Certificates, Series, Tree, forms_of}
 use Rattle.cert_reader.specs.Kinds.{TellsKind}
 use Rattle.cert_reader.specs.Gathered.{Gathered}
 use Rattle.cert_reader.specs.Order.{AgreeUpTo, form_in}
-use Rattle.cert_reader.specs.Stream.{ended}
+use Rattle.cert_reader.specs.Stream.{ends_after}
 use Rattle.cert_reader.specs.Text.{CanSayAll, IsBrokenTextOf, IsText, IsTextOf, Marks, Numbers, Said, text_of}
 use Rattle.cert_reader.specs.Views.{says}
 
@@ -58,8 +60,8 @@ abbrev pub EndsInTree : ℕ → Counts → Type 0
 EndsInTree lines counts = (0 < lines) × (form_in counts (lines - 1) ≡ Tree)
 
 -- a line is still to come
-abbrev pub IsOpen : Reading → Type 0
-IsOpen reading = reading.lines < length (forms_of reading.counts)
+abbrev pub HasLineToCome : Reading → Type 0
+HasLineToCome reading = reading.lines < length (forms_of reading.counts)
 
 -- why the bytes taken from the source are no text of the series: a first broken line, one byte too many, or a failed read
 abbrev pub IsEndOf : Series → TextEnd → Option (List ℕ) → List ℕ → Type 0
@@ -72,13 +74,13 @@ abbrev pub IsEnd : TextEnd → Option (List ℕ) → List ℕ → Type 0
 IsEnd end left taken = IsEndOf Certificates end left taken
 
 -- the source gave more bytes, and this holds of all bytes taken so far and of what the lines before them say
-abbrev pub GoesOf : Series → Reading → Option (List ℕ) → Option (List ℕ) → (List ℕ → List Said → Type 0) → Type 0
-GoesOf series reading before after P =
+abbrev pub ReadsOnIn : Series → Reading → Option (List ℕ) → Option (List ℕ) → (List ℕ → List Said → Type 0) → Type 0
+ReadsOnIn series reading before after P =
     (more : List ℕ) × Consumes before after more × ((taken : List ℕ) (said : List Said) → IsReadOf series reading taken said → P (taken ++ more) said)
 
 -- the same of a certificate
-abbrev pub Goes : Reading → Option (List ℕ) → Option (List ℕ) → (List ℕ → List Said → Type 0) → Type 0
-Goes reading before after P = GoesOf Certificates reading before after P
+abbrev pub ReadsOn : Reading → Option (List ℕ) → Option (List ℕ) → (List ℕ → List Said → Type 0) → Type 0
+ReadsOn reading before after P = ReadsOnIn Certificates reading before after P
 
 -- what a piece says. The first piece is the kind, from two lines. Then each line gives one piece with its numbers, a tree gives one piece for each mark, and
 -- the last line, `end`, gives none
@@ -90,18 +92,36 @@ IsPiece old new left taken said (Mark mark) = (0 < old.lines) × (new.counts ≡
 IsPiece old new left taken said Done =
     (old.lines + 1 ≡ length (forms_of new.counts)) × AgreeUpTo old.lines old.counts new.counts × IsText taken new.counts (said ++ says [] ∷ []) × (length taken ≤ MOST_BYTES) × IsAtEnd left
 
--- what the source's count of reads that gave nothing is at most after a piece: one more where the text is done, since the end was met, and else the same
+-- what the source's count of reads that gave nothing is at most after a piece: one more if the text is done, since the end was met, and otherwise the
+-- same
 abbrev pub ends_by_piece : ℕ → Result Piece TextEnd → ℕ
 ends_by_piece before (Ok (Kind kind)) = before
 ends_by_piece before (Ok (Line numbers)) = before
 ends_by_piece before (Ok (Mark mark)) = before
 ends_by_piece before (Ok Done) = before + 1
-ends_by_piece before (Err stop) = ended before stop
+ends_by_piece before (Err stop) = ends_after before stop
 
 -- the answer is the next piece, or why the bytes are no certificate
 abbrev pub IsAnswer : Reading → Reading → Option (List ℕ) → List ℕ → List Said → Result Piece TextEnd → Type 0
 IsAnswer old new left taken said (Ok piece) = IsPiece old new left taken said piece
 IsAnswer old new left taken said (Err end) = IsEnd end left taken
+
+-- the numbers of a line that was read, which were left in a buffer
+abbrev pub left_in : Gathered → Result ⊤ TextEnd → Result Gathered TextEnd
+left_in numbers (Ok done) = Ok numbers
+left_in numbers (Err end) = Err end
+
+-- the piece that a part of a text is, with the numbers that a line has left in a buffer
+abbrev pub piece_of : Part → Gathered → Piece
+piece_of (part.Kind kind) numbers = Kind kind
+piece_of part.Line numbers = Line numbers
+piece_of (part.Mark mark) numbers = Mark mark
+piece_of part.Done numbers = Done
+
+-- the answer with that piece
+abbrev pub with_numbers : Result Part TextEnd → Gathered → Result Piece TextEnd
+with_numbers (Ok part) numbers = Ok (piece_of part numbers)
+with_numbers (Err end) numbers = Err end
 
 -- a line was read, and these are its numbers; or no line of any text can follow
 abbrev pub IsLineRead : Series → Reading → Reading → Option (List ℕ) → List ℕ → List Said → Result Gathered TextEnd → Type 0

@@ -17,9 +17,14 @@ IsRefused before after left left_after line none (NotText broken) = (broken ≡ 
 IsRefused before after left left_after line none TooLong = IsStopped before left left_after TooLong
 IsRefused before after left left_after line none ReadFault = IsStopped before left left_after ReadFault
 
+-- an answer together with the numbers of the line, which were left in a buffer
+abbrev pub with_buffer : {T : Type 0} → Result T TextEnd → Gathered → Result (T × Gathered) TextEnd
+with_buffer (Ok answer) numbers = Ok (answer, numbers)
+with_buffer (Err end) numbers = Err end
+
 -- a line was given out that may follow for these counts, and it says these numbers; or no line that may follow was there
-abbrev pub IsSettled : Held → Held → Option (List ℕ) → Option (List ℕ) → ℕ → Counts → Result (Counts × Gathered) TextEnd → Type 0
-IsSettled before after left left_after index known (Ok found) =
+abbrev pub IsNextLineOrRefusal : Held → Held → Option (List ℕ) → Option (List ℕ) → ℕ → Counts → Result (Counts × Gathered) TextEnd → Type 0
+IsNextLineOrRefusal before after left left_after index known (Ok found) =
     AreInRange found.0 × AgreeUpTo index known found.0 × (index < length (forms_of found.0)) × CanSay (form_in found.0 index) (Numbers (map fraction_of found.1.items))
     × Hands before after left left_after (said_text (form_in found.0 index) (Numbers (map fraction_of found.1.items)))
-IsSettled before after left left_after index known (Err end) = IsRefused before after left left_after (index + 1) (HasNoLine index known) end
+IsNextLineOrRefusal before after left left_after index known (Err end) = IsRefused before after left left_after (index + 1) (HasNoLine index known) end

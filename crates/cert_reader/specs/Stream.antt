@@ -1,5 +1,6 @@
 -- What comes between a source and the lines read from it.
-use Rattle.std.specs.Prelude.{◌≡◌, ◌≢◌, ℕ, ◌+◌, ◌<◌, ◌≤◌, List, [], ◌∷◌, ◌++◌, length, take, slice_index, Option, None, Some, Result, Ok, Err}
+use Rattle.std.specs.Prelude.{◌≡◌, ◌≢◌, Bool, ℕ, ◌+◌, ◌<◌, ◌≤◌, List, [], ◌∷◌, ◌++◌, length, take, slice_index, Option, None, Some, Result, Ok, Err}
+use Rattle.std.specs.Bool.{MatchBool}
 use Rattle.std.specs.Io.KnownBytes.{Consumes, IsAtEnd}
 use Rattle.split_base.specs.Faults.{counted}
 use Rattle.cert_reader.specs.declared.limits.TheConstants.{LONGEST_LINE, MOST_BYTES}
@@ -37,12 +38,12 @@ IsStopAt (NotText line) total = ⊥
 abbrev pub IsStopped : Held → Option (List ℕ) → Option (List ℕ) → TextEnd → Type 0
 IsStopped held before after stop = (more : List ℕ) × Consumes before after more × IsStopAt stop (taken_count held + length more)
 
--- the source's count of faults after the answer: one more after a failed read, which is not tried again, and else the same
-abbrev pub faults_after : {T : Type 0} → ℕ → Result T TextEnd → ℕ
-faults_after before (Ok answer) = before
-faults_after before (Err ReadFault) = counted before
-faults_after before (Err TooLong) = before
-faults_after before (Err (NotText line)) = before
+-- the source's count of faults after the answer: one more after a failed read, which is not tried again, and otherwise the same
+abbrev pub faults_after_reading : {T : Type 0} → ℕ → Result T TextEnd → ℕ
+faults_after_reading before (Ok answer) = before
+faults_after_reading before (Err ReadFault) = counted before
+faults_after_reading before (Err TooLong) = before
+faults_after_reading before (Err (NotText line)) = before
 
 -- how often the end was met if reading stopped for this reason: once if the bytes are not text
 abbrev pub ends_met : TextEnd → ℕ
@@ -52,42 +53,50 @@ ends_met TooLong = 0
 
 -- what the source's count of reads that gave nothing is at most after this reason to stop. A count that is higher by one at most tells that nothing was read
 -- once the end was met
-abbrev pub ended : ℕ → TextEnd → ℕ
-ended before stop = before + ends_met stop
+abbrev pub ends_after : ℕ → TextEnd → ℕ
+ends_after before stop = before + ends_met stop
 
 -- and after an answer that comes before the end
 abbrev pub ends_before : {T : Type 0} → ℕ → Result T TextEnd → ℕ
 ends_before before (Ok answer) = before
-ends_before before (Err stop) = ended before stop
+ends_before before (Err stop) = ends_after before stop
 
 -- and after an answer that comes at the end
 abbrev pub ends_at : {T : Type 0} → ℕ → Result T TextEnd → ℕ
 ends_at before (Ok answer) = before + 1
-ends_at before (Err stop) = ended before stop
+ends_at before (Err stop) = ends_after before stop
 
 -- and after a byte, or none at the end
 abbrev pub ends_by_byte : ℕ → Result (Option ℕ) TextEnd → ℕ
 ends_by_byte before (Ok None) = before + 1
 ends_by_byte before (Ok (Some byte)) = before
-ends_by_byte before (Err stop) = ended before stop
+ends_by_byte before (Err stop) = ends_after before stop
 
 -- and after a line, or what is at the end without an LF
 abbrev pub ends_by_cut : ℕ → Result Cut TextEnd → ℕ
 ends_by_cut before (Ok Line) = before
 ends_by_cut before (Ok Long) = before
 ends_by_cut before (Ok Unended) = before + 1
-ends_by_cut before (Err stop) = ended before stop
+ends_by_cut before (Err stop) = ends_after before stop
 
 -- and after the front of some bytes
 abbrev pub ends_by_front : ℕ → Result Front TextEnd → ℕ
 ends_by_front before (Ok Whole) = before
 ends_by_front before (Ok Other) = before
 ends_by_front before (Ok Ended) = before + 1
-ends_by_front before (Err stop) = ended before stop
+ends_by_front before (Err stop) = ends_after before stop
 
 -- the text has no LF
 pub record IsPlain (text : List ℕ) : Type 0 where
   pub none : (k : ℕ) → k < length text → slice_index text k ≢ 10
+
+-- some of the bytes held, none of which is an LF, were given out; the line has them after what it had, or there was no room for them
+pub record IsFrontKept (before after : Held) (kept : Bool) : Type 0 where
+  pub front : List ℕ
+  pub plain : IsPlain front
+  pub seam : before.ahead ≡ front ++ after.ahead
+  pub given : after.given ≡ before.given + length front
+  pub line : MatchBool kept (after.line ≡ before.line ++ front) ((after.line ≡ before.line) × (LONGEST_LINE < length before.line + length front))
 
 -- what was given out is a line; or a line that is longer than any line of a text; or what is at the end without an LF
 abbrev pub IsCut : Held → Held → Option (List ℕ) → Option (List ℕ) → Cut → Type 0

@@ -20,15 +20,15 @@ abbrev pub wholes : List ℤ → List Fraction
 wholes numbers = map (λ number. (number, 1)) numbers
 
 -- the first number is this whole number
-abbrev pub Leads : ℕ → List Fraction → Type 0
-Leads n [] = ⊥
-Leads n (number ∷ numbers) = (number.0 ≡ pos n) × (number.1 ≡ 1)
+abbrev pub BeginsWithNumber : ℕ → List Fraction → Type 0
+BeginsWithNumber n [] = ⊥
+BeginsWithNumber n (number ∷ numbers) = (number.0 ≡ pos n) × (number.1 ≡ 1)
 
 -- a line of the form can have these numbers
 pub record HasNumbers (form : LineForm) (numbers : List Fraction) : Type 0 where
   pub each : length numbers ≡ form.count
   pub written : All (IsNumber form.whole) numbers
-  pub first : IfSome form.lead (λ n. Leads n numbers)
+  pub first : IfSome form.lead (λ n. BeginsWithNumber n numbers)
 
 -- the character is a mark of a tree: `+`, `-` or `=`
 abbrev pub IsMark : ℕ → Type 0

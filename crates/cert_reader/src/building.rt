@@ -50,7 +50,7 @@ pub fn rent_text(members: u8, lines: &[LineNumbers]) -> RentText
     }
 }
 
-/// The certificate of goods from its lines between the two that say the kind and the tree, and from the marks of its tree. It takes no memory.
+// The certificate of goods from its lines between the two that say the kind and the tree, and from the marks of its tree. It takes no memory.
 pub(crate) fn goods_text(players: u8, goods: u8, lines: &[LineNumbers], marks: Vec<u8>) -> GoodsText
     requires counts { AreCounts (count.Goods players goods) }
     requires lines { CanSayAll (goods_forms players goods) (tree_said lines.now marks.items) }
@@ -75,7 +75,7 @@ pub(crate) fn goods_text(players: u8, goods: u8, lines: &[LineNumbers], marks: V
     }
 }
 
-/// The certificate of fares from its lines, without the two that say the kind and without `end`. It takes memory only for the table.
+// The certificate of fares from its lines, without the two that say the kind and without `end`. It takes memory only for the table.
 pub(crate) fn fares_text(
     alloc: Global,
     riders: u8,
@@ -111,7 +111,7 @@ pub(crate) fn fares_text(
     })
 }
 
-/// The certificate from its lines, without the two that say the kind and without `end`. The marks of the tree of goods come apart.
+// The certificate from its lines, without the two that say the kind and without `end`. The marks of the tree of goods come apart.
 pub(crate) fn certificate_of(
     alloc: Global,
     counts: Counts,
@@ -120,7 +120,8 @@ pub(crate) fn certificate_of(
 ) -> Result<Certificate, NoMemory>
     requires counts { AreCounts counts }
     requires lines { CanSayAll (forms_of counts) (whole_said lines.now marks.items) }
-    ensures said { IfOk result (λ certificate. said_of (view_of certificate) ≡ whole_said lines.now marks.items) }
+    ensures said { IfOk result (λ certificate.
+        said_of (view_of certificate) ≡ whole_said lines.now marks.items) }
     ensures counts { IfOk result (λ certificate. counts_of (view_of certificate) ≡ counts) }
 {
     match counts {

@@ -88,7 +88,7 @@ impl Word {
 pub struct LineForm {
     /// The word in front.
     pub word: Word,
-    /// The first number, where the text before the line fixes it.
+    /// The first number, if the text before the line fixes it.
     pub lead: Option<u64>,
     /// How many numbers follow the word, including the first.
     pub count: usize,

@@ -23,9 +23,10 @@ impl Kind {
         }
     }
 
-    /// The kind that has this number, or `None` where none has it.
+    /// The kind that has this number, or `None` if none has it.
     pub fn of_number(number: u8) -> Option<Kind>
-        ensures { MatchOption result ((kind : Kind) → kind_number kind ≡ number → ⊥) (λ kind. kind_number kind ≡ number) }
+        ensures { MatchOption result ((kind : Kind) → kind_number kind ≡ number → ⊥)
+            (λ kind. kind_number kind ≡ number) }
     {
         match number {
             1 => Some(Kind::Rent),

@@ -15,23 +15,38 @@ ghost use Rattle.cert_reader.specs.Views.{CertificateView, counts_of, marks_of, 
 /// rows. No text has a broken line. Other bytes have exactly one first broken line. What was read of a text so far can be completed. Without the marks of a tree
 /// a text is short.
 pub fn text_law()
-    ensures once { (bytes : List ℕ) (counts other : Counts) (said more : List Said) → IsText bytes counts said → IsText bytes other more → (other ≡ counts) × (more ≡ said) }
-    ensures fields { (bytes : List ℕ) (certificate other : Certificate) → IsText bytes (counts_of (view_of certificate)) (said_of (view_of certificate))
-        → IsText bytes (counts_of (view_of other)) (said_of (view_of other)) → view_of other ≡ view_of certificate }
-    ensures views { (bytes : List ℕ) (view other : CertificateView) → HasRows view → HasRows other → IsText bytes (counts_of view) (said_of view) → IsText bytes (counts_of other) (said_of other)
-        → other ≡ view }
-    ensures whole { (bytes : List ℕ) (counts : Counts) (said : List Said) (line : ℕ) → IsText bytes counts said → IsBrokenText bytes line → ⊥ }
-    ensures broken { (bytes : List ℕ) (line other : ℕ) → IsBrokenText bytes line → IsBrokenText bytes other → other ≡ line }
-    ensures short { (bytes : List ℕ) (view : CertificateView) → IsText bytes (counts_of view) (said_of view) → length bytes ≤ MOST_BESIDE_MARKS + length (marks_of view) }
-    ensures completed { (reading : Reading) (taken : List ℕ) (said : List Said) → IsRead reading taken said → (rest : List Said) × CanSayAll (forms_of reading.counts) (said ++ rest) }
+    ensures once { (bytes : List ℕ) (counts other : Counts) (said more : List Said)
+        → IsText bytes counts said → IsText bytes other more → (other ≡ counts) × (more ≡ said) }
+    ensures fields { (bytes : List ℕ) (certificate other : Certificate)
+        → IsText bytes (counts_of (view_of certificate)) (said_of (view_of certificate))
+        → IsText bytes (counts_of (view_of other)) (said_of (view_of other))
+        → view_of other ≡ view_of certificate }
+    ensures views { (bytes : List ℕ) (view other : CertificateView) → HasRows view → HasRows other
+        → IsText bytes (counts_of view) (said_of view)
+        → IsText bytes (counts_of other) (said_of other) → other ≡ view }
+    ensures whole { (bytes : List ℕ) (counts : Counts) (said : List Said) (line : ℕ)
+        → IsText bytes counts said → IsBrokenText bytes line → ⊥ }
+    ensures broken { (bytes : List ℕ) (line other : ℕ) → IsBrokenText bytes line
+        → IsBrokenText bytes other → other ≡ line }
+    ensures short { (bytes : List ℕ) (view : CertificateView)
+        → IsText bytes (counts_of view) (said_of view)
+        → length bytes ≤ MOST_BESIDE_MARKS + length (marks_of view) }
+    ensures completed { (reading : Reading) (taken : List ℕ) (said : List Said)
+        → IsRead reading taken said
+        → (rest : List Said) × CanSayAll (forms_of reading.counts) (said ++ rest) }
 {}
 
 /// The text of a pair has one meaning: two views with this text are the same. No such text has a broken line. Other bytes have exactly one first broken line.
 /// The text is short, and it is no certificate text.
 pub fn pair_law()
-    ensures once { (bytes : List ℕ) (view other : PairView) → IsPairText bytes view → IsPairText bytes other → other ≡ view }
-    ensures whole { (bytes : List ℕ) (view : PairView) (line : ℕ) → IsPairText bytes view → IsBrokenTextOf Pairs bytes line → ⊥ }
-    ensures broken { (bytes : List ℕ) (line other : ℕ) → IsBrokenTextOf Pairs bytes line → IsBrokenTextOf Pairs bytes other → other ≡ line }
-    ensures short { (bytes : List ℕ) (view : PairView) → IsPairText bytes view → length bytes ≤ MOST_BESIDE_MARKS }
-    ensures apart { (bytes : List ℕ) (view : PairView) (counts : Counts) (said : List Said) → IsPairText bytes view → IsText bytes counts said → ⊥ }
+    ensures once { (bytes : List ℕ) (view other : PairView) → IsPairText bytes view
+        → IsPairText bytes other → other ≡ view }
+    ensures whole { (bytes : List ℕ) (view : PairView) (line : ℕ) → IsPairText bytes view
+        → IsBrokenTextOf Pairs bytes line → ⊥ }
+    ensures broken { (bytes : List ℕ) (line other : ℕ) → IsBrokenTextOf Pairs bytes line
+        → IsBrokenTextOf Pairs bytes other → other ≡ line }
+    ensures short { (bytes : List ℕ) (view : PairView) → IsPairText bytes view
+        → length bytes ≤ MOST_BESIDE_MARKS }
+    ensures apart { (bytes : List ℕ) (view : PairView) (counts : Counts) (said : List Said)
+        → IsPairText bytes view → IsText bytes counts said → ⊥ }
 {}

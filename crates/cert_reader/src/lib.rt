@@ -1,7 +1,7 @@
 //! The text of certificates and of adjusted winner: what it says, and the first broken line of
 //! other bytes.
 //!
-//! `next_piece` reads from any source in fixed memory. It answers `NotText` exactly where the bytes
+//! `next_piece` reads from any source in fixed memory. It answers `NotText` exactly if the bytes
 //! are no text, with the first broken line, and `TooLong` after one byte more than a text may have.
 //! A text has one meaning (`text_law`, `pair_law`).
 #![tactic(auto)]
@@ -40,8 +40,8 @@ pub use line::LineNumbers;
 pub use order::{set_count, start_count};
 pub use pair::PairText;
 pub use pair_lines::read_pair;
-pub use pieces::{Piece, Pieces};
+pub use pieces::{Part, Piece, Pieces};
 pub use read::read_certificate;
-pub use rows::{number_at, row_at, rows_of, whole_row};
+pub use rows::{copy_of, number_at, row_at, rows_of, whole_row};
 pub use table::Table;
 pub use tree::Tree;

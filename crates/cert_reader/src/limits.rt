@@ -12,9 +12,9 @@ pub const MOST_DIGITS: usize = 25;
 pub const MOST_PRINTED_DENOMINATOR: u64 = 4_294_967_295;
 /// The most numbers of a line.
 pub const MOST_NUMBERS: usize = 24;
-/// The most bytes of a line of numbers, without its LF: a word of at most 14 bytes and 24 numbers, each with a space, a sign, 25 digits, a slash and 10 digits,
-/// are 926.
-pub const LONGEST_LINE: usize = 1024;
+/// The most bytes of a line of numbers, without its LF: a word of at most 14 bytes, and as many numbers as a line may have, each with a space, a sign, its digits, a
+/// slash and a denominator of at most 10 digits. The proof that no line of a text is longer fails if this is too small.
+pub const LONGEST_LINE: usize = 14 + MOST_NUMBERS * (1 + 1 + MOST_DIGITS + 1 + 10);
 /// How many bytes are taken from a source at a time, at most.
 pub(crate) const PIECE_BYTES: usize = 4096;
 /// The most lines of a text, which is a certificate of fares: its fixed lines, one for each place, and one for each set of riders but the empty one.
@@ -37,9 +37,11 @@ pub(crate) const PAIR_LINES: usize = PAIR_END + 1;
 /// How many lines of the text of a pair come before `end`.
 pub(crate) const PAIR_LINE_ROOM: usize = PAIR_END;
 
-// What the other limits ask of these: each fraction can be printed; a line has room for a number for each good, and for the number of a set with its costs, which
-// are one more than the riders at most; and a text without a tree fits.
+// What the other limits ask of these: each fraction can be printed, with a denominator of at most 10 digits; a line has room for a number for each good, and for the
+// number of a set with its costs, which are one more than the riders at most; and a text without a tree fits.
 const _: () = prove!(MOST_DENOMINATOR <= MOST_PRINTED_DENOMINATOR);
+
+const _: () = prove!(MOST_PRINTED_DENOMINATOR < 10_000_000_000);
 
 const _: () = prove!(MOST_GOODS as usize <= MOST_NUMBERS);
 

@@ -7,7 +7,7 @@ ghost use Rattle.split_frac.specs.Frac.{fraction_of};
 ghost use Rattle.split_frac.specs.Texts.{numbers_text};
 ghost use Rattle.cert_reader.specs.Cuts.{IsLine};
 ghost use Rattle.cert_reader.specs.Numbers.{IsNumber};
-ghost use Rattle.cert_reader.specs.Text.{Leads};
+ghost use Rattle.cert_reader.specs.Text.{BeginsWithNumber};
 ghost use Rattle.cert_reader.specs.declared.limits.TheConstants.{MOST_NUMBERS};
 
 use crate::forms::LineForm;
@@ -19,33 +19,27 @@ use split_frac::Frac;
 /// The numbers of a line, a whole number as a fraction over 1.
 pub type LineNumbers = ArrayVec<Frac, MOST_NUMBERS>;
 
-/// The numbers of a line, given without its LF, where it has the form.
-pub(crate) fn read_line(line: &[u8], form: LineForm) -> Option<LineNumbers>
+// Whether a line, given without its LF, has the form. If so, these are its numbers.
+pub(crate) fn read_line(line: &[u8], form: LineForm, numbers: &mut LineNumbers) -> bool
     requires { form.count ≤ MOST_NUMBERS }
-    ensures { MatchOption result
-        ((numbers : List Fraction) → IsLine form numbers line.now → ⊥)
-        (λ numbers. IsLine form (map fraction_of numbers.items) line.now) }
+    ensures { MatchBool result
+        (IsLine form (map fraction_of numbers.new.items) line.now)
+        ((read : List Fraction) → IsLine form read line.now → ⊥) }
 {
+    numbers.clear();
     let Some(rest) = behind(line, form.word.as_str().as_bytes()) else {
-        return None;
+        return false;
     };
-    let mut numbers = ArrayVec::new();
-    if !push_numbers(rest, form.count, form.whole, &mut numbers) {
-        return None;
+    if !push_numbers(rest, form.count, form.whole, numbers) {
+        return false;
     }
     match form.lead {
-        None => Some(numbers),
-        Some(lead) => {
-            if has_lead(&numbers, lead) {
-                Some(numbers)
-            } else {
-                None
-            }
-        }
+        None => true,
+        Some(lead) => has_lead(numbers, lead),
     }
 }
 
-/// What follows the word.
+// What follows the word.
 fn behind<'a>(line: &'a [u8], word: &[u8]) -> Option<&'a [u8]>
     ensures { MatchOption result
         ((rest : List ℕ) → line.now ≡ word.now ++ rest → ⊥)
@@ -58,9 +52,9 @@ fn behind<'a>(line: &'a [u8], word: &[u8]) -> Option<&'a [u8]>
     if front == word { Some(rest) } else { None }
 }
 
-/// Whether the first number is this one.
+// Whether the first number is this one.
 fn has_lead(numbers: &[Frac], lead: u64) -> bool
-    ensures { IsTrue result ↔ Leads lead (map fraction_of numbers.now) }
+    ensures { IsTrue result ↔ BeginsWithNumber lead (map fraction_of numbers.now) }
 {
     match numbers {
         [] => false,
@@ -68,19 +62,22 @@ fn has_lead(numbers: &[Frac], lead: u64) -> bool
     }
 }
 
-/// Whether the fraction is this whole number.
+// Whether the fraction is this whole number.
 fn is_whole(number: Frac, value: u64) -> bool
     ensures { IsTrue result ↔ (number.num ≡ pos value) × (number.den ≡ 1) }
 {
     number.num == i128::from(value) && number.den == 1
 }
 
-/// Reads so many numbers, to the end of the line.
+// Reads so many numbers, to the end of the line.
 fn push_numbers(rest: &[u8], count: usize, whole: bool, numbers: &mut LineNumbers) -> bool
     requires { array_vec_len numbers.old + count ≤ MOST_NUMBERS }
     ensures { MatchBool result
-        ((read : List Fraction) × (map fraction_of numbers.new.items ≡ map fraction_of numbers.old.items ++ read) × (length read ≡ count) × All (IsNumber whole) read × (rest.now ≡ numbers_text read))
-        ((read : List Fraction) → length read ≡ count → All (IsNumber whole) read → rest.now ≡ numbers_text read → ⊥) }
+        ((read : List Fraction)
+        × (map fraction_of numbers.new.items ≡ map fraction_of numbers.old.items ++ read)
+        × (length read ≡ count) × All (IsNumber whole) read × (rest.now ≡ numbers_text read))
+        ((read : List Fraction) → length read ≡ count → All (IsNumber whole) read
+        → rest.now ≡ numbers_text read → ⊥) }
 {
     if count == 0 {
         return rest.is_empty();

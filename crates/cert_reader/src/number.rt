@@ -16,7 +16,7 @@ const LEAST_DENOMINATOR: u128 = 2;
 /// The greatest one.
 const GREATEST_DENOMINATOR: u128 = MOST_PRINTED_DENOMINATOR as u128;
 
-/// The number of at most 25 digits that the token writes, with no zero in front.
+// The number of at most 25 digits that the token writes, with no zero in front.
 fn read_digits(token: &[u8]) -> Option<u128>
     ensures { MatchOption result
         ((n : ℕ) → n < 10 ^ MOST_DIGITS → token.now ≡ decimal n → ⊥)
@@ -38,7 +38,7 @@ fn read_digits(token: &[u8]) -> Option<u128>
     Some(value)
 }
 
-/// The same, above 0.
+// The same, above 0.
 fn read_positive(token: &[u8]) -> Option<u128>
     ensures { MatchOption result
         ((n : ℕ) → 0 < n → n < 10 ^ MOST_DIGITS → token.now ≡ decimal n → ⊥)
@@ -50,7 +50,7 @@ fn read_positive(token: &[u8]) -> Option<u128>
     if value > 0 { Some(value) } else { None }
 }
 
-/// The number with its sign.
+// The number with its sign.
 fn read_whole(token: &[u8]) -> Option<i128>
     ensures { MatchOption result
         ((z : ℤ) → IsSmall z → token.now ≡ signed_decimal z → ⊥)
@@ -65,11 +65,12 @@ fn read_whole(token: &[u8]) -> Option<i128>
     }
 }
 
-/// The number below 0 whose digits these are.
+// The number below 0 whose digits these are.
 fn read_below(digits: &[u8]) -> Option<i128>
     ensures { MatchOption result
         ((n : ℕ) → n + 1 < 10 ^ MOST_DIGITS → digits.now ≡ decimal (n + 1) → ⊥)
-        (λ z. (n : ℕ) × (z ≡ negsuc n) × (n + 1 < 10 ^ MOST_DIGITS) × (digits.now ≡ decimal (n + 1))) }
+        (λ z.
+        (n : ℕ) × (z ≡ negsuc n) × (n + 1 < 10 ^ MOST_DIGITS) × (digits.now ≡ decimal (n + 1))) }
 {
     match read_positive(digits) {
         Some(size) => Some(negative(size)),
@@ -77,7 +78,7 @@ fn read_below(digits: &[u8]) -> Option<i128>
     }
 }
 
-/// The number below 0 of this size.
+// The number below 0 of this size.
 fn negative(size: u128) -> i128
     requires low { 0 < size }
     requires high { size < 10 ^ MOST_DIGITS }
@@ -86,7 +87,7 @@ fn negative(size: u128) -> i128
     -(size as i128)
 }
 
-/// The first place of the byte, or the length where it has none.
+// The first place of the byte, or the length if it has none.
 pub(crate) fn front_len(bytes: &[u8], stop: u8) -> usize
     ensures { IsFront stop bytes.now result }
 {
@@ -98,7 +99,7 @@ pub(crate) fn front_len(bytes: &[u8], stop: u8) -> usize
     bytes.len()
 }
 
-/// The whole number or the fraction in lowest terms that the token writes.
+// The whole number or the fraction in lowest terms that the token writes.
 pub(crate) fn read_number(token: &[u8]) -> Option<Frac>
     ensures { MatchOption result
         ((number : Fraction) → IsNumber false number → token.now ≡ pair_text number → ⊥)
@@ -112,23 +113,33 @@ pub(crate) fn read_number(token: &[u8]) -> Option<Frac>
     }
 }
 
-/// A whole number as a fraction.
+// The fraction of a whole number. It is in lowest terms, so its terms need no common divisor.
+fn whole_fraction(num: i128) -> Frac
+    ensures { (result.num ≡ num) × (result.den ≡ 1) }
+{
+    Frac { num, den: 1 }
+}
+
+// A whole number as a fraction.
 fn read_plain(token: &[u8]) -> Option<Frac>
     ensures { MatchOption result
         ((z : ℤ) → IsSmall z → token.now ≡ signed_decimal z → ⊥)
         (λ f. IsNumber false (fraction_of f) × (f.den ≡ 1) × (token.now ≡ signed_decimal f.num)) }
 {
     match read_whole(token) {
-        Some(num) => read_lowest(num, 1),
+        Some(num) => Some(whole_fraction(num)),
         None => None,
     }
 }
 
-/// The fraction with this numerator and this denominator, which is above 1.
+// The fraction with this numerator and this denominator, which is above 1.
 fn read_fraction(front: &[u8], back: &[u8]) -> Option<Frac>
     ensures { MatchOption result
-        ((number : Fraction) → IsNumber false number → 2 ≤ number.1 → front.now ≡ signed_decimal number.0 → back.now ≡ decimal number.1 → ⊥)
-        (λ f. IsNumber false (fraction_of f) × (2 ≤ f.den) × (front.now ≡ signed_decimal f.num) × (back.now ≡ decimal f.den)) }
+        ((number : Fraction) → IsNumber false number → 2 ≤ number.1
+        → front.now ≡ signed_decimal number.0 → back.now ≡ decimal number.1 → ⊥)
+        (λ f.
+        IsNumber false (fraction_of f) × (2 ≤ f.den) × (front.now ≡ signed_decimal f.num)
+        × (back.now ≡ decimal f.den)) }
 {
     let Some(num) = read_whole(front) else {
         return None;
@@ -142,7 +153,7 @@ fn read_fraction(front: &[u8], back: &[u8]) -> Option<Frac>
     read_lowest(num, den as u64)
 }
 
-/// The fraction, where it is in lowest terms.
+// The fraction, if it is in lowest terms.
 fn read_lowest(num: i128, den: u64) -> Option<Frac>
     requires { 0 < den }
     ensures { MatchOption result

@@ -1,5 +1,6 @@
 // The forms of lines in their order, and what a line leaves open about the lines after it.
 ghost use Rattle.std.specs.Prelude.{◌≡◌, ◌+◌, ◌-◌, ◌^◌, ◌<◌, ◌≤◌, List, length, map, slice_index_or, ◌↔◌, IsTrue, MatchOption};
+ghost use Rattle.std.specs.Bool.{MatchBool};
 ghost use Rattle.bid_rules.specs.declared.limits.TheConstants.{MOST_GOODS, MOST_MEMBERS, MOST_PLACES, MOST_RIDERS};
 ghost use Rattle.split_frac.specs.Frac.{fraction_of};
 ghost use Rattle.cert_reader.specs.declared.forms.Counts.{Counts};
@@ -38,7 +39,7 @@ pub fn start_count(riders: u8, set: u32) -> usize
     count
 }
 
-/// A word and this many whole numbers.
+// A word and this many whole numbers.
 fn numbers(word: Word, count: u8) -> LineForm
     ensures form { Line result ≡ numbers_of word count }
     ensures count { result.count ≡ count }
@@ -51,7 +52,7 @@ fn numbers(word: Word, count: u8) -> LineForm
     }
 }
 
-/// A word and this many fractions.
+// A word and this many fractions.
 fn fractions(word: Word, count: u8) -> LineForm
     ensures form { Line result ≡ fractions_of word count }
     ensures count { result.count ≡ count }
@@ -64,7 +65,7 @@ fn fractions(word: Word, count: u8) -> LineForm
     }
 }
 
-/// A word and this many whole numbers, the first of which is fixed.
+// A word and this many whole numbers, the first of which is fixed.
 fn led(word: Word, lead: u64, count: usize) -> LineForm
     ensures form { Line result ≡ led_by word lead count }
     ensures count { result.count ≡ count }
@@ -77,7 +78,7 @@ fn led(word: Word, lead: u64, count: usize) -> LineForm
     }
 }
 
-/// The first lines of a rent.
+// The first lines of a rent.
 fn rent_head_form(members: u8, index: usize) -> LineForm
     requires { index < RENT_VALUES }
     ensures form { slice_index_or (rent_head members) index Tree ≡ Line result }
@@ -91,7 +92,7 @@ fn rent_head_form(members: u8, index: usize) -> LineForm
     }
 }
 
-/// The last lines of a rent.
+// The last lines of a rent.
 fn rent_tail_form(members: u8, index: usize) -> LineForm
     requires { index ≤ RENT_END }
     ensures form { slice_index_or (rent_tail members) index Tree ≡ Line result }
@@ -108,7 +109,7 @@ fn rent_tail_form(members: u8, index: usize) -> LineForm
     }
 }
 
-/// A line of a rent.
+// A line of a rent.
 fn rent_form(members: u8, index: usize) -> LineForm
     requires members { members ≤ MOST_MEMBERS }
     requires index { index < length (rent_forms members) }
@@ -125,7 +126,7 @@ fn rent_form(members: u8, index: usize) -> LineForm
     rent_tail_form(members, index - rooms)
 }
 
-/// The first lines of goods.
+// The first lines of goods.
 fn goods_head_form(players: u8, goods: u8, index: usize) -> LineForm
     requires { index < GOODS_VALUES }
     ensures form { slice_index_or (goods_head players goods) index Tree ≡ Line result }
@@ -141,7 +142,7 @@ fn goods_head_form(players: u8, goods: u8, index: usize) -> LineForm
     }
 }
 
-/// The last lines of goods except the tree.
+// The last lines of goods except the tree.
 fn goods_tail_form(goods: u8, index: usize) -> LineForm
     requires index { index ≤ GOODS_END }
     requires line { index ≡ GOODS_TREE → ⊥ }
@@ -155,7 +156,7 @@ fn goods_tail_form(goods: u8, index: usize) -> LineForm
     }
 }
 
-/// A line of goods except the tree.
+// A line of goods except the tree.
 fn goods_form(players: u8, goods: u8, index: usize) -> LineForm
     requires players { players ≤ MOST_MEMBERS }
     requires goods { goods ≤ MOST_GOODS }
@@ -174,7 +175,7 @@ fn goods_form(players: u8, goods: u8, index: usize) -> LineForm
     goods_tail_form(goods, index - owners)
 }
 
-/// The first lines of fares.
+// The first lines of fares.
 fn fares_head_form(riders: u8, places: u8, index: usize) -> LineForm
     requires { index < FARES_LEGS }
     ensures form { slice_index_or (fares_head riders places) index Tree ≡ Line result }
@@ -189,7 +190,7 @@ fn fares_head_form(riders: u8, places: u8, index: usize) -> LineForm
     }
 }
 
-/// The last lines of fares.
+// The last lines of fares.
 fn fares_tail_form(riders: u8, index: usize) -> LineForm
     requires { index ≤ FARES_END }
     ensures form { slice_index_or (fares_tail riders) index Tree ≡ Line result }
@@ -210,7 +211,7 @@ pub fn set_count(riders: u8) -> u32
     (1 << riders) - 1
 }
 
-/// A line of fares.
+// A line of fares.
 fn fares_form(riders: u8, places: u8, index: usize) -> LineForm
     requires riders { riders ≤ MOST_RIDERS }
     requires places { places ≤ MOST_PLACES }
@@ -240,7 +241,7 @@ fn fares_form(riders: u8, places: u8, index: usize) -> LineForm
     fares_tail_form(riders, index - route)
 }
 
-/// A line of the text of a pair.
+// A line of the text of a pair.
 fn pair_form(goods: u8, index: usize) -> LineForm
     requires goods { goods ≤ MOST_GOODS }
     requires index { index < length (pair_forms goods) }
@@ -259,7 +260,7 @@ fn pair_form(goods: u8, index: usize) -> LineForm
     }
 }
 
-/// Whether the line of a tree is at a place, counted from 0.
+// Whether the line of a tree is at a place, counted from 0.
 pub(crate) fn is_tree(counts: Counts, index: usize) -> bool
     requires { index < length (forms_of counts) }
     ensures { IsTrue result ↔ form_in counts index ≡ Tree }
@@ -272,7 +273,7 @@ pub(crate) fn is_tree(counts: Counts, index: usize) -> bool
     }
 }
 
-/// The form of a line of numbers, counted from 0.
+// The form of a line of numbers, counted from 0.
 pub(crate) fn form_at(counts: Counts, index: usize) -> LineForm
     requires counts { AreInRange counts }
     requires index { index < length (forms_of counts) }
@@ -288,7 +289,7 @@ pub(crate) fn form_at(counts: Counts, index: usize) -> LineForm
     }
 }
 
-/// How many lines a text with these counts has.
+// How many lines a text with these counts has.
 pub(crate) fn line_count(counts: Counts) -> usize
     requires { AreInRange counts }
     ensures value { result ≡ length (forms_of counts) }
@@ -307,7 +308,7 @@ pub(crate) fn line_count(counts: Counts) -> usize
     }
 }
 
-/// How many ways the line at a place leaves open once the lines before it are known.
+// How many ways the line at a place leaves open once the lines before it are known.
 fn choices(index: usize, known: Counts) -> u8
     ensures value { result ≡ choice_count index known }
     ensures small { result ≤ MOST_CHOICES }
@@ -324,7 +325,7 @@ fn choices(index: usize, known: Counts) -> u8
     }
 }
 
-/// The least counts of a kind.
+// The least counts of a kind.
 fn chosen_kind(choice: u8) -> Counts
     ensures { result ≡ choice_of KIND_LINE (count.Rent 1) choice }
 {
@@ -341,7 +342,7 @@ fn chosen_kind(choice: u8) -> Counts
     }
 }
 
-/// The counts that one of the ways gives.
+// The counts that one of the ways gives.
 fn chosen(index: usize, known: Counts, choice: u8) -> Counts
     requires { choice < MOST_CHOICES }
     ensures { result ≡ choice_of index known choice }
@@ -372,31 +373,39 @@ fn chosen(index: usize, known: Counts, choice: u8) -> Counts
     }
 }
 
-/// The numbers of the line, where it has the form of its place.
-fn read_at(line: &[u8], index: usize, counts: Counts) -> Option<LineNumbers>
+// Whether the line has the form of its place. If so, these are its numbers.
+fn read_at(line: &[u8], index: usize, counts: Counts, numbers: &mut LineNumbers) -> bool
     requires counts { AreInRange counts }
     requires index { index < length (forms_of counts) }
     requires line { form_in counts index ≡ Tree → ⊥ }
-    ensures { MatchOption result
-        ((said : Said) → IsLineOf (form_in counts index) said line.now → ⊥)
-        (λ numbers. IsLineOf (form_in counts index) (Numbers (map fraction_of numbers.items)) line.now) }
+    ensures { MatchBool result
+        (IsLineOf (form_in counts index) (Numbers (map fraction_of numbers.new.items)) line.now)
+        ((said : Said) → IsLineOf (form_in counts index) said line.now → ⊥) }
 {
-    read_line(line, form_at(counts, index))
+    read_line(line, form_at(counts, index), numbers)
 }
 
-/// Counts that agree with those known so far and for which the line has the form of its place, and the numbers of the line.
-pub(crate) fn settle(line: &[u8], index: usize, known: Counts) -> Option<(Counts, LineNumbers)>
+// Counts that agree with those known so far and for which the line has the form of its place, and the numbers of the line.
+pub(crate) fn settle(
+    line: &[u8],
+    index: usize,
+    known: Counts,
+    numbers: &mut LineNumbers,
+) -> Option<Counts>
     requires known { AreInRange known }
     requires index { index < length (forms_of known) }
     requires line { form_in known index ≡ Tree → ⊥ }
     ensures { MatchOption result
-        ((counts : Counts) (said : Said) → AreInRange counts → AgreeUpTo index known counts → IsLineOf (form_in counts index) said line.now → ⊥)
-        (λ found. AreInRange found.0 × AgreeUpTo index known found.0 × (index < length (forms_of found.0)) × IsLineOf (form_in found.0 index) (Numbers (map fraction_of found.1.items)) line.now) }
+        ((counts : Counts) (said : Said) → AreInRange counts → AgreeUpTo index known counts
+        → IsLineOf (form_in counts index) said line.now → ⊥)
+        (λ counts.
+        AreInRange counts × AgreeUpTo index known counts × (index < length (forms_of counts))
+        × IsLineOf (form_in counts index) (Numbers (map fraction_of numbers.new.items)) line.now) }
 {
     for choice in 0..choices(index, known) {
         let counts = chosen(index, known, choice);
-        if let Some(numbers) = read_at(line, index, counts) {
-            return Some((counts, numbers));
+        if read_at(line, index, counts, numbers) {
+            return Some(counts);
         }
     }
     None

@@ -12,7 +12,7 @@ use crate::pair::PairText;
 use crate::places::{PAIR_SHARES, PAIR_TOTAL, PAIR_VALUES, PAIR_WEIGHTS, PAIR_WHO};
 use crate::rows::{fraction_at, fractions_at, row_at, rows_of};
 
-/// The text of a pair whose lines before `end` were read.
+// The text of a pair whose lines before `end` were read.
 pub(crate) fn pair_text(goods: u8, lines: &[LineNumbers]) -> PairText
     requires goods { AreInRange (count.Pair goods) }
     requires lines { CanSayAll (pair_forms goods) (map line_said lines.now ++ says [] ∷ []) }

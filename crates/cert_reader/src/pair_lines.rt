@@ -6,8 +6,8 @@ ghost use Rattle.cert_reader.specs.declared.forms.Counts.TheVariants as count;
 ghost use Rattle.cert_reader.specs.declared.limits.TheConstants.{MOST_BYTES};
 ghost use Rattle.cert_reader.specs.Forms.{Pairs, forms_of};
 ghost use Rattle.cert_reader.specs.Pairs.{IsReadPair};
-ghost use Rattle.cert_reader.specs.Reading.{GoesOf, IsFinished, IsLineRead, IsOpen, IsReadOf};
-ghost use Rattle.cert_reader.specs.Stream.{ends_at, ends_before, faults_after};
+ghost use Rattle.cert_reader.specs.Reading.{ReadsOnIn, IsFinished, IsLineRead, HasLineToCome, IsReadOf};
+ghost use Rattle.cert_reader.specs.Stream.{ends_at, ends_before, faults_after_reading};
 
 use crate::ends::TextEnd;
 use crate::forms::Counts;
@@ -43,11 +43,11 @@ impl Model for PairLines {
 }
 
 impl PairLines {
-    /// Nothing was read yet.
+    // Nothing was read yet.
     fn new() -> Self
         ensures read { IsReadOf Pairs result [] [] }
         ensures start { result.lines ≡ 0 }
-        ensures open { IsOpen result }
+        ensures open { HasLineToCome result }
     {
         PairLines {
             bytes: Bytes::new(),
@@ -56,14 +56,14 @@ impl PairLines {
         }
     }
 
-    /// Whether a line is still to come.
+    // Whether a line is still to come.
     fn is_open(&self) -> bool
-        ensures { IsTrue result ↔ IsOpen self.now }
+        ensures { IsTrue result ↔ HasLineToCome self.now }
     {
         (self.lines as usize) < line_count(self.counts)
     }
 
-    /// How many goods there are, as far as the lines say it.
+    // How many goods there are, as far as the lines say it.
     fn goods(&self) -> u8
         ensures { self.now.counts ≡ count.Pair result }
     {
@@ -73,21 +73,31 @@ impl PairLines {
         }
     }
 
-    /// Takes the next line, where one may follow, and gives its numbers.
+    // Takes the next line, if one may follow, and gives its numbers.
     fn next_line<S: Source>(&mut self, source: &mut S) -> Result<LineNumbers, TextEnd>
-        requires { IsOpen self.old }
-        ensures line { GoesOf Pairs self.old (S.left source.old) (S.left source.new) (λ taken said. IsLineRead Pairs self.old self.new (S.left source.new) taken said result) }
+        requires { HasLineToCome self.old }
+        ensures line { ReadsOnIn Pairs self.old (S.left source.old) (S.left source.new)
+            (λ taken said.
+            IsLineRead Pairs self.old self.new (S.left source.new) taken said result) }
         ensures lines { OnOk result (self.new.lines ≡ self.old.lines + 1) }
         ensures within { self.new.lines ≤ length (forms_of self.new.counts) }
-        ensures faults { S.faults source.new ≡ faults_after (S.faults source.old) result }
+        ensures faults { S.faults source.new ≡ faults_after_reading (S.faults source.old) result }
         ensures empty { S.empty_reads source.new ≤ ends_before (S.empty_reads source.old) result }
-        ensures fault { IsErrOf result TextEnd.ReadFault → HasRisen (S.faults source.old) (S.faults source.new) }
+        ensures fault { IsErrOf result TextEnd.ReadFault
+            → HasRisen (S.faults source.old) (S.faults source.new) }
         ensures count { S.faults source.old ≤ S.faults source.new }
         ensures beside { S.beside source.new ≡ S.beside source.old }
     {
-        match next_settled(&mut self.bytes, source, self.lines, self.counts) {
+        let mut numbers = LineNumbers::new();
+        match next_settled(
+            &mut self.bytes,
+            source,
+            self.lines,
+            self.counts,
+            &mut numbers,
+        ) {
             Err(end) => Err(end),
-            Ok((counts, numbers)) => {
+            Ok(counts) => {
                 self.counts = counts;
                 self.lines += 1;
                 Ok(numbers)
@@ -95,14 +105,16 @@ impl PairLines {
         }
     }
 
-    /// Finds the end of the input after all lines, or reads on to it.
+    // Finds the end of the input after all lines, or reads on to it.
     fn finish<S: Source>(&mut self, source: &mut S) -> Result<(), TextEnd>
         requires { self.old.lines ≡ length (forms_of self.old.counts) }
-        ensures finish { GoesOf Pairs self.old (S.left source.old) (S.left source.new) (λ taken said. IsFinished Pairs self.new (S.left source.new) taken said result) }
+        ensures finish { ReadsOnIn Pairs self.old (S.left source.old) (S.left source.new)
+            (λ taken said. IsFinished Pairs self.new (S.left source.new) taken said result) }
         ensures same { self.new.counts ≡ self.old.counts }
-        ensures faults { S.faults source.new ≡ faults_after (S.faults source.old) result }
+        ensures faults { S.faults source.new ≡ faults_after_reading (S.faults source.old) result }
         ensures empty { S.empty_reads source.new ≤ ends_at (S.empty_reads source.old) result }
-        ensures fault { IsErrOf result TextEnd.ReadFault → HasRisen (S.faults source.old) (S.faults source.new) }
+        ensures fault { IsErrOf result TextEnd.ReadFault
+            → HasRisen (S.faults source.old) (S.faults source.new) }
         ensures count { S.faults source.old ≤ S.faults source.new }
         ensures beside { S.beside source.new ≡ S.beside source.old }
     {
@@ -116,14 +128,16 @@ impl PairLines {
 
 /// Reads the text of a pair, and gives what it says. It takes no memory.
 ///
-/// - `NotText` comes exactly where the input has at most 4,000,000 bytes and is not the text of a pair, with its first broken line. It was read to its end.
-/// - `TooLong` comes exactly where it has more, whatever its lines. 4,000,001 bytes were read.
-/// - `ReadFault` comes only where the source's count of faults has risen, and at once: the failed read is not tried again.
+/// - `NotText` comes exactly if the input has at most 4,000,000 bytes and is not the text of a pair, with its first broken line. It was read to its end.
+/// - `TooLong` comes exactly if it has more, whatever its lines. 4,000,001 bytes were read.
+/// - `ReadFault` comes only if the source's count of faults has risen, and at once: the failed read is not tried again.
 pub fn read_pair<S: Source>(source: &mut S) -> Result<PairText, TextEnd>
-    ensures read { (taken : List ℕ) × Consumes (S.left source.old) (S.left source.new) taken × IsReadPair (S.left source.new) taken result }
-    ensures faults { S.faults source.new ≡ faults_after (S.faults source.old) result }
+    ensures read { (taken : List ℕ) × Consumes (S.left source.old) (S.left source.new) taken
+        × IsReadPair (S.left source.new) taken result }
+    ensures faults { S.faults source.new ≡ faults_after_reading (S.faults source.old) result }
     ensures empty { S.empty_reads source.new ≤ ends_at (S.empty_reads source.old) result }
-    ensures fault { IsErrOf result TextEnd.ReadFault → HasRisen (S.faults source.old) (S.faults source.new) }
+    ensures fault { IsErrOf result TextEnd.ReadFault
+        → HasRisen (S.faults source.old) (S.faults source.new) }
     ensures count { S.faults source.old ≤ S.faults source.new }
     ensures beside { S.beside source.new ≡ S.beside source.old }
 {

@@ -6,8 +6,8 @@ ghost use Rattle.cert_reader.specs.Ends.{OfAnswer};
 ghost use Rattle.cert_reader.specs.Forms.{Certificates, Tree, forms_of};
 ghost use Rattle.cert_reader.specs.Kinds.{kind_of};
 ghost use Rattle.cert_reader.specs.Order.{AgreeUpTo, form_in};
-ghost use Rattle.cert_reader.specs.Reading.{Goes, IsAnswer, IsEnd, IsLineRead, IsFinished, IsMarkRead, IsOpen, IsRead, IsTreeRead, ends_by_piece};
-ghost use Rattle.cert_reader.specs.Stream.{IsPlain, ends_at, ends_before, faults_after, taken_count};
+ghost use Rattle.cert_reader.specs.Reading.{ReadsOn, IsAnswer, IsEnd, IsLineRead, IsFinished, IsMarkRead, HasLineToCome, IsRead, IsTreeRead, ends_by_piece, left_in, with_numbers};
+ghost use Rattle.cert_reader.specs.Stream.{IsPlain, ends_at, ends_before, faults_after_reading, taken_count};
 ghost use Rattle.cert_reader.specs.Text.{Numbers, Said};
 ghost use Rattle.cert_reader.specs.declared.limits.TheConstants.{MOST_BYTES};
 
@@ -44,6 +44,39 @@ pub enum Piece {
     Done,
 }
 
+/// A piece of a certificate text, where the numbers of a line lie in a buffer of the caller.
+#[derive(Clone, Copy, Debug, PartialEq, Eq)]
+pub enum Part {
+    /// The kind, which the first two lines say.
+    Kind {
+        /// 1 for a rent, 2 for goods, 3 for fares.
+        kind: u8,
+    },
+    /// A later line of numbers, which are in the buffer. The line of a set of riders begins with the number of the set.
+    Line,
+    /// A character of a tree.
+    Mark {
+        /// `+`, `-` or `=`.
+        mark: u8,
+    },
+    /// The line `end`, and the end of the input.
+    Done,
+}
+
+// The answer as a piece that holds its numbers itself.
+fn with_numbers(answer: Result<Part, TextEnd>, numbers: LineNumbers) -> Result<Piece, TextEnd>
+    ensures same { result ≡ with_numbers answer numbers }
+    ensures fault { IsErrOf result TextEnd.ReadFault → IsErrOf answer TextEnd.ReadFault }
+{
+    match answer {
+        Err(end) => Err(end),
+        Ok(Part::Kind { kind }) => Ok(Piece::Kind { kind }),
+        Ok(Part::Line) => Ok(Piece::Line { numbers }),
+        Ok(Part::Mark { mark }) => Ok(Piece::Mark { mark }),
+        Ok(Part::Done) => Ok(Piece::Done),
+    }
+}
+
 /// A certificate text that is being read, in fixed memory.
 #[derive(Debug, Drop)]
 pub struct Pieces {
@@ -70,7 +103,7 @@ impl Pieces {
     pub fn new() -> Self
         ensures read { IsRead result [] [] }
         ensures start { result.lines ≡ 0 }
-        ensures open { IsOpen result }
+        ensures open { HasLineToCome result }
     {
         Pieces {
             bytes: Bytes::new(),
@@ -80,16 +113,16 @@ impl Pieces {
         }
     }
 
-    /// Whether no line was read yet.
+    // Whether no line was read yet.
     fn is_new(&self) -> bool
         ensures { IsTrue result ↔ self.now.lines ≡ 0 }
     {
         self.lines == 0
     }
 
-    /// Whether a line is still to come.
+    // Whether a line is still to come.
     fn is_open(&self) -> bool
-        ensures { IsTrue result ↔ IsOpen self.now }
+        ensures { IsTrue result ↔ HasLineToCome self.now }
     {
         (self.lines as usize) < line_count(self.counts)
     }
@@ -101,15 +134,15 @@ impl Pieces {
         self.in_tree
     }
 
-    /// Whether the line of a tree comes next.
+    // Whether the line of a tree comes next.
     fn is_at_tree(&self) -> bool
-        requires { IsOpen self.now }
+        requires { HasLineToCome self.now }
         ensures { IsTrue result ↔ form_in self.now.counts self.now.lines ≡ Tree }
     {
         is_tree(self.counts, self.lines as usize)
     }
 
-    /// The kind, as far as it was read.
+    // The kind, as far as it was read.
     fn kind(&self) -> Kind
         ensures { kind_of self.now.counts ≡ Some result }
     {
@@ -121,52 +154,62 @@ impl Pieces {
         }
     }
 
-    /// What the lines so far count.
+    // What the lines so far count.
     pub(crate) fn counts(&self) -> Counts
         ensures { result ≡ self.now.counts }
     {
         self.counts
     }
 
-    /// Takes the next line of numbers, where one of a text may follow, and gives them.
-    fn next_line<S: Source>(&mut self, source: &mut S) -> Result<LineNumbers, TextEnd>
-        requires open { IsOpen self.old }
+    // Takes the next line of numbers, where one of a text may follow, and leaves them in the buffer.
+    fn next_line<S: Source>(
+        &mut self,
+        source: &mut S,
+        numbers: &mut LineNumbers,
+    ) -> Result<(), TextEnd>
+        requires open { HasLineToCome self.old }
         requires whole { self.old.in_tree ≡ false }
         requires line { form_in self.old.counts self.old.lines ≡ Tree → ⊥ }
-        ensures line { Goes self.old (S.left source.old) (S.left source.new) (λ taken said. IsLineRead Certificates self.old self.new (S.left source.new) taken said result) }
+        ensures line { ReadsOn self.old (S.left source.old) (S.left source.new)
+            (λ taken said.
+            IsLineRead Certificates self.old self.new (S.left source.new) taken said
+            (left_in numbers.new result)) }
         ensures lines { OnOk result (self.new.lines ≡ self.old.lines + 1) }
         ensures within { self.new.lines ≤ length (forms_of self.new.counts) }
         ensures whole { self.new.in_tree ≡ false }
         ensures takes { OnOk result (self.old.given < self.new.given) }
         ensures few { self.new.given ≤ MOST_BYTES }
         ensures held { self.new.given + length self.new.ahead ≤ MOST_BYTES }
-        ensures faults { S.faults source.new ≡ faults_after (S.faults source.old) result }
+        ensures faults { S.faults source.new ≡ faults_after_reading (S.faults source.old) result }
         ensures empty { S.empty_reads source.new ≤ ends_before (S.empty_reads source.old) result }
-        ensures fault { IsErrOf result TextEnd.ReadFault → HasRisen (S.faults source.old) (S.faults source.new) }
+        ensures fault { IsErrOf result TextEnd.ReadFault
+            → HasRisen (S.faults source.old) (S.faults source.new) }
         ensures count { S.faults source.old ≤ S.faults source.new }
         ensures beside { S.beside source.new ≡ S.beside source.old }
     {
-        match next_settled(&mut self.bytes, source, self.lines, self.counts) {
+        match next_settled(&mut self.bytes, source, self.lines, self.counts, numbers) {
             Err(end) => Err(end),
-            Ok((counts, numbers)) => {
+            Ok(counts) => {
                 self.counts = counts;
                 self.lines += 1;
-                Ok(numbers)
+                Ok(())
             }
         }
     }
 
-    /// Finds the end of the input after all lines, or reads on to it.
+    // Finds the end of the input after all lines, or reads on to it.
     fn finish<S: Source>(&mut self, source: &mut S) -> Result<(), TextEnd>
         requires lines { self.old.lines ≡ length (forms_of self.old.counts) }
         requires whole { self.old.in_tree ≡ false }
-        ensures finish { Goes self.old (S.left source.old) (S.left source.new) (λ taken said. IsFinished Certificates self.new (S.left source.new) taken said result) }
+        ensures finish { ReadsOn self.old (S.left source.old) (S.left source.new)
+            (λ taken said. IsFinished Certificates self.new (S.left source.new) taken said result) }
         ensures same { (self.new.lines ≡ self.old.lines) × (self.new.counts ≡ self.old.counts) }
         ensures few { self.new.given ≤ MOST_BYTES }
         ensures held { self.new.given + length self.new.ahead ≤ MOST_BYTES }
-        ensures faults { S.faults source.new ≡ faults_after (S.faults source.old) result }
+        ensures faults { S.faults source.new ≡ faults_after_reading (S.faults source.old) result }
         ensures empty { S.empty_reads source.new ≤ ends_at (S.empty_reads source.old) result }
-        ensures fault { IsErrOf result TextEnd.ReadFault → HasRisen (S.faults source.old) (S.faults source.new) }
+        ensures fault { IsErrOf result TextEnd.ReadFault
+            → HasRisen (S.faults source.old) (S.faults source.new) }
         ensures count { S.faults source.old ≤ S.faults source.new }
         ensures beside { S.beside source.new ≡ S.beside source.old }
     {
@@ -177,45 +220,55 @@ impl Pieces {
         }
     }
 
-    /// Takes the first two lines, which say the kind.
-    fn next_kind<S: Source>(&mut self, source: &mut S) -> Result<Piece, TextEnd>
+    // Takes the first two lines, which say the kind.
+    fn next_kind<S: Source>(
+        &mut self,
+        source: &mut S,
+        numbers: &mut LineNumbers,
+    ) -> Result<Part, TextEnd>
         requires lines { self.old.lines ≡ 0 }
         requires whole { self.old.in_tree ≡ false }
-        ensures piece { Goes self.old (S.left source.old) (S.left source.new) (λ taken said. IsAnswer self.old self.new (S.left source.new) taken said result) }
+        ensures piece { ReadsOn self.old (S.left source.old) (S.left source.new)
+            (λ taken said.
+            IsAnswer self.old self.new (S.left source.new) taken said
+            (with_numbers result numbers.new)) }
         ensures takes { OnOk result (self.old.given < self.new.given) }
-        ensures more { OnOk result (IsOpen self.new) }
+        ensures more { OnOk result (HasLineToCome self.new) }
         ensures few { self.new.given ≤ MOST_BYTES }
         ensures held { self.new.given + length self.new.ahead ≤ MOST_BYTES }
-        ensures faults { S.faults source.new ≡ faults_after (S.faults source.old) result }
+        ensures faults { S.faults source.new ≡ faults_after_reading (S.faults source.old) result }
         ensures empty { S.empty_reads source.new ≤ ends_before (S.empty_reads source.old) result }
-        ensures fault { IsErrOf result TextEnd.ReadFault → HasRisen (S.faults source.old) (S.faults source.new) }
+        ensures fault { IsErrOf result TextEnd.ReadFault
+            → HasRisen (S.faults source.old) (S.faults source.new) }
         ensures count { S.faults source.old ≤ S.faults source.new }
         ensures beside { S.beside source.new ≡ S.beside source.old }
     {
-        match self.next_line(source) {
+        match self.next_line(source, numbers) {
             Err(end) => Err(end),
-            Ok(_) => match self.next_line(source) {
+            Ok(()) => match self.next_line(source, numbers) {
                 Err(end) => Err(end),
-                Ok(_) => Ok(Piece::Kind {
+                Ok(()) => Ok(Part::Kind {
                     kind: self.kind().number(),
                 }),
             },
         }
     }
 
-    /// Takes the first character of a tree, with what comes before it.
+    // Takes the first character of a tree, with what comes before it.
     fn begin_tree<S: Source>(&mut self, source: &mut S) -> Result<u8, TextEnd>
-        requires open { IsOpen self.old }
+        requires open { HasLineToCome self.old }
         requires whole { self.old.in_tree ≡ false }
         requires tree { form_in self.old.counts self.old.lines ≡ Tree }
-        ensures mark { Goes self.old (S.left source.old) (S.left source.new) (λ taken said. IsMarkRead self.old self.new (S.left source.new) taken said result) }
-        ensures open { OnOk result (IsOpen self.new) }
+        ensures mark { ReadsOn self.old (S.left source.old) (S.left source.new)
+            (λ taken said. IsMarkRead self.old self.new (S.left source.new) taken said result) }
+        ensures open { OnOk result (HasLineToCome self.new) }
         ensures takes { OnOk result (self.old.given < self.new.given) }
         ensures few { self.new.given ≤ MOST_BYTES }
         ensures held { self.new.given + length self.new.ahead ≤ MOST_BYTES }
-        ensures faults { S.faults source.new ≡ faults_after (S.faults source.old) result }
+        ensures faults { S.faults source.new ≡ faults_after_reading (S.faults source.old) result }
         ensures empty { S.empty_reads source.new ≤ ends_before (S.empty_reads source.old) result }
-        ensures fault { IsErrOf result TextEnd.ReadFault → HasRisen (S.faults source.old) (S.faults source.new) }
+        ensures fault { IsErrOf result TextEnd.ReadFault
+            → HasRisen (S.faults source.old) (S.faults source.new) }
         ensures count { S.faults source.old ≤ S.faults source.new }
         ensures beside { S.beside source.new ≡ S.beside source.old }
     {
@@ -236,16 +289,18 @@ impl Pieces {
     /// - `NotText`, `TooLong` and `ReadFault` come as in `next`.
     pub fn next_in_tree<S: Source>(&mut self, source: &mut S) -> Result<Option<u8>, TextEnd>
         requires { self.old.in_tree ≡ true }
-        ensures mark { Goes self.old (S.left source.old) (S.left source.new) (λ taken said. IsTreeRead self.old self.new (S.left source.new) taken said result) }
+        ensures mark { ReadsOn self.old (S.left source.old) (S.left source.new)
+            (λ taken said. IsTreeRead self.old self.new (S.left source.new) taken said result) }
         ensures same { (self.new.lines ≡ self.old.lines) × (self.new.counts ≡ self.old.counts) }
         ensures some { 0 < self.new.lines }
         ensures whole { result ≡ Ok None → self.new.in_tree ≡ false }
         ensures takes { OnOk result (self.old.given < self.new.given) }
         ensures few { self.new.given ≤ MOST_BYTES }
         ensures held { self.new.given + length self.new.ahead ≤ MOST_BYTES }
-        ensures faults { S.faults source.new ≡ faults_after (S.faults source.old) result }
+        ensures faults { S.faults source.new ≡ faults_after_reading (S.faults source.old) result }
         ensures empty { S.empty_reads source.new ≤ ends_before (S.empty_reads source.old) result }
-        ensures fault { IsErrOf result TextEnd.ReadFault → HasRisen (S.faults source.old) (S.faults source.new) }
+        ensures fault { IsErrOf result TextEnd.ReadFault
+            → HasRisen (S.faults source.old) (S.faults source.new) }
         ensures count { S.faults source.old ≤ S.faults source.new }
         ensures beside { S.beside source.new ≡ S.beside source.old }
     {
@@ -259,40 +314,90 @@ impl Pieces {
         }
     }
 
-    /// The next piece where a line begins, after the first two.
-    fn next_at_line<S: Source>(&mut self, source: &mut S) -> Result<Piece, TextEnd>
-        requires open { IsOpen self.old }
+    // The next piece where a line begins, after the first two.
+    fn next_at_line<S: Source>(
+        &mut self,
+        source: &mut S,
+        numbers: &mut LineNumbers,
+    ) -> Result<Part, TextEnd>
+        requires open { HasLineToCome self.old }
         requires some { 0 < self.old.lines }
         requires whole { self.old.in_tree ≡ false }
-        ensures piece { Goes self.old (S.left source.old) (S.left source.new) (λ taken said. IsAnswer self.old self.new (S.left source.new) taken said result) }
-        ensures more { IfOk result (λ piece. (piece ≡ Piece.Done → ⊥) → IsOpen self.new × (self.old.given < self.new.given)) }
+        ensures piece { ReadsOn self.old (S.left source.old) (S.left source.new)
+            (λ taken said.
+            IsAnswer self.old self.new (S.left source.new) taken said
+            (with_numbers result numbers.new)) }
+        ensures more { IfOk result (λ part.
+            (part ≡ Part.Done → ⊥) → HasLineToCome self.new × (self.old.given < self.new.given)) }
         ensures few { self.new.given ≤ MOST_BYTES }
         ensures held { self.new.given + length self.new.ahead ≤ MOST_BYTES }
-        ensures faults { S.faults source.new ≡ faults_after (S.faults source.old) result }
-        ensures empty { S.empty_reads source.new ≤ ends_by_piece (S.empty_reads source.old) result }
-        ensures fault { IsErrOf result TextEnd.ReadFault → HasRisen (S.faults source.old) (S.faults source.new) }
+        ensures faults { S.faults source.new ≡ faults_after_reading (S.faults source.old) result }
+        ensures empty { S.empty_reads source.new
+            ≤ ends_by_piece (S.empty_reads source.old) (with_numbers result numbers.new) }
+        ensures fault { IsErrOf result TextEnd.ReadFault
+            → HasRisen (S.faults source.old) (S.faults source.new) }
         ensures count { S.faults source.old ≤ S.faults source.new }
         ensures beside { S.beside source.new ≡ S.beside source.old }
     {
         if self.is_at_tree() {
             return match self.begin_tree(source) {
-                Ok(mark) => Ok(Piece::Mark { mark }),
+                Ok(mark) => Ok(Part::Mark { mark }),
                 Err(end) => Err(end),
             };
         }
-        match self.next_line(source) {
+        match self.next_line(source, numbers) {
             Err(end) => Err(end),
-            Ok(numbers) => {
+            Ok(()) => {
                 if self.is_open() {
-                    Ok(Piece::Line { numbers })
+                    Ok(Part::Line)
                 } else {
                     match self.finish(source) {
-                        Ok(()) => Ok(Piece::Done),
+                        Ok(()) => Ok(Part::Done),
                         Err(end) => Err(end),
                     }
                 }
             }
         }
+    }
+
+    /// The next part of the text. It is the next piece, but the numbers of a line are left in the buffer. What was in the buffer is lost.
+    ///
+    /// A reader of many lines calls it in place of `next_piece`, whose pieces have room for a line of numbers each.
+    ///
+    /// - `NotText`, `TooLong` and `ReadFault` come as in `next_piece`.
+    pub fn next_part<S: Source>(
+        &mut self,
+        source: &mut S,
+        numbers: &mut LineNumbers,
+    ) -> Result<Part, TextEnd>
+        requires { HasLineToCome self.old }
+        ensures piece { ReadsOn self.old (S.left source.old) (S.left source.new)
+            (λ taken said.
+            IsAnswer self.old self.new (S.left source.new) taken said
+            (with_numbers result numbers.new)) }
+        ensures more { IfOk result (λ part.
+            (part ≡ Part.Done → ⊥) → HasLineToCome self.new × (self.old.given < self.new.given)) }
+        ensures few { self.new.given ≤ MOST_BYTES }
+        ensures held { self.new.given + length self.new.ahead ≤ MOST_BYTES }
+        ensures faults { S.faults source.new ≡ faults_after_reading (S.faults source.old) result }
+        ensures empty { S.empty_reads source.new
+            ≤ ends_by_piece (S.empty_reads source.old) (with_numbers result numbers.new) }
+        ensures fault { IsErrOf result TextEnd.ReadFault
+            → HasRisen (S.faults source.old) (S.faults source.new) }
+        ensures count { S.faults source.old ≤ S.faults source.new }
+        ensures beside { S.beside source.new ≡ S.beside source.old }
+    {
+        if self.is_in_tree() {
+            return match self.next_in_tree(source) {
+                Err(end) => Err(end),
+                Ok(Some(mark)) => Ok(Part::Mark { mark }),
+                Ok(None) => self.next_at_line(source, numbers),
+            };
+        }
+        if self.is_new() {
+            return self.next_kind(source, numbers);
+        }
+        self.next_at_line(source, numbers)
     }
 
     /// The next piece of the text. It takes no memory.
@@ -304,41 +409,44 @@ impl Pieces {
     /// - `TooLong` comes exactly where it has more, whatever its lines. 4,000,001 bytes were read.
     /// - `ReadFault` comes only where the source's count of faults has risen, and at once: the failed read is not tried again.
     pub fn next_piece<S: Source>(&mut self, source: &mut S) -> Result<Piece, TextEnd>
-        requires { IsOpen self.old }
-        ensures piece { Goes self.old (S.left source.old) (S.left source.new) (λ taken said. IsAnswer self.old self.new (S.left source.new) taken said result) }
-        ensures more { IfOk result (λ piece. (piece ≡ Piece.Done → ⊥) → IsOpen self.new × (self.old.given < self.new.given)) }
+        requires { HasLineToCome self.old }
+        ensures piece { ReadsOn self.old (S.left source.old) (S.left source.new)
+            (λ taken said. IsAnswer self.old self.new (S.left source.new) taken said result) }
+        ensures more { IfOk result (λ piece.
+            (piece ≡ Piece.Done → ⊥) → HasLineToCome self.new × (self.old.given < self.new.given)) }
         ensures few { self.new.given ≤ MOST_BYTES }
         ensures held { self.new.given + length self.new.ahead ≤ MOST_BYTES }
-        ensures faults { S.faults source.new ≡ faults_after (S.faults source.old) result }
+        ensures faults { S.faults source.new ≡ faults_after_reading (S.faults source.old) result }
         ensures empty { S.empty_reads source.new ≤ ends_by_piece (S.empty_reads source.old) result }
-        ensures fault { IsErrOf result TextEnd.ReadFault → HasRisen (S.faults source.old) (S.faults source.new) }
+        ensures fault { IsErrOf result TextEnd.ReadFault
+            → HasRisen (S.faults source.old) (S.faults source.new) }
         ensures count { S.faults source.old ≤ S.faults source.new }
         ensures beside { S.beside source.new ≡ S.beside source.old }
     {
-        if self.is_in_tree() {
-            return match self.next_in_tree(source) {
-                Err(end) => Err(end),
-                Ok(Some(mark)) => Ok(Piece::Mark { mark }),
-                Ok(None) => self.next_at_line(source),
-            };
-        }
-        if self.is_new() {
-            return self.next_kind(source);
-        }
-        self.next_at_line(source)
+        let mut numbers = LineNumbers::new();
+        let answer = self.next_part(source, &mut numbers);
+        with_numbers(answer, numbers)
     }
 
     /// The next piece of the text, as `next_piece` gives it. `NoMemory` never comes.
     pub fn next<S: Source>(&mut self, source: &mut S) -> Result<Piece, ReadEnd>
-        requires { IsOpen self.old }
-        ensures piece { Goes self.old (S.left source.old) (S.left source.new) (λ taken said. OfAnswer (IsAnswer self.old self.new (S.left source.new) taken said) result) }
-        ensures more { IfOk result (λ piece. (piece ≡ Piece.Done → ⊥) → IsOpen self.new × (self.old.given < self.new.given)) }
+        requires { HasLineToCome self.old }
+        ensures piece { ReadsOn self.old (S.left source.old) (S.left source.new)
+            (λ taken said.
+            OfAnswer (IsAnswer self.old self.new (S.left source.new) taken said) result) }
+        ensures more { IfOk result (λ piece.
+            (piece ≡ Piece.Done → ⊥) → HasLineToCome self.new × (self.old.given < self.new.given)) }
         ensures few { self.new.given ≤ MOST_BYTES }
         ensures held { self.new.given + length self.new.ahead ≤ MOST_BYTES }
         ensures memory { IsErrOf result ReadEnd.NoMemory → ⊥ }
-        ensures faults { OfAnswer (λ answer. S.faults source.new ≡ faults_after (S.faults source.old) answer) result }
-        ensures empty { OfAnswer (λ answer. S.empty_reads source.new ≤ ends_by_piece (S.empty_reads source.old) answer) result }
-        ensures fault { IsErrOf result ReadEnd.ReadFault → HasRisen (S.faults source.old) (S.faults source.new) }
+        ensures faults { OfAnswer
+            (λ answer. S.faults source.new ≡ faults_after_reading (S.faults source.old) answer)
+            result }
+        ensures empty { OfAnswer
+            (λ answer. S.empty_reads source.new ≤ ends_by_piece (S.empty_reads source.old) answer)
+            result }
+        ensures fault { IsErrOf result ReadEnd.ReadFault
+            → HasRisen (S.faults source.old) (S.faults source.new) }
         ensures count { S.faults source.old ≤ S.faults source.new }
         ensures beside { S.beside source.new ≡ S.beside source.old }
     {

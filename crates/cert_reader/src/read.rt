@@ -2,7 +2,7 @@
 ghost use Rattle.std.specs.Prelude.{◌≡◌, ◌+◌, ◌≤◌, ℕ, List, length, IsErrOf};
 ghost use Rattle.std.specs.Io.KnownBytes.{Consumes};
 ghost use Rattle.split_base.specs.Faults.{HasRisen};
-ghost use Rattle.cert_reader.specs.Stream.{ends_at, faults_after};
+ghost use Rattle.cert_reader.specs.Stream.{ends_at, faults_after_reading};
 ghost use Rattle.cert_reader.specs.Ends.{OfReading};
 ghost use Rattle.cert_reader.specs.Whole.{IsReadWhole};
 ghost use Rattle.cert_reader.specs.declared.limits.TheConstants.{MOST_BYTES};
@@ -16,17 +16,23 @@ use std::alloc::Global;
 
 /// Reads a certificate text, and gives what it says.
 ///
-/// - `NotText` comes exactly where the input has at most 4,000,000 bytes and is no certificate text, with its first broken line. It was read to its end.
-/// - `TooLong` comes exactly where it has more, whatever its lines. 4,000,001 bytes were read.
-/// - `ReadFault` comes only where the source's count of faults has risen, and at once: the failed read is not tried again.
+/// - `NotText` comes exactly if the input has at most 4,000,000 bytes and is no certificate text, with its first broken line. It was read to its end.
+/// - `TooLong` comes exactly if it has more, whatever its lines. 4,000,001 bytes were read.
+/// - `ReadFault` comes only if the source's count of faults has risen, and at once: the failed read is not tried again.
 /// - `NoMemory` comes only when memory runs out.
 ///
 /// The program judges line by line and keeps no certificate; this is for a caller who wants to look at what one says.
 pub fn read_certificate<S: Source>(alloc: Global, source: &mut S) -> Result<Certificate, ReadEnd>
-    ensures read { (taken : List ℕ) × Consumes (S.left source.old) (S.left source.new) taken × OfReading (IsReadWhole (S.left source.new) taken) (length taken ≤ MOST_BYTES) result }
-    ensures faults { OfReading (λ answer. S.faults source.new ≡ faults_after (S.faults source.old) answer) (S.faults source.new ≡ S.faults source.old) result }
-    ensures empty { OfReading (λ answer. S.empty_reads source.new ≤ ends_at (S.empty_reads source.old) answer) (S.empty_reads source.new ≤ S.empty_reads source.old + 1) result }
-    ensures fault { IsErrOf result ReadEnd.ReadFault → HasRisen (S.faults source.old) (S.faults source.new) }
+    ensures read { (taken : List ℕ) × Consumes (S.left source.old) (S.left source.new) taken
+        × OfReading (IsReadWhole (S.left source.new) taken) (length taken ≤ MOST_BYTES) result }
+    ensures faults { OfReading
+        (λ answer. S.faults source.new ≡ faults_after_reading (S.faults source.old) answer)
+        (S.faults source.new ≡ S.faults source.old) result }
+    ensures empty { OfReading
+        (λ answer. S.empty_reads source.new ≤ ends_at (S.empty_reads source.old) answer)
+        (S.empty_reads source.new ≤ S.empty_reads source.old + 1) result }
+    ensures fault { IsErrOf result ReadEnd.ReadFault
+        → HasRisen (S.faults source.old) (S.faults source.new) }
     ensures count { S.faults source.old ≤ S.faults source.new }
     ensures beside { S.beside source.new ≡ S.beside source.old }
 {

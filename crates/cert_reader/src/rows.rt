@@ -50,7 +50,8 @@ pub fn rows_of<const N: usize, const M: usize>(
     ensures said { map says (map (λ row. row.items) result.items) ≡ map line_said lines.now }
     ensures small { All (λ row. AreSmall row.items) result.items }
     ensures long { length result.items ≡ length lines.now }
-    ensures columns { map (λ row. length row.items) result.items ≡ map (λ line. length line.items) lines.now }
+    ensures columns { map (λ row. length row.items) result.items
+        ≡ map (λ line. length line.items) lines.now }
 {
     let mut rows = ArrayVec::new();
     for line in lines {
@@ -59,7 +60,7 @@ pub fn rows_of<const N: usize, const M: usize>(
     rows
 }
 
-/// A row of fractions.
+// A row of fractions.
 fn fraction_row<const N: usize>(numbers: &[Frac]) -> ArrayVec<Frac, N>
     requires { length numbers.now ≤ N }
     ensures { result.items ≡ numbers.now }
@@ -71,7 +72,14 @@ fn fraction_row<const N: usize>(numbers: &[Frac]) -> ArrayVec<Frac, N>
     row
 }
 
-/// The row of a line of fractions.
+/// The numbers of a line once more.
+pub fn copy_of(line: &LineNumbers) -> LineNumbers
+    ensures { result ≡ line.now }
+{
+    fraction_row(line)
+}
+
+// The row of a line of fractions.
 pub(crate) fn fractions_at<const N: usize>(lines: &[LineNumbers], index: usize) -> ArrayVec<Frac, N>
     requires index { index < length lines.now }
     requires room { length (numbers_at lines.now index) ≤ N }
@@ -80,7 +88,7 @@ pub(crate) fn fractions_at<const N: usize>(lines: &[LineNumbers], index: usize) 
     fraction_row(&lines[index])
 }
 
-/// The first of some whole numbers.
+// The first of some whole numbers.
 fn first_number(numbers: &[Frac]) -> i128
     requires one { length numbers.now ≡ 1 }
     requires whole { All (IsNumber true) (map fraction_of numbers.now) }
@@ -101,7 +109,7 @@ pub fn number_at(lines: &[LineNumbers], index: usize) -> i128
     first_number(&lines[index])
 }
 
-/// The first of some fractions.
+// The first of some fractions.
 fn first_fraction(numbers: &[Frac]) -> Frac
     requires { length numbers.now ≡ 1 }
     ensures { result ∷ [] ≡ numbers.now }
@@ -109,7 +117,7 @@ fn first_fraction(numbers: &[Frac]) -> Frac
     numbers[0]
 }
 
-/// The fraction of a line of one.
+// The fraction of a line of one.
 pub(crate) fn fraction_at(lines: &[LineNumbers], index: usize) -> Frac
     requires index { index < length lines.now }
     requires one { length (numbers_at lines.now index) ≡ 1 }
@@ -118,12 +126,13 @@ pub(crate) fn fraction_at(lines: &[LineNumbers], index: usize) -> Frac
     first_fraction(&lines[index])
 }
 
-/// Appends the numbers of a line after its first.
+// Appends the numbers of a line after its first.
 fn push_row(table: &mut Vec<i128>, numbers: &[Frac]) -> Result<(), NoMemory>
     requires some { 1 ≤ length numbers.now }
     requires room { length numbers.now ≤ MOST_NUMBERS }
     requires whole { All (IsNumber true) (map fraction_of numbers.now) }
-    ensures said { OnOk result (wholes table.new.items ≡ wholes table.old.items ++ map fraction_of (drop 1 numbers.now)) }
+    ensures said { OnOk result
+        (wholes table.new.items ≡ wholes table.old.items ++ map fraction_of (drop 1 numbers.now)) }
     ensures small { OnOk result (AreSmall table.old.items → AreSmall table.new.items) }
 {
     let row: ArrayVec<i128, MOST_NUMBERS> = whole_row(&numbers[1..]);
@@ -133,11 +142,13 @@ fn push_row(table: &mut Vec<i128>, numbers: &[Frac]) -> Result<(), NoMemory>
     }
 }
 
-/// Appends the numbers of these lines, each without its first.
+// Appends the numbers of these lines, each without its first.
 pub(crate) fn push_rows(table: &mut Vec<i128>, lines: &[LineNumbers]) -> Result<(), NoMemory>
     requires some { All (λ line. 1 ≤ length line.items) lines.now }
     requires whole { All (λ line. All (IsNumber true) (map fraction_of line.items)) lines.now }
-    ensures said { OnOk result (wholes table.new.items ≡ wholes table.old.items ++ flat_map (λ line. map fraction_of (drop 1 line.items)) lines.now) }
+    ensures said { OnOk result (wholes table.new.items
+        ≡ wholes table.old.items
+        ++ flat_map (λ line. map fraction_of (drop 1 line.items)) lines.now) }
     ensures small { OnOk result (AreSmall table.old.items → AreSmall table.new.items) }
 {
     for line in lines {

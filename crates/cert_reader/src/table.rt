@@ -19,7 +19,7 @@ impl Model for Table {
 }
 
 impl Table {
-    /// A table of these numbers.
+    // A table of these numbers.
     pub(crate) fn new(numbers: Vec<i128>) -> Self
         ensures { result ≡ numbers.items }
     {

@@ -18,7 +18,7 @@ impl Model for Tree {
 }
 
 impl Tree {
-    /// A tree of these characters.
+    // A tree of these characters.
     pub(crate) fn new(marks: Vec<u8>) -> Self
         ensures { result ≡ marks.items }
     {

@@ -1,6 +1,6 @@
 -- Puts one after another, and a text that was put whole.
-use Rattle.std.proofs.Common.{◌≡◌, ◌<◌, ◌^◌, ◌++◌, ℕ, List, [], length, take, ap, sym, ◌∙◌, refl, append_assoc, append-nil, arith}
-use Rattle.std.proofs.Math.Seq.{take-append_seam, take-length}
+use Rattle.std.proofs.Common.{◌≡◌, ◌<◌, ◌≤◌, ◌^◌, ◌++◌, ℕ, List, [], length, take, ap, sym, ◌∙◌, refl, append_assoc, append-nil, arith}
+use Rattle.std.proofs.Math.Seq.{take-append_seam}
 use Rattle.std.proofs.lemmas.List.{length-append}
 use Rattle.certificates.specs.Puts.{Puts}
 
@@ -25,18 +25,10 @@ puts_two a b used old mid new m end first second =
 pub puts_nothing : (used : ℕ) (old : List ℕ) → Puts [] used old old used
 puts_nothing used old = (refl, λ small. ((omega arith), λ fits. sym (append-nil (take used old))))
 
--- what was counted first, and then put into so much room, is all of it
-put_whole : (text before counted old new : List ℕ) (size end : ℕ) → length text < 2 ^ 64 → Puts text 0 before counted size → length old ≡ size → Puts text 0 old new end → new ≡ text
-put_whole text before counted old new size end small first long second =
-    let is = (first.1 (omega (arith, small))).0 in
-    let same = second.0 in
-    let put = second.1 (omega (arith, small)) in
-    let at = put.0 in
-    let full : length new ≡ end = omega (arith, is, same, at, long) in
-    sym (take-length new) ∙ ap (λ (n : ℕ). take n new) full ∙ put.1 (omega (arith, is, long))
-
--- what was counted first, and then written over so many bytes, is all that is there
-pub written_whole : (text before counted old new rest : List ℕ) (size end count : ℕ) → length text < 2 ^ 64 → Puts text 0 before counted size → length old ≡ size → count ≡ length old
-    → Puts text 0 old new end → take count (new ++ rest) ≡ text
-written_whole text before counted old new rest size end count small first long all second =
-    ap (λ (n : ℕ). take n (new ++ rest)) (all ∙ sym second.0) ∙ take-append_seam new rest ∙ put_whole text before counted old new size end small first long second
+-- what has room in a buffer stands at its front
+pub written_front : (text old new rest : List ℕ) (size count room : ℕ) → length text < 2 ^ 64 → count ≡ length old → count ≡ room → Puts text 0 old new size → size ≤ room
+    → take size (take count (new ++ rest)) ≡ text
+written_front text old new rest size count room small all is put fits =
+    let at = put.1 (omega (arith, small)) in
+    let end = at.0 in
+    ap (λ (xs : List ℕ). take size xs) (ap (λ (n : ℕ). take n (new ++ rest)) (all ∙ sym put.0) ∙ take-append_seam new rest) ∙ at.1 (omega (arith, end, fits, all, is))

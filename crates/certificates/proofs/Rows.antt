@@ -7,7 +7,7 @@ use Rattle.cert_reader.specs.Forms.{Form, numbers_of}
 use Rattle.cert_reader.specs.Text.{Said, said_text, text_of, wholes}
 use Rattle.cert_reader.specs.Views.{says}
 use Rattle.certificates.specs.Lines.{number_line}
-use Rattle.split_frac.specs.Texts.{numbers_text, spaced}
+use Rattle.split_frac.specs.Texts.{numbers_text, with_spaces}
 
 -- natural numbers are whole numbers
 wholes_are : (numbers : List ℕ) → map (λ number. (pos number, 1)) numbers ≡ wholes (map pos numbers)
@@ -16,10 +16,10 @@ wholes_are (number ∷ numbers) = ap (λ rest. (pos number, 1) ∷ rest) (wholes
 
 -- natural numbers are written as numbers over 1
 abbrev pub AreNaturalTexts : Type 0
-AreNaturalTexts = (numbers : List ℕ) → spaced (map decimal numbers) ≡ numbers_text (map (λ number. (pos number, 1)) numbers)
+AreNaturalTexts = (numbers : List ℕ) → with_spaces (map decimal numbers) ≡ numbers_text (map (λ number. (pos number, 1)) numbers)
 
 -- so they are written as whole numbers
-pub whole_texts : AreNaturalTexts → (numbers : List ℕ) → spaced (map decimal numbers) ≡ numbers_text (wholes (map pos numbers))
+pub whole_texts : AreNaturalTexts → (numbers : List ℕ) → with_spaces (map decimal numbers) ≡ numbers_text (wholes (map pos numbers))
 whole_texts naturals numbers = naturals numbers ∙ ap numbers_text (wholes_are numbers)
 
 -- the text of lines, and of lines after them

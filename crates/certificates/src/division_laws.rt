@@ -12,7 +12,8 @@ use shapley_core::division_law as fare_division_law;
 /// A valid case has one division: two are equal in all that contracts see of them. Contracts see the costs of fares by the
 /// case that these costs are of.
 pub fn division_law()
-    ensures { (case : Case) (division other : Division) → IsValidCase case → IsDivisionOf case division → IsDivisionOf case other → division ≡ other }
+    ensures { (case : Case) (division other : Division) → IsValidCase case
+        → IsDivisionOf case division → IsDivisionOf case other → division ≡ other }
 {
     fare_division_law();
     one_rent_division_law();

@@ -18,8 +18,10 @@ use shapley_core::members_law;
 
 /// The lines for the solver's division print the case, of the most members that there may be, and keep all rules.
 pub fn fare_lines_law()
-    ensures case { (case : FareCase) (division : FareDivision) → printed_case (canonical_fares case division) ≡ with_members case MOST_RIDERS }
-    ensures passes { (case : FareCase) (division : FareDivision) → IsValidFareCase case → IsFareDivision case division
+    ensures case { (case : FareCase) (division : FareDivision)
+        → printed_case (canonical_fares case division) ≡ with_members case MOST_RIDERS }
+    ensures passes { (case : FareCase) (division : FareDivision) → IsValidFareCase case
+        → IsFareDivision case division
         → IsVerdictOf (rules_of_fares (canonical_fares case division)) Yes }
 {
     coalition_law();

@@ -21,14 +21,21 @@ use nash_bounds::{bound_law, open_prefixes_law, owners_by_good_law, whole_list_l
 /// the best allocation. It has one mark, and at most as many more for each
 /// player as there are steps and `MOST_SHORTER`. So the text of a certificate with it fits `MOST_BYTES`.
 pub fn goods_lines_law()
-    ensures case { (case : GoodsCase) (division : GoodsDivision) → printed_case (canonical_goods case division) ≡ with_members case MOST_MEMBERS }
-    ensures answer { (case : GoodsCase) (division : GoodsDivision) → IsGoodsDivision case division → GoodsBest case (answer_of case division) }
-    ensures passes { (case : GoodsCase) (division : GoodsDivision) → IsValidGoodsCase case → IsGoodsDivision case division
+    ensures case { (case : GoodsCase) (division : GoodsDivision)
+        → printed_case (canonical_goods case division) ≡ with_members case MOST_MEMBERS }
+    ensures answer { (case : GoodsCase) (division : GoodsDivision) → IsGoodsDivision case division
+        → GoodsBest case (answer_of case division) }
+    ensures passes { (case : GoodsCase) (division : GoodsDivision) → IsValidGoodsCase case
+        → IsGoodsDivision case division
         → IsVerdictOf (rules_of_goods (canonical_goods case division)) Yes }
-    ensures marks { (case : GoodsCase) (division : GoodsDivision) → (1 ≤ length (canonical_tree case division)) × All IsMark (canonical_tree case division) }
-    ensures few { (case : GoodsCase) (division : GoodsDivision) → IsValidGoodsCase case → IsGoodsDivision case division
-        → length (canonical_tree case division) ≤ player_count case * (division.steps + MOST_SHORTER) + 1 }
-    ensures short { (case : GoodsCase) (division : GoodsDivision) → IsValidGoodsCase case → IsGoodsDivision case division
+    ensures marks { (case : GoodsCase) (division : GoodsDivision)
+        → (1 ≤ length (canonical_tree case division)) × All IsMark (canonical_tree case division) }
+    ensures few { (case : GoodsCase) (division : GoodsDivision) → IsValidGoodsCase case
+        → IsGoodsDivision case division
+        → length (canonical_tree case division)
+        ≤ player_count case * (division.steps + MOST_SHORTER) + 1 }
+    ensures short { (case : GoodsCase) (division : GoodsDivision) → IsValidGoodsCase case
+        → IsGoodsDivision case division
         → length (canonical_tree case division) ≤ MOST_MEMBERS * (MOST_STEPS + MOST_SHORTER) + 1 }
     ensures fits { MOST_BESIDE_MARKS + MOST_MEMBERS * (MOST_STEPS + MOST_SHORTER) + 1 ≤ MOST_BYTES }
 {

@@ -17,9 +17,12 @@ use shapley_core::division_law;
 /// The canonical certificate of a case is certificate text whose rules all hold, so that the verdict on it is yes. It has at most
 /// 4,000,000 bytes, and a case has at most one.
 pub fn certificate_law()
-    ensures certificate { (case : Case) (text : List ℕ) → IsValidCase case → IsCanonical case text → IsCertificate text }
-    ensures short { (case : Case) (text : List ℕ) → IsValidCase case → IsCanonical case text → length text ≤ MOST_BYTES }
-    ensures one { (case : Case) (text other : List ℕ) → IsValidCase case → IsCanonical case text → IsCanonical case other → text ≡ other }
+    ensures certificate { (case : Case) (text : List ℕ) → IsValidCase case → IsCanonical case text
+        → IsCertificate text }
+    ensures short { (case : Case) (text : List ℕ) → IsValidCase case → IsCanonical case text
+        → length text ≤ MOST_BYTES }
+    ensures one { (case : Case) (text other : List ℕ) → IsValidCase case → IsCanonical case text
+        → IsCanonical case other → text ≡ other }
 {
     certificate_verdict_law();
     coalition_law();

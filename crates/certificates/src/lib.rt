@@ -6,8 +6,8 @@
 //! exact prices (`rent_pays`).
 //!
 //! Lines are put into a slice, and what has no room is only counted (`put_rent`, `put_goods` and
-//! `put_fares`), so the writer takes no memory and can't fail. `write_certificate` counts a text
-//! first, and then puts it into memory that it takes once.
+//! `put_fares`), so the writer takes no memory and can't fail. `write_certificate` takes as much
+//! memory as a text probably needs, and puts a longer one again, into as much as was counted.
 #![tactic(auto)]
 
 mod division;

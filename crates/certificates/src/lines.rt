@@ -5,7 +5,7 @@ ghost use Rattle.cert_reader.specs.Text.{wholes};
 ghost use Rattle.certificates.specs.Lines.{number_line};
 ghost use Rattle.certificates.specs.Puts.{Puts};
 ghost use Rattle.split_frac.specs.Frac.{frac_text, fraction_of};
-ghost use Rattle.split_frac.specs.Texts.{line, spaced};
+ghost use Rattle.split_frac.specs.Texts.{line, with_spaces};
 
 use crate::room::put;
 use arrayvec::ArrayVec;
@@ -13,7 +13,7 @@ use cert_reader::Word;
 use itoa::{Buffer, Integer};
 use split_frac::{Frac, number_law};
 
-/// Puts a number and a space before it.
+// Puts a number and a space before it.
 fn put_number<I: Integer>(text: &mut [u8], used: usize, number: I) -> usize
     ensures { Puts (32 ∷ I.text number) used text.old text.new result }
 {
@@ -22,9 +22,9 @@ fn put_number<I: Integer>(text: &mut [u8], used: usize, number: I) -> usize
     put(text, end, buffer.format(number).as_bytes())
 }
 
-/// Puts numbers, and a space before each.
+// Puts numbers, and a space before each.
 fn put_spaced<I: Integer>(text: &mut [u8], used: usize, numbers: &[I]) -> usize
-    ensures { Puts (spaced (map I.text numbers.now)) used text.old text.new result }
+    ensures { Puts (with_spaces (map I.text numbers.now)) used text.old text.new result }
 {
     let mut end = used;
     for number in numbers {
@@ -33,7 +33,7 @@ fn put_spaced<I: Integer>(text: &mut [u8], used: usize, numbers: &[I]) -> usize
     end
 }
 
-/// Puts a slash and a denominator.
+// Puts a slash and a denominator.
 fn put_denominator(text: &mut [u8], used: usize, number: u64) -> usize
     ensures { Puts (47 ∷ decimal number) used text.old text.new result }
 {
@@ -42,7 +42,7 @@ fn put_denominator(text: &mut [u8], used: usize, number: u64) -> usize
     put(text, end, buffer.format(number).as_bytes())
 }
 
-/// Puts a fraction and a space before it.
+// Puts a fraction and a space before it.
 #[tactic(auto, unfolding(split_frac::specs::Frac::pair_text))]
 fn put_fraction(text: &mut [u8], used: usize, number: Frac) -> usize
     ensures { Puts (32 ∷ frac_text number) used text.old text.new result }
@@ -54,9 +54,9 @@ fn put_fraction(text: &mut [u8], used: usize, number: Frac) -> usize
     put_denominator(text, end, number.den)
 }
 
-/// Puts fractions, and a space before each.
+// Puts fractions, and a space before each.
 fn put_spaced_fractions(text: &mut [u8], used: usize, numbers: &[Frac]) -> usize
-    ensures { Puts (spaced (map frac_text numbers.now)) used text.old text.new result }
+    ensures { Puts (with_spaces (map frac_text numbers.now)) used text.old text.new result }
 {
     let mut end = used;
     for number in numbers {
@@ -65,16 +65,17 @@ fn put_spaced_fractions(text: &mut [u8], used: usize, numbers: &[Frac]) -> usize
     end
 }
 
-/// Puts a line of a word and numbers.
+// Puts a line of a word and numbers.
 fn put_line<I: Integer>(text: &mut [u8], used: usize, word: &str, numbers: &[I]) -> usize
-    ensures { Puts (line (word.now ++ spaced (map I.text numbers.now))) used text.old text.new result }
+    ensures { Puts (line (word.now ++ with_spaces (map I.text numbers.now))) used text.old text.new
+        result }
 {
     let behind_word = put(text, used, word.as_bytes());
     let behind_numbers = put_spaced(text, behind_word, numbers);
     put(text, behind_numbers, b"\n")
 }
 
-/// Puts a line of small numbers.
+// Puts a line of small numbers.
 pub(crate) fn put_small(text: &mut [u8], used: usize, word: Word, numbers: &[u8]) -> usize
     ensures { Puts (number_line word (wholes (map pos numbers.now))) used text.old text.new result }
 {
@@ -82,7 +83,7 @@ pub(crate) fn put_small(text: &mut [u8], used: usize, word: Word, numbers: &[u8]
     put_line(text, used, word.as_str(), numbers)
 }
 
-/// Puts a line of amounts.
+// Puts a line of amounts.
 pub(crate) fn put_amounts(text: &mut [u8], used: usize, word: Word, numbers: &[u32]) -> usize
     ensures { Puts (number_line word (wholes (map pos numbers.now))) used text.old text.new result }
 {
@@ -90,7 +91,7 @@ pub(crate) fn put_amounts(text: &mut [u8], used: usize, word: Word, numbers: &[u
     put_line(text, used, word.as_str(), numbers)
 }
 
-/// Puts a line of whole numbers.
+// Puts a line of whole numbers.
 pub(crate) fn put_signed(text: &mut [u8], used: usize, word: Word, numbers: &[i128]) -> usize
     ensures { Puts (number_line word (wholes numbers.now)) used text.old text.new result }
 {
@@ -98,7 +99,7 @@ pub(crate) fn put_signed(text: &mut [u8], used: usize, word: Word, numbers: &[i1
     put_line(text, used, word.as_str(), numbers)
 }
 
-/// Puts a line of fractions.
+// Puts a line of fractions.
 pub(crate) fn put_fractions(text: &mut [u8], used: usize, word: Word, numbers: &[Frac]) -> usize
     ensures { Puts (number_line word (map fraction_of numbers.now)) used text.old text.new result }
 {
@@ -108,14 +109,15 @@ pub(crate) fn put_fractions(text: &mut [u8], used: usize, word: Word, numbers: &
     put(text, behind_numbers, b"\n")
 }
 
-/// Puts a line of amounts for each row.
+// Puts a line of amounts for each row.
 pub(crate) fn put_rows<const N: usize>(
     text: &mut [u8],
     used: usize,
     word: Word,
     rows: &[ArrayVec<u32, N>],
 ) -> usize
-    ensures { Puts (flat_map (λ row. number_line word (wholes (map pos row.items))) rows.now) used text.old text.new result }
+    ensures { Puts (flat_map (λ row. number_line word (wholes (map pos row.items))) rows.now) used
+        text.old text.new result }
 {
     let mut end = used;
     for row in rows {

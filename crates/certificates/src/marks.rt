@@ -21,7 +21,7 @@ use nash_bounds::{
 };
 use nash_search::GoodsDivision;
 
-/// Puts the tree below a node that may not be left out.
+// Puts the tree below a node that may not be left out.
 fn put_tree(
     text: &mut [u8],
     used: usize,
@@ -35,8 +35,10 @@ fn put_tree(
     requires node { IsNode case.now node.old }
     requires open { may_be_left case.now answer.now.owners.items node.old.owners.items ≡ false }
     ensures owners { node.new.owners.items ≡ node.old.owners.items }
-    ensures marks { Puts (canonical_marks case.now answer.now.owners.items (case.now.facts.goods - length node.old.owners.items) node.old.owners.items)
-        used text.old text.new result }
+    ensures marks { Puts
+        (canonical_marks case.now answer.now.owners.items
+        (case.now.facts.goods - length node.old.owners.items) node.old.owners.items) used text.old
+        text.new result }
 {
     if node.owners.len() == case.facts.goods as usize {
         return put(text, used, b"=");
@@ -54,7 +56,7 @@ fn put_tree(
     end
 }
 
-/// Puts the marks of the canonical tree of a case, from its division.
+// Puts the marks of the canonical tree of a case, from its division.
 pub(crate) fn put_marks(
     text: &mut [u8],
     used: usize,

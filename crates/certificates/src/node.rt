@@ -27,7 +27,7 @@ pub(crate) struct Node {
     pub(crate) level: u32,
 }
 
-/// The node without owners, at which a tree begins.
+// The node without owners, at which a tree begins.
 pub(crate) fn root_of(case: &GoodsCase) -> Node
     requires case { IsValidGoodsCase case.now }
     requires few { player_count case.now ≤ MEMBER_ROOM }
@@ -43,7 +43,7 @@ pub(crate) fn root_of(case: &GoodsCase) -> Node
 }
 
 impl Node {
-    /// What the node's children are judged by.
+    // What the node's children are judged by.
     pub(crate) fn parent(&self, case: &GoodsCase, table: &LaneTable, answer: &Answer) -> Parent
         requires table { IsLaneTable case.now table.now }
         requires answer { IsAnswer case.now answer.now }
@@ -55,7 +55,7 @@ impl Node {
         parent_of(case, table, owners, &self.lanes, self.level, &answer.goal)
     }
 
-    /// Goes down to the child whose next good goes to the owner.
+    // Goes down to the child whose next good goes to the owner.
     fn descend(&mut self, case: &GoodsCase, table: &LaneTable, parent: &Parent, owner: u8)
         requires table { IsLaneTable case.now table.now }
         requires open { HasFreeGood case.now self.old.owners.items }
@@ -71,14 +71,15 @@ impl Node {
         self.level = parent.contenders.level_of(owner);
     }
 
-    /// Goes up to the parent.
+    // Goes up to the parent.
     pub(crate) fn ascend(&mut self)
-        ensures { (owners : List ℕ) (owner : ℕ) → self.old.owners.items ≡ owners ++ owner ∷ [] → self.new.owners.items ≡ owners }
+        ensures { (owners : List ℕ) (owner : ℕ) → self.old.owners.items ≡ owners ++ owner ∷ []
+            → self.new.owners.items ≡ owners }
     {
         let _ = self.owners.pop();
     }
 
-    /// Whether the tree may leave out the node. The node's level is then nearer to that of its bound.
+    // Whether the tree may leave out the node. The node's level is then nearer to that of its bound.
     fn is_left_out(&mut self, case: &GoodsCase, answer: &Answer) -> bool
         requires valid { IsValidGoodsCase case.now }
         requires few { player_count case.now ≤ MEMBER_ROOM }
@@ -97,8 +98,8 @@ impl Node {
         !reached.reaches
     }
 
-    /// Goes down to the child whose next good goes to the owner, unless the tree may leave it out; whether it did. Most children could not
-    /// reach the answer's pair.
+    // Goes down to the child whose next good goes to the owner, unless the tree may leave it out; whether it did. Most children could not
+    // reach the answer's pair.
     pub(crate) fn open_child(
         &mut self,
         case: &GoodsCase,
@@ -115,10 +116,15 @@ impl Node {
         requires owner_low { 1 ≤ owner }
         requires owner_high { owner ≤ player_count case.now }
         ensures node { result ≡ true → IsNode case.now self.new }
-        ensures owners { result ≡ true → self.new.owners.items ≡ self.old.owners.items ++ owner ∷ [] }
-        ensures open { result ≡ true → may_be_left case.now answer.now.owners.items (self.old.owners.items ++ owner ∷ []) ≡ false }
+        ensures owners { result ≡ true
+            → self.new.owners.items ≡ self.old.owners.items ++ owner ∷ [] }
+        ensures open { result ≡ true
+            → may_be_left case.now answer.now.owners.items (self.old.owners.items ++ owner ∷ [])
+            ≡ false }
         ensures same { result ≡ false → self.new.owners.items ≡ self.old.owners.items }
-        ensures left { result ≡ false → may_be_left case.now answer.now.owners.items (self.old.owners.items ++ owner ∷ []) ≡ true }
+        ensures left { result ≡ false
+            → may_be_left case.now answer.now.owners.items (self.old.owners.items ++ owner ∷ [])
+            ≡ true }
     {
         open_prefixes_law();
         if !parent.contenders.has(owner) {

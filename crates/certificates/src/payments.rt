@@ -15,12 +15,13 @@ use envy_check::cent_plan;
 use rent_maximin::{RentDivision, division_range_law};
 use split_frac::Frac;
 
-/// The price of each member's room, in the order of the members.
+// The price of each member's room, in the order of the members.
 fn prices_of_members(rooms: &[u8], prices: &[Frac]) -> ArrayVec<Frac, MEMBER_ROOM>
     requires few { length rooms.now ≤ MEMBER_ROOM }
     requires rooms { All (λ room. (1 ≤ room) × (room ≤ length prices.now)) rooms.now }
     requires amounts { All IsAmount prices.now }
-    ensures prices { map fraction_of result.items ≡ prices_by_member rooms.now (map fraction_of prices.now) }
+    ensures prices { map fraction_of result.items
+        ≡ prices_by_member rooms.now (map fraction_of prices.now) }
     ensures amounts { All IsAmount result.items }
 {
     let mut amounts = ArrayVec::new();
@@ -34,7 +35,10 @@ fn prices_of_members(rooms: &[u8], prices: &[Frac]) -> ArrayVec<Frac, MEMBER_ROO
 pub fn rent_pays(case: &RentCase, division: &RentDivision) -> ArrayVec<i64, MEMBER_ROOM>
     requires case { IsValidRentCase case.now }
     requires division { IsRentDivision case.now division.now }
-    ensures { result.items ≡ cent_plan (prices_by_member division.now.best.rooms.items (map fraction_of division.now.prices.items)) (pos case.now.facts.rent) }
+    ensures { result.items
+        ≡ cent_plan
+        (prices_by_member division.now.best.rooms.items (map fraction_of division.now.prices.items))
+        (pos case.now.facts.rent) }
 {
     best_rent_law();
     division_range_law();

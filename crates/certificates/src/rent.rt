@@ -17,10 +17,13 @@ use bid_rules::RentCase;
 use cert_reader::Word;
 use rent_maximin::RentDivision;
 
-/// Puts the lines before the values.
+// Puts the lines before the values.
 fn put_head(text: &mut [u8], used: usize, members: u8, rent: u32) -> usize
-    ensures { Puts (number_line word.Fairsplit (wholes (pos 1 ∷ [])) ++ (number_line word.KindRent []
-        ++ (number_line word.Members (wholes (pos members ∷ [])) ++ number_line word.Rent (wholes (pos rent ∷ []))))) used text.old text.new result }
+    ensures { Puts
+        (number_line word.Fairsplit (wholes (pos 1 ∷ []))
+        ++ (number_line word.KindRent []
+        ++ (number_line word.Members (wholes (pos members ∷ []))
+        ++ number_line word.Rent (wholes (pos rent ∷ []))))) used text.old text.new result }
 {
     let used = put_small(text, used, Word::Fairsplit, &[1]);
     let used = put_small(text, used, Word::KindRent, &[]);
@@ -28,20 +31,25 @@ fn put_head(text: &mut [u8], used: usize, members: u8, rent: u32) -> usize
     put_amounts(text, used, Word::Rent, &[rent])
 }
 
-/// Puts the lines of the rooms and of what shows them best.
+// Puts the lines of the rooms and of what shows them best.
 fn put_rooms(text: &mut [u8], used: usize, division: &RentDivision) -> usize
-    ensures { Puts (number_line word.Rooms (wholes (map pos division.now.best.rooms.items)) ++ (number_line word.Left (wholes division.now.best.left.items)
-        ++ number_line word.Right (wholes division.now.best.right.items))) used text.old text.new result }
+    ensures { Puts
+        (number_line word.Rooms (wholes (map pos division.now.best.rooms.items))
+        ++ (number_line word.Left (wholes division.now.best.left.items)
+        ++ number_line word.Right (wholes division.now.best.right.items))) used text.old text.new
+        result }
 {
     let used = put_small(text, used, Word::Rooms, division.best.rooms.as_slice());
     let used = put_signed(text, used, Word::Left, division.best.left.as_slice());
     put_signed(text, used, Word::Right, division.best.right.as_slice())
 }
 
-/// Puts the lines of the prices and of what shows them best, and the last line.
+// Puts the lines of the prices and of what shows them best, and the last line.
 fn put_prices(text: &mut [u8], used: usize, division: &RentDivision) -> usize
-    ensures { Puts (number_line word.Walks (wholes division.now.walks.weights.items)
-        ++ (number_line word.Ranks (wholes (map pos division.now.walks.ranks.items)) ++ (number_line word.Prices (map fraction_of division.now.prices.items)
+    ensures { Puts
+        (number_line word.Walks (wholes division.now.walks.weights.items)
+        ++ (number_line word.Ranks (wholes (map pos division.now.walks.ranks.items))
+        ++ (number_line word.Prices (map fraction_of division.now.prices.items)
         ++ number_line word.End []))) used text.old text.new result }
 {
     let used = put_signed(text, used, Word::Walks, division.walks.weights.as_slice());
@@ -54,7 +62,8 @@ fn put_prices(text: &mut [u8], used: usize, division: &RentDivision) -> usize
 pub fn put_rent(text: &mut [u8], case: &RentCase, division: &RentDivision) -> usize
     requires case { IsValidRentCase case.now }
     requires division { IsRentDivision case.now division.now }
-    ensures { Puts (text_saying (OfRent (canonical_rent case.now division.now))) 0 text.old text.new result }
+    ensures { Puts (text_saying (OfRent (canonical_rent case.now division.now))) 0 text.old text.new
+        result }
 {
     assignment_law();
     let used = put_head(text, 0, case.facts.members, case.facts.rent);

@@ -14,8 +14,10 @@ use best_laws::walk_law;
 
 /// The lines for the solver's division print the case itself, and keep all rules.
 pub fn rent_lines_law()
-    ensures case { (case : RentCase) (division : RentDivision) → IsRentDivision case division → printed_case (canonical_rent case division) ≡ case }
-    ensures passes { (case : RentCase) (division : RentDivision) → IsValidRentCase case → IsRentDivision case division
+    ensures case { (case : RentCase) (division : RentDivision) → IsRentDivision case division
+        → printed_case (canonical_rent case division) ≡ case }
+    ensures passes { (case : RentCase) (division : RentDivision) → IsValidRentCase case
+        → IsRentDivision case division
         → IsVerdictOf (rules_of_rent (canonical_rent case division)) Yes }
 {
     walk_law();

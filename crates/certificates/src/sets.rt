@@ -17,7 +17,7 @@ use set_costs::SetCosts;
 /// Room for the number of a set and an entry a start.
 const SET_LINE_ROOM: usize = START_ROOM + 1;
 
-/// The numbers of the line of a set: its own number, and what its route costs from each of its starts.
+// The numbers of the line of a set: its own number, and what its route costs from each of its starts.
 fn set_numbers(costs: &SetCosts<'_>, count: u8, set: u16) -> ArrayVec<u32, SET_LINE_ROOM>
     requires count { count ≡ length costs.now.at.items }
     requires few { count ≤ MOST_RIDERS }
@@ -34,22 +34,25 @@ fn set_numbers(costs: &SetCosts<'_>, count: u8, set: u16) -> ArrayVec<u32, SET_L
     numbers
 }
 
-/// Puts the line of a set.
+// Puts the line of a set.
 fn put_set(text: &mut [u8], used: usize, costs: &SetCosts<'_>, count: u8, set: u16) -> usize
     requires count { count ≡ length costs.now.at.items }
     requires few { count ≤ MOST_RIDERS }
     requires set { set < 2 ^ count }
-    ensures { Puts (number_line word.Set (wholes (pos set ∷ cost_line costs.now set))) used text.old text.new result }
+    ensures { Puts (number_line word.Set (wholes (pos set ∷ cost_line costs.now set))) used text.old
+        text.new result }
 {
     let numbers = set_numbers(costs, count, set);
     put_amounts(text, used, Word::Set, numbers.as_slice())
 }
 
-/// Puts a line for each set of riders, by the numbers of the sets.
+// Puts a line for each set of riders, by the numbers of the sets.
 pub(crate) fn put_sets(text: &mut [u8], used: usize, costs: &SetCosts<'_>, count: u8) -> usize
     requires count { count ≡ length costs.now.at.items }
     requires few { count ≤ MOST_RIDERS }
-    ensures { Puts (flat_map (λ set. number_line word.Set (wholes (pos set ∷ cost_line costs.now set))) (sets_of count)) used text.old text.new result }
+    ensures { Puts
+        (flat_map (λ set. number_line word.Set (wholes (pos set ∷ cost_line costs.now set)))
+        (sets_of count)) used text.old text.new result }
 {
     let last: u16 = 1 << count;
     let mut end = used;

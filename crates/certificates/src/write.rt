@@ -1,5 +1,5 @@
 // The canonical certificate of a case of any kind.
-ghost use Rattle.std.specs.Prelude.{◌≡◌, ◌≤◌, length, IfOk};
+ghost use Rattle.std.specs.Prelude.{◌≡◌, ◌≤◌, length, take, IfOk};
 ghost use Rattle.bid_rules.specs.Facts.{IsValidCase};
 ghost use Rattle.cert_checker.specs.Judged.{IsCertificate};
 ghost use Rattle.cert_reader.specs.declared.limits.TheConstants.{MOST_BYTES};
@@ -13,10 +13,14 @@ use crate::goods::put_goods;
 use crate::laws::certificate_law;
 use crate::rent::put_rent;
 use bid_rules::Case;
+use bid_rules::limits::MOST_RIDERS;
+use cert_reader::limits::MOST_BYTES;
+use nash_bounds::limits::MOST_SHORTER;
+use nash_bounds::players;
 use split_base::NoMemory;
 use std::alloc::Global;
 
-/// Puts the canonical certificate of a case at the front of the text, and answers its size. If it has no room it is only counted.
+// Puts the canonical certificate of a case at the front of the text, and answers its size. If it has no room it is only counted.
 fn put_certificate(text: &mut [u8], case: &Case, division: &Division) -> usize
     requires case { IsValidCase case.now }
     requires division { IsDivisionOf case.now division.now }
@@ -30,8 +34,49 @@ fn put_certificate(text: &mut [u8], case: &Case, division: &Division) -> usize
     }
 }
 
+// How many bytes the line of a set of riders takes in most certificates of fares.
+const LIKELY_SET_LINE: usize = 96;
+
+// How many bytes the lines take beside the marks of a tree: enough for the largest rents and goods.
+const LIKELY_BESIDE_MARKS: usize = 8_192;
+
+// How many bytes a certificate probably takes. Nothing rests on this guess: a longer text is written once more.
+fn likely_size(case: &Case, division: &Division) -> usize {
+    let more = match (case, division) {
+        (Case::Goods(case), Division::Goods(division)) => {
+            usize::from(players(case)) * (division.steps as usize + MOST_SHORTER as usize)
+        }
+        (Case::Fares(case), _) => LIKELY_SET_LINE << case.who.len().min(usize::from(MOST_RIDERS)),
+        _ => 0,
+    };
+    more.saturating_add(LIKELY_BESIDE_MARKS).min(MOST_BYTES)
+}
+
+// The certificate at the front of so much memory, and its size.
+fn write_into(
+    alloc: Global,
+    case: &Case,
+    division: &Division,
+    room: usize,
+) -> Result<(Vec<u8>, usize), NoMemory>
+    requires case { IsValidCase case.now }
+    requires division { IsDivisionOf case.now division.now }
+    ensures room { IfOk result (λ made. length made.0.items ≡ room) }
+    ensures size { IfOk result (λ made. made.1 ≡ length (canonical_text case.now division.now)) }
+    ensures text { IfOk result (λ made.
+        made.1 ≤ room → take made.1 made.0.items ≡ canonical_text case.now division.now) }
+{
+    certificate_law();
+    let Ok(mut text) = vec![in alloc; 0; room] else {
+        return Err(NoMemory);
+    };
+    let size = put_certificate(text.as_mut_slice(), case, division);
+    Ok((text, size))
+}
+
 /// The canonical certificate of a case: the case, its division, and the numbers that show the division best (certifying algorithms:
-/// McConnell, Mehlhorn, Näher and Schweitzer 2011). It is counted first, and then written into memory that is taken once.
+/// McConnell, Mehlhorn, Näher and Schweitzer 2011). It is written once into memory that is probably enough. Only a text that didn't fit is
+/// written again, into as much as it takes.
 ///
 /// The division is the solver's for that case. `NoMemory` comes only when memory runs out.
 pub fn write_certificate(
@@ -46,11 +91,11 @@ pub fn write_certificate(
     ensures short { IfOk result (λ text. length text.items ≤ MOST_BYTES) }
 {
     certificate_law();
-    let mut nothing = [];
-    let size = put_certificate(&mut nothing, case, division);
-    let Ok(mut text) = vec![in alloc; 0; size] else {
-        return Err(NoMemory);
-    };
-    put_certificate(text.as_mut_slice(), case, division);
+    let (mut text, size) = write_into(alloc, case, division, likely_size(case, division))?;
+    if text.len() < size {
+        let (text, _) = write_into(alloc, case, division, size)?;
+        return Ok(text);
+    }
+    text.truncate(size);
     Ok(text)
 }

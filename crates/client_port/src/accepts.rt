@@ -68,7 +68,7 @@ pub(crate) enum Refusal {
     Port,
 }
 
-/// What an error of `accept` tells.
+// What an error of `accept` tells.
 pub(crate) fn refusal_of(error: &Error) -> Refusal {
     match error.raw_os_error() {
         Some(EAGAIN) => Refusal::Nobody,
@@ -86,7 +86,7 @@ pub(crate) struct Backoff {
 }
 
 impl Backoff {
-    /// No call has failed.
+    // No call has failed.
     pub(crate) fn new() -> Backoff {
         Backoff {
             pause: Duration::ZERO,
@@ -95,12 +95,12 @@ impl Backoff {
         }
     }
 
-    /// A call has succeeded.
+    // A call has succeeded.
     pub(crate) fn end(&mut self) {
         *self = Backoff::new();
     }
 
-    /// A call has failed.
+    // A call has failed.
     pub(crate) fn begin(&mut self, now: Duration) {
         let least = Duration::from_millis(LEAST_PAUSE_MILLIS);
         let most = Duration::from_millis(MOST_PAUSE_MILLIS);
@@ -108,22 +108,22 @@ impl Backoff {
         self.until = now.saturating_add(self.pause);
     }
 
-    /// Whether no call has failed since the last success.
+    // Whether no call has failed since the last success.
     pub(crate) fn is_over(&self) -> bool {
         self.pause == Duration::ZERO
     }
 
-    /// Counts the last pause, which brought no success.
+    // Counts the last pause, which brought no success.
     pub(crate) fn count(&mut self) {
         self.waited = self.waited.saturating_add(self.pause);
     }
 
-    /// Whether the pauses that were counted since the last success have lasted so long that the port is given up.
+    // Whether the pauses that were counted since the last success have lasted so long that the port is given up.
     pub(crate) fn gives_up(&self) -> bool {
         self.waited >= Duration::from_secs(GIVING_UP_SECONDS)
     }
 
-    /// How long the pause still lasts.
+    // How long the pause still lasts.
     pub(crate) fn left(&self, now: Duration) -> Duration {
         self.until.saturating_sub(now)
     }

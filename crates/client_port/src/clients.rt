@@ -78,7 +78,7 @@ pub(crate) struct Client {
 }
 
 impl Client {
-    /// A client that has just come. What it has sent wasn't looked at yet.
+    // A client that has just come. What it has sent wasn't looked at yet.
     pub(crate) fn new(stream: TcpStream, alloc: Global, now: Duration) -> Client {
         Client {
             stream,
@@ -100,16 +100,17 @@ impl Client {
         }
     }
 
+    // Where the client is between its first byte and the end of its connection.
     pub(crate) fn stage(&self) -> Stage {
         self.stage
     }
 
-    /// Since when it is in its stage.
+    // Since when it is in its stage.
     pub(crate) fn since(&self) -> Duration {
         self.since
     }
 
-    /// How long until it may be dropped for another client. `None` where it has a whole request.
+    // How long until it may be dropped for another client. `None` if it has a whole request.
     pub(crate) fn droppable_in(&self, now: Duration, grace: Duration) -> Option<Duration> {
         match self.stage {
             Stage::Filling | Stage::Closing => Some(grace.saturating_sub(now.saturating_sub(
@@ -119,38 +120,38 @@ impl Client {
         }
     }
 
-    /// Whether it wasn't handed out yet.
+    // Whether it wasn't handed out yet.
     pub(crate) fn is_fresh(&self) -> bool {
         self.is_fresh
     }
 
-    /// Whether no more comes from it.
+    // Whether no more comes from it.
     pub(crate) fn has_ended(&self) -> bool {
         self.has_ended
     }
 
-    /// Whether its connection has failed.
+    // Whether its connection has failed.
     pub(crate) fn has_failed(&self) -> bool {
         self.has_failed
     }
 
-    /// How many bytes are kept for it.
+    // How many bytes are kept for it.
     pub(crate) fn kept(&self) -> usize {
         self.output.len()
     }
 
-    /// Since when.
+    // Since when.
     pub(crate) fn kept_since(&self) -> Duration {
         self.kept_since
     }
 
-    /// Goes on to a stage.
+    // Goes on to a stage.
     pub(crate) fn enter(&mut self, stage: Stage, now: Duration) {
         self.stage = stage;
         self.since = now;
     }
 
-    /// Heeds what the system tells of the connection.
+    // Heeds what the system tells of the connection.
     pub(crate) fn heed(&mut self, is_readable: bool, is_ending: bool, scratch: &mut [u8]) {
         if is_readable || is_ending {
             self.is_readable = true;
@@ -192,13 +193,14 @@ impl Client {
         }
     }
 
+    // A client that has failed is dropped at the next look and isn't read again.
     fn fail(&mut self) {
         self.is_readable = false;
         self.has_failed = true;
     }
 
-    /// Whether it may have a turn: its request is whole, or is one that the host refuses, or it sends no more; and it has taken all
-    /// that was sent to it. One that asks for an interim reply gets it here, as soon as its head is there.
+    // Whether it may have a turn: its request is whole, or is one that the host refuses, or it sends no more; and it has taken all
+    // that was sent to it. One that asks for an interim reply gets it here, as soon as its head is there.
     pub(crate) fn is_ready(&mut self) -> bool {
         if self.end == End::Open && self.input.len() > self.looked {
             self.look();
@@ -221,6 +223,7 @@ impl Client {
         }
     }
 
+    // The host hears the request only when all of it is there, so the port has to ask for the body.
     fn send_interim(&mut self) {
         self.has_interim = true;
         let taken = match self.write(INTERIM) {
@@ -250,7 +253,7 @@ impl Client {
         self.has_ended && (self.is_fresh || !self.input.is_empty())
     }
 
-    /// Begins its turn.
+    // Begins its turn.
     pub(crate) fn serve(&mut self, now: Duration) {
         self.enter(Stage::Served, now);
         self.is_fresh = false;
@@ -264,7 +267,7 @@ impl Client {
         }
     }
 
-    /// Gives bytes of the current request, as many as are there and fit.
+    // Gives bytes of the current request, as many as are there and fit.
     pub(crate) fn give(&mut self, into: &mut [u8]) -> usize
         ensures { result ≤ length into.new }
     {
@@ -281,12 +284,12 @@ impl Client {
         count
     }
 
-    /// Whether bytes of the current request are left.
+    // Whether bytes of the current request are left.
     pub(crate) fn has_more(&self) -> bool {
         self.given < self.stop()
     }
 
-    /// Whether the whole current request was given, so that another may follow.
+    // Whether the whole current request was given, so that another may follow.
     pub(crate) fn is_given(&self) -> bool {
         match self.end {
             End::Behind(end) => self.given >= end,
@@ -294,7 +297,7 @@ impl Client {
         }
     }
 
-    /// Goes on to the next request.
+    // Goes on to the next request.
     pub(crate) fn go_on(&mut self, scratch: &mut [u8]) {
         drop_front(&mut self.input, self.given);
         if self.input.is_empty() && self.input.capacity() > KEPT_ROOM {
@@ -307,7 +310,7 @@ impl Client {
         self.fill(scratch);
     }
 
-    /// Whether this is the interim reply of the host, which the client has already.
+    // Whether this is the interim reply of the host, which the client has already.
     pub(crate) fn has_this(&mut self, piece: &[u8]) -> bool {
         if self.has_interim && piece == INTERIM {
             self.has_interim = false;
@@ -316,7 +319,7 @@ impl Client {
         false
     }
 
-    /// Writes the front of a piece, where nothing is kept.
+    // Writes the front of a piece, if nothing is kept.
     pub(crate) fn write(&mut self, piece: &[u8]) -> Written
         ensures { IsWritten piece.now result }
     {
@@ -343,7 +346,7 @@ impl Client {
         Written::Failed
     }
 
-    /// Keeps a piece to be sent.
+    // Keeps a piece to be sent.
     pub(crate) fn keep(&mut self, piece: &[u8], now: Duration) -> Option<usize>
         ensures { IfSome result (λ n. n ≡ length piece.now) }
     {
@@ -389,10 +392,10 @@ impl Client {
         false
     }
 
-    /// Tells the client that no more comes after what is kept, and drops what it still sends.
-    ///
-    /// A connection that is closed while bytes of the client are unread may be reset, and the client may lose the last reply (RFC
-    /// 9112, section 9.6).
+    // Tells the client that no more comes after what is kept, and drops what it still sends.
+    //
+    // A connection that is closed while bytes of the client are unread may be reset, and the client may lose the last reply (RFC
+    // 9112, section 9.6).
     pub(crate) fn close(&mut self, now: Duration) {
         self.enter(Stage::Closing, now);
         self.input = Vec::new(*self.input.allocator());
@@ -401,6 +404,7 @@ impl Client {
         }
     }
 
+    // The client learns that nothing more comes, while its own last bytes can still be read.
     fn shut(&mut self) {
         if self.stream.shutdown(Shutdown::Write).is_err() {
             self.has_failed = true;

@@ -43,7 +43,7 @@ pub(crate) struct Crowd {
 }
 
 impl Crowd {
-    /// Nobody yet. There is one place more than clients are kept, for one that comes while none can be dropped.
+    // Nobody yet. There is one place more than clients are kept, for one that comes while none can be dropped.
     pub(crate) fn new(alloc: Global, limits: PortLimits, now: Duration) -> Option<Crowd> {
         let most = limits.clients.saturating_add(1);
         Some(Crowd {
@@ -61,30 +61,32 @@ impl Crowd {
         })
     }
 
+    // One moment for all that happens in a turn of the loop.
     pub(crate) fn now(&self) -> Duration {
         self.now
     }
 
-    /// Goes on to this moment.
+    // Goes on to this moment.
     pub(crate) fn pass_to(&mut self, now: Duration) {
         self.now = now;
     }
 
-    /// Whether the listener has failed.
+    // Whether the listener has failed.
     pub(crate) fn is_broken(&self) -> bool {
         self.is_broken
     }
 
+    // After a fault of the wait or of the clock, no turn is handed out any more.
     pub(crate) fn break_off(&mut self) {
         self.is_broken = true;
     }
 
-    /// Connections wait to be accepted.
+    // Connections wait to be accepted.
     pub(crate) fn knock(&mut self) {
         self.is_knocked = true;
     }
 
-    /// How long until connections that wait can be accepted. `None` where none wait, or there is no place for them.
+    // How long until connections that wait can be accepted. `None` if none wait, or there is no place for them.
     pub(crate) fn admits_in(&self) -> Option<Duration> {
         if !self.is_knocked {
             return None;
@@ -118,22 +120,23 @@ impl Crowd {
         least
     }
 
-    /// Whether `accept` has failed since it last succeeded.
+    // Whether `accept` has failed since it last succeeded.
     pub(crate) fn is_refused(&self) -> bool {
         !self.backoff.is_over()
     }
 
-    /// Whether a turn can be handed out.
+    // Whether a turn can be handed out.
     pub(crate) fn has_next(&self) -> bool {
         self.gone > 0 || !self.line.is_empty()
     }
 
+    // A client may have been dropped since its place was noted, so there may be none.
     pub(crate) fn client(&mut self, at: usize) -> Option<&mut Client> {
         self.clients.get_mut(at)
     }
 
-    /// Accepts those that have come, as long as there is a place, or a client can be dropped for another. After a failure of the port a client is
-    /// dropped, since descriptors may be lacking. Where that doesn't help, those that wait are served first.
+    // Accepts those that have come, as long as there is a place, or a client can be dropped for another. After a failure of the port a client is
+    // dropped, since descriptors may be lacking. If that doesn't help, those that wait are served first.
     pub(crate) fn admit_all(&mut self, listener: &TcpListener, registry: &Registry) {
         let mut has_failed = false;
         let mut has_dropped = false;
@@ -181,7 +184,7 @@ impl Crowd {
         }
     }
 
-    // Leaves the listener alone for a while after a failure of the port. Where clients wait for a turn the port is full, and not broken.
+    // Leaves the listener alone for a while after a failure of the port. If clients wait for a turn the port is full, and not broken.
     fn lacks(&mut self) {
         if !self.has_next() {
             self.backoff.count();
@@ -190,7 +193,7 @@ impl Crowd {
         self.is_broken = self.is_broken || self.backoff.gives_up();
     }
 
-    // Takes a client in. Where there is one too many the one that has waited longest goes.
+    // Takes a client in. If there is one too many the one that has waited longest goes.
     fn admit(&mut self, mut stream: TcpStream, registry: &Registry) {
         if self.clients.len() >= self.limits.clients {
             let _ = self.drop_longest();
@@ -207,7 +210,7 @@ impl Crowd {
         self.heed(at, true, false);
     }
 
-    /// Heeds what the system tells of a client.
+    // Heeds what the system tells of a client.
     pub(crate) fn heed(&mut self, at: usize, is_readable: bool, is_ending: bool) {
         if let Some(client) = self.clients.get_mut(at) {
             client.heed(is_readable, is_ending, self.scratch.as_mut_slice());
@@ -215,7 +218,7 @@ impl Crowd {
         }
     }
 
-    /// Lets a client go on to its next request, and tells whether that is ready.
+    // Lets a client go on to its next request, and tells whether that is ready.
     pub(crate) fn goes_on(&mut self, at: usize) -> bool {
         if let Some(client) = self.clients.get_mut(at) {
             client.go_on(self.scratch.as_mut_slice());
@@ -252,7 +255,7 @@ impl Crowd {
         }
     }
 
-    /// The next turn. The client whose request was whole first comes first.
+    // The next turn. The client whose request was whole first comes first.
     pub(crate) fn next(&mut self) -> Option<Next> {
         if self.gone > 0 {
             self.gone -= 1;
@@ -270,7 +273,7 @@ impl Crowd {
         None
     }
 
-    /// Drops a client at once. One that had no turn yet is owed one.
+    // Drops a client at once. One that had no turn yet is owed one.
     pub(crate) fn drop_client(&mut self, at: usize) {
         if let Some(client) = self.clients.try_remove(at)
             && client.is_fresh()
@@ -301,7 +304,7 @@ impl Crowd {
         }
     }
 
-    /// Takes a client back whose turn is over and that may make a further request.
+    // Takes a client back whose turn is over and that may make a further request.
     pub(crate) fn keep(&mut self, at: usize) {
         let now = self.now;
         if let Some(client) = self.client(at) {
@@ -310,7 +313,7 @@ impl Crowd {
         self.settle(at);
     }
 
-    /// Closes a client, whose last reply is sent or kept.
+    // Closes a client, whose last reply is sent or kept.
     pub(crate) fn close(&mut self, at: usize) {
         let now = self.now;
         if let Some(client) = self.client(at) {
@@ -319,7 +322,7 @@ impl Crowd {
         self.heed(at, false, false);
     }
 
-    /// Writes the front of a piece to a client. What the system doesn't take is kept.
+    // Writes the front of a piece to a client. What the system doesn't take is kept.
     pub(crate) fn write(&mut self, at: usize, piece: &[u8]) -> Option<usize>
         ensures { IfSome result (λ n. (n ≤ length piece.now) × (0 < length piece.now → 0 < n)) }
     {
@@ -334,7 +337,7 @@ impl Crowd {
         }
     }
 
-    // Keeps a whole piece for a client. Where too much is kept of all, those for whom it was kept longest are dropped.
+    // Keeps a whole piece for a client. If too much is kept of all, those for whom it was kept longest are dropped.
     fn keep_piece(&mut self, at: usize, piece: &[u8]) -> Option<usize>
         ensures { IfSome result (λ n. n ≡ length piece.now) }
     {
@@ -355,6 +358,7 @@ impl Crowd {
         self.client(at)?.keep(piece, now)
     }
 
+    // All clients share one limit on the bytes that wait to be sent.
     fn kept_of_all(&self) -> usize {
         let mut kept = 0usize;
         for (_, client) in self.clients.iter() {
@@ -379,12 +383,12 @@ impl Crowd {
         longest
     }
 
-    /// Whether something is still to be sent, or a client that is closed hasn't closed its end.
+    // Whether something is still to be sent, or a client that is closed hasn't closed its end.
     pub(crate) fn is_busy(&self) -> bool {
         self.clients.iter().any(|(_, client)| client.kept() > 0 || client.stage() == Stage::Closing)
     }
 
-    /// Drops the clients whose time is over. It looks for them once in a while.
+    // Drops the clients whose time is over. It looks for them once in a while.
     pub(crate) fn sweep(&mut self) {
         if self.now.saturating_sub(self.swept) < self.limits.closing {
             return;

@@ -36,9 +36,9 @@
 //!
 //! **Who is dropped.** One client more than the limit drops the one that has been longest without a whole request; so does a lack of
 //! descriptors. Waiting and served clients are
-//! never dropped for another, nor is one whose first 10 ms are not over, since its request may be on its way: where only such are there, newcomers
+//! never dropped for another, nor is one whose first 10 ms are not over, since its request may be on its way: if only such are there, newcomers
 //! stay in the system's queue. One that stays
-//! ten minutes without a whole request, or does not take what is kept for it, is dropped too; and where too much is kept for all, those for
+//! ten minutes without a whole request, or does not take what is kept for it, is dropped too; and if too much is kept for all, those for
 //! whom some was kept longest. Each connection that was accepted is handed out at least once, also one that was dropped before, so that the
 //! host counts it.
 //!
@@ -47,7 +47,7 @@
 //! empty purse the link ends, and the client goes to the end of the line when its next request is whole.
 //!
 //! **What fails.** A connection that fails is dropped. A listener that cannot accept is left alone for a while, longer at each failure in a row, and
-//! the port has failed where that has not helped for ten seconds.
+//! the port has failed if that has not helped for ten seconds.
 //!
 //! Each call of the port or of a link that fails counts as one fault, and no other does. They tell nothing of what was sent. Which client comes
 //! next, who is dropped and after how long are limits of this crate, of which no clause speaks; `.ci/clients` tries them.

@@ -34,7 +34,7 @@ pub const MOST_KEPT_OF_ALL: usize = 16_000_000;
 pub struct PortLimits {
     /// The most clients at once. One more drops the one that has been longest without a whole request.
     pub clients: usize,
-    /// How long a client without a whole request is not dropped for another.
+    /// How long a client without a whole request is safe from being dropped for another.
     pub grace: Duration,
     /// How long a client may stay without a whole request.
     pub idle: Duration,
@@ -42,7 +42,7 @@ pub struct PortLimits {
     pub closing: Duration,
     /// For how long clients may hold others between two of their requests, in all. A hundredth of the time that passes comes back.
     pub purse: Duration,
-    /// The most bytes that are kept to be sent to one client. Where a reply has more its connection fails.
+    /// The most bytes that are kept to be sent to one client. If a reply has more its connection fails.
     pub kept_of_one: usize,
     /// The most bytes that are kept to be sent to all. Beyond them the client is dropped for which some are kept longest.
     pub kept_of_all: usize,

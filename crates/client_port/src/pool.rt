@@ -16,7 +16,7 @@ use std::time::{Clock, Duration};
 /// How many events one wait takes.
 const MOST_EVENTS: usize = 256;
 
-/// How many looks the end takes at most, where the clock has stopped.
+/// How many looks the end takes at most, if the clock has stopped.
 const MOST_LOOKS: usize = 100_000;
 
 /// For how long a look at all clients is good, in microseconds.
@@ -37,7 +37,7 @@ pub(crate) struct Pool {
 }
 
 impl Pool {
-    /// Listens at a port of this machine. No client is there yet.
+    // Listens at a port of this machine. No client is there yet.
     pub(crate) fn open<R: Net + Clock>(
         alloc: Global,
         system: &R,
@@ -66,7 +66,7 @@ impl Pool {
         })
     }
 
-    /// Waits until the system tells of a client, or until the time is over, and heeds what it tells.
+    // Waits until the system tells of a client, or until the time is over, and heeds what it tells.
     pub(crate) fn turn<C: Clock>(&mut self, clock: &C, most: Duration) {
         let begun = self.crowd.now();
         let wait = self.crowd.admits_in().unwrap_or(most).min(most);
@@ -92,7 +92,7 @@ impl Pool {
         self.crowd.sweep();
     }
 
-    // Pauses where a wait ended early and told nothing, as when signals interrupt each of them.
+    // Pauses if a wait ended early and told nothing, as when signals interrupt each of them.
     fn rest<C: Clock>(&mut self, clock: &C, begun: Duration, wait: Duration) {
         let now = self.crowd.now();
         if self.events.is_empty() && now.saturating_sub(begun) < wait {
@@ -103,7 +103,7 @@ impl Pool {
         }
     }
 
-    // Reads the clock. Where it fails no client may hold others, and no pause ends.
+    // Reads the clock. If it fails no client may hold others, and no pause ends.
     fn read_clock<C: Clock>(&mut self, clock: &C) {
         match clock.monotonic() {
             Ok(now) => {
@@ -119,7 +119,7 @@ impl Pool {
         }
     }
 
-    /// Looks at all clients, where the last look is no longer good.
+    // Looks at all clients, if the last look is no longer good.
     fn look<C: Clock>(&mut self, clock: &C) {
         self.read_clock(clock);
         if self.crowd.now().saturating_sub(self.looked) >= Duration::from_micros(FRESH_MICROS) {
@@ -127,7 +127,7 @@ impl Pool {
         }
     }
 
-    /// The next turn, for which it waits; nothing where the listener or the system's wait has failed.
+    // The next turn, for which it waits; nothing if the listener or the system's wait has failed.
     pub(crate) fn await_next<C: Clock>(&mut self, clock: &C) -> Option<Next> {
         self.held_since = None;
         self.look(clock);
@@ -143,7 +143,7 @@ impl Pool {
         None
     }
 
-    /// How long the client whose turn it is may be waited for. `None` where another client is ready, and nothing is left for a wait.
+    // How long the client whose turn it is may be waited for. `None` if another client is ready, and nothing is left for a wait.
     pub(crate) fn patience(&mut self) -> Option<Duration> {
         if !self.crowd.has_next() {
             return Some(self.limits.closing);
@@ -160,56 +160,59 @@ impl Pool {
         }
     }
 
-    /// Whether the listener, or the system's wait, has failed.
+    // Whether the listener, or the system's wait, has failed.
     pub(crate) fn is_broken(&self) -> bool {
         self.crowd.is_broken()
     }
 
+    // The moment at which the loop last looked at the clock.
     pub(crate) fn now(&self) -> Duration {
         self.crowd.now()
     }
 
+    // The limits with which the port was opened.
     pub(crate) fn limits(&self) -> PortLimits {
         self.limits
     }
 
+    // A client may have been dropped since its place was noted, so there may be none.
     pub(crate) fn client(&mut self, at: usize) -> Option<&mut Client> {
         self.crowd.client(at)
     }
 
-    /// Lets a client go on to its next request. Where it would not wait for it the others are looked at first.
+    // Lets a client go on to its next request. If it would not wait for it the others are looked at first.
     pub(crate) fn go_on<C: Clock>(&mut self, at: usize, clock: &C) {
         if self.crowd.goes_on(at) || self.crowd.has_next() {
             self.look(clock);
         }
     }
 
-    /// Writes the front of a piece to a client, or keeps it whole.
+    // Writes the front of a piece to a client, or keeps it whole.
     pub(crate) fn write(&mut self, at: usize, piece: &[u8]) -> Option<usize>
         ensures { IfSome result (λ n. (n ≤ length piece.now) × (0 < length piece.now → 0 < n)) }
     {
         self.crowd.write(at, piece)
     }
 
-    /// Takes a client back whose turn is over and that may make a further request.
+    // Takes a client back whose turn is over and that may make a further request.
     pub(crate) fn keep(&mut self, at: usize) {
         self.spend();
         self.crowd.keep(at);
     }
 
-    /// Closes a client, whose last reply is sent or kept.
+    // Closes a client, whose last reply is sent or kept.
     pub(crate) fn close(&mut self, at: usize) {
         self.spend();
         self.crowd.close(at);
     }
 
-    /// Drops a client at once.
+    // Drops a client at once.
     pub(crate) fn drop_client(&mut self, at: usize) {
         self.spend();
         self.crowd.drop_client(at);
     }
 
-    /// Sends what is kept, and waits for the clients that are closed to close their ends, for a short time in all.
+    // Sends what is kept, and waits for the clients that are closed to close their ends, for a short time in all.
     pub(crate) fn finish<C: Clock>(&mut self, clock: &C) {
         self.read_clock(clock);
         let end = self.crowd.now().saturating_add(self.limits.closing);

@@ -47,7 +47,7 @@ impl<'r, R: Net + Clock> TcpPort<'r, R> {
         self.faults
     }
 
-    // The next turn, where no call fails.
+    // The next turn, if no call fails.
     fn accept_now(&mut self) -> Option<TurnLink<'r, R>>
         ensures faults { self.new.faults ≡ self.old.faults }
         ensures out { self.new.out ≡ self.old.out }

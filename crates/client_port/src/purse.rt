@@ -17,7 +17,7 @@ pub(crate) struct Purse {
 }
 
 impl Purse {
-    /// A full purse of this size.
+    // A full purse of this size.
     pub(crate) fn new(most: Duration, now: Duration) -> Purse {
         Purse {
             most,
@@ -26,19 +26,19 @@ impl Purse {
         }
     }
 
-    /// Gives back what has come back by now.
+    // Gives back what has come back by now.
     pub(crate) fn refill(&mut self, now: Duration) {
         let passed = now.saturating_sub(self.refilled);
         self.refilled = now;
         self.left = self.left.saturating_add(passed / REFILL).min(self.most);
     }
 
-    /// Takes time out, as far as it is there.
+    // Takes time out, as far as it is there.
     pub(crate) fn spend(&mut self, time: Duration) {
         self.left = self.left.saturating_sub(time);
     }
 
-    /// How long a client may still be waited for, where that is worth a wait.
+    // How long a client may still be waited for, if that is worth a wait.
     pub(crate) fn left(&self) -> Option<Duration> {
         if self.left < Duration::from_millis(LEAST_MILLIS) {
             None

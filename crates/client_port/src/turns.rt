@@ -24,7 +24,7 @@ enum Step {
 
 /// A turn of a client: one request or several, each of them whole. It tells none of its bytes.
 ///
-/// Its input ends where the client has closed its end, and between two requests where another client is ready and the port's time for
+/// Its input ends if the client has closed its end, and between two requests if another client is ready and the port's time for
 /// waiting is used up. In that case the connection stays, and has another turn when its next request is whole. A client that was dropped
 /// before it had a turn has one whose calls all fail.
 #[derive(Drop)]
@@ -40,6 +40,7 @@ pub struct TurnLink<'r, C> {
 }
 
 impl<'r, C: Clock> TurnLink<'r, C> {
+    // The turn begins where the loop stands now.
     pub(crate) fn new(pool: Pool, next: Next, clock: &'r C) -> Self
         ensures reads { result.read_faults ≡ 0 }
         ensures writes { result.write_faults ≡ 0 }
@@ -64,6 +65,7 @@ impl<'r, C: Clock> TurnLink<'r, C> {
         self.read_faults > 0 || self.write_faults > 0
     }
 
+    // Turns the loop until the client has bytes, has ended or has failed, so that the others are served meanwhile.
     fn read_now(&mut self, into: &mut [u8]) -> Option<usize>
         ensures size { IfSome result (λ n. n ≤ length into.new) }
         ensures reads { self.new.read_faults ≡ self.old.read_faults }
@@ -93,6 +95,7 @@ impl<'r, C: Clock> TurnLink<'r, C> {
         Some(client.give(into))
     }
 
+    // What a read can do at once, without turning the loop.
     fn step(&mut self, at: usize) -> Step
         ensures reads { self.new.read_faults ≡ self.old.read_faults }
         ensures writes { self.new.write_faults ≡ self.old.write_faults }
@@ -145,8 +148,10 @@ impl<'r, C: Clock> TurnLink<'r, C> {
         Step::Waits(most)
     }
 
+    // What the connection doesn't take at once is kept, so a write never waits.
     fn write_now(&mut self, piece: &[u8]) -> Option<usize>
-        ensures size { IfSome result (λ n. (n ≤ length piece.now) × (0 < length piece.now → 0 < n)) }
+        ensures size { IfSome result (λ n.
+            (n ≤ length piece.now) × (0 < length piece.now → 0 < n)) }
         ensures reads { self.new.read_faults ≡ self.old.read_faults }
         ensures writes { self.new.write_faults ≡ self.old.write_faults }
     {
@@ -156,7 +161,7 @@ impl<'r, C: Clock> TurnLink<'r, C> {
         self.pool.write(at, piece)
     }
 
-    /// Gives the pool back. The client goes on where it has only given way, and is closed else.
+    // Gives the pool back. The client goes on if it has only given way, and is otherwise closed.
     pub(crate) fn done(self) -> Pool {
         let mut pool = self.pool;
         if let Next::Client(at) = self.next {

@@ -2,9 +2,9 @@
 use Rattle.std.specs.Prelude.{ℕ, List, [], ◌∷◌, ◌++◌, ⊤, Result, Ok, Err, map, codes}
 use Rattle.std.specs.Fmt.{decimal}
 use Rattle.std.specs.Result.{result_map_both}
-use Rattle.case_fields.specs.declared.fields.BodyFault.{BodyFault}
-use Rattle.case_fields.specs.declared.fields.BodyFault.TheVariants.{Json, Field}
-use Rattle.case_fields.specs.Fields.{field_text}
+use Rattle.body_fields.specs.declared.fields.BodyFault.{BodyFault}
+use Rattle.body_fields.specs.declared.fields.BodyFault.TheVariants.{Json, Field}
+use Rattle.body_fields.specs.Fields.{field_text}
 use Rattle.command_results.specs.declared.stop.Stop.{Stop}
 use Rattle.command_results.specs.declared.stop.Stop.TheVariants.{Void, OverLimit, NotTwo, BrokenRule, BadWords, TooLong, BadCase, BrokenLine, BadReply, BadStatus, BadJournal, ReadFault, StoreFault, PortFault, NoMemory}
 use Rattle.command_results.specs.declared.text.Text.{Text}

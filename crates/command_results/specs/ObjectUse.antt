@@ -3,7 +3,7 @@ use Rattle.std.specs.Prelude.{◌≡◌, ◌⊎◌, ℕ, ◌+◌, ◌<◌, ◌�
 use Rattle.std.specs.Io.KnownBytes.{Appends, Consumes, IsAtEnd}
 use Rattle.split_base.specs.Faults.{HasRisen, counted}
 
--- the bytes that an object has left or holds, where it knows them, and its count of faults
+-- the bytes that an object has left or holds, if it knows them, and its count of faults
 pub record ObjectUse : Type 0 where
   pub bytes_before : Option (List ℕ)
   pub bytes_after : Option (List ℕ)
@@ -11,8 +11,8 @@ pub record ObjectUse : Type 0 where
   pub faults_after : ℕ
 
 -- what an object tells, by what its trait says of its bytes and faults
-abbrev pub told : {S : Type 0} → (S → Option (List ℕ)) → (S → ℕ) → S → S → ObjectUse
-told bytes faults before after = record { bytes_before = bytes before; bytes_after = bytes after; faults_before = faults before; faults_after = faults after }
+abbrev pub use_of : {S : Type 0} → (S → Option (List ℕ)) → (S → ℕ) → S → S → ObjectUse
+use_of bytes faults before after = record { bytes_before = bytes before; bytes_after = bytes after; faults_before = faults before; faults_after = faults after }
 
 -- the object's count of faults rose, or is at its greatest value
 abbrev pub HasFault : ObjectUse → Type 0
@@ -22,7 +22,7 @@ HasFault object = HasRisen object.faults_before object.faults_after
 abbrev pub IsSound : ObjectUse → Type 0
 IsSound object = HasFault object → ⊥
 
--- no call of the object failed: its count of faults stays
+-- no call of the object failed: its count of faults stays the same
 abbrev pub HasNoFault : ObjectUse → Type 0
 HasNoFault object = object.faults_after ≡ object.faults_before
 

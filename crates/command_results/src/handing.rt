@@ -6,8 +6,8 @@ ghost use Rattle.command_results.specs.Handing.{HandsOut, IsCopied};
 use crate::stop::Stop;
 use crate::text::Text;
 
-/// Copies the words to the front of the buffer if there is room for all of them, and otherwise leaves the buffer as it is. Answers the
-/// size of the words.
+// Copies the words to the front of the buffer if there is room for all of them, and otherwise leaves the buffer as it is. Answers the
+// size of the words.
 fn copy_words(words: &[u8], buffer: &mut [u8]) -> usize
     ensures { IsCopied words.now result buffer.old buffer.new }
 {

@@ -13,7 +13,7 @@ use itoa::Buffer;
 /// A line, which takes no memory.
 pub type Line = ArrayVec<u8, LINE_ROOM>;
 
-/// The line of `void:` and the members who lack a bid, each after a space.
+// The line of `void:` and the members who lack a bid, each after a space.
 #[tactic(auto, unfolding(split_frac::specs::Texts::line))]
 pub(crate) fn void_line(members: &MemberList) -> Line
     ensures { result.items ≡ word_line (codes "void:") (map decimal members.now.items) }
@@ -27,7 +27,7 @@ pub(crate) fn void_line(members: &MemberList) -> Line
     line
 }
 
-/// The line of a word and a number.
+// The line of a word and a number.
 #[tactic(auto, unfolding(split_frac::specs::Texts::line))]
 pub(crate) fn number_line(word: &[u8], number: u64) -> Line
     requires { length word.now ≤ WORD_ROOM }
@@ -41,7 +41,7 @@ pub(crate) fn number_line(word: &[u8], number: u64) -> Line
     line
 }
 
-/// Appends the number of a member, for which there is room.
+// Appends the number of a member, for which there is room.
 fn append_member(line: &mut Line, number: u8)
     requires { array_vec_len line.old + 3 ≤ LINE_ROOM }
     ensures text { line.new.items ≡ line.old.items ++ decimal number }
@@ -51,7 +51,7 @@ fn append_member(line: &mut Line, number: u8)
     append(line, buffer.format(number).as_bytes());
 }
 
-/// The bytes as a line.
+// The bytes as a line.
 pub(crate) fn line_of(bytes: &[u8]) -> Line
     requires { length bytes.now ≤ LINE_ROOM }
     ensures { result.items ≡ bytes.now }
@@ -61,7 +61,7 @@ pub(crate) fn line_of(bytes: &[u8]) -> Line
     line
 }
 
-/// Appends bytes for which there is room.
+// Appends bytes for which there is room.
 pub(crate) fn append(line: &mut Line, bytes: &[u8])
     requires { array_vec_len line.old + length bytes.now ≤ LINE_ROOM }
     ensures { line.new.items ≡ line.old.items ++ bytes.now }

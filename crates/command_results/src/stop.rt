@@ -4,7 +4,7 @@ ghost use Rattle.command_results.specs.Endings.{fault_line, owed};
 
 use crate::line::{Line, append, line_of, number_line, void_line};
 use bid_rules::Missing;
-use case_fields::BodyFault;
+use body_fields::BodyFault;
 
 /// Why a command ends without its text, except for a failure to write.
 #[derive(Debug, Drop, PartialEq, Eq)]
@@ -13,11 +13,11 @@ pub enum Stop {
     Void { missing: Missing },
     /// The case, which is of goods, takes more steps than this limit of the case; or so many prefixes are open in its audit.
     OverLimit { limit: u32 },
-    /// The case has not two players, as adjusted winner wants.
+    /// The case doesn't have two players, as adjusted winner needs.
     NotTwo,
     /// The certificate, or the winner's text, breaks this rule, from 1, and keeps those before it.
     BrokenRule { rule: u8 },
-    /// The words are no row of the command table.
+    /// The words match no row of the command table.
     BadWords,
     /// The input, or the certificate that a host replied with, has more bytes than it may have.
     TooLong,
@@ -29,7 +29,7 @@ pub enum Stop {
     BadReply,
     /// A host replied with this status.
     BadStatus { code: u16 },
-    /// The file is no journal, or not empty where one is made: its first fault is at this place.
+    /// The file is no journal, or not empty if one is made: its first fault is at this place.
     BadJournal { place: u64 },
     /// A read of the input failed.
     ReadFault,
@@ -85,6 +85,7 @@ impl Stop {
 }
 
 impl Owed {
+    // What a command that stops still owes to its caller.
     fn new(status: u8, line: Line) -> Self
         ensures { result ≡ record { status = status; line = line } }
     {
@@ -92,7 +93,7 @@ impl Owed {
     }
 }
 
-/// The line that refuses a body.
+// The line that refuses a body.
 #[tactic(auto, unfolding(split_frac::specs::Texts::line))]
 fn fault_line(fault: BodyFault) -> Line
     ensures { result.items ≡ fault_line fault }

@@ -75,6 +75,7 @@ pub fn ef1_table(
     table
 }
 
+// By how many points a player would gain or lose with each other player's goods.
 fn points_row(case: &GoodsCase, owners: &[u8], player: u8) -> ArrayVec<i32, MEMBER_ROOM>
     requires case { IsValidGoodsCase case.now }
     requires each { length owners.now ≡ case.now.facts.goods }
@@ -90,6 +91,7 @@ fn points_row(case: &GoodsCase, owners: &[u8], player: u8) -> ArrayVec<i32, MEMB
     row
 }
 
+// For each other player, whether the envy of one ends once a good is taken away (EF1).
 fn ef1_row(case: &GoodsCase, owners: &[u8], player: u8) -> ArrayVec<Ef1, MEMBER_ROOM>
     requires case { IsValidGoodsCase case.now }
     requires each { length owners.now ≡ case.now.facts.goods }
@@ -105,7 +107,7 @@ fn ef1_row(case: &GoodsCase, owners: &[u8], player: u8) -> ArrayVec<Ef1, MEMBER_
     row
 }
 
-/// A player's points for another's goods less those for their own.
+// A player's points for another's goods less those for their own.
 fn envy_in_points(case: &GoodsCase, owners: &[u8], player: u8, other: u8) -> i32
     requires case { IsValidGoodsCase case.now }
     requires each { length owners.now ≡ case.now.facts.goods }
@@ -116,7 +118,7 @@ fn envy_in_points(case: &GoodsCase, owners: &[u8], player: u8, other: u8) -> i32
     points_of(case, owners, player, other) as i32 - points_of(case, owners, player, player) as i32
 }
 
-/// What taking one good of the other away does to a player's envy.
+// What taking one good of the other away does to a player's envy.
 fn ef1_of(case: &GoodsCase, owners: &[u8], player: u8, other: u8) -> Ef1
     requires case { IsValidGoodsCase case.now }
     requires each { length owners.now ≡ case.now.facts.goods }
@@ -155,7 +157,7 @@ pub fn points_of(case: &GoodsCase, owners: &[u8], player: u8, owner: u8) -> u32
     sum
 }
 
-/// The points that a player gives a good, where the owner has it, else 0.
+// The points that a player gives a good, if the owner has it, otherwise 0.
 fn points_if(case: &GoodsCase, owners: &[u8], player: u8, owner: u8, good: u8) -> u32
     requires case { IsValidGoodsCase case.now }
     requires each { length owners.now ≡ case.now.facts.goods }
@@ -163,7 +165,8 @@ fn points_if(case: &GoodsCase, owners: &[u8], player: u8, owner: u8, good: u8) -
     requires high { player ≤ player_count case.now }
     requires good_low { 1 ≤ good }
     requires good_high { good ≤ case.now.facts.goods }
-    ensures value { result ≡ if is_owner owners.now owner good then points case.now player good else 0 }
+    ensures value { result
+        ≡ if is_owner owners.now owner good then points case.now player good else 0 }
     ensures small { result ≤ WHOLE_POINTS }
 {
     if owners[good as usize - 1] == owner {
@@ -173,7 +176,7 @@ fn points_if(case: &GoodsCase, owners: &[u8], player: u8, owner: u8, good: u8) -
     }
 }
 
-/// The good of the owner to which the player gives most points, ties to the lower number.
+// The good of the owner to which the player gives most points, ties to the lower number.
 fn most_valued(case: &GoodsCase, owners: &[u8], player: u8, owner: u8) -> u8
     requires case { IsValidGoodsCase case.now }
     requires each { length owners.now ≡ case.now.facts.goods }
@@ -191,7 +194,7 @@ fn most_valued(case: &GoodsCase, owners: &[u8], player: u8, owner: u8) -> u8
     best
 }
 
-/// The next good where the owner has it and the player gives it more points than the best before, which is 0 if there is none.
+// The next good if the owner has it and the player gives it more points than the best before, which is 0 if there is none.
 fn better(case: &GoodsCase, owners: &[u8], player: u8, owner: u8, best: u8, good: u8) -> u8
     requires case { IsValidGoodsCase case.now }
     requires each { length owners.now ≡ case.now.facts.goods }

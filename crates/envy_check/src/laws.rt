@@ -21,49 +21,65 @@ use nash_bounds::{owners_by_good_law, search_order_law};
 /// The floor is the greatest whole number that is not above the amount. As many places get a cent as cents are left over, and a
 /// place that fewer places come before has no smaller remainder.
 pub fn cent_plan_law()
-    ensures floor { (amount : Fraction) → 0 < amount.1 → ((floor_of amount *ℤ pos amount.1) ≤ℤ amount.0) × (amount.0 <ℤ ((floor_of amount +ℤ pos 1) *ℤ pos amount.1)) }
-    ensures given { (amounts : List Fraction) (whole : ℤ) → All (λ amount. 0 < amount.1) amounts → IsQuotient (sum_of_fractions amounts) whole 1
-        → (k : ℕ) × (cents_left amounts whole ≡ pos k) × (count_by (λ place. nat_lt (places_before amounts place) k) (range_with_len 0 (length amounts)) ≡ k) }
-    ensures greatest { (amounts : List Fraction) → All (λ amount. 0 < amount.1) amounts → (i j : ℕ) → j < length amounts → places_before amounts i < places_before amounts j
-        → ((remainder_of (amount_at amounts j)).0 *ℤ pos (amount_at amounts i).1) ≤ℤ ((remainder_of (amount_at amounts i)).0 *ℤ pos (amount_at amounts j).1) }
+    ensures floor { (amount : Fraction) → 0 < amount.1
+        → ((floor_of amount *ℤ pos amount.1) ≤ℤ amount.0)
+        × (amount.0 <ℤ ((floor_of amount +ℤ pos 1) *ℤ pos amount.1)) }
+    ensures given { (amounts : List Fraction) (whole : ℤ) → All (λ amount. 0 < amount.1) amounts
+        → IsQuotient (sum_of_fractions amounts) whole 1
+        → (k : ℕ) × (cents_left amounts whole ≡ pos k)
+        × (count_by (λ place. nat_lt (places_before amounts place) k)
+        (range_with_len 0 (length amounts)) ≡ k) }
+    ensures greatest { (amounts : List Fraction) → All (λ amount. 0 < amount.1) amounts → (i j : ℕ)
+        → j < length amounts → places_before amounts i < places_before amounts j
+        → ((remainder_of (amount_at amounts j)).0 *ℤ pos (amount_at amounts i).1)
+        ≤ℤ ((remainder_of (amount_at amounts i)).0 *ℤ pos (amount_at amounts j).1) }
 {}
 
-/// Where members pay the cent plan of envy-free prices, taken over the members in order, nobody envies another by more than
+/// When members pay the cent plan of envy-free prices, taken over the members in order, nobody envies another by more than
 /// one cent.
 pub fn cent_envy_law()
-    ensures { (case : RentCase) (k : ℕ) (rooms : List ℕ) (prices : List Fraction) (parts : List ℤ) (whole : ℤ) (pays : List ℤ)
-        → 1 ≤ k → IsAssignment case rooms → HasParts prices k parts → IsEnvyFree case k rooms parts → IsCentPlan (prices_by_member rooms prices) whole pays
+    ensures { (case : RentCase) (k : ℕ) (rooms : List ℕ) (prices : List Fraction) (parts : List ℤ)
+        (whole : ℤ) (pays : List ℤ) → 1 ≤ k → IsAssignment case rooms → HasParts prices k parts
+        → IsEnvyFree case k rooms parts → IsCentPlan (prices_by_member rooms prices) whole pays
         → (member other : ℕ) → member < room_count case → other < room_count case
         → (value case member (slice_index rooms other) -ℤ slice_index_or pays other (pos 0))
-        ≤ℤ (value case member (slice_index rooms member) -ℤ slice_index_or pays member (pos 0) +ℤ pos 1) }
+        ≤ℤ (value case member (slice_index rooms member) -ℤ slice_index_or pays member (pos 0)
+        +ℤ pos 1) }
 {}
 
 /// Worked plans: an odd rent of two halves, and thirds of which one is below 0.
 pub fn worked_plans_law()
-    ensures halves { cent_plan ((pos 1101, 2) ∷ (pos 901, 2) ∷ []) (pos 1001) ≡ pos 551 ∷ pos 450 ∷ [] }
-    ensures thirds { cent_plan ((pos 800, 3) ∷ (negsuc 99, 3) ∷ (pos 200, 3) ∷ []) (pos 300) ≡ pos 267 ∷ negsuc 32 ∷ pos 66 ∷ [] }
+    ensures halves { cent_plan ((pos 1101, 2) ∷ (pos 901, 2) ∷ []) (pos 1001)
+        ≡ pos 551 ∷ pos 450 ∷ [] }
+    ensures thirds { cent_plan ((pos 800, 3) ∷ (negsuc 99, 3) ∷ (pos 200, 3) ∷ []) (pos 300)
+        ≡ pos 267 ∷ negsuc 32 ∷ pos 66 ∷ [] }
 {}
 
 /// Taking the good away to which a player gives most points ends their envy exactly if taking some good of the other away
 /// does.
 pub fn ef1_law()
-    ensures { (case : GoodsCase) (owners : List ℕ) (player other best : ℕ) → IsMostValued case player (goods_of owners other) best
-        → (EndsEnvy case owners player other best ↔ ((good : ℕ) × Contains (goods_of owners other) good × EndsEnvy case owners player other good)) }
+    ensures { (case : GoodsCase) (owners : List ℕ) (player other best : ℕ)
+        → IsMostValued case player (goods_of owners other) best
+        → (EndsEnvy case owners player other best
+        ↔ ((good : ℕ) × Contains (goods_of owners other) good
+        × EndsEnvy case owners player other good)) }
 {}
 
 /// An allocation of maximum Nash welfare is envy-free up to one good (Caragiannis and others 2016, theorem 3.2): a player who envies another
 /// stops once that good of the other's is taken away to which they give most points. So its table of answers has no `Fails`.
 pub fn one_good_law()
-    ensures up_to_one_good { (case : GoodsCase) (owners : List ℕ) → HasMaximumWelfare case owners → IsEnvyFreeUpToOneGood case (owners_by_good case owners) }
-    ensures no_fails { (case : GoodsCase) (owners : List ℕ) (table : List (ArrayVec Ef1 MEMBER_ROOM (Unit {0})))
-        → HasMaximumWelfare case owners → IsEf1Table case (owners_by_good case owners) table → HasNoFails table }
+    ensures up_to_one_good { (case : GoodsCase) (owners : List ℕ) → HasMaximumWelfare case owners
+        → IsEnvyFreeUpToOneGood case (owners_by_good case owners) }
+    ensures no_fails { (case : GoodsCase) (owners : List ℕ)
+        (table : List (ArrayVec Ef1 MEMBER_ROOM (Unit {0}))) → HasMaximumWelfare case owners
+        → IsEf1Table case (owners_by_good case owners) table → HasNoFails table }
 {
     search_order_law();
     owners_by_good_law();
 }
 
-/// The definitions on a worked case: over the best owners of the contested good one of the two who want it alone envies the other, until it
-/// is taken away. Where the first player has both goods, the third envies past one good. The product over all three is 0 there as in each
+/// The definitions on a worked case: with the best owners, one of the two players who want only the contested good envies the other, until it
+/// is taken away. If the first player has both goods, the third envies past one good. The product over all three is 0 there as in each
 /// allocation, so it is by the count of players with points that this is no maximum welfare.
 pub fn worked_envy_law()
     ensures envy { Envies contested_good (1 ∷ 3 ∷ []) 2 1 }

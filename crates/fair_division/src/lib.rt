@@ -15,6 +15,7 @@ ghost use Rattle.input_commands.specs.declared.command.InputCommand.TheVariants.
 
 use command_results::hand_out;
 use input_commands::{InputCommand, bytes_ending};
+use search_workers::Workers;
 use std::alloc::Global;
 
 /// Writes the certificate of the best division of the case that the bytes hold as JSON, as `fairsplit solve 1` does.
@@ -22,7 +23,13 @@ use std::alloc::Global;
 pub extern "C" fn fair_solve(alloc: Global, bytes: &[u8], text: &mut [u8], size: &mut usize) -> u8
     ensures { Replies (Solve 1) bytes.now result size.new text.old text.new }
 {
-    let ending = bytes_ending(alloc, InputCommand::Solve { workers: 1 }, bytes);
+    let ending = bytes_ending(
+        alloc,
+        InputCommand::Solve {
+            workers: Workers::one(),
+        },
+        bytes,
+    );
     hand_out(&ending, text, size)
 }
 
@@ -31,7 +38,13 @@ pub extern "C" fn fair_solve(alloc: Global, bytes: &[u8], text: &mut [u8], size:
 pub extern "C" fn fair_report(alloc: Global, bytes: &[u8], text: &mut [u8], size: &mut usize) -> u8
     ensures { Replies (Report 1) bytes.now result size.new text.old text.new }
 {
-    let ending = bytes_ending(alloc, InputCommand::Report { workers: 1 }, bytes);
+    let ending = bytes_ending(
+        alloc,
+        InputCommand::Report {
+            workers: Workers::one(),
+        },
+        bytes,
+    );
     hand_out(&ending, text, size)
 }
 

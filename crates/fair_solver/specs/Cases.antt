@@ -1,4 +1,4 @@
--- Which cases the caller's numbers are.
+-- Which case the caller's numbers make, if they make one.
 use Rattle.std.specs.Prelude.{◌≡◌, ◌≤◌, ◌+◌, ◌*◌, ℕ, List, length, map, take, drop}
 use Rattle.std.specs.List.{range_with_len}
 use Rattle.bid_rules.specs.declared.cases.FareCase.{FareCase}

@@ -2,8 +2,8 @@
 use Rattle.std.specs.Prelude.{◌≡◌, ◌≤◌, ◌⊎◌, ℕ, List, Err, length, take}
 use Rattle.bid_rules.specs.declared.cases.Case.{Case}
 use Rattle.bid_rules.specs.declared.cases.Case.TheVariants.{Rent, Goods, Fares}
-use Rattle.case_fields.specs.declared.fields.BodyFault.TheVariants.{Field}
-use Rattle.case_fields.specs.declared.fields.FieldName.{FieldName}
+use Rattle.body_fields.specs.declared.fields.BodyFault.TheVariants.{Field}
+use Rattle.body_fields.specs.declared.fields.FieldName.{FieldName}
 use Rattle.certificates.specs.Canonical.{IsCanonical}
 use Rattle.command_results.specs.Handing.{HandsOut}
 use Rattle.command_results.specs.declared.stop.Stop.TheVariants.{BadCase, OverLimit}

@@ -10,11 +10,12 @@ use bid_rules::limits::{
     MOST_STEPS,
 };
 use bid_rules::{FareCase, Fares, Goods, GoodsCase, Rent, RentCase, check_fares};
-use case_fields::FieldName;
+use body_fields::FieldName;
 
-/// The valid case of a rent that the numbers are, or the first field that breaks its rule.
+// The valid case of a rent that the numbers are, or the first field that breaks its rule.
 pub(crate) fn rent_case(members: u32, rent: u32, values: &[u32]) -> Result<RentCase, FieldName>
-    ensures { MatchResult result (λ case. AreRent members rent values.now × (case ≡ rent_in members rent values.now))
+    ensures { MatchResult result
+        (λ case. AreRent members rent values.now × (case ≡ rent_in members rent values.now))
         (λ field. (AreRent members rent values.now → ⊥) × IsRentField members rent field) }
 {
     if members < u32::from(FEWEST_MEMBERS) || members > u32::from(MOST_MEMBERS) {
@@ -29,10 +30,11 @@ pub(crate) fn rent_case(members: u32, rent: u32, values: &[u32]) -> Result<RentC
     }
 }
 
-/// The valid case with these values.
+// The valid case with these values.
 fn rent_with(members: u8, rent: u32, values: &[u32]) -> Option<RentCase>
     requires { members ≤ MOST_MEMBERS }
-    ensures { MatchOption result (AreRent members rent values.now → ⊥) (λ case. AreRent members rent values.now × (case ≡ rent_in members rent values.now)) }
+    ensures { MatchOption result (AreRent members rent values.now → ⊥) (λ case.
+        AreRent members rent values.now × (case ≡ rent_in members rent values.now)) }
 {
     let size = usize::from(members);
     if values.len() != size * size {
@@ -45,14 +47,16 @@ fn rent_with(members: u8, rent: u32, values: &[u32]) -> Option<RentCase>
     if case.is_valid() { Some(case) } else { None }
 }
 
-/// The valid case of goods that the numbers are, or the first field that breaks its rule.
+// The valid case of goods that the numbers are, or the first field that breaks its rule.
 pub(crate) fn goods_case(
     goods: u32,
     limit: u32,
     who: &[u8],
     values: &[u32],
 ) -> Result<GoodsCase, FieldName>
-    ensures { MatchResult result (λ case. AreGoods goods limit who.now values.now × (case ≡ goods_in goods limit who.now values.now))
+    ensures { MatchResult result
+        (λ case.
+        AreGoods goods limit who.now values.now × (case ≡ goods_in goods limit who.now values.now))
         (λ field. (AreGoods goods limit who.now values.now → ⊥) × IsGoodsField goods limit field) }
 {
     if goods < 1 || goods > u32::from(MOST_GOODS) {
@@ -67,11 +71,13 @@ pub(crate) fn goods_case(
     }
 }
 
-/// The valid case with these players and values.
+// The valid case with these players and values.
 fn goods_with(goods: u8, limit: u32, who: &[u8], values: &[u32]) -> Option<GoodsCase>
     requires { goods ≤ MOST_GOODS }
     ensures { MatchOption result (AreGoods goods limit who.now values.now → ⊥)
-        (λ case. AreGoods goods limit who.now values.now × (case ≡ goods_in goods limit who.now values.now)) }
+        (λ case.
+        AreGoods goods limit who.now values.now
+        × (case ≡ goods_in goods limit who.now values.now)) }
 {
     if who.len() > usize::from(MOST_MEMBERS) || values.len() != who.len() * usize::from(goods) {
         return None;
@@ -88,7 +94,7 @@ fn goods_with(goods: u8, limit: u32, who: &[u8], values: &[u32]) -> Option<Goods
     if case.is_valid() { Some(case) } else { None }
 }
 
-/// The valid case of a fare that the numbers are, or the first field that breaks its rule.
+// The valid case of a fare that the numbers are, or the first field that breaks its rule.
 pub(crate) fn fare_case(
     places: u32,
     flag: u32,
@@ -96,8 +102,13 @@ pub(crate) fn fare_case(
     who: &[u8],
     at: &[u8],
 ) -> Result<FareCase, FieldName>
-    ensures { MatchResult result (λ case. AreFare places flag legs.now who.now at.now × (case ≡ fare_in places flag legs.now who.now at.now))
-        (λ field. (AreFare places flag legs.now who.now at.now → ⊥) × IsFareField places flag legs.now field) }
+    ensures { MatchResult result
+        (λ case.
+        AreFare places flag legs.now who.now at.now
+        × (case ≡ fare_in places flag legs.now who.now at.now))
+        (λ field.
+        (AreFare places flag legs.now who.now at.now → ⊥)
+        × IsFareField places flag legs.now field) }
 {
     if places < 1 || places > u32::from(MOST_PLACES) {
         return Err(FieldName::Places);
@@ -114,10 +125,11 @@ pub(crate) fn fare_case(
     }
 }
 
-/// The checked facts with these legs.
+// The checked facts with these legs.
 fn facts_with(places: u8, flag: u32, legs: &[u32]) -> Option<Fares>
     requires { places ≤ MOST_PLACES }
-    ensures { MatchOption result (HasLegs places flag legs.now → ⊥) (λ facts. HasLegs places flag legs.now × (facts ≡ facts_in places flag legs.now)) }
+    ensures { MatchOption result (HasLegs places flag legs.now → ⊥) (λ facts.
+        HasLegs places flag legs.now × (facts ≡ facts_in places flag legs.now)) }
 {
     let size = usize::from(places);
     if legs.len() != (size + 1) * size {
@@ -136,9 +148,10 @@ fn facts_with(places: u8, flag: u32, legs: &[u32]) -> Option<Fares>
     }
 }
 
-/// The valid case with these riders.
+// The valid case with these riders.
 fn fare_with(facts: Fares, who: &[u8], at: &[u8]) -> Option<FareCase>
-    ensures { MatchOption result (HasRiders facts who.now at.now → ⊥) (λ case. HasRiders facts who.now at.now × (case ≡ with_riders facts who.now at.now)) }
+    ensures { MatchOption result (HasRiders facts who.now at.now → ⊥) (λ case.
+        HasRiders facts who.now at.now × (case ≡ with_riders facts who.now at.now)) }
 {
     if who.len() > usize::from(MOST_RIDERS) || at.len() > usize::from(MOST_RIDERS) {
         return None;

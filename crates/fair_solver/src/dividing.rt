@@ -31,7 +31,7 @@ pub(crate) struct Shares {
     pub(crate) route: RiderList,
 }
 
-/// The rows of all sets of riders, by their numbers.
+// The rows of all sets of riders, by their numbers.
 pub(crate) fn rows_of_sets(case: &FareCase) -> Rows
     requires { IsValidFareCase case.now }
     ensures { HoldsCosts case.now (map (λ row. row.items) result.items) }
@@ -47,7 +47,7 @@ pub(crate) fn rows_of_sets(case: &FareCase) -> Rows
     rows
 }
 
-/// The fares and the route of the best division.
+// The fares and the route of the best division.
 pub(crate) fn best_shares(costs: &SetCosts<'_>, count: u8) -> Shares
     requires valid { IsValidFareCase costs.now }
     requires count { count ≡ length costs.now.at.items }
@@ -60,10 +60,11 @@ pub(crate) fn best_shares(costs: &SetCosts<'_>, count: u8) -> Shares
     }
 }
 
-/// Divides the fare, and puts its canonical certificate at the front of the text.
+// Divides the fare, and puts its canonical certificate at the front of the text.
 pub(crate) fn divide_fare(text: &mut [u8], case: &FareCase) -> usize
     requires { IsValidFareCase case.now }
-    ensures { (shown : FareDivision) × IsFareDivision case.now shown × Puts (canonical_text (Fares case.now) (division.Fares shown)) 0 text.old text.new result }
+    ensures { (shown : FareDivision) × IsFareDivision case.now shown
+        × Puts (canonical_text (Fares case.now) (division.Fares shown)) 0 text.old text.new result }
 {
     best_fares_law();
     coalition_law();

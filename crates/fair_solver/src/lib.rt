@@ -113,7 +113,8 @@ pub extern "C" fn fair_rent_cents(
     text: &mut [u8],
     size: &mut usize,
 ) -> u8
-    ensures { IsRentPlanReply members rent values.now result size.new pays.old pays.new text.old text.new }
+    ensures { IsRentPlanReply members rent values.now result size.new pays.old pays.new text.old
+        text.new }
 {
     match rent_case(members, rent, values) {
         Ok(case) => {
@@ -138,7 +139,8 @@ pub extern "C" fn fair_fares_cents(
     text: &mut [u8],
     size: &mut usize,
 ) -> u8
-    ensures { IsFarePlanReply places flag legs.now who.now at.now result size.new pays.old pays.new text.old text.new }
+    ensures { IsFarePlanReply places flag legs.now who.now at.now result size.new pays.old pays.new
+        text.old text.new }
 {
     match fare_case(places, flag, legs, who, at) {
         Ok(case) => {

@@ -16,7 +16,7 @@ use set_costs::{SetCosts, all_riders};
 /// Whole cents by member or by rider.
 type Cents = ArrayVec<i64, MEMBER_ROOM>;
 
-/// What each member pays of the rent.
+// What each member pays of the rent.
 pub(crate) fn rent_plan(case: &RentCase) -> Cents
     requires { IsValidRentCase case.now }
     ensures { IsRentPlan case.now result.items }
@@ -25,7 +25,7 @@ pub(crate) fn rent_plan(case: &RentCase) -> Cents
     rent_pays(case, &division)
 }
 
-/// What each rider pays of the fare.
+// What each rider pays of the fare.
 pub(crate) fn fare_plan(case: &FareCase) -> Cents
     requires { IsValidFareCase case.now }
     ensures { IsFarePlan case.now result.items }
@@ -40,8 +40,8 @@ pub(crate) fn fare_plan(case: &FareCase) -> Cents
     cent_plan(shares.fares.as_slice(), i64::from(total))
 }
 
-/// Copies amounts to the front of a list if there is room for all of them, and otherwise leaves the list as it is. Answers how many
-/// amounts there are.
+// Copies amounts to the front of a list if there is room for all of them, and otherwise leaves the list as it is. Answers how many
+// amounts there are.
 pub(crate) fn copy_amounts(amounts: &[i64], list: &mut [i64]) -> usize
     ensures { AreCopied amounts.now result list.old list.new }
 {

@@ -1,13 +1,13 @@
 // Why numbers have no certificate, as the command line says it.
 ghost use Rattle.std.specs.Prelude.{Err};
-ghost use Rattle.case_fields.specs.declared.fields.BodyFault.TheVariants.{Field};
+ghost use Rattle.body_fields.specs.declared.fields.BodyFault.TheVariants.{Field};
 ghost use Rattle.command_results.specs.Handing.{HandsOut};
 ghost use Rattle.command_results.specs.declared.stop.Stop.TheVariants.{BadCase, OverLimit};
 
-use case_fields::{BodyFault, FieldName};
+use body_fields::{BodyFault, FieldName};
 use command_results::{Stop, hand_out_stop};
 
-/// Hands out that a field is refused.
+// Hands out that a field is refused.
 pub(crate) fn refuse(name: FieldName, text: &mut [u8], size: &mut usize) -> u8
     ensures { HandsOut (Err (BadCase (Field name))) result size.new text.old text.new }
 {
@@ -15,7 +15,7 @@ pub(crate) fn refuse(name: FieldName, text: &mut [u8], size: &mut usize) -> u8
     hand_out_stop(&Stop::BadCase { fault }, text, size)
 }
 
-/// Hands out that the search takes more steps than this limit.
+// Hands out that the search takes more steps than this limit.
 pub(crate) fn refuse_limit(limit: u32, text: &mut [u8], size: &mut usize) -> u8
     ensures { HandsOut (Err (OverLimit limit)) result size.new text.old text.new }
 {

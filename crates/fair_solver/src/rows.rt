@@ -5,7 +5,7 @@ ghost use Rattle.bid_rules.specs.declared.limits.TheConstants.{ITEM_ROOM, LEG_RO
 
 use bid_rules::limits::{LegRow, Legs, MemberList, RiderList, ValueTable, Values};
 
-/// A row of values, for which there is room.
+// A row of values, for which there is room.
 fn values_of(amounts: &[u32]) -> Values
     requires { length amounts.now ≤ ITEM_ROOM }
     ensures { result.items ≡ amounts.now }
@@ -15,7 +15,7 @@ fn values_of(amounts: &[u32]) -> Values
     row
 }
 
-/// A row of legs, for which there is room.
+// A row of legs, for which there is room.
 fn legs_of(amounts: &[u32]) -> LegRow
     requires { length amounts.now ≤ PLACE_ROOM }
     ensures { result.items ≡ amounts.now }
@@ -25,7 +25,7 @@ fn legs_of(amounts: &[u32]) -> LegRow
     row
 }
 
-/// Numbers of members, for which there is room.
+// Numbers of members, for which there is room.
 pub(crate) fn members_of(numbers: &[u8]) -> MemberList
     requires { length numbers.now ≤ MEMBER_ROOM }
     ensures { result.items ≡ numbers.now }
@@ -35,7 +35,7 @@ pub(crate) fn members_of(numbers: &[u8]) -> MemberList
     members
 }
 
-/// Numbers by rider, for which there is room.
+// Numbers by rider, for which there is room.
 pub(crate) fn riders_of(numbers: &[u8]) -> RiderList
     requires { length numbers.now ≤ RIDER_ROOM }
     ensures { result.items ≡ numbers.now }
@@ -45,12 +45,14 @@ pub(crate) fn riders_of(numbers: &[u8]) -> RiderList
     riders
 }
 
-/// Values in so many rows of one length.
+// Values in so many rows of one length.
 pub(crate) fn value_rows(count: usize, size: usize, amounts: &[u32]) -> ValueTable
     requires few { count ≤ MEMBER_ROOM }
     requires short { size ≤ ITEM_ROOM }
     requires size { length amounts.now ≡ count * size }
-    ensures { result.items ≡ map (λ k. record { items = take size (drop (k * size) amounts.now) }) (range_with_len 0 count) }
+    ensures { result.items
+        ≡ map (λ k. record { items = take size (drop (k * size) amounts.now) })
+        (range_with_len 0 count) }
 {
     let mut rows = ValueTable::new();
     for k in 0..count {
@@ -61,12 +63,14 @@ pub(crate) fn value_rows(count: usize, size: usize, amounts: &[u32]) -> ValueTab
     rows
 }
 
-/// Legs in so many rows of one length.
+// Legs in so many rows of one length.
 pub(crate) fn leg_rows(count: usize, size: usize, amounts: &[u32]) -> Legs
     requires few { count ≤ LEG_ROW_ROOM }
     requires short { size ≤ PLACE_ROOM }
     requires size { length amounts.now ≡ count * size }
-    ensures { result.items ≡ map (λ k. record { items = take size (drop (k * size) amounts.now) }) (range_with_len 0 count) }
+    ensures { result.items
+        ≡ map (λ k. record { items = take size (drop (k * size) amounts.now) })
+        (range_with_len 0 count) }
 {
     let mut rows = Legs::new();
     for k in 0..count {

@@ -18,7 +18,7 @@ ghost use Rattle.winner_rules.specs.Judged.{PrintsFair};
 use command_results::hand_out_verdict;
 use input_commands::{check_bytes, check_winner_bytes, status_law};
 
-/// Judges the text of a certificate, as `fairsplit check` does. Status 0 alone shows that the text prints a valid case and its best
+/// Judges the text of a certificate, as `fairsplit check` does. Only status 0 shows that the text prints a valid case and its best
 /// division.
 #[unsafe(no_mangle)]
 pub extern "C" fn fair_check(bytes: &[u8], text: &mut [u8], size: &mut usize) -> u8
@@ -30,7 +30,7 @@ pub extern "C" fn fair_check(bytes: &[u8], text: &mut [u8], size: &mut usize) ->
     hand_out_verdict(&verdict, text, size)
 }
 
-/// Judges the text of adjusted winner, as `fairsplit checkwinner` does. Status 0 alone shows that the text prints a fair division.
+/// Judges the text of adjusted winner, as `fairsplit checkwinner` does. Only status 0 shows that the text prints a fair division.
 #[unsafe(no_mangle)]
 pub extern "C" fn fair_checkwinner(bytes: &[u8], text: &mut [u8], size: &mut usize) -> u8
     ensures replies { Replies CheckWinner bytes.now result size.new text.old text.new }

@@ -1,7 +1,7 @@
 //! The program: the commands over the journal's file, TCP, the system's clock and the standard streams.
 //!
-//! `main` has no contract: it hands the outside to `run` and ends with its status. Where there is
-//! no memory for the words it ends with 9, and writes `no memory` where it can. Only a program has a `main`, so it is a crate of its own.
+//! `main` has no contract: it hands the outside to `run` and ends with its status. If there is
+//! no memory for the words it ends with 9, and writes `no memory` if it can. Only a program has a `main`, so it is a crate of its own.
 #![tactic(auto)]
 
 use adapters::{
@@ -20,9 +20,10 @@ const JOURNAL: &str = "split.journal";
 /// That folder.
 const FOLDER: &str = ".";
 
-/// The status where the standard descriptors can't be taken, as where a write fails.
+/// The status if the standard descriptors can't be taken: the same as when a write fails.
 const WRITE_FAILED: u8 = 6;
 
+// The standard descriptors are taken before anything is opened, so that no closed stream can lead into the journal.
 fn main(rt: HostRuntime) -> ExitCode {
     let Ok(_taken) = StandardDescriptors::take(&rt) else {
         return ExitCode::from(WRITE_FAILED);

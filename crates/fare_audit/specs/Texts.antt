@@ -5,7 +5,7 @@ use Rattle.bid_rules.specs.declared.cases.FareCase.{FareCase}
 use Rattle.bid_rules.specs.Coalitions.{riders_in}
 use Rattle.shapley_core.specs.declared.division.FareDivision.{FareDivision}
 use Rattle.split_frac.specs.Frac.{frac_text, fraction_of}
-use Rattle.split_frac.specs.Texts.{line_of, spaced}
+use Rattle.split_frac.specs.Texts.{line_of, with_spaces}
 use Rattle.fare_audit.specs.Excesses.{IsFareAudit, group_count}
 use Rattle.fare_audit.specs.declared.audit.FareAudit.{FareAudit}
 use Rattle.fare_audit.specs.declared.audit.Worst.{Worst}
@@ -21,7 +21,7 @@ groups_line groups all = line_of (codes "groups " ∷ decimal groups ∷ codes "
 -- the line of the worst group, with its members and its excess in cents; or that there is none
 abbrev pub worst_line : List ℕ → Option Worst → List ℕ
 worst_line who None = line_of (codes "worst none" ∷ [])
-worst_line who (Some worst) = line_of (codes "worst" ∷ spaced (map decimal (members_in who worst.set)) ∷ codes ", excess " ∷ frac_text worst.excess ∷ [])
+worst_line who (Some worst) = line_of (codes "worst" ∷ with_spaces (map decimal (members_in who worst.set)) ∷ codes ", excess " ∷ frac_text worst.excess ∷ [])
 
 -- the text of an audit of fares, three lines
 abbrev pub fare_audit_text : List ℕ → FareCase → FareAudit → List ℕ

@@ -45,15 +45,18 @@ struct Tally {
     most: i128,
 }
 
-/// What is found of all groups, in parts.
+// What is found of all groups, in parts.
 fn tally_of(costs: &Costs, parts: &[i128], denominator: u64) -> Tally
     requires small { All IsSmallPart parts.now }
     requires count { length parts.now ≡ length costs.now.at.items }
     requires riders { length parts.now ≤ MOST_RIDERS }
     requires few { denominator ≤ orders_of MOST_RIDERS }
-    ensures groups { result.groups ≡ count_below (excess_in_parts costs.now parts.now denominator) (2 ^ length parts.now) }
-    ensures greatest { IsFirstGreatest (excess_in_parts costs.now parts.now denominator) (2 ^ length parts.now) result.set result.most }
-    ensures size { unsigned_abs result.most ≤ MOST_FARE_CENTS * (MOST_RIDERS + 1) * orders_of MOST_RIDERS * (MOST_RIDERS + 1) }
+    ensures groups { result.groups
+        ≡ count_below (excess_in_parts costs.now parts.now denominator) (2 ^ length parts.now) }
+    ensures greatest { IsFirstGreatest (excess_in_parts costs.now parts.now denominator)
+        (2 ^ length parts.now) result.set result.most }
+    ensures size { unsigned_abs result.most
+        ≤ MOST_FARE_CENTS * (MOST_RIDERS + 1) * orders_of MOST_RIDERS * (MOST_RIDERS + 1) }
 {
     let mut groups = 0;
     let mut worst = 0;
@@ -75,12 +78,14 @@ fn tally_of(costs: &Costs, parts: &[i128], denominator: u64) -> Tally
     }
 }
 
-/// The worst group, whose excess is given in parts.
+// The worst group, whose excess is given in parts.
 fn worst_of(set: u16, most: i128, denominator: u64) -> Option<Worst>
     requires some { 0 < denominator }
     requires few { denominator ≤ orders_of MOST_RIDERS }
-    requires size { unsigned_abs most ≤ MOST_FARE_CENTS * (MOST_RIDERS + 1) * orders_of MOST_RIDERS * (MOST_RIDERS + 1) }
-    ensures { MatchOption result (set ≡ 0) (λ worst. (0 < set) × (worst.set ≡ set) × HasValue worst.excess most denominator) }
+    requires size { unsigned_abs most
+        ≤ MOST_FARE_CENTS * (MOST_RIDERS + 1) * orders_of MOST_RIDERS * (MOST_RIDERS + 1) }
+    ensures { MatchOption result (set ≡ 0) (λ worst.
+        (0 < set) × (worst.set ≡ set) × HasValue worst.excess most denominator) }
 {
     if set == 0 {
         return None;

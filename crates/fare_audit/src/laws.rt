@@ -17,8 +17,11 @@ use split_frac::value_law;
 
 /// The group of all riders has no excess: best fares sum to the cost of all (Shapley 1953).
 pub fn all_riders_law()
-    ensures none { (case : FareCase) (fares : List Fraction) (route : List ℕ) → FareBest case fares route → IsQuotient (excess_of case fares (group_count case)) (pos 0) 1 }
-    ensures pays { (case : FareCase) (fares : List Fraction) (route : List ℕ) → FareBest case fares route → IsTrue (overpays case fares (group_count case)) → ⊥ }
+    ensures none { (case : FareCase) (fares : List Fraction) (route : List ℕ)
+        → FareBest case fares route
+        → IsQuotient (excess_of case fares (group_count case)) (pos 0) 1 }
+    ensures pays { (case : FareCase) (fares : List Fraction) (route : List ℕ)
+        → FareBest case fares route → IsTrue (overpays case fares (group_count case)) → ⊥ }
 {
     best_fares_law();
     coalition_law();
@@ -26,9 +29,13 @@ pub fn all_riders_law()
 
 /// Fares have one audit, and since a case has one division by the solver, it has one text under a title.
 pub fn one_audit_law()
-    ensures audit { (case : FareCase) (fares : List Frac) (audit other : FareAudit) → IsFareAudit case (map fraction_of fares) audit → IsFareAudit case (map fraction_of fares) other → audit ≡ other }
-    ensures text { (title : List ℕ) (case : FareCase) (division others : FareDivision) (text other : List ℕ) → IsFareDivision case division → IsFareDivision case others
-        → IsFareAuditText title case division text → IsFareAuditText title case others other → text ≡ other }
+    ensures audit { (case : FareCase) (fares : List Frac) (audit other : FareAudit)
+        → IsFareAudit case (map fraction_of fares) audit
+        → IsFareAudit case (map fraction_of fares) other → audit ≡ other }
+    ensures text { (title : List ℕ) (case : FareCase) (division others : FareDivision)
+        (text other : List ℕ) → IsFareDivision case division → IsFareDivision case others
+        → IsFareAuditText title case division text → IsFareAuditText title case others other
+        → text ≡ other }
 {
     division_law();
     value_law();

@@ -18,7 +18,7 @@ use split_frac::Frac;
 /// Whole parts of a cent, by rider.
 pub(crate) type PartList = ArrayVec<i128, RIDER_ROOM>;
 
-/// A fare in parts.
+// A fare in parts.
 fn part_of(fare: &Frac, denominator: u64) -> i128
     requires fare { IsInParts denominator fare.now }
     requires some { 0 < denominator }
@@ -29,13 +29,14 @@ fn part_of(fare: &Frac, denominator: u64) -> i128
     fare.num * i128::from(denominator / fare.den)
 }
 
-/// The fares in parts.
+// The fares in parts.
 pub(crate) fn parts_of(fares: &[Frac], denominator: u64) -> PartList
     requires count { length fares.now ≤ RIDER_ROOM }
     requires fares { All (IsInParts denominator) fares.now }
     requires some { 0 < denominator }
     requires few { denominator ≤ orders_of MOST_RIDERS }
-    ensures parts { AllZip (λ fare part. IsQuotient fare part denominator) (map fraction_of fares.now) result.items }
+    ensures parts { AllZip (λ fare part. IsQuotient fare part denominator)
+        (map fraction_of fares.now) result.items }
     ensures small { All IsSmallPart result.items }
 {
     let mut parts = PartList::new();
@@ -45,13 +46,14 @@ pub(crate) fn parts_of(fares: &[Frac], denominator: u64) -> PartList
     parts
 }
 
-/// What some riders pay together, in parts.
+// What some riders pay together, in parts.
 fn paid_by(parts: &[i128], riders: &[u8]) -> i128
     requires small { All IsSmallPart parts.now }
     requires few { length riders.now ≤ MOST_RIDERS }
     requires riders { All (λ rider. (1 ≤ rider) × (rider ≤ length parts.now)) riders.now }
     ensures value { result ≡ total (part_at parts.now) riders.now }
-    ensures size { unsigned_abs result ≤ MOST_FARE_CENTS * (MOST_RIDERS + 1) * orders_of MOST_RIDERS * MOST_RIDERS }
+    ensures size { unsigned_abs result
+        ≤ MOST_FARE_CENTS * (MOST_RIDERS + 1) * orders_of MOST_RIDERS * MOST_RIDERS }
 {
     let mut paid = 0;
     for rider in riders {
@@ -60,7 +62,7 @@ fn paid_by(parts: &[i128], riders: &[u8]) -> i128
     paid
 }
 
-/// The excess of a group, in parts.
+// The excess of a group, in parts.
 pub(crate) fn excess_of(costs: &Costs, parts: &[i128], denominator: u64, set: u16) -> i128
     requires small { All IsSmallPart parts.now }
     requires count { length parts.now ≡ length costs.now.at.items }
@@ -68,7 +70,8 @@ pub(crate) fn excess_of(costs: &Costs, parts: &[i128], denominator: u64, set: u1
     requires set { set < 2 ^ length parts.now }
     requires few { denominator ≤ orders_of MOST_RIDERS }
     ensures value { result ≡ excess_in_parts costs.now parts.now denominator set }
-    ensures size { unsigned_abs result ≤ MOST_FARE_CENTS * (MOST_RIDERS + 1) * orders_of MOST_RIDERS * (MOST_RIDERS + 1) }
+    ensures size { unsigned_abs result
+        ≤ MOST_FARE_CENTS * (MOST_RIDERS + 1) * orders_of MOST_RIDERS * (MOST_RIDERS + 1) }
 {
     coalition_law();
     let riders = riders_of_set(parts.len() as u8, set);

@@ -16,7 +16,7 @@ use split_base::NoMemory;
 use split_frac::{Numbers, push_line};
 use std::alloc::Global;
 
-/// The numbers of the members who are the riders of a group.
+// The numbers of the members who are the riders of a group.
 fn members_of(who: &[u8], set: u16) -> ArrayVec<u8, RIDER_ROOM>
     requires few { length who.now ≤ MOST_RIDERS }
     requires set { set < 2 ^ length who.now }
@@ -31,11 +31,12 @@ fn members_of(who: &[u8], set: u16) -> ArrayVec<u8, RIDER_ROOM>
     members
 }
 
-/// Appends the line of the worst group, in the numbers of members.
+// Appends the line of the worst group, in the numbers of members.
 fn push_worst(lines: &mut String, who: &[u8], worst: Option<Worst>) -> Result<(), NoMemory>
     requires few { length who.now ≤ MOST_RIDERS }
     requires group { ForSome worst (λ worst. worst.set < 2 ^ length who.now) }
-    ensures { OnOk result (string_bytes lines.new ≡ string_bytes lines.old ++ worst_line who.now worst) }
+    ensures { OnOk result
+        (string_bytes lines.new ≡ string_bytes lines.old ++ worst_line who.now worst) }
 {
     match worst {
         None => push_line(lines, "worst none"),
@@ -48,9 +49,10 @@ fn push_worst(lines: &mut String, who: &[u8], worst: Option<Worst>) -> Result<()
     }
 }
 
-/// Appends the line of the numbers of groups.
+// Appends the line of the numbers of groups.
 fn push_groups(lines: &mut String, groups: u32, all: u16) -> Result<(), NoMemory>
-    ensures { OnOk result (string_bytes lines.new ≡ string_bytes lines.old ++ groups_line groups all) }
+    ensures { OnOk result
+        (string_bytes lines.new ≡ string_bytes lines.old ++ groups_line groups all) }
 {
     push_line(lines, format_args!("groups {groups} of {all}"))
 }

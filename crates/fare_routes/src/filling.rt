@@ -11,7 +11,7 @@ use set_costs::{Row, next_row, rows_law};
 use split_base::NoMemory;
 use std::alloc::Global;
 
-/// The rows of all sets of riders, by their numbers, in memory that is taken once.
+// The rows of all sets of riders, by their numbers, in memory that is taken once.
 fn rows(alloc: Global, case: &FareCase) -> Result<Vec<Row>, NoMemory>
     requires { IsValidFareCase case.now }
     ensures { IfOk result (λ rows. HoldsCosts case.now (map (λ row. row.items) rows.items)) }
@@ -30,7 +30,7 @@ fn rows(alloc: Global, case: &FareCase) -> Result<Vec<Row>, NoMemory>
     Ok(rows)
 }
 
-/// The same case once more, to be kept beside its costs.
+// The same case once more, to be kept beside its costs.
 fn copied_case(case: &FareCase) -> FareCase
     requires { IsValidFareCase case.now }
     ensures { result ≡ case.now }

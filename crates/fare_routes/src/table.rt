@@ -71,8 +71,10 @@ impl Costs {
         requires low { 1 ≤ rider }
         requires high { rider ≤ length self.now.at.items }
         ensures value { result ≡ sum_of_marginal_costs self.now rider }
-        ensures small { unsigned_abs result ≤ MOST_FARE_CENTS * (MOST_RIDERS + 1) * factorial (length self.now.at.items) }
-        ensures fits { unsigned_abs result ≤ MOST_FARE_CENTS * (MOST_RIDERS + 1) * factorial MOST_RIDERS }
+        ensures small { unsigned_abs result
+            ≤ MOST_FARE_CENTS * (MOST_RIDERS + 1) * factorial (length self.now.at.items) }
+        ensures fits { unsigned_abs result
+            ≤ MOST_FARE_CENTS * (MOST_RIDERS + 1) * factorial MOST_RIDERS }
     {
         self.borrowed().sum_over_orders(rider)
     }

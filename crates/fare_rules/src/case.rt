@@ -15,13 +15,24 @@ use rule_verdicts::{members_between, rows_of_amounts};
 /// A row of printed legs.
 pub type PrintedRow = ArrayVec<i128, PLACE_ROOM>;
 
-/// The facts that the head prints, where each number of cents is one that a case can have.
+// The facts that the head prints, where each number of cents is one that a case can have.
 fn facts_of(places: u8, flag: i128, legs: &[PrintedRow]) -> Option<Fares>
     requires { length legs.now ≤ LEG_ROW_ROOM }
     ensures { MatchOption result
-        ((pos 0 ≤ℤ flag) × (flag ≤ℤ pos MOST_FARE_CENTS) × All (AreBetween 0 MOST_FARE_CENTS) (map (λ row. row.items) legs.now) → ⊥)
-        (λ facts. (pos 0 ≤ℤ flag) × All (AreBetween 0 MOST_FARE_CENTS) (map (λ row. row.items) legs.now)
-        × (facts ≡ record { members = MOST_RIDERS; places = places; flag = unsigned_abs flag; legs = record { items = map (λ row. record { items = map unsigned_abs row }) (map (λ row. row.items) legs.now) } })) }
+        ((pos 0 ≤ℤ flag) × (flag ≤ℤ pos MOST_FARE_CENTS)
+        × All (AreBetween 0 MOST_FARE_CENTS) (map (λ row. row.items) legs.now) → ⊥)
+        (λ facts.
+        (pos 0 ≤ℤ flag) × All (AreBetween 0 MOST_FARE_CENTS) (map (λ row. row.items) legs.now)
+        × (facts
+        ≡ record {
+          members = MOST_RIDERS;
+          places = places;
+          flag = unsigned_abs flag;
+          legs = record {
+            items = map (λ row. record { items = map unsigned_abs row })
+                (map (λ row. row.items) legs.now);
+          };
+        })) }
 {
     if flag < 0 || flag > i128::from(MOST_FARE_CENTS) {
         return None;
@@ -35,7 +46,7 @@ fn facts_of(places: u8, flag: i128, legs: &[PrintedRow]) -> Option<Fares>
     })
 }
 
-/// The printed case, if it is valid.
+// The printed case, if it is valid.
 pub(crate) fn case_of(
     places: u8,
     flag: i128,
@@ -46,9 +57,12 @@ pub(crate) fn case_of(
     requires legs { length legs.now ≤ LEG_ROW_ROOM }
     requires who { length who.now ≤ RIDER_ROOM }
     requires at { length at.now ≤ RIDER_ROOM }
-    ensures { MatchOption result (HasCase (head_of places flag (map (λ row. row.items) legs.now) who.now at.now) → ⊥)
-        (λ case. HasCase (head_of places flag (map (λ row. row.items) legs.now) who.now at.now)
-        × (case ≡ printed_case (head_of places flag (map (λ row. row.items) legs.now) who.now at.now))) }
+    ensures { MatchOption result
+        (HasCase (head_of places flag (map (λ row. row.items) legs.now) who.now at.now) → ⊥)
+        (λ case.
+        HasCase (head_of places flag (map (λ row. row.items) legs.now) who.now at.now)
+        × (case
+        ≡ printed_case (head_of places flag (map (λ row. row.items) legs.now) who.now at.now))) }
 {
     let Some(facts) = facts_of(places, flag, legs) else {
         return None;

@@ -17,20 +17,21 @@ use rule_verdicts::Verdict;
 use set_costs::{Row, SetCosts, rows_law};
 use split_frac::Frac;
 
-/// Whether two lists of riders are the same.
+// Whether two lists of riders are the same.
 fn are_same(riders: &[u8], others: &[u8]) -> bool
     ensures { IsTrue result ↔ riders.now ≡ others.now }
 {
     riders == others
 }
 
-/// The verdict, from the third rule on.
+// The verdict, from the third rule on.
 pub(crate) fn verdict_of(case: &FareCase, rows: &[Row], route: &[i128], fares: &[Frac]) -> Verdict
     requires rows { HoldsCosts case.now (map (λ row. row.items) rows.now) }
     requires route { length route.now ≡ length case.now.at.items }
     requires fares { length fares.now ≡ length case.now.at.items }
     requires short { AreShort fares.now }
-    ensures { (view : FaresView) → HasCase view → case.now ≡ printed_case view → HasLines (printed_case view) (length view.at) view.sets → view.route ≡ route.now
+    ensures { (view : FaresView) → HasCase view → case.now ≡ printed_case view
+        → HasLines (printed_case view) (length view.at) view.sets → view.route ≡ route.now
         → view.fares ≡ map fraction_of fares.now → IsVerdictOf (rules_of_fares view) result }
 {
     rows_law();

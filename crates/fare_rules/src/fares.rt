@@ -12,7 +12,7 @@ use bid_rules::limits::{MOST_FARE_CENTS, MOST_RIDERS};
 use set_costs::{SetCosts, factorial};
 use split_frac::Frac;
 
-/// A number of up to 25 digits, times another.
+// A number of up to 25 digits, times another.
 fn times(number: i128, many: u64) -> i128
     requires number { IsSmall number }
     requires many { many ≤ MOST_PRINTED_DENOMINATOR }
@@ -21,7 +21,7 @@ fn times(number: i128, many: u64) -> i128
     number * i128::from(many)
 }
 
-/// Whether a fare is the mean over all orders of this many riders, given the sum over them.
+// Whether a fare is the mean over all orders of this many riders, given the sum over them.
 fn is_mean(fare: &Frac, sum: i128, count: u8) -> bool
     requires count { count ≤ MOST_RIDERS }
     requires numerator { IsSmall fare.now.num }
@@ -32,13 +32,16 @@ fn is_mean(fare: &Frac, sum: i128, count: u8) -> bool
     times(fare.num, factorial(count)) == times(sum, fare.den)
 }
 
-/// Whether each rider's fare is the mean of the rider's marginal costs over all orders of the riders.
+// Whether each rider's fare is the mean of the rider's marginal costs over all orders of the riders.
 pub(crate) fn are_means(costs: &SetCosts<'_>, count: u8, fares: &[Frac]) -> bool
     requires few { count ≤ MOST_RIDERS }
     requires count { count ≡ length costs.now.at.items }
     requires fares { length fares.now ≡ count }
     requires short { AreShort fares.now }
-    ensures { IsTrue result ↔ AllZip (λ rider fare. IsQuotient fare (sum_of_marginal_costs costs.now rider) (orders_of count)) (riders_of costs.now) (map fraction_of fares.now) }
+    ensures { IsTrue result
+        ↔ AllZip
+        (λ rider fare. IsQuotient fare (sum_of_marginal_costs costs.now rider) (orders_of count))
+        (riders_of costs.now) (map fraction_of fares.now) }
 {
     for k in 0..count {
         let sum = costs.sum_over_orders(k + 1);

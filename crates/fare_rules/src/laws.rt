@@ -16,9 +16,13 @@ use best_laws::{coalition_law, lowest_route_law, route_set_law, without_rider_la
 
 /// If all rules hold, the printed case is valid, and the printed fares and route are best for it (Shapley 1953). A text has one verdict.
 pub fn fares_certificate_law()
-    ensures valid { (view : FaresView) → IsVerdictOf (rules_of_fares view) Yes → IsValidFareCase (printed_case view) }
-    ensures best { (view : FaresView) → IsVerdictOf (rules_of_fares view) Yes → FareBest (printed_case view) view.fares (printed_route view) }
-    ensures one { (view : FaresView) (verdict other : Verdict) → IsVerdictOf (rules_of_fares view) verdict → IsVerdictOf (rules_of_fares view) other → verdict ≡ other }
+    ensures valid { (view : FaresView) → IsVerdictOf (rules_of_fares view) Yes
+        → IsValidFareCase (printed_case view) }
+    ensures best { (view : FaresView) → IsVerdictOf (rules_of_fares view) Yes
+        → FareBest (printed_case view) view.fares (printed_route view) }
+    ensures one { (view : FaresView) (verdict other : Verdict)
+        → IsVerdictOf (rules_of_fares view) verdict → IsVerdictOf (rules_of_fares view) other
+        → verdict ≡ other }
 {
     coalition_law();
     without_rider_law();

@@ -23,11 +23,12 @@ pub fn starts_of(count: u8, set: u16) -> ArrayVec<u8, START_ROOM>
     starts
 }
 
-/// Whether a line says what the row of its set has at each of its starts.
+// Whether a line says what the row of its set has at each of its starts.
 pub(crate) fn is_line(row: &[u32], count: u8, set: u16, line: &[i128]) -> bool
     requires few { count ≤ MOST_RIDERS }
     requires row { length row.now ≡ count + 1 }
-    ensures { IsTrue result ↔ line.now ≡ map (λ at. pos (slice_index row.now at)) (starts count set) }
+    ensures { IsTrue result
+        ↔ line.now ≡ map (λ at. pos (slice_index row.now at)) (starts count set) }
 {
     let starts = starts_of(count, set);
     if line.len() != starts.len() {

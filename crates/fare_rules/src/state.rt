@@ -56,7 +56,8 @@ pub fn start_fares(
     requires who { length who.now ≤ RIDER_ROOM }
     requires at { length at.now ≤ RIDER_ROOM }
     ensures state { IsState result }
-    ensures stands { StandsFor (head_of places flag (map (λ row. row.items) legs.now) who.now at.now) [] result }
+    ensures stands { StandsFor
+        (head_of places flag (map (λ row. row.items) legs.now) who.now at.now) [] result }
 {
     rows_law();
     coalition_law();
@@ -68,11 +69,12 @@ pub fn start_fares(
     FaresState::Filling { case, rows }
 }
 
-/// Adds the row of the next set, and answers whether the line is as it must be.
+// Adds the row of the next set, and answers whether the line is as it must be.
 fn push_row(case: &FareCase, rows: &mut Rows, line: &[i128]) -> bool
     requires lists { ListsCosts case.now (map (λ row. row.items) rows.old.items) }
     requires more { length rows.old.items < 2 ^ length case.now.at.items }
-    ensures line { IsTrue result ↔ line.now ≡ cost_line case.now (length case.now.at.items) (length rows.old.items) }
+    ensures line { IsTrue result
+        ↔ line.now ≡ cost_line case.now (length case.now.at.items) (length rows.old.items) }
     ensures lists { ListsCosts case.now (map (λ row. row.items) rows.new.items) }
     ensures count { length rows.new.items ≡ length rows.old.items + 1 }
 {
@@ -84,12 +86,14 @@ fn push_row(case: &FareCase, rows: &mut Rows, line: &[i128]) -> bool
     is_kept
 }
 
-/// Takes the line of the next set, and answers whether it is as it must be. If all sets have had their lines, it does nothing.
+// Takes the line of the next set, and answers whether it is as it must be. If all sets have had their lines, it does nothing.
 fn fill(case: &FareCase, rows: &mut Rows, line: &[i128]) -> bool
     requires { ListsCosts case.now (map (λ row. row.items) rows.old.items) }
     ensures lists { ListsCosts case.now (map (λ row. row.items) rows.new.items) }
-    ensures line { length rows.old.items < 2 ^ length case.now.at.items → IsTrue result ↔ line.now ≡ cost_line case.now (length case.now.at.items) (length rows.old.items) }
-    ensures count { length rows.old.items < 2 ^ length case.now.at.items → length rows.new.items ≡ length rows.old.items + 1 }
+    ensures line { length rows.old.items < 2 ^ length case.now.at.items → IsTrue result
+        ↔ line.now ≡ cost_line case.now (length case.now.at.items) (length rows.old.items) }
+    ensures count { length rows.old.items < 2 ^ length case.now.at.items
+        → length rows.new.items ≡ length rows.old.items + 1 }
 {
     rows_law();
     coalition_law();
@@ -103,7 +107,9 @@ fn fill(case: &FareCase, rows: &mut Rows, line: &[i128]) -> bool
 pub fn take_set(state: &mut FaresState, line: &[i128])
     requires { IsState state.old }
     ensures state { IsState state.new }
-    ensures stands { (view : FaresView) (taken : List (List ℤ)) → StandsFor view taken state.old → length taken + 1 < 2 ^ length view.at → StandsFor view (taken ++ line.now ∷ []) state.new }
+    ensures stands { (view : FaresView) (taken : List (List ℤ)) → StandsFor view taken state.old
+        → length taken + 1 < 2 ^ length view.at
+        → StandsFor view (taken ++ line.now ∷ []) state.new }
 {
     let is_kept = match state {
         FaresState::Filling { case, rows } => fill(case, rows, line),
@@ -119,8 +125,10 @@ pub fn take_set(state: &mut FaresState, line: &[i128])
 pub fn end_fares(state: &FaresState, route: &[i128], fares: &[Frac]) -> Verdict
     requires state { IsState state.now }
     requires short { AreShort fares.now }
-    ensures { (view : FaresView) → StandsFor view view.sets state.now → length view.sets + 1 ≡ 2 ^ length view.at → view.route ≡ route.now → view.fares ≡ map fraction_of fares.now
-        → length view.route ≡ length view.at → length view.fares ≡ length view.at → IsVerdictOf (rules_of_fares view) result }
+    ensures { (view : FaresView) → StandsFor view view.sets state.now
+        → length view.sets + 1 ≡ 2 ^ length view.at → view.route ≡ route.now
+        → view.fares ≡ map fraction_of fares.now → length view.route ≡ length view.at
+        → length view.fares ≡ length view.at → IsVerdictOf (rules_of_fares view) result }
 {
     without_rider_law();
     coalition_law();
@@ -131,12 +139,14 @@ pub fn end_fares(state: &FaresState, route: &[i128], fares: &[Frac]) -> Verdict
     }
 }
 
-/// The verdict, if no line is broken. Lists of other lengths than the text's do not come from a text.
+// The verdict, if no line is broken. Lists of other lengths than the text's do not come from a text.
 fn end_filling(case: &FareCase, rows: &[Row], route: &[i128], fares: &[Frac]) -> Verdict
     requires rows { ListsCosts case.now (map (λ row. row.items) rows.now) }
     requires short { AreShort fares.now }
-    ensures { length rows.now ≡ 2 ^ length case.now.at.items → length route.now ≡ length case.now.at.items → length fares.now ≡ length case.now.at.items
-        → (view : FaresView) → HasCase view → case.now ≡ printed_case view → HasLines (printed_case view) (length view.at) view.sets → view.route ≡ route.now
+    ensures { length rows.now ≡ 2 ^ length case.now.at.items
+        → length route.now ≡ length case.now.at.items → length fares.now ≡ length case.now.at.items
+        → (view : FaresView) → HasCase view → case.now ≡ printed_case view
+        → HasLines (printed_case view) (length view.at) view.sets → view.route ≡ route.now
         → view.fares ≡ map fraction_of fares.now → IsVerdictOf (rules_of_fares view) result }
 {
     coalition_law();

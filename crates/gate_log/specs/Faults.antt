@@ -16,7 +16,7 @@ pub record IsCutHeader (place : ℕ) (file : List ℕ) : Type 0 where
   pub size : length file ≡ place
   pub short : place < EMPTY_SIZE
 
--- the first fault of the file is here, in its start line or where its header is cut
+-- the first fault of the file is here: in its start line, or at the place at which its header is cut
 abbrev pub IsHeaderFault : ℕ → List ℕ → Type 0
 IsHeaderFault place file = IsLineFault place file ⊎ IsCutHeader place file
 
@@ -24,8 +24,8 @@ IsHeaderFault place file = IsLineFault place file ⊎ IsCutHeader place file
 abbrev pub length_in : List ℕ → ℕ
 length_in more = from_le_bytes w32 (take LENGTH_SIZE more)
 
--- A record whose gate is open at p has a fault. Its place is p + 1 where the length is out of range. It is the file's size where the
--- length, the body or the next gate is missing.
+-- A record whose gate is open at p has a fault. Its place is p + 1 if the length is out of range. It is the file's size if the length, the body or
+-- the next gate is missing.
 abbrev pub IsShort : List ℕ → Type 0
 IsShort more = (length more < LENGTH_SIZE) ⊎ ((LENGTH_SIZE ≤ length more) × IsLength (length_in more) × (length more < FRONT_SIZE + length_in more))
 
@@ -33,7 +33,7 @@ IsShort more = (length more < LENGTH_SIZE) ⊎ ((LENGTH_SIZE ≤ length more) ×
 abbrev pub IsOutOfRange : List ℕ → Type 0
 IsOutOfRange more = (LENGTH_SIZE ≤ length more) × (¬ IsLength (length_in more))
 
--- after a gate at p the fault is here: at the end of the file where it is cut within the record, or at the length where no body may have it
+-- after a gate at p the fault is here: at the end of the file if it is cut within the record, or at the length if no body may have it
 abbrev pub IsRecordFault : (p : ℕ) (more : List ℕ) (size place : ℕ) → Type 0
 IsRecordFault p more size place = (IsShort more × (place ≡ size)) ⊎ (IsOutOfRange more × (place ≡ p + 1))
 

@@ -35,8 +35,8 @@ abbrev pub with_ahead : LogView → List ℕ → LogView
 with_ahead log ahead = record { place = log.place; version = log.version; at_end = log.at_end; size = log.size; ahead = ahead }
 
 -- the log whose gate was found closed
-abbrev pub closed : LogView → LogView
-closed log = record { place = log.place; version = log.version; at_end = true; size = log.size; ahead = log.ahead }
+abbrev pub with_gate_closed : LogView → LogView
+with_gate_closed log = record { place = log.place; version = log.version; at_end = true; size = log.size; ahead = log.ahead }
 
 -- the log past a record with a body of this length
 abbrev pub past : LogView → ℕ → LogView

@@ -13,7 +13,7 @@ start_line = codes "FAIRSPLIT LOG 1" ++ 10 ∷ []
 abbrev pub header : ℕ → List ℕ → List ℕ
 header gate secret = start_line ++ secret ++ gate ∷ []
 
--- version 1 where the version gate is 0, else version 2
+-- version 1 if the version gate is 0, otherwise version 2
 abbrev pub IsVersion : ℕ → ℕ → Type 0
 IsVersion gate version = ((gate ≡ 0) × (version ≡ 1)) ⊎ ((gate ≢ 0) × (version ≡ 2))
 

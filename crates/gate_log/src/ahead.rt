@@ -20,6 +20,7 @@ pub(crate) struct Ahead {
 impl Ahead {
     ghost use Rattle.gate_log.specs.Ahead.{bytes_of, room_of};
 
+    // Nothing has been read ahead yet.
     pub(crate) fn new() -> Self
         ensures { bytes_of result ≡ [] }
     {
@@ -30,6 +31,7 @@ impl Ahead {
         }
     }
 
+    // An append changes the file, so what was read ahead is read anew.
     pub(crate) fn clear(&mut self)
         ensures { bytes_of self.new ≡ [] }
     {
@@ -37,12 +39,14 @@ impl Ahead {
         self.to = 0;
     }
 
+    // What was read ahead and not passed yet.
     pub(crate) fn bytes(&self) -> &[u8]
         ensures { result.now ≡ bytes_of self.now }
     {
         &self.piece[self.from..self.to]
     }
 
+    // These bytes were understood and aren't looked at again.
     pub(crate) fn pass(&mut self, count: usize)
         requires { count ≤ length (bytes_of self.old) }
         ensures { bytes_of self.new ≡ drop count (bytes_of self.old) }
@@ -50,6 +54,7 @@ impl Ahead {
         self.from += count;
     }
 
+    // Makes room behind what is left, so that more can be read in one call.
     fn move_to_front(&mut self)
         ensures bytes { bytes_of self.new ≡ bytes_of self.old }
         ensures room { room_of self.new + length (bytes_of self.new) ≡ PIECE }
@@ -69,11 +74,15 @@ impl Ahead {
         ensures tick { D.is_honest disk.old → D.moment disk.new ≡ D.moment disk.old }
         ensures honest { D.is_honest disk.old ↔ D.is_honest disk.new }
         ensures still { D.tells disk.old → D.tells disk.new × (D.seen disk.new ≡ D.seen disk.old) }
-        ensures rests { D.is_honest disk.old → Rests D.seen D.images D.moment D.left_since disk.old disk.new }
+        ensures rests { D.is_honest disk.old
+            → Rests D.seen D.images D.moment D.left_since disk.old disk.new }
         ensures refused { OnErr result (bytes_of self.new ≡ bytes_of self.old) }
         ensures most { OnOk result (place + length (bytes_of self.new) ≤ 2 ^ 63) }
-        ensures told { D.tells disk.old → OnOk result (bytes_of self.new
-            ≡ bytes_of self.old ++ take (PIECE - length (bytes_of self.old)) (drop (place + length (bytes_of self.old)) (D.seen disk.old))) }
+        ensures told { D.tells disk.old
+            → OnOk result (bytes_of self.new
+            ≡ bytes_of self.old
+            ++ take (PIECE - length (bytes_of self.old))
+            (drop (place + length (bytes_of self.old)) (D.seen disk.old))) }
     {
         self.move_to_front();
         let end = self.to;

@@ -16,6 +16,8 @@ pub(crate) enum AtGate {
     Short,
 }
 
+// A length that no body has is told apart from a record that isn't all there yet: the first is damage, the second needs
+// more bytes.
 pub(crate) fn look(ahead: &[u8]) -> AtGate
     ensures { Shows ahead.now result }
 {

@@ -6,8 +6,9 @@ ghost use Rattle.gate_log.specs.Faults.{GoesOn, HasMeaning, IsFault, IsFaultAfte
 /// A file has one meaning: a journal of one version, one secret and one list of bodies, or no
 /// journal, with its first fault at one place.
 pub fn journal_law()
-    ensures one_meaning { (v w : ℕ) (secret word : List ℕ) (bodies others : List (List ℕ)) (file : List ℕ)
-        → Stands v secret bodies file → Stands w word others file → (v ≡ w) × (secret ≡ word) × (bodies ≡ others) }
+    ensures one_meaning { (v w : ℕ) (secret word : List ℕ) (bodies others : List (List ℕ))
+        (file : List ℕ) → Stands v secret bodies file → Stands w word others file
+        → (v ≡ w) × (secret ≡ word) × (bodies ≡ others) }
     ensures no_fault { (v place : ℕ) (secret : List ℕ) (bodies : List (List ℕ)) (file : List ℕ)
         → Stands v secret bodies file → IsFault place file → ⊥ }
     ensures one_fault { (p q : ℕ) (file : List ℕ) → IsFault p file → IsFault q file → p ≡ q }
@@ -19,16 +20,26 @@ pub fn journal_law()
 /// A file begins with a header or has a fault there; and after the records with which it begins it
 /// ends as a journal, has a fault, or goes on with a record more.
 pub fn beginning_law()
-    ensures stands { (v : ℕ) (secret : List ℕ) (bodies : List (List ℕ)) (file : List ℕ) → Stands v secret bodies file → Begins v secret bodies file }
-    ensures fault { (v place : ℕ) (secret : List ℕ) (bodies : List (List ℕ)) (file : List ℕ) → IsFaultAfter v secret bodies place file → Begins v secret bodies file }
-    ensures one { (v w : ℕ) (secret word : List ℕ) (bodies others : List (List ℕ)) (file : List ℕ) → Begins v secret bodies file → Begins w word others file
+    ensures stands { (v : ℕ) (secret : List ℕ) (bodies : List (List ℕ)) (file : List ℕ)
+        → Stands v secret bodies file → Begins v secret bodies file }
+    ensures fault { (v place : ℕ) (secret : List ℕ) (bodies : List (List ℕ)) (file : List ℕ)
+        → IsFaultAfter v secret bodies place file → Begins v secret bodies file }
+    ensures one { (v w : ℕ) (secret word : List ℕ) (bodies others : List (List ℕ)) (file : List ℕ)
+        → Begins v secret bodies file → Begins w word others file
         → (v ≡ w) × (secret ≡ word) × (BeginWith bodies others ⊎ BeginWith others bodies) }
-    ensures stands_last { (v w : ℕ) (secret word : List ℕ) (bodies others : List (List ℕ)) (file : List ℕ)
-        → Stands v secret bodies file → Begins w word others file → BeginWith bodies others }
-    ensures fault_last { (v w place : ℕ) (secret word : List ℕ) (bodies others : List (List ℕ)) (file : List ℕ)
-        → IsFaultAfter v secret bodies place file → Begins w word others file → BeginWith bodies others }
-    ensures header_or_fault { (file : List ℕ) → ((place : ℕ) × IsHeaderFault place file) ⊎ ((v : ℕ) × (secret : List ℕ) × Begins v secret [] file) }
-    ensures goes_on { (v : ℕ) (secret : List ℕ) (bodies : List (List ℕ)) (file : List ℕ) → All (λ b. b < 2 ^ 8) file → Begins v secret bodies file → GoesOn v secret bodies file }
-    ensures within { (v : ℕ) (secret : List ℕ) (bodies : List (List ℕ)) (file : List ℕ) → Begins v secret bodies file → place_after bodies < length file }
-    ensures header { (v place : ℕ) (secret : List ℕ) (bodies : List (List ℕ)) (file : List ℕ) → Begins v secret bodies file → IsHeaderFault place file → ⊥ }
+    ensures stands_last { (v w : ℕ) (secret word : List ℕ) (bodies others : List (List ℕ))
+        (file : List ℕ) → Stands v secret bodies file → Begins w word others file
+        → BeginWith bodies others }
+    ensures fault_last { (v w place : ℕ) (secret word : List ℕ) (bodies others : List (List ℕ))
+        (file : List ℕ) → IsFaultAfter v secret bodies place file → Begins w word others file
+        → BeginWith bodies others }
+    ensures header_or_fault { (file : List ℕ)
+        → ((place : ℕ) × IsHeaderFault place file)
+        ⊎ ((v : ℕ) × (secret : List ℕ) × Begins v secret [] file) }
+    ensures goes_on { (v : ℕ) (secret : List ℕ) (bodies : List (List ℕ)) (file : List ℕ)
+        → All (λ b. b < 2 ^ 8) file → Begins v secret bodies file → GoesOn v secret bodies file }
+    ensures within { (v : ℕ) (secret : List ℕ) (bodies : List (List ℕ)) (file : List ℕ)
+        → Begins v secret bodies file → place_after bodies < length file }
+    ensures header { (v place : ℕ) (secret : List ℕ) (bodies : List (List ℕ)) (file : List ℕ)
+        → Begins v secret bodies file → IsHeaderFault place file → ⊥ }
 {}

@@ -2,8 +2,8 @@
 //! moment leaves the records that were kept so far, with or without the one that is being appended.
 //!
 //! Every file has one list of bodies or one first fault, whose place is told (`journal_law`). An
-//! append is two writes, each with a sync, and no other call. A call refuses only where one call of
-//! the disk failed, where the file is at fault, or where memory runs out.
+//! append is two writes, each with a sync, and no other call that changes a byte. A call refuses only
+//! if one call of the disk failed, if the file is at fault, or if memory runs out.
 #![tactic(auto)]
 
 mod ahead;

@@ -4,8 +4,8 @@ ghost use Rattle.split_base.specs.Faults.{HasCause, HasRisen, IsCounted};
 ghost use Rattle.split_base.specs.Disk.{Each, Only, Rests, LeavesOnly, IsWritten, Tears};
 ghost use Rattle.gate_log.specs.Records.{Stands, HoldsRecords, IsBeforeOrAfter, IsBody, IsAppended, MayBeAppending, behind_gate};
 ghost use Rattle.gate_log.specs.Faults.{IsHeaderFault, IsFaultAfter};
-ghost use Rattle.gate_log.specs.Calls.{TellsFault, faults_after};
-ghost use Rattle.gate_log.specs.Log.{LogView, IsLogOf, IsReading, IsAhead, with_ahead, closed, past};
+ghost use Rattle.gate_log.specs.Calls.{TellsFault, faults_after_call};
+ghost use Rattle.gate_log.specs.Log.{LogView, IsLogOf, IsReading, IsAhead, with_ahead, with_gate_closed, past};
 ghost use Rattle.gate_log.specs.Gate.{Shows};
 ghost use Rattle.gate_log.specs.declared.limits.TheConstants.{BODY_ROOM, RECORD_MOST, FRONT_SIZE, FIRST_GATE, VERSION_GATE};
 
@@ -50,24 +50,31 @@ impl Log {
     /// with the first records. It gives the log at the gate of the first record, and the secret.
     /// It takes no memory.
     ///
-    /// - `Disk` comes only where the disk's count of faults has risen.
-    /// - `NotALog` comes exactly where the header has a fault, with the place of its first.
+    /// - `Disk` comes only if the disk's count of faults has risen.
+    /// - `NotALog` comes exactly if the header has a fault, with the place of its first.
     ///
-    /// No failed call of the disk is tried again: after `Disk` the count has risen by one, and else not
+    /// No failed call of the disk is tried again: after `Disk` the count has risen by one, and otherwise not
     /// at all.
     pub fn start<D: Disk>(disk: &mut D) -> Result<(Self, [u8; SECRET_SIZE]), LogFault>
         ensures count { D.faults disk.old ≤ D.faults disk.new }
-        ensures disk { result ≡ Err LogFault.Disk → HasRisen (D.faults disk.old) (D.faults disk.new) }
-        ensures faults { D.faults disk.new ≡ faults_after (D.faults disk.old) result }
+        ensures disk { result ≡ Err LogFault.Disk
+            → HasRisen (D.faults disk.old) (D.faults disk.new) }
+        ensures faults { D.faults disk.new ≡ faults_after_call (D.faults disk.old) result }
         ensures no_memory { result ≢ Err LogFault.NoMemory }
         ensures still { D.tells disk.old → D.tells disk.new × (D.seen disk.new ≡ D.seen disk.old) }
         ensures honest { D.is_honest disk.old ↔ D.is_honest disk.new }
-        ensures rests { D.is_honest disk.old → Rests D.seen D.images D.moment D.left_since disk.old disk.new }
-        ensures tick { D.is_honest disk.old → IfOk result (λ _. D.moment disk.new ≡ D.moment disk.old + 1) }
-        ensures one { D.is_honest disk.old → IfOk result (λ _. Only (D.seen disk.new) (D.images disk.new)) }
-        ensures reading { D.tells disk.old → IfOk result (λ begun. IsReading (D.seen disk.new) begun.0 begun.1 []) }
-        ensures not_a_log { D.tells disk.old → (place : ℕ) → result ≡ Err (LogFault.NotALog place) → IsHeaderFault place (D.seen disk.new) }
-        ensures exactly { D.tells disk.old → (place : ℕ) → IsHeaderFault place (D.seen disk.old) → TellsFault place result }
+        ensures rests { D.is_honest disk.old
+            → Rests D.seen D.images D.moment D.left_since disk.old disk.new }
+        ensures tick { D.is_honest disk.old
+            → IfOk result (λ _. D.moment disk.new ≡ D.moment disk.old + 1) }
+        ensures one { D.is_honest disk.old
+            → IfOk result (λ _. Only (D.seen disk.new) (D.images disk.new)) }
+        ensures reading { D.tells disk.old
+            → IfOk result (λ begun. IsReading (D.seen disk.new) begun.0 begun.1 []) }
+        ensures not_a_log { D.tells disk.old → (place : ℕ) → result ≡ Err (LogFault.NotALog place)
+            → IsHeaderFault place (D.seen disk.new) }
+        ensures exactly { D.tells disk.old → (place : ℕ) → IsHeaderFault place (D.seen disk.old)
+            → TellsFault place result }
     {
         disk.sync()?;
         let size = disk.size()?;
@@ -107,38 +114,51 @@ impl Log {
     }
 
     /// Gives the body of the record at the log's place in `body` and moves past it, or answers
-    /// false exactly where the gate there is closed; the log is at its end then.
+    /// false exactly if the gate there is closed; the log is at its end then.
     ///
-    /// - `Disk` comes only where the disk's count of faults has risen.
-    /// - `NotALog` comes exactly where the record there has a fault, with the place of the fault.
+    /// - `Disk` comes only if the disk's count of faults has risen.
+    /// - `NotALog` comes exactly if the record there has a fault, with the place of the fault.
     ///
     /// It takes no memory. A refusal leaves the log at its gate. After `Disk` the disk's count has
-    /// risen by one, and else not at all.
+    /// risen by one, and otherwise not at all.
     pub fn next_body<D: Disk>(&mut self, disk: &mut D, body: &mut Body) -> Result<bool, LogFault>
         ensures no_memory { result ≢ Err LogFault.NoMemory }
         ensures count { D.faults disk.old ≤ D.faults disk.new }
-        ensures disk { result ≡ Err LogFault.Disk → HasRisen (D.faults disk.old) (D.faults disk.new) }
-        ensures faults { D.faults disk.new ≡ faults_after (D.faults disk.old) result }
+        ensures disk { result ≡ Err LogFault.Disk
+            → HasRisen (D.faults disk.old) (D.faults disk.new) }
+        ensures faults { D.faults disk.new ≡ faults_after_call (D.faults disk.old) result }
         ensures still { D.tells disk.old → D.tells disk.new × (D.seen disk.new ≡ D.seen disk.old) }
         ensures honest { D.is_honest disk.old ↔ D.is_honest disk.new }
         ensures tick { D.is_honest disk.old → D.moment disk.new ≡ D.moment disk.old }
-        ensures rests { D.is_honest disk.old → Rests D.seen D.images D.moment D.left_since disk.old disk.new }
+        ensures rests { D.is_honest disk.old
+            → Rests D.seen D.images D.moment D.left_since disk.old disk.new }
         ensures version { self.new.version ≡ self.old.version }
         ensures refused { OnErr result (self.new ≡ with_ahead self.old self.new.ahead) }
-        ensures again { D.tells disk.old → (secret : List ℕ) (bodies : List (List ℕ)) → IsReading (D.seen disk.old) self.old secret bodies
+        ensures again { D.tells disk.old → (secret : List ℕ) (bodies : List (List ℕ))
+            → IsReading (D.seen disk.old) self.old secret bodies
             → OnErr result (IsReading (D.seen disk.new) self.new secret bodies) }
-        ensures moves { IfOk result (λ more. IsTrue more → (self.new.place ≡ self.old.place + FRONT_SIZE + length body.new.items) × (self.new.place < 2 ^ 63)) }
+        ensures moves { IfOk result (λ more.
+            IsTrue more
+            → (self.new.place ≡ self.old.place + FRONT_SIZE + length body.new.items)
+            × (self.new.place < 2 ^ 63)) }
         ensures goes_on { IfOk result (λ more. IsTrue more → self.new.at_end ≡ self.old.at_end) }
         ensures at_end { IfOk result (λ more. IsFalse more → IsTrue self.new.at_end) }
         ensures at_gate { IfOk result (λ more. IsFalse more → self.new.place ≡ self.old.place) }
         ensures stays { IsTrue self.old.at_end → (result ≡ Ok false) × (self.new ≡ self.old) }
         ensures body { IfOk result (λ more. IsTrue more → IsBody body.new.items) }
-        ensures record { D.tells disk.old → (secret : List ℕ) (bodies : List (List ℕ)) → IsReading (D.seen disk.old) self.old secret bodies
-            → IfOk result (λ more. IsTrue more → IsReading (D.seen disk.new) self.new secret (bodies ++ body.new.items ∷ [])) }
-        ensures end { D.tells disk.old → (secret : List ℕ) (bodies : List (List ℕ)) → IsReading (D.seen disk.old) self.old secret bodies
-            → IfOk result (λ more. IsFalse more → Stands self.new.version secret bodies (D.seen disk.new)) }
-        ensures not_a_log { D.tells disk.old → (secret : List ℕ) (bodies : List (List ℕ)) → IsReading (D.seen disk.old) self.old secret bodies
-            → (place : ℕ) → result ≡ Err (LogFault.NotALog place) → IsFaultAfter self.old.version secret bodies place (D.seen disk.new) }
+        ensures record { D.tells disk.old → (secret : List ℕ) (bodies : List (List ℕ))
+            → IsReading (D.seen disk.old) self.old secret bodies
+            → IfOk result (λ more.
+            IsTrue more
+            → IsReading (D.seen disk.new) self.new secret (bodies ++ body.new.items ∷ [])) }
+        ensures end { D.tells disk.old → (secret : List ℕ) (bodies : List (List ℕ))
+            → IsReading (D.seen disk.old) self.old secret bodies
+            → IfOk result (λ more.
+            IsFalse more → Stands self.new.version secret bodies (D.seen disk.new)) }
+        ensures not_a_log { D.tells disk.old → (secret : List ℕ) (bodies : List (List ℕ))
+            → IsReading (D.seen disk.old) self.old secret bodies → (place : ℕ)
+            → result ≡ Err (LogFault.NotALog place)
+            → IsFaultAfter self.old.version secret bodies place (D.seen disk.new) }
     {
         if self.at_end {
             return Ok(false);
@@ -162,38 +182,51 @@ impl Log {
     }
 
     /// Gives the body of the record at the log's place in `body` and moves past it, or answers
-    /// false exactly where the gate there is closed; the log is at its end then.
+    /// false exactly if the gate there is closed; the log is at its end then.
     ///
-    /// - `Disk` comes only where the disk's count of faults has risen.
-    /// - `NotALog` comes exactly where the record there has a fault, with the place of the fault.
+    /// - `Disk` comes only if the disk's count of faults has risen.
+    /// - `NotALog` comes exactly if the record there has a fault, with the place of the fault.
     /// - `NoMemory` comes when there is no memory for the body. `body` may hold anything then.
     ///
     /// A refusal leaves the log at its gate, so after `NoMemory` the call can be made again. After
-    /// `Disk` the disk's count has risen by one, and else not at all.
+    /// `Disk` the disk's count has risen by one, and otherwise not at all.
     pub fn next<D: Disk>(&mut self, disk: &mut D, body: &mut Vec<u8>) -> Result<bool, LogFault>
         ensures count { D.faults disk.old ≤ D.faults disk.new }
-        ensures disk { result ≡ Err LogFault.Disk → HasRisen (D.faults disk.old) (D.faults disk.new) }
-        ensures faults { D.faults disk.new ≡ faults_after (D.faults disk.old) result }
+        ensures disk { result ≡ Err LogFault.Disk
+            → HasRisen (D.faults disk.old) (D.faults disk.new) }
+        ensures faults { D.faults disk.new ≡ faults_after_call (D.faults disk.old) result }
         ensures still { D.tells disk.old → D.tells disk.new × (D.seen disk.new ≡ D.seen disk.old) }
         ensures honest { D.is_honest disk.old ↔ D.is_honest disk.new }
         ensures tick { D.is_honest disk.old → D.moment disk.new ≡ D.moment disk.old }
-        ensures rests { D.is_honest disk.old → Rests D.seen D.images D.moment D.left_since disk.old disk.new }
+        ensures rests { D.is_honest disk.old
+            → Rests D.seen D.images D.moment D.left_since disk.old disk.new }
         ensures version { self.new.version ≡ self.old.version }
         ensures refused { OnErr result (self.new ≡ with_ahead self.old self.new.ahead) }
-        ensures again { D.tells disk.old → (secret : List ℕ) (bodies : List (List ℕ)) → IsReading (D.seen disk.old) self.old secret bodies
+        ensures again { D.tells disk.old → (secret : List ℕ) (bodies : List (List ℕ))
+            → IsReading (D.seen disk.old) self.old secret bodies
             → OnErr result (IsReading (D.seen disk.new) self.new secret bodies) }
-        ensures moves { IfOk result (λ more. IsTrue more → (self.new.place ≡ self.old.place + FRONT_SIZE + length body.new.items) × (self.new.place < 2 ^ 63)) }
+        ensures moves { IfOk result (λ more.
+            IsTrue more
+            → (self.new.place ≡ self.old.place + FRONT_SIZE + length body.new.items)
+            × (self.new.place < 2 ^ 63)) }
         ensures goes_on { IfOk result (λ more. IsTrue more → self.new.at_end ≡ self.old.at_end) }
         ensures at_end { IfOk result (λ more. IsFalse more → IsTrue self.new.at_end) }
         ensures at_gate { IfOk result (λ more. IsFalse more → self.new.place ≡ self.old.place) }
         ensures stays { IsTrue self.old.at_end → (result ≡ Ok false) × (self.new ≡ self.old) }
         ensures body { IfOk result (λ more. IsTrue more → IsBody body.new.items) }
-        ensures record { D.tells disk.old → (secret : List ℕ) (bodies : List (List ℕ)) → IsReading (D.seen disk.old) self.old secret bodies
-            → IfOk result (λ more. IsTrue more → IsReading (D.seen disk.new) self.new secret (bodies ++ body.new.items ∷ [])) }
-        ensures end { D.tells disk.old → (secret : List ℕ) (bodies : List (List ℕ)) → IsReading (D.seen disk.old) self.old secret bodies
-            → IfOk result (λ more. IsFalse more → Stands self.new.version secret bodies (D.seen disk.new)) }
-        ensures not_a_log { D.tells disk.old → (secret : List ℕ) (bodies : List (List ℕ)) → IsReading (D.seen disk.old) self.old secret bodies
-            → (place : ℕ) → result ≡ Err (LogFault.NotALog place) → IsFaultAfter self.old.version secret bodies place (D.seen disk.new) }
+        ensures record { D.tells disk.old → (secret : List ℕ) (bodies : List (List ℕ))
+            → IsReading (D.seen disk.old) self.old secret bodies
+            → IfOk result (λ more.
+            IsTrue more
+            → IsReading (D.seen disk.new) self.new secret (bodies ++ body.new.items ∷ [])) }
+        ensures end { D.tells disk.old → (secret : List ℕ) (bodies : List (List ℕ))
+            → IsReading (D.seen disk.old) self.old secret bodies
+            → IfOk result (λ more.
+            IsFalse more → Stands self.new.version secret bodies (D.seen disk.new)) }
+        ensures not_a_log { D.tells disk.old → (secret : List ℕ) (bodies : List (List ℕ))
+            → IsReading (D.seen disk.old) self.old secret bodies → (place : ℕ)
+            → result ≡ Err (LogFault.NotALog place)
+            → IsFaultAfter self.old.version secret bodies place (D.seen disk.new) }
     {
         if self.at_end {
             return Ok(false);
@@ -209,30 +242,40 @@ impl Log {
     /// a closed gate after the log's gate, sync, open the gate, and sync. At `Ok` it is acknowledged,
     /// and the log is at its end again. It takes no memory.
     ///
-    /// `Disk` comes only where the disk's count of faults has risen, by one: a call that fails is not
+    /// `Disk` comes only if the disk's count of faults has risen, by one: a call that fails is not
     /// tried again. The file holds the body or does not then, and the log is not at its end: the file is opened anew.
     pub fn append<D: Disk>(&mut self, disk: &mut D, body: &[u8]) -> Result<(), LogFault>
         requires at_end { IsTrue self.old.at_end }
         requires body { IsBody body.now }
         ensures cause { HasCause (D.faults disk.old) (D.faults disk.new) result }
-        ensures faults { D.faults disk.new ≡ faults_after (D.faults disk.old) result }
+        ensures faults { D.faults disk.new ≡ faults_after_call (D.faults disk.old) result }
         ensures only_disk { IfErr result (λ e. e ≡ LogFault.Disk) }
-        ensures at_end { MatchResult result (λ _. IsTrue self.new.at_end) (λ _. IsFalse self.new.at_end) }
+        ensures at_end { MatchResult result (λ _. IsTrue self.new.at_end) (λ _.
+            IsFalse self.new.at_end) }
         ensures version { self.new.version ≡ self.old.version }
         ensures honest { D.is_honest disk.old ↔ D.is_honest disk.new }
-        ensures acknowledged { D.is_honest disk.old → (secret : List ℕ) (bodies : List (List ℕ)) → IsLogOf (D.images disk.old) self.old secret bodies
+        ensures acknowledged { D.is_honest disk.old → (secret : List ℕ) (bodies : List (List ℕ))
+            → IsLogOf (D.images disk.old) self.old secret bodies
             → OnOk result (IsLogOf (D.images disk.new) self.new secret (bodies ++ body.now ∷ [])) }
 
         // It makes these two writes and a sync after each, and no other call that changes a byte.
-        ensures written { D.is_honest disk.old → OnOk result (IsAppended self.old.place body.now (D.seen disk.old) (D.seen disk.new)) }
-        ensures tick { D.is_honest disk.old → OnOk result (D.moment disk.new ≡ D.moment disk.old + 4) }
-        ensures one { D.is_honest disk.old → OnOk result (Only (D.seen disk.new) (D.images disk.new)) }
-        ensures writes { D.is_honest disk.old → LeavesOnly D.moment D.left_since disk.old disk.new (MayBeAppending (D.images disk.old) self.old.place body.now (D.seen disk.old)) }
+        ensures written { D.is_honest disk.old
+            → OnOk result (IsAppended self.old.place body.now (D.seen disk.old) (D.seen disk.new)) }
+        ensures tick { D.is_honest disk.old
+            → OnOk result (D.moment disk.new ≡ D.moment disk.old + 4) }
+        ensures one { D.is_honest disk.old
+            → OnOk result (Only (D.seen disk.new) (D.images disk.new)) }
+        ensures writes { D.is_honest disk.old
+            → LeavesOnly D.moment D.left_since disk.old disk.new
+            (MayBeAppending (D.images disk.old) self.old.place body.now (D.seen disk.old)) }
 
         // At any moment of it each image has the bodies from before it, with the new one or without it.
-        ensures any_moment { D.is_honest disk.old → (secret : List ℕ) (bodies : List (List ℕ)) → IsLogOf (D.images disk.old) self.old secret bodies
-            → LeavesOnly D.moment D.left_since disk.old disk.new (IsBeforeOrAfter self.old.version secret bodies body.now) }
-        ensures after { D.is_honest disk.old → (secret : List ℕ) (bodies : List (List ℕ)) → IsLogOf (D.images disk.old) self.old secret bodies
+        ensures any_moment { D.is_honest disk.old → (secret : List ℕ) (bodies : List (List ℕ))
+            → IsLogOf (D.images disk.old) self.old secret bodies
+            → LeavesOnly D.moment D.left_since disk.old disk.new
+            (IsBeforeOrAfter self.old.version secret bodies body.now) }
+        ensures after { D.is_honest disk.old → (secret : List ℕ) (bodies : List (List ℕ))
+            → IsLogOf (D.images disk.old) self.old secret bodies
             → Each (D.images disk.new) (IsBeforeOrAfter self.old.version secret bodies body.now) }
     {
         self.at_end = false;
@@ -249,29 +292,39 @@ impl Log {
     /// Raises a journal of version 1 to version 2: two calls of the disk, which change byte 48 and
     /// nothing else. At `Ok` the log is of version 2, at its end as before. It takes no memory.
     ///
-    /// `Disk` comes only where the disk's count of faults has risen, by one. The file has either version
+    /// `Disk` comes only if the disk's count of faults has risen, by one. The file has either version
     /// then, and the log is not at its end: the file is opened anew.
     pub fn raise<D: Disk>(&mut self, disk: &mut D) -> Result<(), LogFault>
         requires at_end { IsTrue self.old.at_end }
         requires version { self.old.version ≡ 1 }
         ensures cause { HasCause (D.faults disk.old) (D.faults disk.new) result }
-        ensures faults { D.faults disk.new ≡ faults_after (D.faults disk.old) result }
+        ensures faults { D.faults disk.new ≡ faults_after_call (D.faults disk.old) result }
         ensures only_disk { IfErr result (λ e. e ≡ LogFault.Disk) }
-        ensures at_end { MatchResult result (λ _. IsTrue self.new.at_end) (λ _. IsFalse self.new.at_end) }
-        ensures version { MatchResult result (λ _. self.new.version ≡ 2) (λ _. self.new.version ≡ 1) }
+        ensures at_end { MatchResult result (λ _. IsTrue self.new.at_end) (λ _.
+            IsFalse self.new.at_end) }
+        ensures version { MatchResult result (λ _. self.new.version ≡ 2) (λ _.
+            self.new.version ≡ 1) }
         ensures place { self.new.place ≡ self.old.place }
         ensures honest { D.is_honest disk.old ↔ D.is_honest disk.new }
-        ensures raised { D.is_honest disk.old → (secret : List ℕ) (bodies : List (List ℕ)) → IsLogOf (D.images disk.old) self.old secret bodies
+        ensures raised { D.is_honest disk.old → (secret : List ℕ) (bodies : List (List ℕ))
+            → IsLogOf (D.images disk.old) self.old secret bodies
             → OnOk result (IsLogOf (D.images disk.new) self.new secret bodies) }
-        ensures tick { D.is_honest disk.old → OnOk result (D.moment disk.new ≡ D.moment disk.old + 2) }
-        ensures one { D.is_honest disk.old → OnOk result (Only (D.seen disk.new) (D.images disk.new)) }
+        ensures tick { D.is_honest disk.old
+            → OnOk result (D.moment disk.new ≡ D.moment disk.old + 2) }
+        ensures one { D.is_honest disk.old
+            → OnOk result (Only (D.seen disk.new) (D.images disk.new)) }
 
         // It writes this byte and syncs, and makes no other call that changes a byte.
-        ensures written { D.is_honest disk.old → OnOk result (IsWritten (D.seen disk.old) VERSION_GATE (1 ∷ []) (D.seen disk.new)) }
-        ensures writes { D.is_honest disk.old → LeavesOnly D.moment D.left_since disk.old disk.new (Tears (D.images disk.old) VERSION_GATE 1) }
-        ensures any_moment { D.is_honest disk.old → (secret : List ℕ) (bodies : List (List ℕ)) → IsLogOf (D.images disk.old) self.old secret bodies
+        ensures written { D.is_honest disk.old
+            → OnOk result (IsWritten (D.seen disk.old) VERSION_GATE (1 ∷ []) (D.seen disk.new)) }
+        ensures writes { D.is_honest disk.old
+            → LeavesOnly D.moment D.left_since disk.old disk.new
+            (Tears (D.images disk.old) VERSION_GATE 1) }
+        ensures any_moment { D.is_honest disk.old → (secret : List ℕ) (bodies : List (List ℕ))
+            → IsLogOf (D.images disk.old) self.old secret bodies
             → LeavesOnly D.moment D.left_since disk.old disk.new (HoldsRecords secret bodies) }
-        ensures after { D.is_honest disk.old → (secret : List ℕ) (bodies : List (List ℕ)) → IsLogOf (D.images disk.old) self.old secret bodies
+        ensures after { D.is_honest disk.old → (secret : List ℕ) (bodies : List (List ℕ))
+            → IsLogOf (D.images disk.old) self.old secret bodies
             → Each (D.images disk.new) (HoldsRecords secret bodies) }
     {
         self.at_end = false;
@@ -288,12 +341,16 @@ impl Log {
         ensures tick { D.is_honest disk.old → D.moment disk.new ≡ D.moment disk.old }
         ensures still { D.tells disk.old → D.tells disk.new × (D.seen disk.new ≡ D.seen disk.old) }
         ensures honest { D.is_honest disk.old ↔ D.is_honest disk.new }
-        ensures rests { D.is_honest disk.old → Rests D.seen D.images D.moment D.left_since disk.old disk.new }
+        ensures rests { D.is_honest disk.old
+            → Rests D.seen D.images D.moment D.left_since disk.old disk.new }
         ensures same { self.new ≡ with_ahead self.old self.new.ahead }
-        ensures told { D.tells disk.old → self.old.size ≡ length (D.seen disk.old) → IsAhead (D.seen disk.old) self.old.place self.old.ahead
+        ensures told { D.tells disk.old → self.old.size ≡ length (D.seen disk.old)
+            → IsAhead (D.seen disk.old) self.old.place self.old.ahead
             → IsAhead (D.seen disk.old) self.old.place self.new.ahead }
-        ensures far { D.tells disk.old → self.old.size ≡ length (D.seen disk.old) → IsAhead (D.seen disk.old) self.old.place self.old.ahead
-            → OnOk result ((RECORD_MOST ≤ length self.new.ahead) ⊎ (length (D.seen disk.old) ≤ self.old.place + length self.new.ahead)) }
+        ensures far { D.tells disk.old → self.old.size ≡ length (D.seen disk.old)
+            → IsAhead (D.seen disk.old) self.old.place self.old.ahead
+            → OnOk result ((RECORD_MOST ≤ length self.new.ahead)
+            ⊎ (length (D.seen disk.old) ≤ self.old.place + length self.new.ahead)) }
     {
         let have = self.ahead.bytes().len();
         if have >= RECORD_MOST || self.place + have as u64 >= self.size {
@@ -302,6 +359,7 @@ impl Log {
         self.ahead.read_on(disk, self.place)
     }
 
+    // The body of the next record, of which all has been read ahead.
     fn body_ahead(&self, count: usize) -> &[u8]
         requires { FRONT_SIZE + count ≤ length self.now.ahead }
         ensures { result.now ≡ take count (drop FRONT_SIZE self.now.ahead) }
@@ -309,14 +367,16 @@ impl Log {
         &self.ahead.bytes()[FRONT_SIZE..FRONT_SIZE + count]
     }
 
+    // Where the next record begins.
     fn size(&self) -> u64
         ensures { result ≡ self.now.size }
     {
         self.size
     }
 
+    // No record follows a closed gate.
     fn close(&mut self)
-        ensures { self.new ≡ closed self.old }
+        ensures { self.new ≡ with_gate_closed self.old }
     {
         self.at_end = true;
     }

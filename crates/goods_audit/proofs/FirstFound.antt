@@ -12,7 +12,7 @@ use Rattle.std.proofs.lemmas.List.Kept.{AllPairs-filter}
 use Rattle.bid_rules.specs.declared.goods.GoodsCase.{GoodsCase}
 use Rattle.bid_rules.specs.Goods.{AreOwners, Dominates, IsAllocation, player_count}
 use Rattle.nash_bounds.specs.OwnerLists.{ArePlayers, below, leaves}
-use Rattle.goods_audit.specs.Domination.{IsLeastDominating, is_open, prefixes}
+use Rattle.goods_audit.specs.Domination.{IsLeastDominating, leaves_room, prefixes}
 use Rattle.goods_audit.specs.Paths.{found_in, is_found}
 use Rattle.goods_audit.proofs.OpenPrefixes.{short_not_found}
 use Rattle.goods_audit.proofs.WholeDivisions.{OrderLong, dominates_from, dominates_to}
@@ -28,8 +28,8 @@ same_parts p q f g a (suc n) h =
 
 -- what is found below a prefix are the allocations below it that leave room
 found_below : (case : GoodsCase) (owners : List ℕ) (k : ℕ) (prefix : List ℕ) → length prefix + k ≡ case.facts.goods
-    → found_in case owners (below (player_count case) k prefix) ≡ filter (is_open case owners) (leaves (player_count case) k prefix)
-found_below case owners zero prefix e = by (is_open case owners prefix) (length prefix == case.facts.goods) (same (length prefix) case.facts.goods (omega (arith, e)))
+    → found_in case owners (below (player_count case) k prefix) ≡ filter (leaves_room case owners) (leaves (player_count case) k prefix)
+found_below case owners zero prefix e = by (leaves_room case owners prefix) (length prefix == case.facts.goods) (same (length prefix) case.facts.goods (omega (arith, e)))
   where
     same : (a b : ℕ) → a ≡ b → (a == b) ≡ true
     same a b e = grind (arith, nat_tests)
@@ -42,17 +42,17 @@ found_below case owners (suc k) prefix e =
     let f : ℕ → List (List ℕ) = λ owner. below n k (prefix ++ owner ∷ []) in
     let g : ℕ → List (List ℕ) = λ owner. leaves n k (prefix ++ owner ∷ []) in
     short_not_found case owners prefix (flat_map f (range_with_len 1 n)) (omega (arith, e))
-    ∙ same_parts (is_found case owners) (is_open case owners) f g 1 n (λ o. found_below case owners k (prefix ++ o ∷ []) (let l = length_push prefix o in omega (arith, e, l)))
+    ∙ same_parts (is_found case owners) (leaves_room case owners) f g 1 n (λ o. found_below case owners k (prefix ++ o ∷ []) (let l = length_push prefix o in omega (arith, e, l)))
 
 -- what is found are the allocations that leave room
-pub found_all : (case : GoodsCase) (owners : List ℕ) → 1 ≤ case.facts.goods → found_in case owners (prefixes case) ≡ filter (is_open case owners) (leaves (player_count case) case.facts.goods [])
+pub found_all : (case : GoodsCase) (owners : List ℕ) → 1 ≤ case.facts.goods → found_in case owners (prefixes case) ≡ filter (leaves_room case owners) (leaves (player_count case) case.facts.goods [])
 found_all case owners some =
     let n = player_count case in
     let k = case.facts.goods - 1 in
     let e : suc k ≡ case.facts.goods = omega (arith, some) in
     sym (short_not_found case owners [] (prefixes case) (omega (arith, some)))
     ∙ found_below case owners (suc k) [] (omega (arith, e))
-    ∙ ap (λ i. filter (is_open case owners) (leaves n i [])) e
+    ∙ ap (λ i. filter (leaves_room case owners) (leaves n i [])) e
 
 -- a list is not before itself
 not_itself : (xs : List ℕ) → slice_cmp nat_cmp xs xs ≡ Less → ⊥
@@ -109,7 +109,7 @@ pub none_dominates : OrderLong → LeavesAre → (case : GoodsCase) (owners : Li
     → (others : List ℕ) → IsAllocation case others → Dominates case others owners → ⊥
 none_dominates long are case owners some none others allocation dominates =
     let all = found_all case owners some in
-    let there = kept_list (is_open case owners) (leaves (player_count case) case.facts.goods []) others (allocation_leaf are case others allocation) (dominates_to long case owners others allocation.each dominates) in
+    let there = kept_list (leaves_room case owners) (leaves (player_count case) case.facts.goods []) others (allocation_leaf are case others allocation) (dominates_to long case owners others allocation.each dominates) in
     let empty : Contains [] others = subst (λ xs. Contains xs others) (sym all ∙ none) there in
     absurd (let l = empty.1 in omega arith)
 
@@ -127,7 +127,7 @@ pub first_is_least : OrderLong → LeavesAre → LeavesRise → (case : GoodsCas
     → IsLeastDominating case owners first
 first_is_least long are rise case owners first more some found =
     let n = player_count case in
-    let p : List ℕ → Bool = is_open case owners in
+    let p : List ℕ → Bool = leaves_room case owners in
     let xs = leaves n case.facts.goods [] in
     let kept : filter p xs ≡ first ∷ more = sym (found_all case owners some) ∙ found in
     let opens : p first ≡ true = All-head (λ x. p x ≡ true) first more (subst (All (λ x. p x ≡ true)) kept (passed p xs)) in

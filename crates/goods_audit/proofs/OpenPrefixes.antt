@@ -11,7 +11,7 @@ use Rattle.bid_rules.specs.Goods.{player_count, utilities}
 use Rattle.nash_bounds.specs.Lanes.{has, may_have}
 use Rattle.nash_bounds.specs.OwnerLists.{below}
 use Rattle.nash_bounds.specs.Prefixes.{top_of}
-use Rattle.goods_audit.specs.Domination.{is_open}
+use Rattle.goods_audit.specs.Domination.{leaves_room}
 use Rattle.goods_audit.specs.Paths.{found_in, is_found}
 
 -- that one more owner leaves no player and not all players more, a law of nash_bounds
@@ -39,7 +39,7 @@ and_true false b h = absurd (cc)
 
 -- a prefix leaves room where it does with one more owner
 open_before : PointsFall → TopFalls → (case : GoodsCase) (owners prefix : List ℕ) (owner : ℕ) → length prefix < case.facts.goods → 1 ≤ owner → owner ≤ player_count case
-    → is_open case owners (prefix ++ owner ∷ []) ≡ true → is_open case owners prefix ≡ true
+    → leaves_room case owners (prefix ++ owner ∷ []) ≡ true → leaves_room case owners prefix ≡ true
 open_before fall top case owners prefix owner short low high h =
     let range = range_with_len 1 (player_count case) in
     let long = prefix ++ owner ∷ [] in
@@ -58,11 +58,11 @@ open_before fall top case owners prefix owner short low high h =
 
 -- with one more owner a prefix leaves no room where it didn't before
 shut_after : PointsFall → TopFalls → (case : GoodsCase) (owners prefix : List ℕ) (owner : ℕ) → length prefix < case.facts.goods → 1 ≤ owner → owner ≤ player_count case
-    → is_open case owners prefix ≡ false → is_open case owners (prefix ++ owner ∷ []) ≡ false
-shut_after fall top case owners prefix owner short low high shut = by_cases (is_open case owners (prefix ++ owner ∷ [])) refl
+    → leaves_room case owners prefix ≡ false → leaves_room case owners (prefix ++ owner ∷ []) ≡ false
+shut_after fall top case owners prefix owner short low high shut = by_cases (leaves_room case owners (prefix ++ owner ∷ [])) refl
   where
-    by_cases : (t : Bool) → is_open case owners (prefix ++ owner ∷ []) ≡ t → is_open case owners (prefix ++ owner ∷ []) ≡ false
-    by_cases true e = let open_too : is_open case owners prefix ≡ true = open_before fall top case owners prefix owner short low high e in absurd (cc)
+    by_cases : (t : Bool) → leaves_room case owners (prefix ++ owner ∷ []) ≡ t → leaves_room case owners (prefix ++ owner ∷ []) ≡ false
+    by_cases true e = let open_too : leaves_room case owners prefix ≡ true = open_before fall top case owners prefix owner short low high e in absurd (cc)
     by_cases false e = e
 
 -- what holds of each part holds of all parts in a row
@@ -71,12 +71,12 @@ all_parts P f a zero h = All-nil P
 all_parts P f a (suc n) h = All-append P (f a) (flat_map f (range_with_len (a + 1) n)) (h a (omega arith) (omega arith)) (all_parts P f (a + 1) n (λ o l m. h o (omega arith) (omega arith)))
 
 -- no prefix that begins with one that leaves no room leaves room
-pub shut_below : PointsFall → TopFalls → (case : GoodsCase) (owners : List ℕ) (k : ℕ) (prefix : List ℕ) → length prefix + k ≤ case.facts.goods → is_open case owners prefix ≡ false
-    → All (λ longer. is_open case owners longer ≡ false) (below (player_count case) k prefix)
-shut_below fall top case owners zero prefix within shut = let P : List ℕ → Type 0 = λ longer. is_open case owners longer ≡ false in All-cons P prefix [] shut (All-nil P)
+pub shut_below : PointsFall → TopFalls → (case : GoodsCase) (owners : List ℕ) (k : ℕ) (prefix : List ℕ) → length prefix + k ≤ case.facts.goods → leaves_room case owners prefix ≡ false
+    → All (λ longer. leaves_room case owners longer ≡ false) (below (player_count case) k prefix)
+shut_below fall top case owners zero prefix within shut = let P : List ℕ → Type 0 = λ longer. leaves_room case owners longer ≡ false in All-cons P prefix [] shut (All-nil P)
 shut_below fall top case owners (suc k) prefix within shut =
     let n = player_count case in
-    let P : List ℕ → Type 0 = λ longer. is_open case owners longer ≡ false in
+    let P : List ℕ → Type 0 = λ longer. leaves_room case owners longer ≡ false in
     let f : ℕ → List (List ℕ) = λ owner. below n k (prefix ++ owner ∷ []) in
     All-cons P prefix (flat_map f (range_with_len 1 n)) shut
     (all_parts P f 1 n (λ o low high.
@@ -102,15 +102,15 @@ pub count_parts : (p : List ℕ → Bool) (xs ys : List (List ℕ)) → count_by
 count_parts p xs ys = sum_by-append (λ x. cond (p x) 1 0) xs ys
 
 -- none of these is found
-pub none_found : (case : GoodsCase) (owners : List ℕ) (xs : List (List ℕ)) → All (λ x. is_open case owners x ≡ false) xs → found_in case owners xs ≡ []
+pub none_found : (case : GoodsCase) (owners : List ℕ) (xs : List (List ℕ)) → All (λ x. leaves_room case owners x ≡ false) xs → found_in case owners xs ≡ []
 none_found case owners [] h = refl
 none_found case owners (x ∷ xs) h =
-    let P : List ℕ → Type 0 = λ x. is_open case owners x ≡ false in
+    let P : List ℕ → Type 0 = λ x. leaves_room case owners x ≡ false in
     ap (λ b. cond (b && length x == case.facts.goods) (x ∷ found_in case owners xs) (found_in case owners xs)) (All-head P x xs h) ∙ none_found case owners xs (All-tail P x xs h)
 
 -- a shorter prefix is not found
 pub short_not_found : (case : GoodsCase) (owners x : List ℕ) (xs : List (List ℕ)) → length x < case.facts.goods → found_in case owners (x ∷ xs) ≡ found_in case owners xs
-short_not_found case owners x xs short = by (is_open case owners x) (length x == case.facts.goods) (apart (length x) case.facts.goods short)
+short_not_found case owners x xs short = by (leaves_room case owners x) (length x == case.facts.goods) (apart (length x) case.facts.goods short)
   where
     apart : (a b : ℕ) → a < b → (a == b) ≡ false
     apart a b l = grind (arith, nat_tests)
@@ -120,8 +120,8 @@ short_not_found case owners x xs short = by (is_open case owners x) (length x ==
     by false b e = refl
 
 -- a whole one that leaves room is found
-pub whole_found : (case : GoodsCase) (owners x : List ℕ) (xs : List (List ℕ)) → length x ≡ case.facts.goods → is_open case owners x ≡ true → found_in case owners (x ∷ xs) ≡ x ∷ found_in case owners xs
-whole_found case owners x xs whole h = by (is_open case owners x) (length x == case.facts.goods) h (same (length x) case.facts.goods whole)
+pub whole_found : (case : GoodsCase) (owners x : List ℕ) (xs : List (List ℕ)) → length x ≡ case.facts.goods → leaves_room case owners x ≡ true → found_in case owners (x ∷ xs) ≡ x ∷ found_in case owners xs
+whole_found case owners x xs whole h = by (leaves_room case owners x) (length x == case.facts.goods) h (same (length x) case.facts.goods whole)
   where
     same : (a b : ℕ) → a ≡ b → (a == b) ≡ true
     same a b e = grind (arith, nat_tests)

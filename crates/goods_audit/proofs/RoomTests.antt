@@ -7,7 +7,7 @@ use Rattle.nash_bounds.specs.declared.limits.TheConstants.{LANES}
 use Rattle.bid_rules.specs.Goods.{player_count}
 use Rattle.nash_bounds.specs.declared.lanes.Lanes.{Lanes}
 use Rattle.nash_bounds.specs.Lanes.{IsLanes, by_lane, has, may_have}
-use Rattle.goods_audit.specs.Domination.{is_open}
+use Rattle.goods_audit.specs.Domination.{leaves_room}
 use Rattle.goods_audit.proofs.WholeDivisions.{OrderLong, open_from, open_to, whole_top}
 
 -- a player's entry in the lanes
@@ -17,10 +17,10 @@ lane_entry f lanes player is low high =
 
 -- where all together may have no more, there is no room
 pub no_room_top : OrderLong → (case : GoodsCase) (owners prefix : List ℕ) (whole lanes : Lanes) → length owners ≡ case.facts.goods → IsLanes case owners whole → IsLanes case prefix lanes → lanes.top ≤ whole.top
-    → false ≡ is_open case owners prefix
-no_room_top long case owners prefix whole lanes is_whole a b less = by_cases (is_open case owners prefix) refl
+    → false ≡ leaves_room case owners prefix
+no_room_top long case owners prefix whole lanes is_whole a b less = by_cases (leaves_room case owners prefix) refl
   where
-    by_cases : (t : Bool) → is_open case owners prefix ≡ t → false ≡ is_open case owners prefix
+    by_cases : (t : Bool) → leaves_room case owners prefix ≡ t → false ≡ leaves_room case owners prefix
     by_cases false e = sym e
     by_cases true e =
         let more = (open_from case owners prefix e).more in
@@ -33,7 +33,7 @@ no_room_top long case owners prefix whole lanes is_whole a b less = by_cases (is
 pub room_is : OrderLong → (case : GoodsCase) (owners prefix : List ℕ) (whole lanes : Lanes) (result : Bool) → player_count case ≤ MEMBER_ROOM → length owners ≡ case.facts.goods → IsLanes case owners whole → IsLanes case prefix lanes → whole.top < lanes.top
     → (result ≡ true → (player : ℕ) → 1 ≤ player → player ≤ player_count case → get_or whole.low (player - 1) 0 ≤ get_or lanes.high (player - 1) 0)
     → (result ≡ false → (player : ℕ) × (1 ≤ player) × (player ≤ player_count case) × (get_or lanes.high (player - 1) 0 < get_or whole.low (player - 1) 0))
-    → result ≡ is_open case owners prefix
+    → result ≡ leaves_room case owners prefix
 room_is long case owners prefix whole lanes true few is_whole a b more each some =
     sym (open_to case owners prefix (record {
       each = λ player low high.
@@ -43,9 +43,9 @@ room_is long case owners prefix whole lanes true few is_whole a b more each some
           omega (arith, entry, one, other);
       more = (let total = whole_top long case owners is_whole in let top = a.is_top in let tops = b.is_top in omega (arith, total, top, tops, more));
     }))
-room_is long case owners prefix whole lanes false few is_whole a b more each some = by_cases (is_open case owners prefix) refl
+room_is long case owners prefix whole lanes false few is_whole a b more each some = by_cases (leaves_room case owners prefix) refl
   where
-    by_cases : (t : Bool) → is_open case owners prefix ≡ t → false ≡ is_open case owners prefix
+    by_cases : (t : Bool) → leaves_room case owners prefix ≡ t → false ≡ leaves_room case owners prefix
     by_cases false e = sym e
     by_cases true e =
         let player = some refl in

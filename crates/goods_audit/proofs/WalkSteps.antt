@@ -3,7 +3,7 @@ use Rattle.std.proofs.Common.{◌≡◌, ℕ, ◌+◌, ◌-◌, ◌<◌, ◌≤�
 use Rattle.bid_rules.specs.declared.goods.GoodsCase.{GoodsCase}
 use Rattle.bid_rules.specs.Goods.{player_count}
 use Rattle.nash_bounds.specs.OwnerLists.{below}
-use Rattle.goods_audit.specs.Domination.{OwnersByGood, is_open}
+use Rattle.goods_audit.specs.Domination.{OwnersByGood, leaves_room}
 use Rattle.goods_audit.specs.Paths.{IsFirst, found_in, later_ones, to_come}
 use Rattle.goods_audit.proofs.OpenPrefixes.{PointsFall, TopFalls, count_parts, found_parts, none_counted, none_found, one_counted, short_not_found, shut_below, whole_found}
 use Rattle.goods_audit.proofs.PathLists.{come_of}
@@ -16,14 +16,14 @@ same_first case owners all rest next (Some list) e h = h
 -- what is seen and what is to come
 abbrev pub IsSeen : GoodsCase → List ℕ → ℕ → List (List ℕ) → List (List ℕ) → Type 0
 IsSeen case owners more rest next =
-    (count_by (is_open case owners) rest ≡ more + count_by (is_open case owners) next)
+    (count_by (leaves_room case owners) rest ≡ more + count_by (leaves_room case owners) next)
     × ((all : List (List ℕ)) (first : Option OwnersByGood) → IsFirst case owners all rest first → IsFirst case owners all next first)
 
 -- a prefix that leaves no room is left with all that begin with it
-pub seen_shut : PointsFall → TopFalls → (case : GoodsCase) (owners prefix : List ℕ) (next : List (List ℕ)) → 0 < length prefix → length prefix ≤ case.facts.goods → is_open case owners prefix ≡ false → next ≡ later_ones case prefix
+pub seen_shut : PointsFall → TopFalls → (case : GoodsCase) (owners prefix : List ℕ) (next : List (List ℕ)) → 0 < length prefix → length prefix ≤ case.facts.goods → leaves_room case owners prefix ≡ false → next ≡ later_ones case prefix
     → IsSeen case owners 0 (to_come case prefix) next
 seen_shut fall top case owners prefix next some short shut is =
-    let p = is_open case owners in
+    let p = leaves_room case owners in
     let block = below (player_count case) (case.facts.goods - length prefix) prefix in
     let rest = later_ones case prefix in
     let none = shut_below fall top case owners (case.facts.goods - length prefix) prefix (omega (arith, short)) shut in
@@ -37,10 +37,10 @@ seen_shut fall top case owners prefix next some short shut is =
     (omega (arith, counted, parts, zero_block, after), λ all first h. same_first case owners all (to_come case prefix) next first found h)
 
 -- a shorter prefix that leaves room is counted, and those with one owner more come next
-pub seen_short : (case : GoodsCase) (owners prefix : List ℕ) (next : List (List ℕ)) → length prefix < case.facts.goods → is_open case owners prefix ≡ true → to_come case prefix ≡ prefix ∷ next
+pub seen_short : (case : GoodsCase) (owners prefix : List ℕ) (next : List (List ℕ)) → length prefix < case.facts.goods → leaves_room case owners prefix ≡ true → to_come case prefix ≡ prefix ∷ next
     → IsSeen case owners 1 (to_come case prefix) next
 seen_short case owners prefix next short room come =
-    let p = is_open case owners in (
+    let p = leaves_room case owners in (
       ap (count_by p) come ∙ one_counted p prefix next room,
       λ all first h. same_first case owners all (to_come case prefix) next first (ap (found_in case owners) come ∙ short_not_found case owners prefix next short) h,
     )
@@ -52,7 +52,7 @@ come_whole case prefix some whole =
     come_of case prefix some ∙ ap (λ k. below (player_count case) k prefix ++ later_ones case prefix) none
 
 -- an allocation that leaves room is counted, and kept where none was found before
-pub seen_whole : (case : GoodsCase) (owners prefix : List ℕ) (next all : List (List ℕ)) (old new : Option OwnersByGood) → length prefix ≡ case.facts.goods → is_open case owners prefix ≡ true → to_come case prefix ≡ prefix ∷ next
+pub seen_whole : (case : GoodsCase) (owners prefix : List ℕ) (next all : List (List ℕ)) (old new : Option OwnersByGood) → length prefix ≡ case.facts.goods → leaves_room case owners prefix ≡ true → to_come case prefix ≡ prefix ∷ next
     → ((list : OwnersByGood) → old ≡ Some list → new ≡ Some list) → (old ≡ None → (list : OwnersByGood) × (new ≡ Some list) × (list.items ≡ prefix))
     → IsFirst case owners all (to_come case prefix) old → IsFirst case owners all next new
 seen_whole case owners prefix next all None new whole room come earlier kept h =
@@ -62,6 +62,6 @@ seen_whole case owners prefix next all None new whole room come earlier kept h =
 seen_whole case owners prefix next all (Some list) new whole room come earlier kept h = subst (IsFirst case owners all next) (sym (earlier list refl)) h
 
 -- and counted
-pub count_whole : (case : GoodsCase) (owners prefix : List ℕ) (next : List (List ℕ)) → is_open case owners prefix ≡ true → to_come case prefix ≡ prefix ∷ next
-    → count_by (is_open case owners) (to_come case prefix) ≡ 1 + count_by (is_open case owners) next
-count_whole case owners prefix next room come = ap (count_by (is_open case owners)) come ∙ one_counted (is_open case owners) prefix next room
+pub count_whole : (case : GoodsCase) (owners prefix : List ℕ) (next : List (List ℕ)) → leaves_room case owners prefix ≡ true → to_come case prefix ≡ prefix ∷ next
+    → count_by (leaves_room case owners) (to_come case prefix) ≡ 1 + count_by (leaves_room case owners) next
+count_whole case owners prefix next room come = ap (count_by (leaves_room case owners)) come ∙ one_counted (leaves_room case owners) prefix next room

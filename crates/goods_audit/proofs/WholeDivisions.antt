@@ -9,7 +9,7 @@ use Rattle.bid_rules.specs.declared.goods.GoodsCase.{GoodsCase}
 use Rattle.bid_rules.specs.Goods.{Dominates, greatest_points, order_of, player_count, points, utilities, utility}
 use Rattle.nash_bounds.specs.Lanes.{has, may_have}
 use Rattle.nash_bounds.specs.Prefixes.{free_goods, top_of}
-use Rattle.goods_audit.specs.Domination.{IsOpen, is_open}
+use Rattle.goods_audit.specs.Domination.{LeavesRoom, leaves_room}
 use Rattle.goods_audit.proofs.OpenPrefixes.{and_true}
 
 -- the tests of all players from one number on hold
@@ -31,7 +31,7 @@ all_from p a (suc n) h k l m =
     (cases_lt a k)
 
 -- the test says that a prefix leaves room
-pub open_from : (case : GoodsCase) (owners prefix : List ℕ) → is_open case owners prefix ≡ true → IsOpen case owners prefix
+pub open_from : (case : GoodsCase) (owners prefix : List ℕ) → leaves_room case owners prefix ≡ true → LeavesRoom case owners prefix
 open_from case owners prefix h =
     let p : ℕ → Bool = λ player. nat_le (has case owners player) (may_have case prefix player) in
     let both = and_true (list_all p (range_with_len 1 (player_count case))) (nat_lt (sum (utilities case owners)) (top_of case prefix)) h in
@@ -47,7 +47,7 @@ open_from case owners prefix h =
     less a b h = grind (arith, nat_tests)
 
 -- where a prefix leaves room the test says so
-pub open_to : (case : GoodsCase) (owners prefix : List ℕ) → IsOpen case owners prefix → is_open case owners prefix ≡ true
+pub open_to : (case : GoodsCase) (owners prefix : List ℕ) → LeavesRoom case owners prefix → leaves_room case owners prefix ≡ true
 open_to case owners prefix h =
     let p : ℕ → Bool = λ player. nat_le (has case owners player) (may_have case prefix player) in
     let each : list_all p (range_with_len 1 (player_count case)) ≡ true =
@@ -120,7 +120,7 @@ one_less f g a (suc n) p h l m less =
     (cases_lt a p)
 
 -- an allocation that leaves room dominates the owners
-pub dominates_from : OrderLong → (case : GoodsCase) (owners others : List ℕ) → length others ≡ case.facts.goods → is_open case owners others ≡ true → Dominates case others owners
+pub dominates_from : OrderLong → (case : GoodsCase) (owners others : List ℕ) → length others ≡ case.facts.goods → leaves_room case owners others ≡ true → Dominates case others owners
 dominates_from long case owners others whole h =
     let is = open_from case owners others h in
     let n = player_count case in
@@ -135,7 +135,7 @@ dominates_from long case owners others whole h =
     }
 
 -- an allocation that dominates the owners leaves room
-pub dominates_to : OrderLong → (case : GoodsCase) (owners others : List ℕ) → length others ≡ case.facts.goods → Dominates case others owners → is_open case owners others ≡ true
+pub dominates_to : OrderLong → (case : GoodsCase) (owners others : List ℕ) → length others ≡ case.facts.goods → Dominates case others owners → leaves_room case owners others ≡ true
 dominates_to long case owners others whole h =
     let n = player_count case in
     let each : (player : ℕ) → 1 ≤ player → player ≤ n → has case owners player ≤ may_have case others player = λ player low high.

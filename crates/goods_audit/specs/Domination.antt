@@ -13,13 +13,13 @@ use Rattle.nash_bounds.specs.OwnerLists.{below}
 use Rattle.nash_bounds.specs.Prefixes.{top_of}
 
 -- the prefix leaves room for an allocation that dominates this one: each player may still get as many points as here, and all players together may get more
-pub record IsOpen (case : GoodsCase) (owners prefix : List ℕ) : Type 0 where
+pub record LeavesRoom (case : GoodsCase) (owners prefix : List ℕ) : Type 0 where
   pub each : (player : ℕ) → 1 ≤ player → player ≤ player_count case → has case owners player ≤ may_have case prefix player
   pub more : sum (utilities case owners) < top_of case prefix
 
 -- whether the prefix leaves room for an allocation that dominates this one
-abbrev pub is_open : GoodsCase → List ℕ → List ℕ → Bool
-is_open case owners prefix =
+abbrev pub leaves_room : GoodsCase → List ℕ → List ℕ → Bool
+leaves_room case owners prefix =
     list_all (λ player. nat_le (has case owners player) (may_have case prefix player)) (range_with_len 1 (player_count case))
     && nat_lt (sum (utilities case owners)) (top_of case prefix)
 
@@ -29,7 +29,7 @@ prefixes case = flat_map (λ owner. below (player_count case) (case.facts.goods 
 
 -- how many prefixes leave room for an allocation that dominates this one
 abbrev pub open_count : GoodsCase → List ℕ → ℕ
-open_count case owners = count_by (is_open case owners) (prefixes case)
+open_count case owners = count_by (leaves_room case owners) (prefixes case)
 
 -- of all allocations that dominate this one, the first in the order of the search
 pub record IsLeastDominating (case : GoodsCase) (owners others : List ℕ) : Type 0 where

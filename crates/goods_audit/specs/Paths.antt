@@ -6,7 +6,7 @@ use Rattle.bid_rules.specs.Goods.{AreOwners, player_count}
 use Rattle.nash_bounds.specs.Lanes.{IsLanes}
 use Rattle.nash_bounds.specs.OwnerLists.{below}
 use Rattle.nash_search.specs.declared.division.OverLimit.{OverLimit}
-use Rattle.goods_audit.specs.Domination.{OwnersByGood, is_open, open_count, prefixes}
+use Rattle.goods_audit.specs.Domination.{OwnersByGood, leaves_room, open_count, prefixes}
 use Rattle.goods_audit.specs.declared.paths.Path.{Path}
 use Rattle.goods_audit.specs.declared.walk.Walk.{Walk}
 
@@ -34,7 +34,7 @@ pub record IsPath (case : GoodsCase) (path : Path) : Type 0 where
 
 -- whether the prefix is an allocation that dominates the owners: it leaves room for one and gives each good
 abbrev pub is_found : GoodsCase → List ℕ → List ℕ → Bool
-is_found case owners prefix = is_open case owners prefix && length prefix == case.facts.goods
+is_found case owners prefix = leaves_room case owners prefix && length prefix == case.facts.goods
 
 -- the allocations that dominate the owners among some prefixes
 abbrev pub found_in : GoodsCase → List ℕ → List (List ℕ) → List (List ℕ)
@@ -46,8 +46,8 @@ IsFirst case owners all rest None = found_in case owners all ≡ found_in case o
 IsFirst case owners all rest (Some first) = (more : List (List ℕ)) × (found_in case owners all ≡ first.items ∷ more)
 
 -- a step of the search loses nothing: what was seen and what is still to come are together as before
-pub record Goes (case : GoodsCase) (owners : List ℕ) (old new : Walk) : Type 0 where
-  pub count : old.openings + count_by (is_open case owners) (to_come case old.path.owners.items) ≡ new.openings + count_by (is_open case owners) (to_come case new.path.owners.items)
+pub record LosesNothing (case : GoodsCase) (owners : List ℕ) (old new : Walk) : Type 0 where
+  pub count : old.openings + count_by (leaves_room case owners) (to_come case old.path.owners.items) ≡ new.openings + count_by (leaves_room case owners) (to_come case new.path.owners.items)
   pub first : (all : List (List ℕ)) → IsFirst case owners all (to_come case old.path.owners.items) old.first → IsFirst case owners all (to_come case new.path.owners.items) new.first
 
 -- the search ends with the first dominating allocation, if there is one; or with the case's limit, if more prefixes leave room than the limit allows

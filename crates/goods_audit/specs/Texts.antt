@@ -14,7 +14,7 @@ use Rattle.nash_search.specs.declared.division.GoodsDivision.{GoodsDivision}
 use Rattle.split_reports.specs.Parts.{lines_to}
 use Rattle.split_reports.specs.Names.{NamesData}
 use Rattle.split_reports.specs.Players.{player_line, player_member}
-use Rattle.split_frac.specs.Texts.{line_of, spaced}
+use Rattle.split_frac.specs.Texts.{line_of, with_spaces}
 
 -- the line of the title
 abbrev pub audit_title : NamesData → List ℕ
@@ -47,7 +47,7 @@ envy_lines case table player = lines_to (player_count case) (envy_line case tabl
 -- the last line: that no allocation is known to dominate this one, or the owners in one that does, by their member numbers
 abbrev pub better_line : GoodsCase → Option (List ℕ) → List ℕ
 better_line case None = line_of (codes "pareto yes" ∷ [])
-better_line case (Some better) = line_of (codes "dominated by" ∷ spaced (map decimal (map (player_member case) better)) ∷ [])
+better_line case (Some better) = line_of (codes "dominated by" ∷ with_spaces (map decimal (map (player_member case) better)) ∷ [])
 
 -- the audit: the title, the players with their goods, the pair, who envies whom by more than one good, and whether the allocation is dominated
 abbrev pub audit_lines : NamesData → GoodsCase → List ℕ → Option (List ℕ) → Pair → List (List Ef1) → List ℕ

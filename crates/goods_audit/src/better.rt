@@ -19,7 +19,7 @@ use nash_bounds::{
 };
 use nash_search::{OverLimit, Tables};
 
-/// What the players have with owners of all goods, in search order.
+// What the players have with owners of all goods, in search order.
 fn whole_lanes(case: &GoodsCase, table: &PointTable, owners: &[u8]) -> Lanes
     requires case { IsValidGoodsCase case.now }
     requires table { IsTable case.now table.now }
@@ -30,7 +30,7 @@ fn whole_lanes(case: &GoodsCase, table: &PointTable, owners: &[u8]) -> Lanes
     lanes_of(case, &whole_prefix(case, table, owners))
 }
 
-/// The prefix in which the first player has the first good.
+// The prefix in which the first player has the first good.
 fn first_path(case: &GoodsCase, table: &PointTable) -> Path
     requires case { IsValidGoodsCase case.now }
     requires table { IsTable case.now table.now }
@@ -47,9 +47,9 @@ fn first_path(case: &GoodsCase, table: &PointTable) -> Path
 }
 
 /// The least allocation, as a list of owners in search order, that dominates the division: it gives every player at least as many points
-/// and one player more. `None` where there is none: then the division is Pareto-optimal.
+/// and one player more. `None` if there is none: then the division is Pareto-optimal.
 ///
-/// Owners are players by number of the good, in the answer too. `OverLimit` comes exactly where more prefixes of allocations than the
+/// Owners are players by number of the good, in the answer too. `OverLimit` comes exactly if more prefixes of allocations than the
 /// case's limit leave room for one that dominates. No memory is taken.
 pub fn dominating(
     case: &GoodsCase,
@@ -60,7 +60,8 @@ pub fn dominating(
     requires owners { AreOwners case.now owners.now }
     ensures better { IfOk result (IsBetterDivision case.now (in_search_order case.now owners.now)) }
     ensures limit { IfErr result (λ over. over.limit ≡ case.now.facts.limit) }
-    ensures refused { IsErr result ↔ (case.now.facts.limit < open_count case.now (in_search_order case.now owners.now)) }
+    ensures refused { IsErr result
+        ↔ (case.now.facts.limit < open_count case.now (in_search_order case.now owners.now)) }
 {
     search_order_law();
     owner_lists_law();

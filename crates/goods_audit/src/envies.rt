@@ -42,13 +42,15 @@ pub(crate) struct EnvyLines<'a> {
 }
 
 impl EnvyLines<'_> {
-    /// Appends the line of a player and another, or none of a player and themselves.
+    // Appends the line of a player and another, or none of a player and themselves.
     fn push_pair(&self, lines: &mut String, player: u8, other: u8) -> Result<(), NoMemory>
         requires low { 1 ≤ player }
         requires high { player ≤ player_count self.now.case.now }
         requires other_low { 1 ≤ other }
         requires other_high { other ≤ player_count self.now.case.now }
-        ensures { OnOk result (string_bytes lines.new ≡ string_bytes lines.old ++ envy_line self.now.case.now (answers self.now.table.now) player other) }
+        ensures { OnOk result (string_bytes lines.new
+            ≡ string_bytes lines.old
+            ++ envy_line self.now.case.now (answers self.now.table.now) player other) }
     {
         if other == player {
             return Ok(());
@@ -61,11 +63,13 @@ impl EnvyLines<'_> {
         push_line(lines, format_args!("envy {envier} {envied}: {answer}"))
     }
 
-    /// Appends the lines of a player and each other.
+    // Appends the lines of a player and each other.
     fn push_others(&self, lines: &mut String, player: u8) -> Result<(), NoMemory>
         requires low { 1 ≤ player }
         requires high { player ≤ player_count self.now.case.now }
-        ensures { OnOk result (string_bytes lines.new ≡ string_bytes lines.old ++ envy_lines self.now.case.now (answers self.now.table.now) player) }
+        ensures { OnOk result (string_bytes lines.new
+            ≡ string_bytes lines.old
+            ++ envy_lines self.now.case.now (answers self.now.table.now) player) }
     {
         lines_law();
         for k in 0..self.case.values.len() as u8 {
@@ -74,9 +78,12 @@ impl EnvyLines<'_> {
         Ok(())
     }
 
-    /// Appends the lines of all players and each other.
+    // Appends the lines of all players and each other.
     pub(crate) fn push_all(&self, lines: &mut String) -> Result<(), NoMemory>
-        ensures { OnOk result (string_bytes lines.new ≡ string_bytes lines.old ++ lines_to (player_count self.now.case.now) (envy_lines self.now.case.now (answers self.now.table.now))) }
+        ensures { OnOk result (string_bytes lines.new
+            ≡ string_bytes lines.old
+            ++ lines_to (player_count self.now.case.now)
+            (envy_lines self.now.case.now (answers self.now.table.now))) }
     {
         lines_law();
         for k in 0..self.case.values.len() as u8 {

@@ -18,8 +18,11 @@ use nash_search::step_count_law;
 /// Over the best division the audit says that nothing dominates it, which is true, and of nobody that envy goes past one good (Caragiannis
 /// and others 2016).
 pub fn fair_audit_law()
-    ensures fair { (given : NamesData) (case : GoodsCase) (owners text : List ℕ) → AreBestOwners case owners → IsAuditText given case owners None text → SaysFair given case owners text }
-    ensures undominated { (case : GoodsCase) (owners others : List ℕ) → AreBestOwners case owners → IsAllocation case others → Dominates case others (in_search_order case owners) → ⊥ }
+    ensures fair { (given : NamesData) (case : GoodsCase) (owners text : List ℕ)
+        → AreBestOwners case owners → IsAuditText given case owners None text
+        → SaysFair given case owners text }
+    ensures undominated { (case : GoodsCase) (owners others : List ℕ) → AreBestOwners case owners
+        → IsAllocation case others → Dominates case others (in_search_order case owners) → ⊥ }
 {
     best_goods_law();
     one_good_law();
@@ -27,13 +30,19 @@ pub fn fair_audit_law()
 }
 
 /// Since a case has one division by the solver, it has one audit under the names of its members and goods: there is one answer on each two
-/// players. And so have any owners, where it tells the least division that dominates theirs, or that none does.
+/// players. And so have any owners, if it tells the least division that dominates theirs, or that none does.
 pub fn one_goods_audit_law()
-    ensures division { (given : NamesData) (case : GoodsCase) (division others : GoodsDivision) (text other : List ℕ) → IsGoodsDivision case division → IsGoodsDivision case others
-        → IsDivisionAudit given case division text → IsDivisionAudit given case others other → text ≡ other }
-    ensures owners { (given : NamesData) (case : GoodsCase) (owners : List ℕ) (better another : Option OwnersByGood) (text other : List ℕ)
-        → IsBetterDivision case (in_search_order case owners) better → IsBetterDivision case (in_search_order case owners) another
-        → IsAuditText given case owners (option_map (λ others. others.items) better) text → IsAuditText given case owners (option_map (λ others. others.items) another) other → text ≡ other }
+    ensures division { (given : NamesData) (case : GoodsCase) (division others : GoodsDivision)
+        (text other : List ℕ) → IsGoodsDivision case division → IsGoodsDivision case others
+        → IsDivisionAudit given case division text → IsDivisionAudit given case others other
+        → text ≡ other }
+    ensures owners { (given : NamesData) (case : GoodsCase) (owners : List ℕ)
+        (better another : Option OwnersByGood) (text other : List ℕ)
+        → IsBetterDivision case (in_search_order case owners) better
+        → IsBetterDivision case (in_search_order case owners) another
+        → IsAuditText given case owners (option_map (λ others. others.items) better) text
+        → IsAuditText given case owners (option_map (λ others. others.items) another) other
+        → text ≡ other }
 {
     step_count_law();
 }

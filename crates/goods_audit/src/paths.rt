@@ -19,7 +19,7 @@ pub(crate) struct Path {
 }
 
 impl Path {
-    /// Gives the next good to the first player.
+    // Gives the next good to the first player.
     pub(crate) fn descend(&mut self, case: &GoodsCase, table: &LaneTable)
         requires case { IsValidGoodsCase case.now }
         requires table { IsLaneTable case.now table.now }
@@ -33,11 +33,15 @@ impl Path {
         self.owners.push(1);
     }
 
-    /// Whether the last good has the last player as its owner.
+    // Whether the last good has the last player as its owner.
     fn is_last(&self, case: &GoodsCase) -> bool
         requires path { IsPath case.now self.now }
-        ensures last { result ≡ true → (front : List ℕ) × (self.now.owners.items ≡ front ++ player_count case.now ∷ []) }
-        ensures before { result ≡ false → (self.now.owners.items ≡ []) ⊎ ((front : List ℕ) × (owner : ℕ) × (self.now.owners.items ≡ front ++ owner ∷ []) × (owner < player_count case.now)) }
+        ensures last { result ≡ true
+            → (front : List ℕ) × (self.now.owners.items ≡ front ++ player_count case.now ∷ []) }
+        ensures before { result ≡ false
+            → (self.now.owners.items ≡ [])
+            ⊎ ((front : List ℕ) × (owner : ℕ) × (self.now.owners.items ≡ front ++ owner ∷ [])
+            × (owner < player_count case.now)) }
     {
         match self.owners.last() {
             Some(owner) => *owner == players(case),
@@ -45,14 +49,15 @@ impl Path {
         }
     }
 
-    /// Takes the last good from its owner.
+    // Takes the last good from its owner.
     fn ascend(&mut self, case: &GoodsCase, table: &LaneTable)
         requires case { IsValidGoodsCase case.now }
         requires table { IsLaneTable case.now table.now }
         requires path { IsPath case.now self.old }
         requires some { 0 < length self.old.owners.items }
         ensures path { IsPath case.now self.new }
-        ensures owners { (owner : ℕ) × (self.old.owners.items ≡ self.new.owners.items ++ owner ∷ []) }
+        ensures owners { (owner : ℕ)
+            × (self.old.owners.items ≡ self.new.owners.items ++ owner ∷ []) }
     {
         if let Some(owner) = self.owners.pop() {
             take(case, table, self.owners.as_slice(), owner, &mut self.lanes);
@@ -60,14 +65,17 @@ impl Path {
         }
     }
 
-    /// Takes the last good from its owner and gives it to the next player.
+    // Takes the last good from its owner and gives it to the next player.
     fn turn(&mut self, case: &GoodsCase, table: &LaneTable)
         requires case { IsValidGoodsCase case.now }
         requires table { IsLaneTable case.now table.now }
         requires path { IsPath case.now self.old }
-        requires before { (front : List ℕ) × (owner : ℕ) × (self.old.owners.items ≡ front ++ owner ∷ []) × (owner < player_count case.now) }
+        requires before { (front : List ℕ) × (owner : ℕ)
+            × (self.old.owners.items ≡ front ++ owner ∷ []) × (owner < player_count case.now) }
         ensures path { IsPath case.now self.new }
-        ensures owners { (front : List ℕ) × (owner : ℕ) × (self.old.owners.items ≡ front ++ owner ∷ []) × (owner < player_count case.now) × (self.new.owners.items ≡ front ++ (owner + 1) ∷ []) }
+        ensures owners { (front : List ℕ) × (owner : ℕ)
+            × (self.old.owners.items ≡ front ++ owner ∷ []) × (owner < player_count case.now)
+            × (self.new.owners.items ≡ front ++ (owner + 1) ∷ []) }
     {
         if let Some(owner) = self.owners.pop() {
             take(case, table, self.owners.as_slice(), owner, &mut self.lanes);
@@ -82,13 +90,14 @@ impl Path {
         }
     }
 
-    /// Leaves the prefix with all that begin with it, for the first one after them.
+    // Leaves the prefix with all that begin with it, for the first one after them.
     pub(crate) fn leave(&mut self, case: &GoodsCase, table: &LaneTable)
         requires case { IsValidGoodsCase case.now }
         requires table { IsLaneTable case.now table.now }
         requires path { IsPath case.now self.old }
         ensures path { IsPath case.now self.new }
-        ensures next { to_come case.now self.new.owners.items ≡ later_ones case.now self.old.owners.items }
+        ensures next { to_come case.now self.new.owners.items
+            ≡ later_ones case.now self.old.owners.items }
     {
         'full: while self.is_last(case) {
             self.ascend(case, table);

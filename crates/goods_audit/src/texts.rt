@@ -8,7 +8,7 @@ ghost use Rattle.bid_rules.specs.Goods.{AreOwners, IsValidGoodsCase};
 ghost use Rattle.nash_search.specs.Division.{IsGoodsDivision};
 ghost use Rattle.split_reports.specs.Names.{names_of, shown_names};
 ghost use Rattle.split_reports.specs.Players.{player_member};
-ghost use Rattle.split_json.specs.Reading.{IsReady, shown};
+ghost use Rattle.split_json.specs.Reading.{IsReady, case_data_of};
 ghost use Rattle.goods_audit.specs.Texts.{IsAuditText, IsDivisionAudit, SaysFair, answers, audit_lines, audit_title, better_line, welfare_line};
 
 use crate::envies::EnvyLines;
@@ -25,15 +25,16 @@ use split_json::CaseInput;
 use split_reports::{Names, PlayerLines};
 use std::alloc::Global;
 
-/// Appends the line of the title.
+// Appends the line of the title.
 fn push_title(lines: &mut String, names: &Names<'_>) -> Result<(), NoMemory>
-    ensures { OnOk result (string_bytes lines.new ≡ string_bytes lines.old ++ audit_title (shown_names names.now)) }
+    ensures { OnOk result
+        (string_bytes lines.new ≡ string_bytes lines.old ++ audit_title (shown_names names.now)) }
 {
     let title = names.title.as_str();
     push_line(lines, format_args!("audit goods {title}"))
 }
 
-/// Appends the line of the pair.
+// Appends the line of the pair.
 fn push_welfare(lines: &mut String, pair: Pair) -> Result<(), NoMemory>
     ensures { OnOk result (string_bytes lines.new ≡ string_bytes lines.old ++ welfare_line pair) }
 {
@@ -41,7 +42,7 @@ fn push_welfare(lines: &mut String, pair: Pair) -> Result<(), NoMemory>
     push_line(lines, format_args!("positive {count}, product {product}"))
 }
 
-/// The numbers of the members that some players are.
+// The numbers of the members that some players are.
 fn members_of(case: &GoodsCase, players: &[u8]) -> ArrayVec<u8, ITEM_ROOM>
     requires case { IsValidGoodsCase case.now }
     requires few { length players.now ≤ ITEM_ROOM }
@@ -55,11 +56,14 @@ fn members_of(case: &GoodsCase, players: &[u8]) -> ArrayVec<u8, ITEM_ROOM>
     members
 }
 
-/// Appends the line that says whether the owners are dominated.
+// Appends the line that says whether the owners are dominated.
 fn push_better(lines: &mut String, case: &GoodsCase, better: Option<&[u8]>) -> Result<(), NoMemory>
     requires case { IsValidGoodsCase case.now }
-    requires better { IfSome better (λ others. (length others.now ≡ case.now.facts.goods) × AreOwners case.now others.now) }
-    ensures { OnOk result (string_bytes lines.new ≡ string_bytes lines.old ++ better_line case.now (option_map (λ others. others.now) better.entry)) }
+    requires better { IfSome better (λ others.
+        (length others.now ≡ case.now.facts.goods) × AreOwners case.now others.now) }
+    ensures { OnOk result (string_bytes lines.new
+        ≡ string_bytes lines.old
+        ++ better_line case.now (option_map (λ others. others.now) better.entry)) }
 {
     let Some(others) = better else {
         return push_line(lines, format_args!("pareto yes"));
@@ -69,7 +73,7 @@ fn push_better(lines: &mut String, case: &GoodsCase, better: Option<&[u8]>) -> R
     push_line(lines, format_args!("dominated by{owners}"))
 }
 
-/// The audit from the lines of its players and of their envy.
+// The audit from the lines of its players and of their envy.
 fn audit_of(
     alloc: Global,
     players: &PlayerLines<'_>,
@@ -78,8 +82,14 @@ fn audit_of(
     better: Option<&[u8]>,
 ) -> Result<Vec<u8>, NoMemory>
     requires case { envies.now.case.now ≡ players.now.case.now }
-    requires better { IfSome better (λ others. (length others.now ≡ players.now.case.now.facts.goods) × AreOwners players.now.case.now others.now) }
-    ensures { IfOk result (λ text. text.items ≡ audit_lines (shown_names players.now.names.now) players.now.case.now players.now.owners.now (option_map (λ others. others.now) better.entry) pair (answers envies.now.table.now)) }
+    requires better { IfSome better (λ others.
+        (length others.now ≡ players.now.case.now.facts.goods)
+        × AreOwners players.now.case.now others.now) }
+    ensures { IfOk result (λ text.
+        text.items
+        ≡ audit_lines (shown_names players.now.names.now) players.now.case.now
+        players.now.owners.now (option_map (λ others. others.now) better.entry) pair
+        (answers envies.now.table.now)) }
 {
     let mut lines = String::new(alloc);
     push_title(&mut lines, players.names)?;
@@ -106,8 +116,11 @@ pub fn named_audit(
     requires members { length names.now.members.now.items ≡ case.now.facts.members }
     requires each { length owners.now ≡ case.now.facts.goods }
     requires owners { AreOwners case.now owners.now }
-    requires better { IfSome better (λ others. (length others.now ≡ case.now.facts.goods) × AreOwners case.now others.now) }
-    ensures { IfOk result (λ text. IsAuditText (shown_names names.now) case.now owners.now (option_map (λ others. others.now) better.entry) text.items) }
+    requires better { IfSome better (λ others.
+        (length others.now ≡ case.now.facts.goods) × AreOwners case.now others.now) }
+    ensures { IfOk result (λ text.
+        IsAuditText (shown_names names.now) case.now owners.now
+        (option_map (λ others. others.now) better.entry) text.items) }
 {
     let table = ef1_table(case, owners);
     let players = PlayerLines {
@@ -133,12 +146,15 @@ pub fn audit_text(
     owners: &[u8],
     better: Option<&[u8]>,
 ) -> Result<Vec<u8>, NoMemory>
-    requires input { IsReady (shown input.now) }
+    requires input { IsReady (case_data_of input.now) }
     requires case { case_of input.now.facts input.now.bids.items ≡ Ok (kind.Goods case.now) }
     requires each { length owners.now ≡ case.now.facts.goods }
     requires owners { AreOwners case.now owners.now }
-    requires better { IfSome better (λ others. (length others.now ≡ case.now.facts.goods) × AreOwners case.now others.now) }
-    ensures { IfOk result (λ text. IsAuditText (names_of (shown input.now)) case.now owners.now (option_map (λ others. others.now) better.entry) text.items) }
+    requires better { IfSome better (λ others.
+        (length others.now ≡ case.now.facts.goods) × AreOwners case.now others.now) }
+    ensures { IfOk result (λ text.
+        IsAuditText (names_of (case_data_of input.now)) case.now owners.now
+        (option_map (λ others. others.now) better.entry) text.items) }
 {
     case_law();
     let names = Names {
@@ -162,8 +178,10 @@ pub fn division_audit(
     requires case { IsValidGoodsCase case.now }
     requires members { length names.now.members.now.items ≡ case.now.facts.members }
     requires division { IsGoodsDivision case.now division.now }
-    ensures audit { IfOk result (λ text. IsDivisionAudit (shown_names names.now) case.now division.now text.items) }
-    ensures fair { IfOk result (λ text. SaysFair (shown_names names.now) case.now division.now.owners.items text.items) }
+    ensures audit { IfOk result (λ text.
+        IsDivisionAudit (shown_names names.now) case.now division.now text.items) }
+    ensures fair { IfOk result (λ text.
+        SaysFair (shown_names names.now) case.now division.now.owners.items text.items) }
 {
     fair_audit_law();
     named_audit(alloc, names, case, division.owners.as_slice(), None)

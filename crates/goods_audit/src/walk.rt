@@ -3,8 +3,8 @@ ghost use Rattle.std.specs.Prelude.{◌≡◌, ℕ, ◌+◌, ◌-◌, ◌<◌, �
 ghost use Rattle.bid_rules.specs.Goods.{IsValidGoodsCase, player_count};
 ghost use Rattle.bid_rules.specs.declared.limits.TheConstants.{ITEM_ROOM, MEMBER_ROOM, MOST_STEPS};
 ghost use Rattle.nash_bounds.specs.Lanes.{IsLaneTable, IsLanes};
-ghost use Rattle.goods_audit.specs.Domination.{OwnersByGood, is_open};
-ghost use Rattle.goods_audit.specs.Paths.{Goes, IsPath, IsSearched, to_come};
+ghost use Rattle.goods_audit.specs.Domination.{OwnersByGood, leaves_room};
+ghost use Rattle.goods_audit.specs.Paths.{LosesNothing, IsPath, IsSearched, to_come};
 
 use crate::paths::Path;
 use arrayvec::ArrayVec;
@@ -13,10 +13,13 @@ use bid_rules::limits::ITEM_ROOM;
 use nash_bounds::{LaneTable, Lanes, longer_prefix_law, players, search_order_law};
 use nash_search::OverLimit;
 
-/// Whether each player may have as many points with a prefix as they have with a whole allocation.
+// Whether each player may have as many points with a prefix as they have with a whole allocation.
 fn may_all_have(case: &GoodsCase, whole: &Lanes, lanes: &Lanes) -> bool
-    ensures each { result ≡ true → (player : ℕ) → 1 ≤ player → player ≤ player_count case.now → slice_index whole.now.low (player - 1) ≤ slice_index lanes.now.high (player - 1) }
-    ensures some { result ≡ false → (player : ℕ) × (1 ≤ player) × (player ≤ player_count case.now) × (slice_index lanes.now.high (player - 1) < slice_index whole.now.low (player - 1)) }
+    ensures each { result ≡ true → (player : ℕ) → 1 ≤ player → player ≤ player_count case.now
+        → slice_index whole.now.low (player - 1) ≤ slice_index lanes.now.high (player - 1) }
+    ensures some { result ≡ false
+        → (player : ℕ) × (1 ≤ player) × (player ≤ player_count case.now)
+        × (slice_index lanes.now.high (player - 1) < slice_index whole.now.low (player - 1)) }
 {
     let had = whole.low.as_array();
     let may_have = lanes.high.as_array();
@@ -28,10 +31,12 @@ fn may_all_have(case: &GoodsCase, whole: &Lanes, lanes: &Lanes) -> bool
     true
 }
 
-/// Whether a prefix leaves room for an allocation that dominates a whole one.
+// Whether a prefix leaves room for an allocation that dominates a whole one.
 fn has_room(case: &GoodsCase, whole: &Lanes, lanes: &Lanes) -> bool
     requires few { player_count case.now ≤ MEMBER_ROOM }
-    ensures { (owners prefix : List ℕ) → IsLanes case.now owners whole.now → length owners ≡ case.now.facts.goods → IsLanes case.now prefix lanes.now → result ≡ is_open case.now owners prefix }
+    ensures { (owners prefix : List ℕ) → IsLanes case.now owners whole.now
+        → length owners ≡ case.now.facts.goods → IsLanes case.now prefix lanes.now
+        → result ≡ leaves_room case.now owners prefix }
 {
     search_order_law();
     if lanes.top <= whole.top {
@@ -40,14 +45,15 @@ fn has_room(case: &GoodsCase, whole: &Lanes, lanes: &Lanes) -> bool
     may_all_have(case, whole, lanes)
 }
 
-/// The allocation that was found first: the earlier one, or else these owners.
+// The allocation that was found first: the earlier one, or, if there is none, these owners.
 fn first_of(
     first: Option<ArrayVec<u8, ITEM_ROOM>>,
     owners: &[u8],
 ) -> Option<ArrayVec<u8, ITEM_ROOM>>
     requires { length owners.now ≤ ITEM_ROOM }
     ensures earlier { (list : OwnersByGood) → first ≡ Some list → result ≡ Some list }
-    ensures new { first ≡ None → (list : OwnersByGood) × (result ≡ Some list) × (list.items ≡ owners.now) }
+    ensures new { first ≡ None
+        → (list : OwnersByGood) × (result ≡ Some list) × (list.items ≡ owners.now) }
 {
     if let Some(list) = first {
         return Some(list);
@@ -69,19 +75,22 @@ pub(crate) struct Walk {
 }
 
 impl Walk {
-    /// Keeps the path, if it is the first allocation that is found.
+    // Keeps the path, if it is the first allocation that is found.
     fn keep(&mut self)
         requires { length self.old.path.owners.items ≤ ITEM_ROOM }
         ensures path { self.new.path ≡ self.old.path }
         ensures openings { self.new.openings ≡ self.old.openings }
-        ensures earlier { (list : OwnersByGood) → self.old.first ≡ Some list → self.new.first ≡ Some list }
-        ensures new { self.old.first ≡ None → (list : OwnersByGood) × (self.new.first ≡ Some list) × (list.items ≡ self.old.path.owners.items) }
+        ensures earlier { (list : OwnersByGood) → self.old.first ≡ Some list
+            → self.new.first ≡ Some list }
+        ensures new { self.old.first ≡ None
+            → (list : OwnersByGood) × (self.new.first ≡ Some list)
+            × (list.items ≡ self.old.path.owners.items) }
     {
         let first = self.first.take();
         self.first = first_of(first, self.path.owners.as_slice());
     }
 
-    /// Sees the prefix of the path and goes on to the next one.
+    // Sees the prefix of the path and goes on to the next one.
     fn step(&mut self, case: &GoodsCase, table: &LaneTable, whole: &Lanes)
         requires case { IsValidGoodsCase case.now }
         requires table { IsLaneTable case.now table.now }
@@ -90,8 +99,11 @@ impl Walk {
         requires openings { self.old.openings ≤ MOST_STEPS }
         ensures path { IsPath case.now self.new.path }
         ensures openings { self.new.openings ≤ self.old.openings + 1 }
-        ensures fewer { length (to_come case.now self.new.path.owners.items) < length (to_come case.now self.old.path.owners.items) }
-        ensures goes { (owners : List ℕ) → IsLanes case.now owners whole.now → length owners ≡ case.now.facts.goods → Goes case.now owners self.old self.new }
+        ensures fewer { length (to_come case.now self.new.path.owners.items)
+            < length (to_come case.now self.old.path.owners.items) }
+        ensures goes { (owners : List ℕ) → IsLanes case.now owners whole.now
+            → length owners ≡ case.now.facts.goods
+            → LosesNothing case.now owners self.old self.new }
     {
         longer_prefix_law();
         if !has_room(case, whole, &self.path.lanes) {
@@ -108,8 +120,8 @@ impl Walk {
     }
 }
 
-/// The least allocation that dominates the whole one, in search order, if there is one, by a search from the prefix in which the first
-/// player has the first good.
+// The least allocation that dominates the whole one, in search order, if there is one, by a search from the prefix in which the first
+// player has the first good.
 pub(crate) fn search(
     case: &GoodsCase,
     table: &LaneTable,
@@ -120,7 +132,8 @@ pub(crate) fn search(
     requires table { IsLaneTable case.now table.now }
     requires path { IsPath case.now start }
     requires first { start.owners.items ≡ 1 ∷ [] }
-    ensures { (owners : List ℕ) → IsLanes case.now owners whole.now → length owners ≡ case.now.facts.goods → IsSearched case.now owners result }
+    ensures { (owners : List ℕ) → IsLanes case.now owners whole.now
+        → length owners ≡ case.now.facts.goods → IsSearched case.now owners result }
 {
     let limit = case.facts.limit;
     let mut walk = Walk {

@@ -10,7 +10,7 @@ use nash_bounds::{
     point_table, search_order, whole_list_law,
 };
 
-/// The prefix in which these owners have all goods, in search order.
+// The prefix in which these owners have all goods, in search order.
 pub(crate) fn whole_prefix(case: &GoodsCase, table: &PointTable, owners: &[u8]) -> Prefix
     requires case { IsValidGoodsCase case.now }
     requires table { IsTable case.now table.now }
@@ -26,7 +26,7 @@ pub(crate) fn whole_prefix(case: &GoodsCase, table: &PointTable, owners: &[u8]) 
     prefix
 }
 
-/// The pair of the players' points, where the owners are given by good number.
+// The pair of the players' points, with the owners given by good number.
 pub(crate) fn welfare(case: &GoodsCase, owners: &[u8]) -> Pair
     requires case { IsValidGoodsCase case.now }
     requires each { length owners.now ≡ case.now.facts.goods }

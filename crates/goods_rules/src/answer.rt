@@ -29,7 +29,7 @@ pub struct Answer {
     pub goal: Goal,
 }
 
-/// The pair of the players' utilities where they own the goods, in search order.
+// The pair of the players' utilities where they own the goods, in search order.
 fn pair_of(case: &GoodsCase, table: &PointTable, owners: &[u8]) -> Pair
     requires case { IsValidGoodsCase case.now }
     requires table { IsTable case.now table.now }
@@ -44,7 +44,7 @@ fn pair_of(case: &GoodsCase, table: &PointTable, owners: &[u8]) -> Pair
     bound(&prefix)
 }
 
-/// The answer of the case with these owners, by good number.
+// The answer of the case with these owners, by good number.
 pub(crate) fn answer_of(case: GoodsCase, owners: &[u8]) -> Answer
     requires case { IsValidGoodsCase case }
     requires owners { length owners.now ≡ case.facts.goods }
@@ -69,7 +69,7 @@ pub(crate) fn answer_of(case: GoodsCase, owners: &[u8]) -> Answer
 }
 
 impl Answer {
-    /// Whether the answer's first owners come before these.
+    // Whether the answer's first owners come before these.
     pub(crate) fn comes_before(&self, owners: &[u8]) -> bool
         requires { length owners.now ≤ length self.now.owners.items }
         ensures { result ≡ is_after self.now.owners.items owners.now }

@@ -12,7 +12,7 @@ use rule_verdicts::{members_between, rows_of_amounts};
 /// A row of printed points, by good.
 pub type PrintedRow = ArrayVec<i128, ITEM_ROOM>;
 
-/// The printed case, if it is valid.
+// The printed case, if it is valid.
 pub(crate) fn case_of(
     goods: u8,
     limit: i128,
@@ -21,10 +21,40 @@ pub(crate) fn case_of(
 ) -> Option<GoodsCase>
     requires who { length who.now ≤ MEMBER_ROOM }
     requires values { length values.now ≤ MEMBER_ROOM }
-    ensures { (owners : List ℤ) (steps : ℤ) (marks : List ℕ) → MatchOption result
-        (HasCase (record { goods = goods; limit = limit; who = who.now; values = map (λ row. row.items) values.now; owners = owners; steps = steps; marks = marks }) → ⊥)
-        (λ case. HasCase (record { goods = goods; limit = limit; who = who.now; values = map (λ row. row.items) values.now; owners = owners; steps = steps; marks = marks })
-        × (case ≡ printed_case (record { goods = goods; limit = limit; who = who.now; values = map (λ row. row.items) values.now; owners = owners; steps = steps; marks = marks }))) }
+    ensures { (owners : List ℤ) (steps : ℤ) (marks : List ℕ)
+        → MatchOption result
+        (HasCase (record {
+          goods = goods;
+          limit = limit;
+          who = who.now;
+          values = map
+              (λ row. row.items) values.now;
+          owners = owners;
+          steps = steps;
+          marks = marks;
+        }) → ⊥)
+        (λ case.
+        HasCase (record {
+          goods = goods;
+          limit = limit;
+          who = who.now;
+          values = map
+              (λ row. row.items) values.now;
+          owners = owners;
+          steps = steps;
+          marks = marks;
+        })
+        × (case
+        ≡ printed_case (record {
+          goods = goods;
+          limit = limit;
+          who = who.now;
+          values = map
+              (λ row. row.items) values.now;
+          owners = owners;
+          steps = steps;
+          marks = marks;
+        }))) }
 {
     if limit < 0 || limit > i128::from(MOST_STEPS) {
         return None;
@@ -48,12 +78,15 @@ pub(crate) fn case_of(
     if case.is_valid() { Some(case) } else { None }
 }
 
-/// The owner of each good, if each is one of this many players.
+// The owner of each good, if each is one of this many players.
 pub(crate) fn owners_of(owners: &[i128], players: usize) -> Option<Owners>
     requires goods { length owners.now ≤ ITEM_ROOM }
     requires players { players ≤ MEMBER_ROOM }
-    ensures { MatchOption result (All (λ owner. (pos 1 ≤ℤ owner) × (owner ≤ℤ pos players)) owners.now → ⊥)
-        (λ list. All (λ owner. (pos 1 ≤ℤ owner) × (owner ≤ℤ pos players)) owners.now × (list.items ≡ map unsigned_abs owners.now)) }
+    ensures { MatchOption result
+        (All (λ owner. (pos 1 ≤ℤ owner) × (owner ≤ℤ pos players)) owners.now → ⊥)
+        (λ list.
+        All (λ owner. (pos 1 ≤ℤ owner) × (owner ≤ℤ pos players)) owners.now
+        × (list.items ≡ map unsigned_abs owners.now)) }
 {
     members_between(owners, 1, players as u8)
 }

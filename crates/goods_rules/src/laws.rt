@@ -15,10 +15,15 @@ use nash_bounds::{bound_law, open_prefixes_law, owners_by_good_law};
 /// If all rules hold, the printed case is valid, and the printed owners are best for it (Caragiannis and others 2016), in the order of the search
 /// and in the order of the goods. A text has one verdict.
 pub fn goods_certificate_law()
-    ensures valid { (view : GoodsView) → IsVerdictOf (rules_of_goods view) Yes → IsValidGoodsCase (printed_case view) }
-    ensures best { (view : GoodsView) → IsVerdictOf (rules_of_goods view) Yes → GoodsBest (printed_case view) (printed_answer view) }
-    ensures owners { (view : GoodsView) → IsVerdictOf (rules_of_goods view) Yes → owners_by_good (printed_case view) (printed_answer view) ≡ printed_owners view }
-    ensures one { (view : GoodsView) (verdict other : Verdict) → IsVerdictOf (rules_of_goods view) verdict → IsVerdictOf (rules_of_goods view) other → verdict ≡ other }
+    ensures valid { (view : GoodsView) → IsVerdictOf (rules_of_goods view) Yes
+        → IsValidGoodsCase (printed_case view) }
+    ensures best { (view : GoodsView) → IsVerdictOf (rules_of_goods view) Yes
+        → GoodsBest (printed_case view) (printed_answer view) }
+    ensures owners { (view : GoodsView) → IsVerdictOf (rules_of_goods view) Yes
+        → owners_by_good (printed_case view) (printed_answer view) ≡ printed_owners view }
+    ensures one { (view : GoodsView) (verdict other : Verdict)
+        → IsVerdictOf (rules_of_goods view) verdict → IsVerdictOf (rules_of_goods view) other
+        → verdict ≡ other }
 {
     bound_law();
     open_prefixes_law();
@@ -29,15 +34,22 @@ pub fn goods_certificate_law()
 /// leaf is a `-`, or a `=` where all goods are given. Rules 4, 5 and 6 hold exactly if the marks are one tree and what the rule asks holds of each leaf; for
 /// rule 6 that is that a `=` is the answer. If all rules hold, the answer has its leaf, with a `=`, and no other leaf has one.
 pub fn goods_tree_law()
-    ensures one { (view : GoodsView) (allocation : List ℕ) → goods_rule view 3 → IsAllocation (printed_case view) allocation
+    ensures one { (view : GoodsView) (allocation : List ℕ) → goods_rule view 3
+        → IsAllocation (printed_case view) allocation
         → BeginsWithOneLeaf (printed_case view) view.marks allocation }
-    ensures marks { (view : GoodsView) (owners : List ℕ) (mark : ℕ) → goods_rule view 3 → HasLeaf (printed_case view) view.marks owners mark
+    ensures marks { (view : GoodsView) (owners : List ℕ) (mark : ℕ) → goods_rule view 3
+        → HasLeaf (printed_case view) view.marks owners mark
         → IsLeafMark (printed_case view) owners mark }
-    ensures rules { (view : GoodsView) (number : ℕ) → HasTree view number ↔ goods_rule view 3
-        × ((owners : List ℕ) (mark : ℕ) → HasLeaf (printed_case view) view.marks owners mark → leaf_rule (printed_case view) (printed_answer view) number owners mark) }
-    ensures answer { (view : GoodsView) → goods_rule view 6 ↔ goods_rule view 3
-        × ((owners : List ℕ) → HasLeaf (printed_case view) view.marks owners ANSWER_LEAF → owners ≡ printed_answer view) }
-    ensures own { (view : GoodsView) → IsVerdictOf (rules_of_goods view) Yes → HasLeaf (printed_case view) view.marks (printed_answer view) ANSWER_LEAF }
+    ensures rules { (view : GoodsView) (number : ℕ) → HasTree view number
+        ↔ goods_rule view 3
+        × ((owners : List ℕ) (mark : ℕ) → HasLeaf (printed_case view) view.marks owners mark
+        → leaf_rule (printed_case view) (printed_answer view) number owners mark) }
+    ensures answer { (view : GoodsView) → goods_rule view 6
+        ↔ goods_rule view 3
+        × ((owners : List ℕ) → HasLeaf (printed_case view) view.marks owners ANSWER_LEAF
+        → owners ≡ printed_answer view) }
+    ensures own { (view : GoodsView) → IsVerdictOf (rules_of_goods view) Yes
+        → HasLeaf (printed_case view) view.marks (printed_answer view) ANSWER_LEAF }
 {
     goods_certificate_law();
     bound_law();

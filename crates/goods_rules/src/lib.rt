@@ -1,4 +1,4 @@
-//! The six rules of a certificate of goods, judged mark by mark in fixed memory. Where all hold, the printed owners have the greatest
+//! The six rules of a certificate of goods, judged mark by mark in fixed memory. If all hold, the printed owners have the greatest
 //! Nash welfare (Caragiannis and others 2016), the first of equals.
 //!
 //! That is `goods_certificate_law`; `goods_tree_law` says what the leaves of the tree are. `parent_of`

@@ -26,7 +26,7 @@ pub struct Path {
 }
 
 impl Path {
-    /// The path to the root.
+    // The path to the root.
     pub(crate) fn new() -> Path
         ensures path { (case : GoodsCase) (pair : Pair) → IsPath case pair result }
         ensures none { result.owners.items ≡ [] }
@@ -37,7 +37,7 @@ impl Path {
         }
     }
 
-    /// What the players have and may have.
+    // What the players have and may have.
     fn lanes(&self, answer: &Answer) -> Lanes
         requires answer { IsGoodsAnswer answer.now }
         requires path { IsPath answer.now.case answer.now.goal.pair self.now }
@@ -51,7 +51,7 @@ impl Path {
         lanes
     }
 
-    /// A level near that of the node's bound, by the node's lanes where it is the root.
+    // A level near that of the node's bound, by the node's lanes if it is the root.
     fn level(&self, answer: &Answer, lanes: &Lanes) -> u32
         requires answer { IsGoodsAnswer answer.now }
         requires path { IsPath answer.now.case answer.now.goal.pair self.now }
@@ -62,7 +62,7 @@ impl Path {
         self.parents[owners.len()].contenders.level_of(*owner)
     }
 
-    /// What the children of the node are judged by.
+    // What the children of the node are judged by.
     fn parent(&self, answer: &Answer) -> Parent
         requires answer { IsGoodsAnswer answer.now }
         requires path { IsPath answer.now.case answer.now.goal.pair self.now }
@@ -82,7 +82,7 @@ impl Path {
         )
     }
 
-    /// Goes down to the first child.
+    // Goes down to the first child.
     pub(crate) fn enter(&mut self, answer: &Answer)
         requires answer { IsGoodsAnswer answer.now }
         requires path { IsPath answer.now.case answer.now.goal.pair self.old }
@@ -95,15 +95,19 @@ impl Path {
         self.owners.push(1);
     }
 
-    /// Goes to the next sibling of a child, if it has one; whether it did.
+    // Goes to the next sibling of a child, if it has one; whether it did.
     fn to_sibling(&mut self, players: u8) -> bool
         requires child { 0 < length self.old.owners.items }
         requires players { players ≤ MEMBER_ROOM }
         ensures parents { self.new.parents.items ≡ self.old.parents.items }
-        ensures goes { result ≡ true → (above : List ℕ) × (owner : ℕ) × (owner < players)
-            × (self.old.owners.items ≡ above ++ owner ∷ []) × (self.new.owners.items ≡ above ++ (owner + 1) ∷ []) }
-        ensures stays { result ≡ false → (above : List ℕ) × (owner : ℕ) × (players ≤ owner)
-            × (self.old.owners.items ≡ above ++ owner ∷ []) × (self.new.owners.items ≡ self.old.owners.items) }
+        ensures goes { result ≡ true
+            → (above : List ℕ) × (owner : ℕ) × (owner < players)
+            × (self.old.owners.items ≡ above ++ owner ∷ [])
+            × (self.new.owners.items ≡ above ++ (owner + 1) ∷ []) }
+        ensures stays { result ≡ false
+            → (above : List ℕ) × (owner : ℕ) × (players ≤ owner)
+            × (self.old.owners.items ≡ above ++ owner ∷ [])
+            × (self.new.owners.items ≡ self.old.owners.items) }
     {
         let Some((owner, above)) = self.owners.as_slice().split_last() else {
             return false;
@@ -116,24 +120,29 @@ impl Path {
         true
     }
 
-    /// Goes up to the parent.
+    // Goes up to the parent.
     fn ascend(&mut self)
-        ensures owners { (above : List ℕ) (owner : ℕ) → self.old.owners.items ≡ above ++ owner ∷ [] → self.new.owners.items ≡ above }
-        ensures parents { self.new.parents.items ≡ take (length self.new.owners.items) self.old.parents.items }
+        ensures owners { (above : List ℕ) (owner : ℕ) → self.old.owners.items ≡ above ++ owner ∷ []
+            → self.new.owners.items ≡ above }
+        ensures parents { self.new.parents.items
+            ≡ take (length self.new.owners.items) self.old.parents.items }
     {
         let _ = self.owners.pop();
         self.parents.truncate(self.owners.len());
     }
 
-    /// Leaves a node whose subtree was read whole: goes to the next sibling, of it or of the nearest node above that has one. Whether there
-    /// is none.
+    // Leaves a node whose subtree was read whole: goes to the next sibling, of it or of the nearest node above that has one. Whether there
+    // is none.
     #[inline(never)]
     fn climb_up(&mut self, players: u8) -> bool
         requires players { players ≤ MEMBER_ROOM }
-        ensures path { (case : GoodsCase) (pair : Pair) → player_count case ≡ players → IsPath case pair self.old → IsPath case pair self.new }
+        ensures path { (case : GoodsCase) (pair : Pair) → player_count case ≡ players
+            → IsPath case pair self.old → IsPath case pair self.new }
         ensures left { (case : GoodsCase) (answer : List ℕ) (number : ℕ) (marks : List ℕ)
-            → FinishesBehind (leaf_rule case answer number) players case.facts.goods (reverse self.old.owners.items) marks
-            ↔ FinishesTree (leaf_rule case answer number) players case.facts.goods result self.new.owners.items marks }
+            → FinishesBehind (leaf_rule case answer number) players case.facts.goods
+            (reverse self.old.owners.items) marks
+            ↔ FinishesTree (leaf_rule case answer number) players case.facts.goods result
+            self.new.owners.items marks }
         ensures ended { result ≡ true → self.new.owners.items ≡ [] }
     {
         'up: while self.owners.len() > 0 {
@@ -145,13 +154,16 @@ impl Path {
         true
     }
 
-    /// The same. Most nodes have a sibling, and no node above is then left.
+    // The same. Most nodes have a sibling, and no node above is then left.
     pub(crate) fn climb(&mut self, players: u8) -> bool
         requires players { players ≤ MEMBER_ROOM }
-        ensures path { (case : GoodsCase) (pair : Pair) → player_count case ≡ players → IsPath case pair self.old → IsPath case pair self.new }
+        ensures path { (case : GoodsCase) (pair : Pair) → player_count case ≡ players
+            → IsPath case pair self.old → IsPath case pair self.new }
         ensures left { (case : GoodsCase) (answer : List ℕ) (number : ℕ) (marks : List ℕ)
-            → FinishesBehind (leaf_rule case answer number) players case.facts.goods (reverse self.old.owners.items) marks
-            ↔ FinishesTree (leaf_rule case answer number) players case.facts.goods result self.new.owners.items marks }
+            → FinishesBehind (leaf_rule case answer number) players case.facts.goods
+            (reverse self.old.owners.items) marks
+            ↔ FinishesTree (leaf_rule case answer number) players case.facts.goods result
+            self.new.owners.items marks }
         ensures ended { result ≡ true → self.new.owners.items ≡ [] }
     {
         if self.owners.is_empty() {
@@ -163,12 +175,13 @@ impl Path {
         self.climb_up(players)
     }
 
-    /// Whether the node is a child who could not reach the answer's pair, and so may be left out.
+    // Whether the node is a child who could not reach the answer's pair, and so may be left out.
     pub(crate) fn is_far(&self, answer: &Answer) -> bool
         requires answer { IsGoodsAnswer answer.now }
         requires path { IsPath answer.now.case answer.now.goal.pair self.now }
         ensures child { result ≡ true → 0 < length self.now.owners.items }
-        ensures left { result ≡ true → may_be_left answer.now.case answer.now.owners.items self.now.owners.items ≡ true }
+        ensures left { result ≡ true
+            → may_be_left answer.now.case answer.now.owners.items self.now.owners.items ≡ true }
     {
         open_prefixes_law();
         let Some((owner, owners)) = self.owners.as_slice().split_last() else {
@@ -177,11 +190,12 @@ impl Path {
         !self.parents[owners.len()].contenders.has(*owner)
     }
 
-    /// Whether the node may be left out: no allocation below it comes before the answer.
+    // Whether the node may be left out: no allocation below it comes before the answer.
     pub(crate) fn may_be_left(&self, answer: &Answer) -> bool
         requires answer { IsGoodsAnswer answer.now }
         requires path { IsPath answer.now.case answer.now.goal.pair self.now }
-        ensures { result ≡ may_be_left answer.now.case answer.now.owners.items self.now.owners.items }
+        ensures { result
+            ≡ may_be_left answer.now.case answer.now.owners.items self.now.owners.items }
     {
         open_prefixes_law();
         let owners = self.owners.as_slice();

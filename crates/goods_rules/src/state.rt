@@ -42,7 +42,17 @@ pub fn start_goods(
     requires owners { length owners.now ≤ ITEM_ROOM }
     ensures state { IsState result }
     ensures stands { (steps : ℤ) (marks : List ℕ)
-        → StandsFor (record { goods = goods; limit = limit; who = who.now; values = map (λ row. row.items) values.now; owners = owners.now; steps = steps; marks = marks }) [] result }
+        → StandsFor
+        (record {
+          goods = goods;
+          limit = limit;
+          who = who.now;
+          values = map (λ row. row.items)
+              values.now;
+          owners = owners.now;
+          steps = steps;
+          marks = marks;
+        }) [] result }
 {
     let Some(case) = case_of(goods, limit, who, values) else {
         return GoodsState::Broken { rule: 1 };
@@ -63,7 +73,8 @@ pub fn start_goods(
 pub fn take_mark(state: &mut GoodsState, mark: u8)
     requires { IsState state.old }
     ensures state { IsState state.new }
-    ensures stands { (view : GoodsView) (taken : List ℕ) → StandsFor view taken state.old → StandsFor view (taken ++ mark ∷ []) state.new }
+    ensures stands { (view : GoodsView) (taken : List ℕ) → StandsFor view taken state.old
+        → StandsFor view (taken ++ mark ∷ []) state.new }
 {
     match state {
         GoodsState::Broken { .. } => {}
@@ -71,7 +82,7 @@ pub fn take_mark(state: &mut GoodsState, mark: u8)
     }
 }
 
-/// The verdict on the tree once no mark is to come.
+// The verdict on the tree once no mark is to come.
 fn verdict_of(walk: &Walk) -> Verdict
     ensures { IsVerdict (walk_rule walk.now) 6 result }
 {
@@ -92,7 +103,8 @@ fn verdict_of(walk: &Walk) -> Verdict
 
 /// The verdict, once all marks were taken.
 pub fn end_goods(state: &GoodsState) -> Verdict
-    ensures { (view : GoodsView) → StandsFor view view.marks state.now → IsVerdictOf (rules_of_goods view) result }
+    ensures { (view : GoodsView) → StandsFor view view.marks state.now
+        → IsVerdictOf (rules_of_goods view) result }
 {
     match state {
         GoodsState::Broken { rule } => Verdict::No { rule: *rule },

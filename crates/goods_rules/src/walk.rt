@@ -36,12 +36,13 @@ pub struct Walk {
 }
 
 impl Kept {
-    /// Judges a leaf.
+    // Judges a leaf.
     fn judge(&mut self, answer: &Answer, path: &Path, mark: u8)
         requires answer { IsGoodsAnswer answer.now }
         requires path { IsPath answer.now.case answer.now.goal.pair path.now }
         ensures { (number : ℕ) → IsTrue (holds_so_far self.new number)
-            ↔ IsTrue (holds_so_far self.old number) × leaf_rule answer.now.case answer.now.owners.items number path.now.owners.items mark }
+            ↔ IsTrue (holds_so_far self.old number)
+            × leaf_rule answer.now.case answer.now.owners.items number path.now.owners.items mark }
     {
         if mark == ANSWER_LEAF {
             self.answer = self.answer && path.owners.as_slice() == answer.owners.as_slice();
@@ -60,10 +61,11 @@ impl Kept {
 }
 
 impl Walk {
-    /// Before the first mark.
+    // Before the first mark.
     pub(crate) fn new() -> Walk
         ensures walk { (case : GoodsCase) (pair : Pair) → IsWalk case pair result }
-        ensures left { (case : GoodsCase) (answer : List ℕ) (number : ℕ) (marks : List ℕ) → IsRuledTree case answer number marks ↔ IsLeft case answer result number marks }
+        ensures left { (case : GoodsCase) (answer : List ℕ) (number : ℕ) (marks : List ℕ)
+            → IsRuledTree case answer number marks ↔ IsLeft case answer result number marks }
     {
         Walk {
             path: Path::new(),
@@ -77,7 +79,7 @@ impl Walk {
         }
     }
 
-    /// Whether a mark can come where the walk is.
+    // Whether a mark can come where the walk is.
     fn fits(&self, goods: u8, mark: u8) -> bool
         ensures { IsTrue result ↔ CanStand goods self.now.whole self.now.path.owners.items mark }
     {
@@ -93,7 +95,7 @@ impl Walk {
         }
     }
 
-    /// No tree goes on like this.
+    // No tree goes on like this.
     fn give_up(&mut self)
         ensures path { self.new.path ≡ self.old.path }
         ensures whole { self.new.whole ≡ self.old.whole }
@@ -107,12 +109,13 @@ impl Walk {
         };
     }
 
-    /// Takes any mark.
+    // Takes any mark.
     fn take_any(&mut self, answer: &Answer, mark: u8)
         requires answer { IsGoodsAnswer answer.now }
         requires walk { IsWalk answer.now.case answer.now.goal.pair self.old }
         ensures walk { IsWalk answer.now.case answer.now.goal.pair self.new }
-        ensures left { (number : ℕ) (marks : List ℕ) → IsLeft answer.now.case answer.now.owners.items self.old number (mark ∷ marks)
+        ensures left { (number : ℕ) (marks : List ℕ)
+            → IsLeft answer.now.case answer.now.owners.items self.old number (mark ∷ marks)
             ↔ IsLeft answer.now.case answer.now.owners.items self.new number marks }
     {
         if !self.fits(answer.case.facts.goods, mark) {
@@ -127,12 +130,13 @@ impl Walk {
         self.whole = self.path.climb(players(&answer.case));
     }
 
-    /// Takes one mark. Most are of children who are left out and could not reach the answer's pair, which changes nothing that is kept.
+    // Takes one mark. Most are of children who are left out and could not reach the answer's pair, which changes nothing that is kept.
     pub(crate) fn take(&mut self, answer: &Answer, mark: u8)
         requires answer { IsGoodsAnswer answer.now }
         requires walk { IsWalk answer.now.case answer.now.goal.pair self.old }
         ensures walk { IsWalk answer.now.case answer.now.goal.pair self.new }
-        ensures left { (number : ℕ) (marks : List ℕ) → IsLeft answer.now.case answer.now.owners.items self.old number (mark ∷ marks)
+        ensures left { (number : ℕ) (marks : List ℕ)
+            → IsLeft answer.now.case answer.now.owners.items self.old number (mark ∷ marks)
             ↔ IsLeft answer.now.case answer.now.owners.items self.new number marks }
     {
         if mark == LEFT_OUT && self.path.is_far(answer) {

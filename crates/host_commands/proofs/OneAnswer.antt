@@ -21,7 +21,7 @@ use Rattle.sealed_core.specs.declared.replies.Reply.{Reply}
 use Rattle.sealed_core.specs.declared.replies.Reply.TheVariants as reply
 use Rattle.sealed_core.specs.Host.{AreCheckedInstances, EventView, HostView, InstanceView, IsCheckedInstance, apply, instance_at}
 use Rattle.sealed_core.specs.Runs.{host_of}
-use Rattle.sealed_core.specs.Sealed.{applied}
+use Rattle.sealed_core.specs.Sealed.{with_event}
 use Rattle.sealed_core.specs.Step.{CommandView, step}
 use Rattle.serving_laws.specs.Writing.{AnswerAlike}
 use Rattle.split_http.specs.declared.head.Head.{Head}
@@ -136,11 +136,11 @@ module _ {D : Type 0} (d : Ghosts D) (laws : OneWay) (head : Head) (body : List 
     abbrev asks : CommandView
     asks = command_of route.place route.id head.key body
 
-    by_step : (told : ContentView) (o : Option EventView) → (step (host_in w.1) moment asks).event ≡ o → new.1 ≡ ready_with w.1.secret (w.1.kept ++ option_to_list o) → applied (host_in w.1) o ≡ host_in new.1
+    by_step : (told : ContentView) (o : Option EventView) → (step (host_in w.1) moment asks).event ≡ o → new.1 ≡ ready_with w.1.secret (w.1.kept ++ option_to_list o) → with_event (host_in w.1) o ≡ host_in new.1
         → IsSound new.1 → Replies (host_in w.1) moment asks told → said ≡ content_said told → Answers w.1 new.1 head body moment said
     by_step told o event is leaves good replies so = Answers.stepped route told routed
         (is ∙ ap (λ (p : Option EventView). ready_with w.1.secret (w.1.kept ++ option_to_list p)) (sym event)) good
-        (subst (λ (h : HostView). Shows h (step (host_in w.1) moment asks).reply told) (ap (applied (host_in w.1)) event ∙ leaves) replies) so
+        (subst (λ (h : HostView). Shows h (step (host_in w.1) moment asks).reply told) (ap (with_event (host_in w.1)) event ∙ leaves) replies) so
 
     from_step : (between : D) → between ≡ w.0 → Steps d between new.0 moment asks w.1 new.1 said → Answers w.1 new.1 head body moment said
     from_step between same (Steps.no_event told none rest replies is so) =

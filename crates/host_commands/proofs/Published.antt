@@ -13,7 +13,7 @@ use Rattle.certificates.specs.Division.{IsDivisionOf}
 use Rattle.host_journal.specs.States.{State, host_in}
 use Rattle.serving.specs.Exchanges.{Exchange}
 use Rattle.host_results.specs.Contents.{ContentView}
-use Rattle.host_results.specs.Publications.{IsPublication, TellsBest, TellsEnd, case_data, refusal_of}
+use Rattle.host_results.specs.Publications.{IsPublication, TellsBest, TellsEnd, case_data, refusal_of_fault}
 use Rattle.reply_texts.specs.declared.refusals.ServiceRefusal.{ServiceRefusal}
 use Rattle.reply_texts.specs.declared.refusals.ServiceRefusal.TheVariants as service
 use Rattle.reply_texts.specs.Refusals.{is_refusal_status, refusal_row, service_row}
@@ -31,7 +31,7 @@ use Rattle.sealed_core.specs.declared.replies.Reply.{Reply}
 use Rattle.sealed_core.specs.declared.replies.Reply.TheVariants as reply
 use Rattle.sealed_core.specs.Host.{AreCheckedInstances, Closed, EventView, HostView, InstanceView, IsCheckedInstance, apply, instance_at}
 use Rattle.sealed_core.specs.Runs.{host_of}
-use Rattle.sealed_core.specs.Sealed.{applied, host_after, is_closed, is_shut}
+use Rattle.sealed_core.specs.Sealed.{with_event, host_after, is_closed, is_shut}
 use Rattle.sealed_core.specs.Step.{Answer, CommandView, To, answer_ask, answer_to, caller_of, is_over, refused, says, standing_of, step}
 use Rattle.split_base.specs.declared.disk.Disk.{Ghosts}
 use Rattle.split_http.specs.declared.head.Verb.{Verb}
@@ -108,9 +108,9 @@ module _ (refusals : AreRefusals) (one_more : (secret : List ℕ) (events : List
   steps_tell : {D : Type 0} (d : Ghosts D) (disk after : D) (moment : ℕ) (command : CommandView) (s new : State) (said : SaidView) (id : ℕ) (key : Option (List ℕ)) (asked : What)
       → command ≡ To id key (asks.Publish asked) → said.status ≡ 200 → Steps d disk after moment command s new said → TellsOf new id asked said
   steps_tell d disk after moment command s new said id key asked is success (Steps.no_event told none still replies same so) =
-      step_tells (host_in s) moment command new said told id key asked is success so (ap (applied (host_in s)) none ∙ ap host_in (sym same)) replies
+      step_tells (host_in s) moment command new said told id key asked is success so (ap (with_event (host_in s)) none ∙ ap host_in (sym same)) replies
   steps_tell d disk after moment command s new said id key asked is success (Steps.kept told e event can faults appended replies same so) =
-      step_tells (host_in s) moment command new said told id key asked is success so (ap (applied (host_in s)) event ∙ sym (one_more s.secret s.kept e) ∙ ap host_in (sym same)) replies
+      step_tells (host_in s) moment command new said told id key asked is success so (ap (with_event (host_in s)) event ∙ sym (one_more s.secret s.kept e) ∙ ap host_in (sym same)) replies
   steps_tell d disk after moment command s new said id key asked is success (Steps.failed e event faults same so) = absurd (said_other said service.StoreFault refl so success)
   steps_tell d disk after moment command s new said id key asked is success (Steps.memory other what published still same so) =
       absurd (not_refused said.status service.Memory refl (ap (λ (x : SaidView). x.status) so) success)
@@ -185,9 +185,9 @@ module _ (laws : CaseLaws) where
       certificate = λ bytes canonical. let is = laws.certificate one bytes (valid_one one of_bids) canonical in (is, laws.prints bytes is);
     }
     end_tells asked (Err (fault.Void missing)) solved text =
-        absurd (not_refused told.status (refusal_of (fault.Void missing)) refl (ap (λ (x : ContentView). x.status) text) success)
+        absurd (not_refused told.status (refusal_of_fault (fault.Void missing)) refl (ap (λ (x : ContentView). x.status) text) success)
     end_tells asked (Err (fault.OverLimit limit)) solved text =
-        absurd (not_refused told.status (refusal_of (fault.OverLimit limit)) refl (ap (λ (x : ContentView). x.status) text) success)
+        absurd (not_refused told.status (refusal_of_fault (fault.OverLimit limit)) refl (ap (λ (x : ContentView). x.status) text) success)
     end_tells asked (Err fault.NoMemory) solved text = absurd text
 
     best_tells : (asked : What) → TellsBest asked (case_data i) told → TellsBestOf i asked told

@@ -11,13 +11,13 @@ use Rattle.requests.specs.Cases.{Responds, Settles, Steps}
 use Rattle.requests.specs.Commands.{command_of}
 use Rattle.split_base.specs.declared.disk.Disk.{Ghosts}
 use Rattle.sealed_core.specs.declared.limits.TheConstants.{MOST_TURNS}
-use Rattle.sealed_core.specs.Host.{AreCheckedInstances, BidKept, CanApply, Closed, Created, CreationView, EventView, HostView, InstanceView, IsCheckedCreation, IsCheckedInstance, IsNextTurn, Withdrawn, apply, as_closed, changed, fresh, instance_at, with_turn}
+use Rattle.sealed_core.specs.Host.{AreCheckedInstances, BidKept, CanApply, Closed, Created, CreationView, EventView, HostView, InstanceView, IsCheckedCreation, IsCheckedInstance, IsNextTurn, Withdrawn, apply, as_closed, change_at, new_instance, instance_at, with_turn}
 use Rattle.sealed_core.specs.Runs.{CanApplyAll, apply_all}
 use Rattle.sealed_core.specs.Sealed.{empty}
 use Rattle.sealed_core.specs.Step.{CommandView}
 use Rattle.requests.specs.Said.{SaidView}
 
-sound_fresh : (c : CreationView) → IsCheckedCreation c → IsCheckedInstance (fresh c)
+sound_fresh : (c : CreationView) → IsCheckedCreation c → IsCheckedInstance (new_instance c)
 sound_fresh c right = record {
   creation = right;
   turns = length-replicate (length c.members) 0;
@@ -38,19 +38,19 @@ sound_turn now m turn bid i sound next right = record {
 sound_closed : (i : InstanceView) → IsCheckedInstance i → IsCheckedInstance (as_closed i)
 sound_closed i sound = record { creation = sound.creation; turns = sound.turns; bids = sound.bids; used = sound.used; checked = sound.checked }
 
-length-changed : (f : InstanceView → InstanceView) (instances : List InstanceView) (p : ℕ) → length (changed f instances p) ≡ length instances
+length-changed : (f : InstanceView → InstanceView) (instances : List InstanceView) (p : ℕ) → length (change_at f instances p) ≡ length instances
 length-changed f [] p = refl
 length-changed f (i ∷ instances) zero = refl
 length-changed f (i ∷ instances) (suc p) = ap suc (length-changed f instances p)
 
-each_changed : (f : InstanceView → InstanceView) (instances : List InstanceView) (p : ℕ) → All IsCheckedInstance instances → ((i : InstanceView) → slice_get instances p ≡ Some i → IsCheckedInstance (f i)) → All IsCheckedInstance (changed f instances p)
+each_changed : (f : InstanceView → InstanceView) (instances : List InstanceView) (p : ℕ) → All IsCheckedInstance instances → ((i : InstanceView) → slice_get instances p ≡ Some i → IsCheckedInstance (f i)) → All IsCheckedInstance (change_at f instances p)
 each_changed f [] p each new k d there = absurd (omega arith)
 each_changed f (i ∷ instances) zero each new zero d there = new i refl
 each_changed f (i ∷ instances) zero each new (suc k) d there = each (suc k) d (omega (arith, there))
 each_changed f (i ∷ instances) (suc p) each new zero d there = each zero d (omega arith)
 each_changed f (i ∷ instances) (suc p) each new (suc k) d there = each_changed f instances p (λ j e below. each (suc j) e (omega (arith, below))) new k d (omega (arith, there))
 
-sound_changed : (f : InstanceView → InstanceView) (instances : List InstanceView) (p : ℕ) → AreCheckedInstances instances → ((i : InstanceView) → slice_get instances p ≡ Some i → IsCheckedInstance (f i)) → AreCheckedInstances (changed f instances p)
+sound_changed : (f : InstanceView → InstanceView) (instances : List InstanceView) (p : ℕ) → AreCheckedInstances instances → ((i : InstanceView) → slice_get instances p ≡ Some i → IsCheckedInstance (f i)) → AreCheckedInstances (change_at f instances p)
 sound_changed f instances p sound new = let size = length-changed f instances p in let few = sound.few in record { each = each_changed f instances p sound.each new; few = omega (arith, size, few) }
 
 -- what is told of the instance at an id is so of the one at its place
@@ -63,8 +63,8 @@ sound_place instances p i sound is = subst IsCheckedInstance (get_or_from_slice_
 
 sound_apply : (h : HostView) (e : EventView) → AreCheckedInstances h.instances → CanApply h e → AreCheckedInstances (apply h e).instances
 sound_apply h (Created now c) sound (later, (few, right, tags)) =
-    let size = length_push h.instances (fresh c) in
-    record { each = All-push IsCheckedInstance h.instances (fresh c) sound.each (sound_fresh c right); few = omega (arith, size, few) }
+    let size = length_push h.instances (new_instance c) in
+    record { each = All-push IsCheckedInstance h.instances (new_instance c) sound.each (sound_fresh c right); few = omega (arith, size, few) }
 sound_apply h (BidKept now id m turn bid) sound (later, allowed) =
     sound_changed (with_turn m turn (Some bid)) h.instances (id - 1) sound (λ i at.
     let both = allowed_at (id == 0) (slice_get h.instances (id - 1)) (λ (j : InstanceView). IsNextTurn now j m turn × IsCheckedBid j.creation.facts bid) i at allowed in

@@ -1,9 +1,9 @@
--- What the commands do with the file of a host: it is made, or opened and told.
+-- What the commands do with the file of a host: it is made, or opened and read out.
 use Rattle.std.specs.Prelude.{◌≡◌, ◌≢◌, ◌↔◌, ℕ, ◌+◌, ◌<◌, ◌≤◌, List, [], ◌∷◌, ◌++◌, length, Result, Ok, Err, IfOk, IfErr}
 use Rattle.split_reports.specs.DumpRows.{dump_text}
 use Rattle.command_results.specs.declared.stop.Stop.{Stop}
 use Rattle.command_results.specs.declared.stop.Stop.TheVariants as stop
-use Rattle.gate_log.specs.Calls.{TellsFault, faults_after}
+use Rattle.gate_log.specs.Calls.{TellsFault, faults_after_call}
 use Rattle.gate_log.specs.declared.fault.LogFault.{LogFault}
 use Rattle.gate_log.specs.declared.fault.LogFault.TheVariants as fault
 use Rattle.gate_log.specs.declared.limits.TheConstants.{EMPTY_SIZE, VERSION_GATE}
@@ -61,7 +61,7 @@ stop_of fault.NoMemory = stop.NoMemory
 pub record Opens {D : Type 0} (d : Ghosts D) (disk after : D) (answer : Result Serving LogFault) : Type 0 where
   pub opened : IfOk answer (Opened d disk after)
   pub count : d.faults disk ≤ d.faults after
-  pub faults : d.faults after ≡ faults_after (d.faults disk) answer
+  pub faults : d.faults after ≡ faults_after_call (d.faults disk) answer
   pub failed : answer ≡ Err fault.Disk → FailedOnce (d.faults disk) (d.faults after)
   pub honest : d.is_honest disk ↔ d.is_honest after
   pub place : d.tells disk → (place : ℕ) → answer ≡ Err (fault.NotALog place) → IsFirstFault place (d.seen disk)

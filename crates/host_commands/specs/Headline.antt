@@ -24,8 +24,8 @@ use Rattle.split_base.specs.Disk.{Each}
 use Rattle.host_commands.specs.Links.{Every, LinksAnswered}
 use Rattle.host_commands.specs.Publishing.{AsksFor, Publishes}
 
--- The events of a state may be applied one after another, and the one that waits, if one does, after them. On an honest disk each image is a file of the
--- state; and of version 2 where none waits.
+-- The events of a state may be applied one after another, and the one that waits, if one does, after them. On an honest disk each image is a file of
+-- the state, and of version 2 if none waits.
 pub record HoldsState {D : Type 0} (d : Ghosts D) (disk : D) (s : State) : Type 0 where
   pub may_apply : CanApplyAll (empty s.secret) s.kept
   pub next : IfSome s.waiting (CanApply (host_in s))

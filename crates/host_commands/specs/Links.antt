@@ -13,7 +13,7 @@ abbrev pub Every : {A : Type 0} → (A → Type 0) → List A → Type 0
 Every P [] = Unit {0}
 Every P (x ∷ xs) = P x × Every P xs
 
--- the last request of a link, where it was answered: after its reply, or a first part of it, the link ended
+-- the last request of a link, if it was answered: after its reply, or a first part of it, the link ended
 abbrev pub last_request : {W : Type 0} {service : Service W} {w : W} {rest : List ℕ} {answers : List (Option ℕ)} {out : List ℕ} {new : W} {end : Ending}
     → EndsLink service w rest answers out new end → List (Exchange W)
 last_request (EndsLink.replied left e input clock at is still got how) = e ∷ []
@@ -25,9 +25,9 @@ abbrev pub requests_of : {W : Type 0} {service : Service W} {all : List ℕ} {an
     → LinkExchanges service all answers w out new end → List (Exchange W)
 requests_of link = link.exchanges ++ last_request link.ends
 
--- One link, as it was handed out and as it was given back. At most `MAX_REQUESTS` requests were read from the bytes that came of it. It got
--- the bytes of their replies, each whole but the last, which a failed write may tear. Then something came last, and the link ended by it.
--- On each side its count tells the failed call that ended it, and no other; and where it counts them, that no write was empty.
+-- One link, as it was handed out and as it was given back. At most `MAX_REQUESTS` requests were read from the bytes that came of it. It got the bytes
+-- of their replies, each whole but the last, which a failed write may tear. Then something came last, and the link ended by it. On each side its
+-- count tells the failed call that ended it, and no other; and if it counts them, that no write was empty.
 pub record LinkAnswered {L W : Type 0} (service : Service W) (tells : LinkTells L) (begun ended : L) (answers : List (Option ℕ)) (w : W) (requests : List (Exchange W)) (new : W) : Type 0 where
   pub input : List ℕ
   pub out : List ℕ

@@ -41,8 +41,8 @@ pub record Runs {D P L C : Type 0} (d : Ghosts D) (p : PortSide P L) (tells : Li
   pub served : PortServed (host_service d) tells (p.to_come port) (p.to_come port_after) (p.given_back port) (p.given_back port_after) (p.places port)
       (ClockRun c.gives c.faults clock clock_after) (StandsAt d serving after) w number
 
--- How the run ends: so many links as asked were served, or fewer only where no link comes any more, and their number is told; or the port
--- failed to hand out one more of as many as were asked.
+-- How the run ends: so many links as asked were served, or fewer, but only if no more links come, and their number is told; or the port failed to
+-- hand out one more of as many as were asked.
 pub data RunEnds {P L : Type 0} (p : PortSide P L) (port port_after : P) (count number : ℕ) (ending : Result (List ℕ) Stop) : Type 0 where
   told : ending ≡ Ok (served_line number) → p.faults port_after ≡ p.faults port → number ≤ count → (number < count → p.has_ended port_after) → RunEnds p port port_after count number ending
   cut : ending ≡ Err stop.PortFault → FailedOnce (p.faults port) (p.faults port_after) → number < count → RunEnds p port port_after count number ending

@@ -26,15 +26,22 @@ use split_base::{Clock, Disk, Port};
 /// these, and then no call of the port failed; else of those that were served until the port failed, which are none where it failed to listen. Where
 /// the file was not opened, neither the port nor the clock was called.
 pub fn headline_law<D: Disk, P: Port, C: Clock>()
-    ensures told { (disk after : D) (port port_after : P) (clock clock_after : C) (port_number count : ℕ) (text : List ℕ)
-        → Serves D.Disk P.Port (tells_of P.Link.Source P.Link.Sink) C.Clock disk after port port_after clock clock_after port_number count (Ok text)
-        → (number : ℕ) × (text ≡ served_line number) × IsOpened P.Port port_number port port_after count number (Ok text)
-        × HasHeadline D.Disk P.Port (tells_of P.Link.Source P.Link.Sink) C.Clock disk after port port_after clock clock_after number }
-    ensures any { (disk after : D) (port port_after : P) (clock clock_after : C) (port_number count : ℕ) (ending : Result (List ℕ) Stop)
-        → Serves D.Disk P.Port (tells_of P.Link.Source P.Link.Sink) C.Clock disk after port port_after clock clock_after port_number count ending
+    ensures told { (disk after : D) (port port_after : P) (clock clock_after : C)
+        (port_number count : ℕ) (text : List ℕ)
+        → Serves D.Disk P.Port (tells_of P.Link.Source P.Link.Sink) C.Clock disk after port
+        port_after clock clock_after port_number count (Ok text)
+        → (number : ℕ) × (text ≡ served_line number)
+        × IsOpened P.Port port_number port port_after count number (Ok text)
+        × HasHeadline D.Disk P.Port (tells_of P.Link.Source P.Link.Sink) C.Clock disk after port
+        port_after clock clock_after number }
+    ensures any { (disk after : D) (port port_after : P) (clock clock_after : C)
+        (port_number count : ℕ) (ending : Result (List ℕ) Stop)
+        → Serves D.Disk P.Port (tells_of P.Link.Source P.Link.Sink) C.Clock disk after port
+        port_after clock clock_after port_number count ending
         → (IsUnopened ending × HasNoRun port port_after clock clock_after)
         ⊎ ((number : ℕ) × IsOpened P.Port port_number port port_after count number ending
-        × HasHeadline D.Disk P.Port (tells_of P.Link.Source P.Link.Sink) C.Clock disk after port port_after clock clock_after number) }
+        × HasHeadline D.Disk P.Port (tells_of P.Link.Source P.Link.Sink) C.Clock disk after port
+        port_after clock clock_after number) }
 {
     accepted_law::<D>();
     acknowledged_law::<D>();

@@ -4,18 +4,18 @@ ghost use Rattle.command_results.specs.Endings.{ending_of};
 ghost use Rattle.host_journal.specs.States.{State};
 ghost use Rattle.serving.specs.Served.{tells_of};
 ghost use Rattle.split_base.specs.Asked.{asked_again};
-ghost use Rattle.search_workers.specs.declared.limits.TheConstants.{MOST_WORKERS};
 ghost use Rattle.serving.specs.Serving.{StandsAt};
 ghost use Rattle.host_commands.specs.Serves.{Serves, ServesOpened};
 
 use crate::opening::{open_file, stop_of};
 use command_results::{Stop, Text};
 use host_journal::Serving;
+use requests::Tools;
+use search_workers::{Means, Workers};
 use serving::serve;
 use split_base::{Clock, Disk, Failed, Gate, NoMemory, Port};
 use split_http::Routes;
-use split_solve::KeptSearches;
-use std::alloc::Global;
+use split_solve::{KeptSearches, Solver};
 use std::thread::Threads;
 
 /// Opens the file of a host, listens at the port of this number, and serves `count` links, or fewer only where no link comes any more. The text
@@ -28,61 +28,63 @@ use std::thread::Threads;
 /// - `PortFault` comes only where the port's count of faults has risen, by one: it failed to listen, or to hand out one more link.
 /// - `NoMemory` comes only where memory runs out, and only before the port listens.
 ///
-/// No other stop comes. Before the file is opened neither the port nor the clock is called. Goods are searched by 1 to `MOST_WORKERS` workers, and
-/// the last searches are kept, so that a closed round is not searched for each request. Neither changes what is written.
-#[allow(clippy::too_many_arguments)]
+/// No other stop comes. Before the file is opened neither the port nor the clock is called. Goods are searched by the workers, and the last
+/// searches are kept, so that a closed round is not searched for each request. Neither changes what is written.
 pub fn serve_port<D: Disk, P: Port, C: Clock, R: Threads + Sync, G: Gate + Sync>(
-    alloc: Global,
-    rt: &R,
+    means: &Means<'_, R, G>,
+    workers: Workers,
     disk: &mut D,
     port: &mut P,
     clock: &mut C,
     number: u16,
-    workers: u8,
     count: u64,
-    gate: &G,
 ) -> Result<Text, Stop>
-    requires workers { (1 ≤ workers) × (workers ≤ MOST_WORKERS) }
     requires none_out { P.out port.old ≡ 0 }
     requires goes_on { P.is_over port.old → ⊥ }
-    ensures serves { Serves D.Disk P.Port (tells_of P.Link.Source P.Link.Sink) C.Clock disk.old disk.new port.old port.new clock.old clock.new number count (ending_of result) }
+    ensures serves { Serves D.Disk P.Port (tells_of P.Link.Source P.Link.Sink) C.Clock disk.old
+        disk.new port.old port.new clock.old clock.new number count (ending_of result) }
     ensures disk { D.faults disk.old ≤ D.faults disk.new }
     ensures honest { D.is_honest disk.old ↔ D.is_honest disk.new }
     ensures out { P.out port.new ≡ 0 }
     ensures port { P.faults port.old ≤ P.faults port.new }
     ensures clock { C.faults clock.old ≤ C.faults clock.new }
 {
-    match Routes::new(alloc) {
+    match Routes::new(means.alloc) {
         Err(NoMemory) => Err(Stop::NoMemory),
-        Ok(routes) => match open_file(alloc, disk) {
+        Ok(routes) => match open_file(means.alloc, disk) {
             Err(fault) => Err(stop_of(fault)),
-            Ok(serving) => serve_opened(
-                alloc, rt, serving, disk, port, clock, &routes, number, workers, count, gate,
-            ),
+            Ok(serving) => {
+                let mut searches = KeptSearches::new(means.alloc);
+                let solver = Solver {
+                    means,
+                    workers,
+                    searches: &mut searches,
+                };
+                let mut tools = Tools {
+                    solver,
+                    routes: &routes,
+                };
+                serve_opened(&mut tools, serving, disk, port, clock, number, count)
+            }
         },
     }
 }
 
-/// Listens, and serves the links of the port by a host whose file was opened.
-#[allow(clippy::too_many_arguments)]
+// Listens, and serves the links of the port by a host whose file was opened.
 fn serve_opened<D: Disk, P: Port, C: Clock, R: Threads + Sync, G: Gate + Sync>(
-    alloc: Global,
-    rt: &R,
+    tools: &mut Tools<'_, R, G>,
     mut serving: Serving,
     disk: &mut D,
     port: &mut P,
     clock: &mut C,
-    routes: &Routes,
     number: u16,
-    workers: u8,
     count: u64,
-    gate: &G,
 ) -> Result<Text, Stop>
-    requires workers { (1 ≤ workers) × (workers ≤ MOST_WORKERS) }
     requires none_out { P.out port.old ≡ 0 }
     requires goes_on { P.is_over port.old → ⊥ }
     ensures serves { (w : D × State) → StandsAt D.Disk serving disk.old w
-        → ServesOpened D.Disk P.Port (tells_of P.Link.Source P.Link.Sink) C.Clock w disk.new port.old port.new clock.old clock.new number count (ending_of result) }
+        → ServesOpened D.Disk P.Port (tells_of P.Link.Source P.Link.Sink) C.Clock w disk.new
+        port.old port.new clock.old clock.new number count (ending_of result) }
     ensures asked { P.asked port.new ≡ asked_again number (P.asked port.old) }
     ensures disk { D.faults disk.old ≤ D.faults disk.new }
     ensures honest { D.is_honest disk.old ↔ D.is_honest disk.new }
@@ -90,22 +92,9 @@ fn serve_opened<D: Disk, P: Port, C: Clock, R: Threads + Sync, G: Gate + Sync>(
     ensures port { P.faults port.old ≤ P.faults port.new }
     ensures clock { C.faults clock.old ≤ C.faults clock.new }
 {
-    let mut searches = KeptSearches::new(alloc);
     match port.listen(number) {
         Err(Failed) => Err(Stop::PortFault),
-        Ok(()) => match serve(
-            alloc,
-            rt,
-            &mut serving,
-            disk,
-            port,
-            clock,
-            routes,
-            count,
-            &mut searches,
-            workers,
-            gate,
-        ) {
+        Ok(()) => match serve(tools, &mut serving, disk, port, clock, count) {
             Err(Failed) => Err(Stop::PortFault),
             Ok(served) => Ok(Text::served(served)),
         },

@@ -8,14 +8,14 @@ use host_journal::{Serving, open};
 use split_base::Disk;
 use std::alloc::Global;
 
-/// Opens the file of a host.
+// Opens the file of a host.
 pub(crate) fn open_file<D: Disk>(alloc: Global, disk: &mut D) -> Result<Serving, LogFault>
     ensures { Opens D.Disk disk.old disk.new result }
 {
     open(alloc, disk)
 }
 
-/// Why a command ends that could not make or open its file.
+// Why a command ends that could not make or open its file.
 pub(crate) fn stop_of(fault: LogFault) -> Stop
     ensures { result ≡ stop_of fault }
 {

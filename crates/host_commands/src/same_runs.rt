@@ -24,20 +24,34 @@ use split_base::{Clock, Disk, Port};
 ///
 /// A clock may fail in both, at the same of its answers.
 pub fn one_run_law<D: Disk, P: Port, C: Clock>()
-    ensures runs { (disk other : D) (begun start : D × State) (after last : D) (port port_after twin twin_after : P) (clock clock_after watch watch_after : C) (number count : ℕ) (more besides : List (Option ℕ))
-        → (one : Headline D.Disk P.Port (tells_of P.Link.Source P.Link.Sink) C.Clock disk begun after port port_after clock clock_after number)
-        → (two : Headline D.Disk P.Port (tells_of P.Link.Source P.Link.Sink) C.Clock other start last twin twin_after watch watch_after count)
-        → D.is_honest disk → D.is_honest other → D.seen disk ≡ D.seen other
-        → AllStartAlike (tells_of P.Link.Source P.Link.Sink) one.links two.links → one.answers ++ more ≡ two.answers ++ besides
-        → IsUndisturbed D.Disk (tells_of P.Link.Source P.Link.Sink) one.links one.answers begun one.run one.ended one.written
-        → IsUndisturbed D.Disk (tells_of P.Link.Source P.Link.Sink) two.links two.answers start two.run two.ended two.written
-        → AllGotAlike (tells_of P.Link.Source P.Link.Sink) one.links two.links × (one.ended.1 ≡ two.ended.1) × (one.answers ≡ two.answers) }
-    ensures calls { (disk other after last : D) (port port_after twin twin_after : P) (clock clock_after watch watch_after : C) (port_number twin_number count most : ℕ) (ending another : Result (List ℕ) Stop)
-        → (one : Serves D.Disk P.Port (tells_of P.Link.Source P.Link.Sink) C.Clock disk after port port_after clock clock_after port_number count ending)
-        → (two : Serves D.Disk P.Port (tells_of P.Link.Source P.Link.Sink) C.Clock other last twin twin_after watch watch_after twin_number most another)
-        → D.is_honest disk → D.is_honest other → D.seen disk ≡ D.seen other
-        → (links others : List (P.Link × P.Link)) (answers turns more besides : List (Option ℕ)) → HasServed one links answers → HasServed two others turns
-        → AllStartAlike (tells_of P.Link.Source P.Link.Sink) links others → answers ++ more ≡ turns ++ besides
+    ensures runs { (disk other : D) (begun start : D × State) (after last : D)
+        (port port_after twin twin_after : P) (clock clock_after watch watch_after : C)
+        (number count : ℕ) (more besides : List (Option ℕ))
+        → (one : Headline D.Disk P.Port (tells_of P.Link.Source P.Link.Sink) C.Clock disk begun
+        after port port_after clock clock_after number)
+        → (two : Headline D.Disk P.Port (tells_of P.Link.Source P.Link.Sink) C.Clock other start
+        last twin twin_after watch watch_after count) → D.is_honest disk → D.is_honest other
+        → D.seen disk ≡ D.seen other
+        → AllStartAlike (tells_of P.Link.Source P.Link.Sink) one.links two.links
+        → one.answers ++ more ≡ two.answers ++ besides
+        → IsUndisturbed D.Disk (tells_of P.Link.Source P.Link.Sink) one.links one.answers begun
+        one.run one.ended one.written
+        → IsUndisturbed D.Disk (tells_of P.Link.Source P.Link.Sink) two.links two.answers start
+        two.run two.ended two.written
+        → AllGotAlike (tells_of P.Link.Source P.Link.Sink) one.links two.links
+        × (one.ended.1 ≡ two.ended.1) × (one.answers ≡ two.answers) }
+    ensures calls { (disk other after last : D) (port port_after twin twin_after : P)
+        (clock clock_after watch watch_after : C) (port_number twin_number count most : ℕ)
+        (ending another : Result (List ℕ) Stop)
+        → (one : Serves D.Disk P.Port (tells_of P.Link.Source P.Link.Sink) C.Clock disk after port
+        port_after clock clock_after port_number count ending)
+        → (two : Serves D.Disk P.Port (tells_of P.Link.Source P.Link.Sink) C.Clock other last twin
+        twin_after watch watch_after twin_number most another) → D.is_honest disk
+        → D.is_honest other → D.seen disk ≡ D.seen other
+        → (links others : List (P.Link × P.Link)) (answers turns more besides : List (Option ℕ))
+        → HasServed one links answers → HasServed two others turns
+        → AllStartAlike (tells_of P.Link.Source P.Link.Sink) links others
+        → answers ++ more ≡ turns ++ besides
         → AllGotAlike (tells_of P.Link.Source P.Link.Sink) links others × (ending ≡ another) }
 {
     ends_law::<D>();

@@ -20,7 +20,7 @@ struct Stopped {
     right: bool,
 }
 
-/// Tells of rounds whose disk stops: a crash keeps nothing, one byte, or all of what no sync has followed.
+// Tells of rounds whose disk stops: a crash keeps nothing, one byte, or all of what no sync has followed.
 pub(crate) fn tell_crashes<R: Threads + Sync + Print>(
     alloc: Global,
     rt: &R,

@@ -8,7 +8,7 @@ use std::io;
 use std::io::Print;
 use std::thread::Threads;
 
-/// The code with which a request is refused where the disk failed.
+/// The code with which a request is refused if the disk failed.
 pub(crate) const STORE_FAULT: &[u8] = b"{\"code\":\"store_fault\"}";
 
 /// The most calls of a disk that are tried.
@@ -24,7 +24,7 @@ struct Seen {
     right: bool,
 }
 
-/// Each call of the disk fails in turn.
+// Each call of the disk fails in turn.
 pub(crate) fn try_disks<R: Threads + Sync>(
     alloc: Global,
     rt: &R,
@@ -42,8 +42,8 @@ pub(crate) fn try_disks<R: Threads + Sync>(
     Ok(report)
 }
 
-/// Tells of rounds in which two calls of the disk fail: the second in the request of the first, in the opening after it, or in the append after
-/// that.
+// Tells of rounds in which two calls of the disk fail: the second in the request of the first, in the opening after it, or in the append after
+// that.
 pub(crate) fn tell_pairs<R: Threads + Sync + Print>(
     alloc: Global,
     rt: &R,
@@ -103,7 +103,7 @@ fn try_disk<R: Threads + Sync>(
     Ok(seen)
 }
 
-// Opens a disk, again where a call of it failed.
+// Opens a disk, again if a call of it failed.
 fn opened(alloc: Global, mut disk: MemDisk, seen: &mut Seen) -> io::Result<Option<Host>> {
     for _ in 0..MOST_TRIES {
         match host_on(alloc, &mut disk)? {
@@ -145,7 +145,7 @@ pub(crate) enum Answer {
     Other,
 }
 
-/// Sends the request at this place, on a link of its own.
+// Sends the request at this place, on a link of its own.
 pub(crate) fn asked<R: Threads + Sync>(
     alloc: Global,
     rt: &R,

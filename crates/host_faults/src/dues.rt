@@ -11,7 +11,7 @@ use std::thread::Threads;
 /// The line that is written before a body that is waited for.
 pub(crate) const INTERIM: &[u8] = b"HTTP/1.1 100 Continue\r\n\r\n";
 
-/// What a request gets without a fault: its reply, the reply where it is sent once more, and the events that are kept after it.
+/// What a request gets without a fault: its reply, the reply if it is sent once more, and the events that are kept after it.
 #[derive(Drop)]
 pub(crate) struct Due {
     pub(crate) reply: Vec<u8>,
@@ -29,7 +29,7 @@ pub(crate) struct Dues {
     pub(crate) whole: Vec<u8>,
 }
 
-/// Finds what each request of a round gets, on a new journal and on links of their own.
+// Finds what each request of a round gets, on a new journal and on links of their own.
 pub(crate) fn dues_of<R: Threads + Sync>(
     alloc: Global,
     rt: &R,
@@ -58,6 +58,7 @@ pub(crate) fn dues_of<R: Threads + Sync>(
     })
 }
 
+// What these requests are due when they are sent once and once more, and the events that are kept. The second time must keep nothing more.
 fn due_of<R: Threads + Sync>(
     alloc: Global,
     rt: &R,
@@ -78,7 +79,7 @@ fn due_of<R: Threads + Sync>(
 }
 
 impl Dues {
-    /// The request at this place, as a round of one.
+    // The request at this place, as a round of one.
     pub(crate) fn one(&self, place: usize) -> &[Sent] {
         if place < self.round.len() {
             &self.round[place..place + 1]
@@ -87,12 +88,12 @@ impl Dues {
         }
     }
 
-    /// Whether the reply to the request at this place has no body.
+    // Whether the reply to the request at this place has no body.
     pub(crate) fn is_bodiless(&self, place: usize) -> bool {
         self.round.get(place).is_some_and(|sent| sent.is_bodiless())
     }
 
-    /// How many replies are whole in the first bytes of what a link gets, and how many bytes these are.
+    // How many replies are whole in the first bytes of what a link gets, and how many bytes these are.
     pub(crate) fn replies_in(&self, most: usize) -> (usize, usize) {
         let mut count = 0usize;
         let mut bytes = 0usize;
@@ -107,7 +108,7 @@ impl Dues {
         (count, bytes)
     }
 
-    /// The events that are kept when so many requests were replied to.
+    // The events that are kept when so many requests were replied to.
     pub(crate) fn events_behind(&self, count: usize) -> &[u8] {
         match count.checked_sub(1).and_then(|last| self.each.get(last)) {
             Some(due) => &due.events,
@@ -115,18 +116,18 @@ impl Dues {
         }
     }
 
-    /// Whether these are the events after so many requests, and not already those before the last of them.
+    // Whether these are the events after so many requests, and not already those before the last of them.
     pub(crate) fn has_kept(&self, place: usize, events: &[u8]) -> bool {
         let before = self.events_behind(place);
         events != before && events == self.events_behind(place.saturating_add(1))
     }
 
-    /// Whether these are the events after the whole round.
+    // Whether these are the events after the whole round.
     pub(crate) fn has_all(&self, events: &[u8]) -> bool {
         events == self.events_behind(self.each.len())
     }
 
-    /// What the request at this place gets from a host that keeps these events.
+    // What the request at this place gets from a host that keeps these events.
     pub(crate) fn reply_at(&self, place: usize, events: &[u8]) -> &[u8] {
         match self.each.get(place) {
             Some(due) if self.has_kept(place, events) => &due.again,
@@ -135,7 +136,7 @@ impl Dues {
         }
     }
 
-    /// Sends the requests from this place on, over one link, and tells whether each gets its due.
+    // Sends the requests from this place on, over one link, and tells whether each gets its due.
     pub(crate) fn goes_on<R: Threads + Sync>(
         &self,
         alloc: Global,

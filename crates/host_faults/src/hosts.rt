@@ -31,7 +31,7 @@ pub(crate) struct Fault {
 }
 
 impl Fault {
-    // The number of the failing call, where it is of this kind, as a list.
+    // The number of the failing call, if it is of this kind, as a list.
     fn listed(alloc: Global, fault: Option<Fault>, call: Call) -> io::Result<Vec<u64>> {
         let mut numbers = Vec::new(alloc);
         if let Some(fault) = fault {
@@ -60,7 +60,7 @@ pub(crate) struct Got {
     pub(crate) failed: bool,
 }
 
-/// What was made, except where memory runs out.
+// What was made, except if memory runs out.
 pub(crate) fn made<T>(tried: Result<T, NoMemory>) -> io::Result<T> {
     match tried {
         Ok(object) => Ok(object),
@@ -68,7 +68,7 @@ pub(crate) fn made<T>(tried: Result<T, NoMemory>) -> io::Result<T> {
     }
 }
 
-/// A disk with this file, whose calls of these numbers fail, and all from a number on.
+// A disk with this file, whose calls of these numbers fail, and all from a number on.
 pub(crate) fn disk_of(
     alloc: Global,
     file: &[u8],
@@ -82,7 +82,7 @@ pub(crate) fn disk_of(
     made(MemDisk::new(alloc, file.to_vec(alloc)?, ROOM, fails, stop))
 }
 
-/// Opens a disk as a host. None where a call of the disk failed.
+// Opens a disk as a host. None if a call of the disk failed.
 pub(crate) fn host_on(alloc: Global, disk: &mut MemDisk) -> io::Result<Option<Serving>> {
     match open(alloc, disk) {
         Ok(serving) => Ok(Some(serving)),
@@ -91,7 +91,7 @@ pub(crate) fn host_on(alloc: Global, disk: &mut MemDisk) -> io::Result<Option<Se
     }
 }
 
-/// The place at which a file is no journal, if it is none.
+// The place at which a file is no journal, if it is none.
 pub(crate) fn fault_in(alloc: Global, file: &[u8]) -> io::Result<Option<u64>> {
     let mut disk = disk_of(alloc, file, &[], None)?;
     match open(alloc, &mut disk) {
@@ -101,6 +101,7 @@ pub(crate) fn fault_in(alloc: Global, file: &[u8]) -> io::Result<Option<u64>> {
     }
 }
 
+// The error of standard input and output that tells a fault of a log.
 fn error_of(fault: LogFault) -> io::Error {
     match fault {
         LogFault::Disk => io::Error::from(ErrorKind::Other),
@@ -110,7 +111,7 @@ fn error_of(fault: LogFault) -> io::Error {
 }
 
 impl Host {
-    /// A host of this disk that was opened.
+    // A host of this disk that was opened.
     pub(crate) fn new(alloc: Global, disk: MemDisk, serving: Serving) -> io::Result<Self> {
         let routes = made(Routes::new(alloc))?;
         Ok(Host {
@@ -121,7 +122,7 @@ impl Host {
         })
     }
 
-    /// A host whose disk has this file and never fails.
+    // A host whose disk has this file and never fails.
     pub(crate) fn of_file(alloc: Global, file: &[u8]) -> io::Result<Self> {
         let mut disk = disk_of(alloc, file, &[], None)?;
         match host_on(alloc, &mut disk)? {
@@ -130,7 +131,7 @@ impl Host {
         }
     }
 
-    /// Serves a link on which these requests come, in pieces of that many bytes.
+    // Serves a link on which these requests come, in pieces of that many bytes.
     pub(crate) fn talk<R: Threads + Sync>(
         &mut self,
         alloc: Global,
@@ -160,7 +161,7 @@ impl Host {
         })
     }
 
-    /// The same host before another disk.
+    // The same host before another disk.
     pub(crate) fn handed(self, disk: MemDisk) -> Self {
         Host {
             disk,
@@ -170,17 +171,18 @@ impl Host {
         }
     }
 
-    /// Its disk.
+    // Its disk.
     pub(crate) fn into_disk(self) -> MemDisk {
         self.disk
     }
 
-    /// The events that are kept.
+    // The events that are kept.
     pub(crate) fn events(&self, alloc: Global) -> io::Result<Vec<u8>> {
         events_of(alloc, self.disk.bytes())
     }
 }
 
+// A link on which these requests come, in pieces of that many bytes, and on which one call may fail.
 fn link_of(
     alloc: Global,
     round: &[Sent],
@@ -213,7 +215,7 @@ fn clock_of(alloc: Global, round: &[Sent], fault: Option<Fault>) -> io::Result<M
     Ok(MemClock::new(moments, Fault::listed(alloc, fault, Call::Clock)?))
 }
 
-/// The events that a file keeps: the bodies of its records, each after its length.
+// The events that a file keeps: the bodies of its records, each after its length.
 pub(crate) fn events_of(alloc: Global, file: &[u8]) -> io::Result<Vec<u8>> {
     let mut disk = disk_of(alloc, file, &[], None)?;
     let (mut log, _) = Log::start(&mut disk).map_err(error_of)?;
@@ -228,6 +230,7 @@ pub(crate) fn events_of(alloc: Global, file: &[u8]) -> io::Result<Vec<u8>> {
     Ok(events)
 }
 
+// Appends the body of a record, after its length.
 fn add_record(events: &mut Vec<u8>, body: &[u8]) -> io::Result<()> {
     events.extend_from_slice(&body.len().to_le_bytes())?;
     events.extend_from_slice(body)?;

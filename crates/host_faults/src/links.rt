@@ -7,19 +7,19 @@ use std::alloc::Global;
 use std::io;
 use std::thread::Threads;
 
-/// The size of the pieces in which a round is read where a call fails.
+/// The size of the pieces in which a round is read if a call fails.
 const PIECE: usize = 16;
 
 /// The most calls of a kind that are tried.
 const MOST_CALLS: u64 = 100_000;
 
-/// The code with which a request is refused where the clock failed.
+/// The code with which a request is refused if the clock failed.
 const CLOCK_FAULT: &[u8] = b"{\"code\":\"clock_fault\"}";
 
 /// The sizes of the pieces in which a round without a fault is read.
 const PIECES: [usize; 4] = [1, 2, 7, 4096];
 
-/// Rounds without a fault, in pieces of several sizes.
+// Rounds without a fault, in pieces of several sizes.
 pub(crate) fn try_pieces<R: Threads + Sync>(
     alloc: Global,
     rt: &R,
@@ -36,7 +36,7 @@ pub(crate) fn try_pieces<R: Threads + Sync>(
     Ok(report)
 }
 
-/// Each call of this kind fails in turn, up to one that is never made.
+// Each call of this kind fails in turn, up to one that is never made.
 pub(crate) fn try_calls<R: Threads + Sync>(
     alloc: Global,
     rt: &R,
@@ -53,7 +53,7 @@ pub(crate) fn try_calls<R: Threads + Sync>(
     Ok(report)
 }
 
-// Whether a round with this fault is as it must be. None where no call failed.
+// Whether a round with this fault is as it must be. None if no call failed.
 fn try_fault<R: Threads + Sync>(
     alloc: Global,
     rt: &R,

@@ -7,11 +7,11 @@
 //!   whose reply was being written is kept, and no other that was not replied to.
 //! - A failed call of the clock has its request refused as `clock_fault`, and ends the link.
 //! - A failed call of the disk has its request refused as `store_fault`, each failed call just one request.
-//! - The client sends a request again until it gets another reply, and then the rest. Each gets what it gets without a fault, or where its event was
+//! - The client sends a request again until it gets another reply, and then the rest. Each gets what it gets without a fault, or if its event was
 //!   kept already, what it gets without a fault when it is sent once more. At the end the same events are kept.
 //! - A host that waits and gets a file which is no journal refuses the request as `store_damaged`, with the place that opening the file by itself
 //!   tells.
-//! - Where the disk stops, and what a crash leaves is opened, each acknowledged event is there, and at most that of the first request after them.
+//! - If the disk stops, and what a crash leaves is opened, each acknowledged event is there, and at most that of the first request after them.
 //!
 //! Each table tells how many rounds were tried and how many differ from the rule.
 #![tactic(auto)]
@@ -34,6 +34,7 @@ use crate::links::{try_calls, try_pieces};
 use crate::rounds::take_line;
 use std::io;
 
+// Tries the round that comes as lines, and writes a line for each kind of fault.
 fn main(rt: HostRuntime) -> io::Result<()> {
     let alloc = rt.alloc();
     let mut round = Vec::new(alloc);

@@ -14,6 +14,7 @@ pub(crate) struct Report {
 }
 
 impl Report {
+    // Nothing was tried yet.
     pub(crate) fn new() -> Self {
         Report {
             tried: 0,
@@ -23,18 +24,18 @@ impl Report {
         }
     }
 
-    /// Counts a round in which an event was kept that was not acknowledged.
+    // Counts a round in which an event was kept that was not acknowledged.
     pub(crate) fn keep(&mut self) {
         self.kept = self.kept.saturating_add(1);
     }
 
-    /// Counts a round whose call of this number failed.
+    // Counts a round whose call of this number failed.
     pub(crate) fn add(&mut self, number: u64, right: bool) {
         self.tried = self.tried.saturating_add(1);
         self.end(number, right);
     }
 
-    /// Counts a difference, without a round, where it is not as it must be.
+    // Counts a difference, without a round, if it is not as it must be.
     pub(crate) fn end(&mut self, number: u64, right: bool) {
         if !right {
             if self.different == 0 {
@@ -46,7 +47,7 @@ impl Report {
 }
 
 impl Report {
-    /// Tells them in a line of this table.
+    // Tells them in a line of this table.
     pub(crate) fn tell(&self, rt: &impl Print, name: &str) -> io::Result<()> {
         println!(rt; "{name}: {} rounds, {} differ", self.tried, self.different)?;
         if self.different > 0 {
@@ -56,7 +57,7 @@ impl Report {
     }
 }
 
-/// Whether a reply refuses for a fault of this code; a reply to HEAD does not tell it.
+// Whether a reply refuses for a fault of this code; a reply to HEAD does not tell it.
 pub(crate) fn is_refusal(reply: &[u8], bodiless: bool, code: &[u8]) -> bool {
     let reply = match reply.strip_prefix(INTERIM) {
         Some(behind) => behind,

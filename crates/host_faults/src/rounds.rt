@@ -14,8 +14,8 @@ pub(crate) struct Sent {
     in_body: bool,
 }
 
-/// Takes the next line of a round: one with a moment begins a request, the next ones up to an empty one are the lines of its head, and the others
-/// its body.
+// Takes the next line of a round: one with a moment begins a request, the next ones up to an empty one are the lines of its head, and the others
+// its body.
 pub(crate) fn take_line(alloc: Global, round: &mut Vec<Sent>, line: &str) -> io::Result<()> {
     match line.strip_prefix(AT) {
         Some(moment) => {
@@ -48,7 +48,7 @@ impl Sent {
         Ok(())
     }
 
-    /// Whether its reply has no body.
+    // Whether its reply has no body.
     pub(crate) fn is_bodiless(&self) -> bool {
         self.bytes.starts_with(b"HEAD ")
     }

@@ -9,8 +9,8 @@ use Rattle.split_lemmas.proofs.Checks.{bid_decided, facts_decided}
 use Rattle.bid_rules.specs.declared.bids.Bid.{Bid}
 use Rattle.bid_rules.specs.Facts.{IsCheckedBid, IsCheckedFacts, member_count}
 use Rattle.sealed_core.specs.Host.{CreationView, InstanceView, HostView, EventView, Created, BidKept, Closed, Withdrawn, CanApply, IsAllowed, IsCheckedCreation, IsName, IsNextTurn, instance_at, item_count, kept_bid, kept_turn, moment_of}
-use Rattle.case_fields.specs.Rules.{is_name, is_tag}
-use Rattle.case_fields.specs.declared.limits.TheConstants.{LAST_DEADLINE}
+use Rattle.body_fields.specs.Rules.{is_name, is_tag}
+use Rattle.body_fields.specs.declared.limits.TheConstants.{LAST_DEADLINE}
 use Rattle.sealed_core.specs.declared.limits.TheConstants.{MOST_INSTANCES, MOST_TURNS}
 use Rattle.host_journal.specs.Reading.{KeepsRules, whole_at}
 use Rattle.host_journal.specs.Spelling.{IsOfVersion, Spells}

@@ -16,7 +16,7 @@ use Rattle.bid_rules.specs.declared.bids.Facts.{Facts}
 use Rattle.bid_rules.specs.declared.bids.Facts.TheVariants as facts
 use Rattle.bid_rules.specs.declared.limits.TheConstants.{ITEM_ROOM, LONGEST_NAME, MEMBER_ROOM, PLACE_ROOM}
 use Rattle.bid_rules.specs.Facts.{IsCheckedFacts, legs_in_order, member_count}
-use Rattle.case_fields.specs.declared.limits.TheConstants.{LONGEST_TAG}
+use Rattle.body_fields.specs.declared.limits.TheConstants.{LONGEST_TAG}
 use Rattle.sealed_core.specs.declared.events.Event.{Event}
 use Rattle.sealed_core.specs.Host.{event_view, CreationView, EventView, Created, BidKept, Closed, Withdrawn, IsName, item_count}
 use Rattle.host_journal.specs.Spelling.{text_bytes, texts_bytes, numbers_bytes, facts_bytes, bid_bytes, creation_bytes, kind_of, spelling, FitsBid, HasRules, IsEvent, Spells}

@@ -10,7 +10,7 @@ use Rattle.bid_rules.specs.declared.bids.Facts.{Facts}
 use Rattle.bid_rules.specs.declared.bids.Facts.TheVariants as facts
 use Rattle.bid_rules.specs.Facts.{IsCheckedFacts, member_count}
 use Rattle.gate_log.specs.Records.{place_after}
-use Rattle.sealed_core.specs.Host.{InstanceView, HostView, EventView, Created, BidKept, Closed, Withdrawn, CreationView, IsCheckedCreation, IsNextTurn, CanApply, instance_at, kept_turn, fresh, with_turn, as_closed, change, changed, apply}
+use Rattle.sealed_core.specs.Host.{InstanceView, HostView, EventView, Created, BidKept, Closed, Withdrawn, CreationView, IsCheckedCreation, IsNextTurn, CanApply, instance_at, kept_turn, new_instance, with_turn, as_closed, change, change_at, apply}
 use Rattle.sealed_core.specs.Runs.{CanApplyAll}
 use Rattle.sealed_core.specs.Sealed.{empty}
 use Rattle.host_journal.specs.Spelling.{IsEvent, spelling}
@@ -63,13 +63,13 @@ all_most [] all = omega arith
 all_most (i ∷ instances) all = omega (arith, sum_by-cons spent i instances, spent_most i (All-head IsSmall i instances all), all_most instances (All-tail IsSmall i instances all))
 
 -- a change at a place leaves the length
-length-changed : (f : InstanceView → InstanceView) (instances : List InstanceView) (p : ℕ) → length (changed f instances p) ≡ length instances
+length-changed : (f : InstanceView → InstanceView) (instances : List InstanceView) (p : ℕ) → length (change_at f instances p) ≡ length instances
 length-changed f [] p = refl
 length-changed f (i ∷ instances) zero = refl
 length-changed f (i ∷ instances) (suc p) = ap suc (length-changed f instances p)
 
 -- a change of an instance that stays small leaves all small
-each_changed : (f : InstanceView → InstanceView) (instances : List InstanceView) (p : ℕ) → All IsSmall instances → ((i : InstanceView) → slice_get instances p ≡ Some i → IsSmall i → IsSmall (f i)) → All IsSmall (changed f instances p)
+each_changed : (f : InstanceView → InstanceView) (instances : List InstanceView) (p : ℕ) → All IsSmall instances → ((i : InstanceView) → slice_get instances p ≡ Some i → IsSmall i → IsSmall (f i)) → All IsSmall (change_at f instances p)
 each_changed f [] p each new k d there = absurd (omega arith)
 each_changed f (i ∷ instances) zero each new zero d there = new i refl (each zero d (omega arith))
 each_changed f (i ∷ instances) zero each new (suc k) d there = each (suc k) d (omega (arith, there))
@@ -77,12 +77,12 @@ each_changed f (i ∷ instances) (suc p) each new zero d there = each zero d (om
 each_changed f (i ∷ instances) (suc p) each new (suc k) d there = each_changed f instances p (λ j e below. each (suc j) e (omega (arith, below))) new k d (omega (arith, there))
 
 -- what a change at a place makes of a sum
-sum_changed : (f : InstanceView → InstanceView) (instances : List InstanceView) (p : ℕ) (i : InstanceView) → slice_get instances p ≡ Some i → sum_by spent (changed f instances p) + spent i ≡ sum_by spent instances + spent (f i)
+sum_changed : (f : InstanceView → InstanceView) (instances : List InstanceView) (p : ℕ) (i : InstanceView) → slice_get instances p ≡ Some i → sum_by spent (change_at f instances p) + spent i ≡ sum_by spent instances + spent (f i)
 sum_changed f [] p i is = absurd (true≢false (sym (ap is_some is)))
 sum_changed f (x ∷ instances) zero i is =
     let one : x ≡ i = ap (λ (o : Option InstanceView). unwrap_or o i) is in
     omega (arith, sum_by-cons spent x instances, sum_by-cons spent (f x) instances, ap spent one, ap (λ (y : InstanceView). spent (f y)) one)
-sum_changed f (x ∷ instances) (suc p) i is = omega (arith, sum_by-cons spent x instances, sum_by-cons spent x (changed f instances p), sum_changed f instances p i is)
+sum_changed f (x ∷ instances) (suc p) i is = omega (arith, sum_by-cons spent x instances, sum_by-cons spent x (change_at f instances p), sum_changed f instances p i is)
 
 -- what holds of some value, with the value
 found : (o : Option InstanceView) (P : InstanceView → Type 0) → IsSomeAnd o P → (i : InstanceView) × (o ≡ Some i) × P i
@@ -148,18 +148,18 @@ close_takes i small open_ = (
 )
 
 -- a new instance
-fresh_takes : (h : HostView) (c : CreationView) → IsSmallHost h.instances → length h.instances < 1000 → IsCheckedCreation c → Takes h.instances (h.instances ++ fresh c ∷ []) 2000
+fresh_takes : (h : HostView) (c : CreationView) → IsSmallHost h.instances → length h.instances < 1000 → IsCheckedCreation c → Takes h.instances (h.instances ++ new_instance c ∷ []) 2000
 unfolding spent
 fresh_takes h c small room checked = record {
   small = record {
-    each = All-push IsSmall h.instances (fresh c) small.each (record {
+    each = All-push IsSmall h.instances (new_instance c) small.each (record {
       members = length-replicate (length c.members) 0;
       few = omega (arith, checked.member_names, few_members c.facts checked.facts);
       used = All-replicate (λ (t : ℕ). t ≤ 20) (length c.members) 0 (omega arith);
     });
-    few = omega (arith, length_push h.instances (fresh c), room);
+    few = omega (arith, length_push h.instances (new_instance c), room);
   };
-  sum = omega (arith, sum_by-append spent h.instances (fresh c ∷ []), sum_by-cons spent (fresh c) []);
+  sum = omega (arith, sum_by-append spent h.instances (new_instance c ∷ []), sum_by-cons spent (new_instance c) []);
 }
 
 -- an event takes no more than its record's size

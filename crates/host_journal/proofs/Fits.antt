@@ -6,7 +6,7 @@ use Rattle.std.specs.Prelude.{All, flat_map}
 use Rattle.std.specs.Str.{IsUtf8}
 use Rattle.std.proofs.lemmas.List.Elements.{All-map}
 use Rattle.arrayvec.specs.ArrayString.{ArrayString}
-use Rattle.case_fields.specs.declared.creations.Creation.{Creation}
+use Rattle.body_fields.specs.declared.creations.Creation.{Creation}
 use Rattle.sealed_core.specs.Host.{HostView, EventView, Created, BidKept, Closed, Withdrawn, CanApply, creation_view, text}
 use Rattle.host_journal.specs.Reading.{KeepsRules}
 use Rattle.host_journal.specs.Spelling.{FitsTypes, IsEvent, text_bytes}

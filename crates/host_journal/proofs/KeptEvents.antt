@@ -8,7 +8,7 @@ use Rattle.gate_log.specs.declared.fault.LogFault.{LogFault}
 use Rattle.gate_log.specs.declared.fault.LogFault.TheVariants as fault
 use Rattle.host_journal.specs.Journal.{IsBeforeOrAfter, IsHostOf, IsJournalOf}
 use Rattle.sealed_core.specs.Host.{CanApply, EventView, HostView, event_view}
-use Rattle.host_journal.specs.Calls.{Keeps, Leads}
+use Rattle.host_journal.specs.Calls.{Keeps, ReachesState}
 use Rattle.host_journal.specs.States.{HasState, IsFileOf, State, ready_with, waits_with}
 use Rattle.host_journal.specs.declared.serving.Serving.{Serving}
 use Rattle.host_journal.proofs.Passing.{passes_none}
@@ -29,7 +29,7 @@ module _ {D T : Type 0} (d : Ghosts D) (serving now : Serving) (disk after : D) 
       → IsJournalOf (d.images after) now.log now.host.content secret (events ++ event ∷ []))
       → (d.is_honest disk → (secret : List ℕ) (events : List EventView) → IsJournalOf (d.images disk) serving.log serving.host.content secret events
       → LeavesOnly d.moment d.left_since disk after (IsBeforeOrAfter serving.log.version secret events event))
-      → Leads d now disk after s (λ new. Keeps d disk after event s new result)
+      → ReachesState d now disk after s (λ new. Keeps d disk after event s new result)
   was_kept ok faults still made calls acknowledged any =
       let new : State = ready_with s.secret (s.kept ++ event ∷ []) in
       let stands_now : HasState d now after new = record {
@@ -60,7 +60,7 @@ module _ {D T : Type 0} (d : Ghosts D) (serving now : Serving) (disk after : D) 
       → Each (d.images after) (IsBeforeOrAfter serving.log.version secret events event))
       → (d.is_honest disk → (secret : List ℕ) (events : List EventView) → IsJournalOf (d.images disk) serving.log serving.host.content secret events
       → LeavesOnly d.moment d.left_since disk after (IsBeforeOrAfter serving.log.version secret events event))
-      → Leads d now disk after s (λ new. Keeps d disk after event s new result)
+      → ReachesState d now disk after s (λ new. Keeps d disk after event s new result)
   was_lost is faults waits unchanged can left any =
       let new : State = waits_with s event in
       let stands_now : HasState d now after new = record {

@@ -4,8 +4,8 @@ use Rattle.std.specs.List.{list_all}
 use Rattle.std.specs.Str.{IsAscii}
 use Rattle.std.proofs.lemmas.Bool.{and_parts, cases_lt, leb-true, lt-leb, ne_eqb}
 use Rattle.bid_rules.specs.declared.limits.TheConstants.{LONGEST_NAME}
-use Rattle.case_fields.specs.declared.limits.TheConstants.{LONGEST_TAG, SHORTEST_TAG}
-use Rattle.case_fields.specs.Rules.{IsName, IsTag, is_plain, is_tag_byte}
+use Rattle.body_fields.specs.declared.limits.TheConstants.{LONGEST_TAG, SHORTEST_TAG}
+use Rattle.body_fields.specs.Rules.{IsName, IsTag, is_plain, is_tag_byte}
 
 -- a name has at most so many bytes
 pub name_most : (name : List ℕ) → IsName name → length name ≤ LONGEST_NAME

@@ -8,10 +8,10 @@ use Rattle.gate_log.specs.Calls.{counted_by}
 use Rattle.gate_log.specs.declared.fault.LogFault.{LogFault}
 use Rattle.gate_log.specs.declared.fault.LogFault.TheVariants as fault
 use Rattle.gate_log.specs.declared.limits.TheConstants.{VERSION_GATE}
-use Rattle.host_journal.specs.Journal.{HasEvents, HasOpened, HasRaised, HoldsEvents, HoldsOne, IsFirstFault, IsHostOfFile, IsToldOf, LeftAlone}
+use Rattle.host_journal.specs.Journal.{HasEvents, HasOpened, HasRaised, HoldsEvents, HoldsOne, IsFirstFault, IsHostWithFile, IsToldOf, LeftAlone}
 use Rattle.sealed_core.specs.declared.events.Event.{Event}
 use Rattle.sealed_core.specs.Host.{EventView, event_view}
-use Rattle.host_journal.specs.Calls.{Leads, Reopens}
+use Rattle.host_journal.specs.Calls.{ReachesState, Reopens}
 use Rattle.host_journal.specs.States.{HasState, IsEither, IsFile, IsFileOf, State, lists_of, ready_with}
 use Rattle.host_journal.specs.declared.serving.Serving.{Serving}
 use Rattle.host_journal.proofs.StateFiles.{files_of}
@@ -60,9 +60,9 @@ module _ {D T : Type 0} (d : Ghosts D) (serving : Serving) (disk after : D) (s :
   pub was_opened : OneMeaning → (now : Serving) → IsOk result → d.faults after ≡ d.faults disk → now.waiting ≡ None
       → (d.is_honest disk → Only (d.seen after) (d.images after))
       → (d.is_honest disk → LeftAlone d.seen d.moment disk after ⊎ HasRaised d.seen d.moment disk after)
-      → (secret : List ℕ) × (kept : List EventView) × IsHostOfFile now.host.content secret kept
+      → (secret : List ℕ) × (kept : List EventView) × IsHostWithFile now.host.content secret kept
       (IsToldOf (d.tells disk) (d.is_honest disk) (d.seen disk) secret kept (HasOpened (d.seen disk) (d.seen after) (d.images after) now.log now.host.content secret kept))
-      → Leads d now disk after s (λ new. Reopens d disk after s new result)
+      → ReachesState d now disk after s (λ new. Reopens d disk after s new result)
   was_opened law now ok faults ready one calls (secret, kept, made) =
       let new : State = ready_with secret kept in
       let stands_now : HasState d now after new = record {
@@ -97,7 +97,7 @@ module _ {D T : Type 0} (d : Ghosts D) (serving : Serving) (disk after : D) (s :
         (subst (λ (o : Option EventView). Each (d.images after) (HoldsOne s.secret (lists_of s.kept o))) waits (left (honest.1 h) s.secret (lists_of s.kept s.waiting) (files (honest.1 h))));
   }
 
-  was_closed : (now : Serving) → now.host.content ≡ serving.host.content → now.waiting ≡ serving.waiting → Reopens d disk after s s result → Leads d now disk after s (λ new. Reopens d disk after s new result)
+  was_closed : (now : Serving) → now.host.content ≡ serving.host.content → now.waiting ≡ serving.waiting → Reopens d disk after s s result → ReachesState d now disk after s (λ new. Reopens d disk after s new result)
   was_closed now same wait case = record {
     new = s;
     stands = stays now same wait;
@@ -116,7 +116,7 @@ module _ {D T : Type 0} (d : Ghosts D) (serving : Serving) (disk after : D) (s :
       → (d.is_honest disk → Each (d.images after) (Tears (d.images disk) VERSION_GATE 1))
       → (d.tells disk → (place : ℕ) → f ≡ fault.NotALog place → IsFirstFault place (d.seen disk))
       → f ≢ fault.NoMemory
-      → Leads d now disk after s (λ new. Reopens d disk after s new result)
+      → ReachesState d now disk after s (λ new. Reopens d disk after s new result)
   was_faulty now same wait law tells fault.Disk is faults torn damaged memory = was_closed now same wait (Reopens.failed event waits is faults torn refl)
   was_faulty now same wait law tells (fault.NotALog place) is faults torn damaged memory =
       was_closed now same wait (Reopens.damaged event place waits is faults (λ t. damaged t place refl) (no_damage law place (λ h. damaged (tells h) place refl)) refl)

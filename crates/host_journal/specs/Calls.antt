@@ -12,7 +12,7 @@ use Rattle.host_journal.specs.States.{HasState, Passes, State, ready_with, waits
 use Rattle.host_journal.specs.declared.serving.Serving.{Serving}
 
 -- the serving is in a new state, this holds of it, and the disk went on from the state before to it
-pub record Leads {D : Type 0} (d : Ghosts D) (serving : Serving) (disk after : D) (s : State) (case : State → Type 0) : Type 0 where
+pub record ReachesState {D : Type 0} (d : Ghosts D) (serving : Serving) (disk after : D) (s : State) (case : State → Type 0) : Type 0 where
   pub new : State
   pub stands : HasState d serving after new
   pub passes : Passes d disk s after new
@@ -38,16 +38,16 @@ pub record IsFound {D : Type 0} (d : Ghosts D) (disk after : D) (secret : List �
   pub calls : LeftAlone d.seen d.moment disk after ⊎ HasRaised d.seen d.moment disk after
 
 -- the file of a host that waits with an event was opened: it held the events kept before, with the one more or without it
-pub record IsSettled {D : Type 0} (d : Ghosts D) (disk after : D) (s : State) (event : EventView) (secret : List ℕ) (kept : List EventView) : Type 0 where
+pub record HoldsWithOrWithout {D : Type 0} (d : Ghosts D) (disk after : D) (s : State) (event : EventView) (secret : List ℕ) (kept : List EventView) : Type 0 where
   pub secret_stays : secret ≡ s.secret
   pub either : (kept ≡ s.kept) ⊎ (kept ≡ s.kept ++ event ∷ [])
   pub file : IsFound d disk after secret kept
 
--- what is known of the file as which a host that waits was opened: where the disk tells its bytes, a read gave just these events; and where it is
--- honest, they are those kept before, with the one more or without it
+-- what is known of the file when a host that waits was opened as it: if the disk tells its bytes, a read gave just these events; and if it is honest,
+-- they are those kept before, with the one more or without it
 pub record IsOpenedAs {D : Type 0} (d : Ghosts D) (disk after : D) (s : State) (event : EventView) (secret : List ℕ) (kept : List EventView) : Type 0 where
   pub read : d.tells disk → HoldsEvents secret kept (d.seen disk)
-  pub settled : d.is_honest disk → IsSettled d disk after s event secret kept
+  pub settled : d.is_honest disk → HoldsWithOrWithout d disk after s event secret kept
 
 -- The file of a host that waits was opened, and the host is that of its events. Or a call of the disk failed, and no byte but the version
 -- gate may be torn. Or the file is no journal, which is never so on an honest disk, and the place of its first fault is told.
@@ -59,8 +59,8 @@ pub data Reopens {D T : Type 0} (d : Ghosts D) (disk after : D) (s new : State) 
   damaged : (event : EventView) (place : ℕ) → s.waiting ≡ Some event → result ≡ Err (fault.NotALog place) → d.faults after ≡ d.faults disk
       → (d.tells disk → IsFirstFault place (d.seen disk)) → (d.is_honest disk → ⊥) → new ≡ s → Reopens d disk after s new result
 
--- A journal was opened: the serving is in a state that is ready. Where the disk tells its bytes, a read gave just the events of that state; and where
--- it is honest, the file holds them now.
+-- A journal was opened: the serving is in a state that is ready. If the disk tells its bytes, a read gave just the events of that state; and if it is
+-- honest, the file holds them now.
 pub record Opened {D : Type 0} (d : Ghosts D) (disk after : D) (serving : Serving) : Type 0 where
   pub secret : List ℕ
   pub kept : List EventView

@@ -90,12 +90,12 @@ HoldsFrom version secret bodies file = (later : ℕ) × (version ≤ later) × S
 abbrev pub HoldsOne : List ℕ → List (List EventView) → List ℕ → Type 0
 HoldsOne secret lists file = (events : List EventView) × Contains lists events × HoldsEvents secret events file
 
--- the host is the one that these events make, on any disk, and this is what is known of the disk's file
-pub record IsHostOfFile (host : HostView) (secret : List ℕ) (events : List EventView) (told : Type 0) : Type 0 where
+-- the host is the one that these events make, and `told` is what is known of the file from which they were read
+pub record IsHostWithFile (host : HostView) (secret : List ℕ) (events : List EventView) (told : Type 0) : Type 0 where
   pub of_events : IsHostOf host secret events
   pub of_file : told
 
--- where the disk tells its bytes, a read gave just these events; and this holds where it is honest
+-- if the disk tells its bytes, a read gave just these events; and if it is honest, this holds
 pub record IsToldOf (tells honest : Type 0) (file : List ℕ) (secret : List ℕ) (events : List EventView) (is : Type 0) : Type 0 where
   pub read : tells → HoldsEvents secret events file
   pub holds : honest → is
@@ -114,12 +114,12 @@ pub record IsOpened (old new : List ℕ) (images : List ℕ → Type 0) (log : L
   pub after : HasEvents 2 secret events new
   pub journal : IsJournalOf images log host secret events
 
--- the opening raised nothing: the file is as it was, after one sync
+-- the opening did not raise the version: the file is as it was, after one sync
 pub record LeftAlone {D : Type 0} (seen : D → List ℕ) (moment : D → ℕ) (old new : D) : Type 0 where
   pub same : seen new ≡ seen old
   pub calls : moment new ≡ moment old + 1
 
--- the opening raised a file of version 1: after that sync its version gate was written, and synced
+-- the opening raised a file of version 1 to version 2: after that sync its version gate was written, and synced
 pub record HasRaised {D : Type 0} (seen : D → List ℕ) (moment : D → ℕ) (old new : D) : Type 0 where
   pub secret : List ℕ
   pub events : List EventView

@@ -8,7 +8,7 @@ use Rattle.bid_rules.specs.declared.bids.Bid.TheVariants as bid
 use Rattle.bid_rules.specs.declared.bids.Facts.{Facts}
 use Rattle.bid_rules.specs.declared.bids.Facts.TheVariants as facts
 use Rattle.bid_rules.specs.declared.limits.TheConstants.{ITEM_ROOM, LONGEST_NAME, MEMBER_ROOM, PLACE_ROOM}
-use Rattle.case_fields.specs.declared.limits.TheConstants.{LONGEST_TAG}
+use Rattle.body_fields.specs.declared.limits.TheConstants.{LONGEST_TAG}
 use Rattle.sealed_core.specs.Host.{CreationView, EventView, Created, BidKept, Closed, Withdrawn, IsCheckedCreation}
 
 infixl 10 ◌>>=◌
@@ -144,12 +144,12 @@ whole_at bytes = do
   if length event.1 == 0 then Some event.0 else None
 
 -- the creation except for its deadline, which has no limit here
-abbrev pub undated : CreationView → CreationView
-undated c = record { title = c.title; members = c.members; items = c.items; facts = c.facts; deadline = 0; tag = c.tag }
+abbrev pub without_deadline : CreationView → CreationView
+without_deadline c = record { title = c.title; members = c.members; items = c.items; facts = c.facts; deadline = 0; tag = c.tag }
 
 -- a creation keeps its rules
 abbrev pub KeepsRules : EventView → Type 0
-KeepsRules (Created moment c) = IsCheckedCreation (undated c)
+KeepsRules (Created moment c) = IsCheckedCreation (without_deadline c)
 KeepsRules (BidKept moment id member turn given) = ⊤
 KeepsRules (Closed moment id) = ⊤
 KeepsRules (Withdrawn moment id member turn) = ⊤

@@ -80,7 +80,7 @@ FitsTypes (BidKept moment id member turn given) = IsEvent (BidKept moment id mem
 FitsTypes (Closed moment id) = IsEvent (Closed moment id)
 FitsTypes (Withdrawn moment id member turn) = IsEvent (Withdrawn moment id member turn)
 
--- a withdrawal is of version 2 alone
+-- only version 2 has withdrawals
 abbrev pub IsOfVersion : ℕ → EventView → Type 0
 IsOfVersion version (Created moment c) = ⊤
 IsOfVersion version (BidKept moment id member turn bid) = ⊤

@@ -8,7 +8,7 @@ use Rattle.sealed_core.specs.Host.{CanApply, EventView, HostView, event_view}
 use Rattle.sealed_core.specs.Runs.{host_of}
 use Rattle.host_journal.specs.declared.serving.Serving.{Serving}
 
--- a serving state: the secret, the events kept, and the event whose append failed where the host waits
+-- a serving state: the secret, the events kept, and, if the host waits, the event whose append failed
 pub record State : Type 0 where
   pub secret : List ℕ
   pub kept : List EventView
@@ -26,7 +26,7 @@ ready_with secret kept = record { secret = secret; kept = kept; waiting = None }
 abbrev pub waits_with : State → EventView → State
 waits_with s event = record { secret = s.secret; kept = s.kept; waiting = Some event }
 
--- the file holds one of these lists: the events kept, or where the host waits also those with the one more
+-- the file holds one of these lists: the events kept, or, if the host waits, also those with the one more
 abbrev pub lists_of : List EventView → Option EventView → List (List EventView)
 lists_of kept None = kept ∷ []
 lists_of kept (Some event) = kept ∷ (kept ++ event ∷ []) ∷ []
@@ -39,7 +39,7 @@ IsFile s file = HoldsOne s.secret (lists_of s.kept s.waiting) file
 abbrev pub IsEither : State → State → List ℕ → Type 0
 IsEither s new file = IsFile s file ⊎ IsFile new file
 
--- where the host is ready the log is that of the events kept; where it waits each image holds them, with the one more or without it
+-- if the host is ready, the log is that of the events kept; if it waits, each image holds them, with the one more or without it
 abbrev pub IsFileOf : (List ℕ → Type 0) → LogView → HostView → List ℕ → List EventView → Option EventView → Type 0
 IsFileOf images log host secret kept None = IsJournalOf images log host secret kept
 IsFileOf images log host secret kept (Some event) = Each images (HoldsOne secret (lists_of kept (Some event)))

@@ -1,7 +1,7 @@
 // Keeping an event of a serving host.
 ghost use Rattle.std.specs.Prelude.{◌≡◌, ◌≤◌, ◌↔◌, None};
 ghost use Rattle.sealed_core.specs.Host.{CanApply, event_view};
-ghost use Rattle.host_journal.specs.Calls.{Keeps, Leads};
+ghost use Rattle.host_journal.specs.Calls.{Keeps, ReachesState};
 ghost use Rattle.host_journal.specs.States.{HasState, State};
 
 use crate::{Serving, commit};
@@ -12,13 +12,14 @@ use split_base::Disk;
 /// Keeps an event that may be applied, of a host that is ready: first in its journal, by four calls of
 /// the disk, and then the host changes. It takes no memory.
 ///
-/// `Disk` comes only where the disk's count of faults has risen, by one. The host is as before, and
+/// `Disk` comes only if the disk's count of faults has risen, by one. The host is as before, and
 /// waits with the event. No other fault comes.
 pub fn keep<D: Disk>(serving: &mut Serving, disk: &mut D, event: Event) -> Result<(), LogFault>
     requires ready { serving.old.waiting ≡ None }
     requires can { CanApply serving.old.host.content (event_view event) }
     ensures kept { (s : State) → HasState D.Disk serving.old disk.old s
-        → Leads D.Disk serving.new disk.old disk.new s (λ new. Keeps D.Disk disk.old disk.new (event_view event) s new result) }
+        → ReachesState D.Disk serving.new disk.old disk.new s (λ new.
+        Keeps D.Disk disk.old disk.new (event_view event) s new result) }
 
     // Whatever state the serving is in.
     ensures count { D.faults disk.old ≤ D.faults disk.new }

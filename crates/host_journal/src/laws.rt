@@ -33,18 +33,24 @@ pub const CLOSE_SIZE: usize = 18;
 /// Each event's spelling may be the body of a record, and each kind's record keeps its size.
 pub fn size_law()
     ensures body { (e : EventView) → IsEvent e → IsBody (spelling e) }
-    ensures creation { (moment : ℕ) (c : CreationView) → HasRules c → FRONT_SIZE + length (spelling (Created moment c)) ≤ CREATION_MOST }
-    ensures fares { (moment : ℕ) (c : CreationView) (fares : Fares) → HasRules c → c.facts ≡ facts.Fares fares → FRONT_SIZE + length (spelling (Created moment c)) ≤ FARES_MOST }
-    ensures bid { (moment id member turn : ℕ) (b : Bid) → FitsBid b → FRONT_SIZE + length (spelling (BidKept moment id member turn b)) ≤ BID_MOST }
-    ensures withdrawal { (moment id member turn : ℕ) → FRONT_SIZE + length (spelling (Withdrawn moment id member turn)) ≡ WITHDRAWAL_SIZE }
-    ensures close { (moment id : ℕ) → FRONT_SIZE + length (spelling (Closed moment id)) ≡ CLOSE_SIZE }
+    ensures creation { (moment : ℕ) (c : CreationView) → HasRules c
+        → FRONT_SIZE + length (spelling (Created moment c)) ≤ CREATION_MOST }
+    ensures fares { (moment : ℕ) (c : CreationView) (fares : Fares) → HasRules c
+        → c.facts ≡ facts.Fares fares
+        → FRONT_SIZE + length (spelling (Created moment c)) ≤ FARES_MOST }
+    ensures bid { (moment id member turn : ℕ) (b : Bid) → FitsBid b
+        → FRONT_SIZE + length (spelling (BidKept moment id member turn b)) ≤ BID_MOST }
+    ensures withdrawal { (moment id member turn : ℕ)
+        → FRONT_SIZE + length (spelling (Withdrawn moment id member turn)) ≡ WITHDRAWAL_SIZE }
+    ensures close { (moment id : ℕ)
+        → FRONT_SIZE + length (spelling (Closed moment id)) ≡ CLOSE_SIZE }
 {}
 
 /// A journal of events stays below 40 MB: what its header and records take, with the closed gate
 /// after them. What a crash left after that gate plays no role.
 pub fn file_law()
-    ensures { (version : ℕ) (secret : List ℕ) (events : List EventView) (file : List ℕ) → HasEvents version secret events file
-        → place_after (map spelling events) < JOURNAL_MOST }
+    ensures { (version : ℕ) (secret : List ℕ) (events : List EventView) (file : List ℕ)
+        → HasEvents version secret events file → place_after (map spelling events) < JOURNAL_MOST }
 {}
 
 /// No two events have one spelling.
@@ -55,11 +61,15 @@ pub fn spelling_law()
 /// A file has one meaning: it holds the events of one list in one version and with one secret,
 /// or it has its first fault at one place.
 pub fn events_law()
-    ensures one_meaning { (v w : ℕ) (secret word : List ℕ) (events others : List EventView) (file : List ℕ)
-        → HasEvents v secret events file → HasEvents w word others file → (v ≡ w) × (secret ≡ word) × (events ≡ others) }
-    ensures no_fault { (v place : ℕ) (secret : List ℕ) (events : List EventView) (file : List ℕ) → HasEvents v secret events file → IsFirstFault place file → ⊥ }
-    ensures one_fault { (p q : ℕ) (file : List ℕ) → IsFirstFault p file → IsFirstFault q file → p ≡ q }
-    ensures meaning { (file : List ℕ) → All (λ b. b < 2 ^ 8) file → HoldsSome file ⊎ ((place : ℕ) × IsFirstFault place file) }
+    ensures one_meaning { (v w : ℕ) (secret word : List ℕ) (events others : List EventView)
+        (file : List ℕ) → HasEvents v secret events file → HasEvents w word others file
+        → (v ≡ w) × (secret ≡ word) × (events ≡ others) }
+    ensures no_fault { (v place : ℕ) (secret : List ℕ) (events : List EventView) (file : List ℕ)
+        → HasEvents v secret events file → IsFirstFault place file → ⊥ }
+    ensures one_fault { (p q : ℕ) (file : List ℕ) → IsFirstFault p file → IsFirstFault q file
+        → p ≡ q }
+    ensures meaning { (file : List ℕ) → All (λ b. b < 2 ^ 8) file
+        → HoldsSome file ⊎ ((place : ℕ) × IsFirstFault place file) }
 {
     journal_law();
     beginning_law();

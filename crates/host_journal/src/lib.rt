@@ -1,5 +1,5 @@
 //! The journal of a host, and a host before a disk that may fail. Each event has one spelling as a body of the journal's records, and an event
-//! is kept in the journal before it changes the host. Where that fails the host waits until its file is opened again.
+//! is kept in the journal before it changes the host. If that fails the host waits until its file is opened again.
 //!
 //! A host takes all its memory when its file is opened first: after that neither a kept event nor a reopening takes any.
 //!

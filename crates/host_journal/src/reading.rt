@@ -12,6 +12,7 @@ use bid_rules::limits::{ITEM_ROOM, LONGEST_NAME, LegRow, Legs, MEMBER_ROOM, PLAC
 use bid_rules::{Bid, Facts, Fares, Goods, Rent};
 use sealed_core::{Creation, Event, Name, Tag};
 
+// Each reader here takes what it reads off the front, and gives the rest; None means that the spelling is broken.
 fn byte_of(bytes: &[u8]) -> Option<(u8, &[u8])>
     ensures { option_map (λ x. (x.0, x.1.now)) result ≡ byte_at bytes.now }
 {
@@ -21,6 +22,7 @@ fn byte_of(bytes: &[u8]) -> Option<(u8, &[u8])>
     }
 }
 
+// Numbers are spelled with the lowest byte first.
 fn u32_of(bytes: &[u8]) -> Option<(u32, &[u8])>
     ensures { option_map (λ x. (x.0, x.1.now)) result ≡ number_at w32 bytes.now }
 {
@@ -32,6 +34,7 @@ fn u32_of(bytes: &[u8]) -> Option<(u32, &[u8])>
     Some((number, rest))
 }
 
+// Moments are spelled with the lowest byte first.
 fn u64_of(bytes: &[u8]) -> Option<(u64, &[u8])>
     ensures { option_map (λ x. (x.0, x.1.now)) result ≡ number_at w64 bytes.now }
 {
@@ -45,6 +48,7 @@ fn u64_of(bytes: &[u8]) -> Option<(u64, &[u8])>
     Some((number, rest))
 }
 
+// A text is spelled with its length in front; one that isn't UTF-8 or is too long breaks the spelling.
 #[tactic(auto, unfolding(crate::specs::Reading::text_at))]
 fn text_of<const ROOM: usize>(bytes: &[u8]) -> Option<(ArrayString<ROOM>, &[u8])>
     ensures { option_map (λ x. (text x.0, x.1.now)) result ≡ text_at ROOM bytes.now }
@@ -67,7 +71,8 @@ fn text_of<const ROOM: usize>(bytes: &[u8]) -> Option<(ArrayString<ROOM>, &[u8])
 // As many names as the room has or fewer.
 fn many_names<const ROOM: usize>(count: u8, bytes: &[u8]) -> Option<(ArrayVec<Name, ROOM>, &[u8])>
     requires { count ≤ ROOM }
-    ensures { option_map (λ x. (map text x.0.items, x.1.now)) result ≡ many_at (text_at LONGEST_NAME) count bytes.now }
+    ensures { option_map (λ x. (map text x.0.items, x.1.now)) result
+        ≡ many_at (text_at LONGEST_NAME) count bytes.now }
 {
     let mut names = ArrayVec::new();
     let mut rest = bytes;
@@ -81,6 +86,7 @@ fn many_names<const ROOM: usize>(count: u8, bytes: &[u8]) -> Option<(ArrayVec<Na
     Some((names, rest))
 }
 
+// Names are spelled with their count in front.
 #[tactic(auto, unfolding(crate::specs::Reading::names_at))]
 fn names_of<const ROOM: usize>(bytes: &[u8]) -> Option<(ArrayVec<Name, ROOM>, &[u8])>
     ensures { option_map (λ x. (map text x.0.items, x.1.now)) result ≡ names_at ROOM bytes.now }
@@ -92,9 +98,11 @@ fn names_of<const ROOM: usize>(bytes: &[u8]) -> Option<(ArrayVec<Name, ROOM>, &[
     many_names(count, rest)
 }
 
+// As many numbers as the caller knows of: the spelling doesn't repeat their count.
 fn numbers_of<const ROOM: usize>(count: u8, bytes: &[u8]) -> Option<(ArrayVec<u32, ROOM>, &[u8])>
     requires { count ≤ ROOM }
-    ensures { option_map (λ x. (x.0.items, x.1.now)) result ≡ many_at (number_at w32) count bytes.now }
+    ensures { option_map (λ x. (x.0.items, x.1.now)) result
+        ≡ many_at (number_at w32) count bytes.now }
 {
     let mut numbers = ArrayVec::new();
     let mut rest = bytes;
@@ -106,6 +114,7 @@ fn numbers_of<const ROOM: usize>(count: u8, bytes: &[u8]) -> Option<(ArrayVec<u3
     Some((numbers, rest))
 }
 
+// One row of a table of costs, by the number of places.
 #[tactic(auto, unfolding(crate::specs::Reading::row_at))]
 fn row_of(places: u8, bytes: &[u8]) -> Option<(LegRow, &[u8])>
     requires { places ≤ PLACE_ROOM }
@@ -114,9 +123,11 @@ fn row_of(places: u8, bytes: &[u8]) -> Option<(LegRow, &[u8])>
     numbers_of(places, bytes)
 }
 
+// A table of costs has a row for each place and one for the start.
 fn rows_of(places: u8, bytes: &[u8]) -> Option<(Legs, &[u8])>
     requires { places ≤ PLACE_ROOM }
-    ensures { option_map (λ x. (x.0.items, x.1.now)) result ≡ many_at (row_at places) (places + 1) bytes.now }
+    ensures { option_map (λ x. (x.0.items, x.1.now)) result
+        ≡ many_at (row_at places) (places + 1) bytes.now }
 {
     let mut rows = Legs::new();
     let mut rest = bytes;
@@ -128,6 +139,7 @@ fn rows_of(places: u8, bytes: &[u8]) -> Option<(Legs, &[u8])>
     Some((rows, rest))
 }
 
+// The members and places were counted by the names, so only the costs are spelled.
 #[tactic(auto, unfolding(crate::specs::Reading::fares_at))]
 fn fares_of(members: u8, places: u8, bytes: &[u8]) -> Option<(Facts, &[u8])>
     requires { places ≤ PLACE_ROOM }
@@ -144,6 +156,7 @@ fn fares_of(members: u8, places: u8, bytes: &[u8]) -> Option<(Facts, &[u8])>
     Some((Facts::Fares(fares), rest))
 }
 
+// Each kind spells only what the names don't tell.
 #[tactic(auto, unfolding(crate::specs::Reading::facts_at))]
 fn facts_of(kind: u8, members: u8, items: u8, bytes: &[u8]) -> Option<(Facts, &[u8])>
     ensures { option_map (λ x. (x.0, x.1.now)) result ≡ facts_at kind members items bytes.now }
@@ -167,9 +180,11 @@ fn facts_of(kind: u8, members: u8, items: u8, bytes: &[u8]) -> Option<(Facts, &[
     }
 }
 
+// The deadline was read before, since it stands beside the moment.
 #[tactic(auto, unfolding(crate::specs::Reading::creation_at))]
 fn creation_of(deadline: u64, bytes: &[u8]) -> Option<(Creation, &[u8])>
-    ensures { option_map (λ x. (creation_view x.0, x.1.now)) result ≡ creation_at deadline bytes.now }
+    ensures { option_map (λ x. (creation_view x.0, x.1.now)) result
+        ≡ creation_at deadline bytes.now }
 {
     let (kind, rest) = byte_of(bytes)?;
     let Some((tag, rest)): Option<(Tag, &[u8])> = text_of(rest) else {
@@ -196,6 +211,7 @@ fn creation_of(deadline: u64, bytes: &[u8]) -> Option<(Creation, &[u8])>
     Some((creation, rest))
 }
 
+// The values of a bid for a rent or for goods, with their count in front.
 #[tactic(auto, unfolding(crate::specs::Reading::values_at))]
 fn values_of(bytes: &[u8]) -> Option<(Bid, &[u8])>
     ensures { option_map (λ x. (x.0, x.1.now)) result ≡ values_at bytes.now }
@@ -208,6 +224,7 @@ fn values_of(bytes: &[u8]) -> Option<(Bid, &[u8])>
     Some((Bid::Values(values), rest))
 }
 
+// A byte in front tells values from a place.
 #[tactic(auto, unfolding(crate::specs::Reading::bid_at))]
 fn bid_of(bytes: &[u8]) -> Option<(Bid, &[u8])>
     ensures { option_map (λ x. (x.0, x.1.now)) result ≡ bid_at bytes.now }
@@ -223,6 +240,7 @@ fn bid_of(bytes: &[u8]) -> Option<(Bid, &[u8])>
     }
 }
 
+// An event that creates an instance.
 #[tactic(auto, unfolding(crate::specs::Reading::created_at))]
 fn created_of(bytes: &[u8]) -> Option<(Event, &[u8])>
     ensures { option_map (λ x. (event_view x.0, x.1.now)) result ≡ created_at bytes.now }
@@ -235,6 +253,7 @@ fn created_of(bytes: &[u8]) -> Option<(Event, &[u8])>
     Some((Event::Create { moment, creation }, rest))
 }
 
+// An event that keeps a bid.
 #[tactic(auto, unfolding(crate::specs::Reading::bid_kept_at))]
 fn bid_kept_of(bytes: &[u8]) -> Option<(Event, &[u8])>
     ensures { option_map (λ x. (event_view x.0, x.1.now)) result ≡ bid_kept_at bytes.now }
@@ -254,6 +273,7 @@ fn bid_kept_of(bytes: &[u8]) -> Option<(Event, &[u8])>
     Some((event, rest))
 }
 
+// An event that closes an instance.
 #[tactic(auto, unfolding(crate::specs::Reading::closed_at))]
 fn closed_of(bytes: &[u8]) -> Option<(Event, &[u8])>
     ensures { option_map (λ x. (event_view x.0, x.1.now)) result ≡ closed_at bytes.now }
@@ -263,6 +283,7 @@ fn closed_of(bytes: &[u8]) -> Option<(Event, &[u8])>
     Some((Event::Close { moment, id }, rest))
 }
 
+// An event that takes a bid back.
 #[tactic(auto, unfolding(crate::specs::Reading::withdrawn_at))]
 fn withdrawn_of(bytes: &[u8]) -> Option<(Event, &[u8])>
     ensures { option_map (λ x. (event_view x.0, x.1.now)) result ≡ withdrawn_at bytes.now }
@@ -280,6 +301,7 @@ fn withdrawn_of(bytes: &[u8]) -> Option<(Event, &[u8])>
     Some((event, rest))
 }
 
+// The first byte tells the kind of an event.
 #[tactic(auto, unfolding(crate::specs::Reading::event_at))]
 fn event_of(bytes: &[u8]) -> Option<(Event, &[u8])>
     ensures { option_map (λ x. (event_view x.0, x.1.now)) result ≡ event_at bytes.now }
@@ -294,6 +316,7 @@ fn event_of(bytes: &[u8]) -> Option<(Event, &[u8])>
     }
 }
 
+// A body holds one event and nothing after it.
 #[tactic(auto, unfolding(crate::specs::Reading::whole_at))]
 fn whole_of(bytes: &[u8]) -> Option<Event>
     ensures { option_map event_view result ≡ whole_at bytes.now }
@@ -304,7 +327,7 @@ fn whole_of(bytes: &[u8]) -> Option<Event>
     if rest.is_empty() { Some(event) } else { None }
 }
 
-// The event, where a creation in it keeps its rules. A deadline past the last is no matter of
+// The event, if a creation in it keeps its rules. A deadline past the last is no matter of
 // spelling: such an event can't be applied.
 fn with_rules(event: Event) -> Option<Event>
     ensures same { IfSome result (λ kept. kept ≡ event) }
@@ -328,7 +351,7 @@ fn with_rules(event: Event) -> Option<Event>
     }
 }
 
-/// The event that a body spells, or `None` exactly where it spells none: where it isn't the bytes
+/// The event that a body spells, or `None` exactly if it spells none: if it isn't the bytes
 /// of an event and nothing more, or a creation in it breaks its rules. It takes no memory.
 ///
 /// A creation's texts are UTF-8 within their limits, its lists fit, its facts are checked and have
@@ -336,7 +359,8 @@ fn with_rules(event: Event) -> Option<Event>
 pub fn read_event(body: &[u8]) -> Option<Event>
     ensures found { IfSome result (λ event. Spells (event_view event) body.now) }
     ensures none { IfNone result ((e : EventView) → Spells e body.now → ⊥) }
-    ensures again { (e : EventView) → Spells e body.now → IsSomeAnd result (λ event. event_view event ≡ e) }
+    ensures again { (e : EventView) → Spells e body.now
+        → IsSomeAnd result (λ event. event_view event ≡ e) }
 {
     with_rules(whole_of(body)?)
 }

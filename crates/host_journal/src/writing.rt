@@ -15,6 +15,7 @@ use sealed_core::{Creation, Event, Name};
 use split_base::NoMemory;
 use std::alloc::Global;
 
+// The caller has shown that there is room, so the bytes always fit.
 fn put(body: &mut Body, bytes: &[u8])
     requires { length body.old.items + length bytes.now ≤ BODY_ROOM }
     ensures bytes { body.new.items ≡ body.old.items ++ bytes.now }
@@ -23,6 +24,7 @@ fn put(body: &mut Body, bytes: &[u8])
     let _ = body.try_extend_from_slice(bytes);
 }
 
+// A text comes with its length in front, so that a reader knows where it ends.
 fn put_text(body: &mut Body, text: &str)
     requires short { length text.now < 2 ^ 8 }
     requires room { length body.old.items + 1 + length text.now ≤ BODY_ROOM }
@@ -34,6 +36,7 @@ fn put_text(body: &mut Body, text: &str)
     put(body, text.as_bytes());
 }
 
+// A name is at most 40 bytes long, so that its room is known without looking.
 fn put_name(body: &mut Body, name: &Name)
     requires { length body.old.items + 41 ≤ BODY_ROOM }
     ensures spelled { body.new.items ≡ body.old.items ++ text_bytes (text name.now) }
@@ -43,6 +46,7 @@ fn put_name(body: &mut Body, name: &Name)
     put_text(body, name.as_str());
 }
 
+// Names come with their count in front, which also tells a reader how many members or items there are.
 fn put_names(body: &mut Body, names: &[Name])
     requires few { length names.now < 2 ^ 8 }
     requires room { length body.old.items + 1 + 41 * length names.now ≤ BODY_ROOM }
@@ -56,6 +60,7 @@ fn put_names(body: &mut Body, names: &[Name])
     }
 }
 
+// Numbers are spelled with the lowest byte first, and without their count.
 fn put_numbers(body: &mut Body, numbers: &[u32])
     requires { length body.old.items + 4 * length numbers.now ≤ BODY_ROOM }
     ensures spelled { body.new.items ≡ body.old.items ++ numbers_bytes numbers.now }
@@ -67,9 +72,11 @@ fn put_numbers(body: &mut Body, numbers: &[u32])
     }
 }
 
+// A row has as many numbers as there are places, so no count is spelled.
 fn put_rows(body: &mut Body, rows: &[LegRow])
     requires { length body.old.items + 48 * length rows.now ≤ BODY_ROOM }
-    ensures rows { body.new.items ≡ body.old.items ++ numbers_bytes (flat_map (λ row. row.items) rows.now) }
+    ensures rows { body.new.items
+        ≡ body.old.items ++ numbers_bytes (flat_map (λ row. row.items) rows.now) }
     ensures size { length body.new.items ≤ length body.old.items + 48 * length rows.now }
 {
     for row in rows {
@@ -77,6 +84,7 @@ fn put_rows(body: &mut Body, rows: &[LegRow])
     }
 }
 
+// Only what the names don't tell already: members, rooms, goods and places are counted there.
 fn put_facts(body: &mut Body, facts: &Facts)
     requires { length body.old.items + 628 ≤ BODY_ROOM }
     ensures { body.new.items ≡ body.old.items ++ facts_bytes facts.now }
@@ -91,6 +99,7 @@ fn put_facts(body: &mut Body, facts: &Facts)
     }
 }
 
+// The byte by which a reader tells the kinds apart. Old journals have it, so it never changes.
 fn kind_of(facts: &Facts) -> u8
     ensures { result ≡ kind_of facts.now }
 {
@@ -101,9 +110,11 @@ fn kind_of(facts: &Facts) -> u8
     }
 }
 
+// The names come before the facts, because a reader counts them to know the size of the table.
 fn put_creation(body: &mut Body, creation: &Creation)
     requires { length body.old.items ≤ 100 }
-    ensures spelled { body.new.items ≡ body.old.items ++ creation_bytes (creation_view creation.now) }
+    ensures spelled { body.new.items
+        ≡ body.old.items ++ creation_bytes (creation_view creation.now) }
     ensures title { IsUtf8 (text creation.now.title) }
     ensures members { All (λ name. IsUtf8 (text name)) creation.now.members.items }
     ensures items { All (λ name. IsUtf8 (text name)) creation.now.items.items }
@@ -116,6 +127,7 @@ fn put_creation(body: &mut Body, creation: &Creation)
     put_facts(body, &creation.facts);
 }
 
+// A byte in front tells values from a place.
 fn put_bid(body: &mut Body, bid: &Bid)
     requires { length body.old.items ≤ 100 }
     ensures spelled { body.new.items ≡ body.old.items ++ bid_bytes bid.now }
@@ -133,7 +145,8 @@ fn put_bid(body: &mut Body, bid: &Bid)
 // The kind of an event, its moment, and its instance's id.
 fn put_start(body: &mut Body, kind: u8, moment: u64, id: u32)
     requires { length body.old.items ≤ 50 }
-    ensures bytes { body.new.items ≡ body.old.items ++ (kind ∷ to_le_bytes w64 moment ++ to_le_bytes w32 id) }
+    ensures bytes { body.new.items
+        ≡ body.old.items ++ (kind ∷ to_le_bytes w64 moment ++ to_le_bytes w32 id) }
     ensures size { length body.new.items ≡ length body.old.items + 13 }
 {
     put(body, &[kind]);
@@ -144,16 +157,19 @@ fn put_start(body: &mut Body, kind: u8, moment: u64, id: u32)
 // A creation's kind of event, its moment, its deadline, and what it says.
 fn put_created(body: &mut Body, moment: u64, creation: &Creation)
     requires { length body.old.items ≤ 50 }
-    ensures spelled { body.new.items ≡ body.old.items ++ spelling (Created moment (creation_view creation.now)) }
+    ensures spelled { body.new.items
+        ≡ body.old.items ++ spelling (Created moment (creation_view creation.now)) }
     ensures fits { FitsTypes (Created moment (creation_view creation.now)) }
 {
     put_moments(body, moment, creation.deadline);
     put_creation(body, creation);
 }
 
+// Both moments stand in front, where a reader finds the deadline before it reads the creation.
 fn put_moments(body: &mut Body, moment: u64, deadline: u64)
     requires { length body.old.items ≤ 50 }
-    ensures spelled { body.new.items ≡ body.old.items ++ (1 ∷ to_le_bytes w64 moment ++ to_le_bytes w64 deadline) }
+    ensures spelled { body.new.items
+        ≡ body.old.items ++ (1 ∷ to_le_bytes w64 moment ++ to_le_bytes w64 deadline) }
     ensures size { length body.new.items ≡ length body.old.items + 17 }
     ensures fits { deadline < 2 ^ 64 }
 {
@@ -162,6 +178,7 @@ fn put_moments(body: &mut Body, moment: u64, deadline: u64)
     put(body, &deadline.to_le_bytes());
 }
 
+// The first byte tells the kind of an event. Old journals have these numbers, so they never change.
 fn put_event(body: &mut Body, event: &Event)
     requires { length body.old.items ≤ 50 }
     ensures spelled { body.new.items ≡ body.old.items ++ spelling (event_view event.now) }
@@ -201,7 +218,8 @@ pub fn spell_event(event: &Event) -> Body
     ensures fits { FitsTypes (event_view event.now) }
     ensures rules { KeepsRules (event_view event.now) → IsEvent (event_view event.now) }
     ensures size { KeepsRules (event_view event.now) → IsBody result.items }
-    ensures event { (h : HostView) → CanApply h (event_view event.now) → IsEvent (event_view event.now) }
+    ensures event { (h : HostView) → CanApply h (event_view event.now)
+        → IsEvent (event_view event.now) }
 {
     let mut body = Body::new();
     put_event(&mut body, event);
@@ -213,9 +231,11 @@ pub fn spell_event(event: &Event) -> Body
 pub fn write_event(alloc: Global, event: &Event) -> Result<Vec<u8>, NoMemory>
     ensures spelled { IfOk result (λ body. body.items ≡ spelling (event_view event.now)) }
     ensures fits { OnOk result (FitsTypes (event_view event.now)) }
-    ensures rules { KeepsRules (event_view event.now) → OnOk result (IsEvent (event_view event.now)) }
+    ensures rules { KeepsRules (event_view event.now)
+        → OnOk result (IsEvent (event_view event.now)) }
     ensures size { KeepsRules (event_view event.now) → IfOk result (λ body. IsBody body.items) }
-    ensures event { (h : HostView) → CanApply h (event_view event.now) → OnOk result (IsEvent (event_view event.now)) }
+    ensures event { (h : HostView) → CanApply h (event_view event.now)
+        → OnOk result (IsEvent (event_view event.now)) }
 {
     let spelled = spell_event(event);
     let mut body = Vec::new(alloc);

@@ -6,9 +6,9 @@ use Rattle.nash_search.specs.declared.division.GoodsDivision.{GoodsDivision}
 use Rattle.split_reports.specs.Names.{NamesData}
 use Rattle.host_results.specs.declared.contents.ContentType.TheVariants.{Plain}
 use Rattle.host_results.specs.Contents.{ContentView}
-use Rattle.host_results.specs.Publications.{IsText}
+use Rattle.host_results.specs.Publications.{IsSuccessWith}
 
 pub goods_told : (given names : NamesData) (case : GoodsCase) (division : GoodsDivision) (text : List ℕ) (told : ContentView) → names ≡ given
-    → told ≡ record { status = 200; content_type = Plain; text = text } → IsDivisionAudit names case division text → IsText Plain (IsDivisionAudit given case division) told
+    → told ≡ record { status = 200; content_type = Plain; text = text } → IsDivisionAudit names case division text → IsSuccessWith Plain (IsDivisionAudit given case division) told
 goods_told given names case division text told same is audit =
-    subst (λ (x : ContentView). IsText Plain (IsDivisionAudit given case division) x) (sym is) (refl, refl, subst (λ (n : NamesData). IsDivisionAudit n case division text) same audit)
+    subst (λ (x : ContentView). IsSuccessWith Plain (IsDivisionAudit given case division) x) (sym is) (refl, refl, subst (λ (n : NamesData). IsDivisionAudit n case division text) same audit)

@@ -32,10 +32,10 @@ use Rattle.split_solve.specs.Solving.{IsSolved}
 use Rattle.host_results.specs.declared.contents.ContentType.{ContentType}
 use Rattle.host_results.specs.declared.contents.ContentType.TheVariants.{Json, Plain}
 use Rattle.host_results.specs.Contents.{ContentView}
-use Rattle.host_results.specs.Publications.{IsAudit, IsPublication, IsPublished, IsText, TellsAudit, TellsBest, TellsEnd, TellsFault, TellsPair, TellsWinner}
+use Rattle.host_results.specs.Publications.{IsAudit, IsPublication, IsPublished, IsSuccessWith, TellsAudit, TellsBest, TellsEnd, TellsFault, TellsPair, TellsWinner}
 
 -- two successes of one type, with the one text of which this is so
-same_text : (type : ContentType) (so : List ℕ → Type 0) (told other : ContentView) → ((text others : List ℕ) → so text → so others → text ≡ others) → IsText type so told → IsText type so other → told ≡ other
+same_text : (type : ContentType) (so : List ℕ → Type 0) (told other : ContentView) → ((text others : List ℕ) → so text → so others → text ≡ others) → IsSuccessWith type so told → IsSuccessWith type so other → told ≡ other
 same_text type so told other one a b =
     let status : told.status ≡ other.status = a.0 ∙ sym b.0 in
     let types : told.content_type ≡ other.content_type = a.1 ∙ sym b.1 in

@@ -5,7 +5,7 @@ use Rattle.bid_rules.specs.declared.goods.GoodsCase.{GoodsCase}
 use Rattle.bid_rules.specs.Goods.{player_count}
 use Rattle.host_results.specs.declared.contents.ContentType.TheVariants.{Plain}
 use Rattle.host_results.specs.Contents.{ContentView}
-use Rattle.host_results.specs.Publications.{IsText, TellsPair}
+use Rattle.host_results.specs.Publications.{IsSuccessWith, TellsPair}
 
-pub two_told : (goods : GoodsCase) → player_count goods ≡ 2 → (told : ContentView) → IsText Plain (IsWinnerText goods) told → TellsPair (player_count goods == 2) goods told
+pub two_told : (goods : GoodsCase) → player_count goods ≡ 2 → (told : ContentView) → IsSuccessWith Plain (IsWinnerText goods) told → TellsPair (player_count goods == 2) goods told
 two_told goods two told text = subst (λ (n : ℕ). TellsPair (n == 2) goods told) (sym two) text

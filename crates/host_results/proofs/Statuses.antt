@@ -18,7 +18,7 @@ use Rattle.split_json.specs.Reading.{CaseData}
 use Rattle.split_solve.specs.declared.solving.SolveFault.{SolveFault}
 use Rattle.split_solve.specs.declared.solving.SolveFault.TheVariants as fault
 use Rattle.host_results.specs.Contents.{ContentView, refusal_told}
-use Rattle.host_results.specs.Publications.{IsAudit, IsPublication, IsPublished, TellsAudit, TellsBest, TellsEnd, TellsFault, TellsPair, TellsWinner, refusal_of}
+use Rattle.host_results.specs.Publications.{IsAudit, IsPublication, IsPublished, TellsAudit, TellsBest, TellsEnd, TellsFault, TellsPair, TellsWinner, refusal_of_fault}
 
 abbrev HasStatus : ContentView → Type 0
 HasStatus told = (told.status ≡ 200) ⊎ ((refusal : ServiceRefusal) × (told ≡ refusal_told refusal))
@@ -42,8 +42,8 @@ published_status what.Audit given one division told is = audited_status given on
 published_status what.Winner given one division told is = absurd is
 
 fault_status : (f : SolveFault) (told : ContentView) → TellsFault f told → HasStatus told
-fault_status (fault.Void missing) told is = inr (refusal_of (fault.Void missing), is)
-fault_status (fault.OverLimit limit) told is = inr (refusal_of (fault.OverLimit limit), is)
+fault_status (fault.Void missing) told is = inr (refusal_of_fault (fault.Void missing), is)
+fault_status (fault.OverLimit limit) told is = inr (refusal_of_fault (fault.OverLimit limit), is)
 fault_status fault.NoMemory told is = absurd is
 
 end_status : (asked : What) (given : CaseData) (end : Result (Case × Division) SolveFault) (told : ContentView) → TellsEnd asked given end told → HasStatus told

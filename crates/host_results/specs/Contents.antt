@@ -1,4 +1,4 @@
--- What a reply tells: its HTTP status, and its text with the type of it.
+-- What a reply tells: its HTTP status, and its text with its type.
 use Rattle.std.specs.Prelude.{ℕ, List, Bool, true, false}
 use Rattle.reply_texts.specs.declared.refusals.ServiceRefusal.{ServiceRefusal}
 use Rattle.reply_texts.specs.Refusals.{service_row, service_text}

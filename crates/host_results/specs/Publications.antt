@@ -36,35 +36,35 @@ abbrev pub case_data : InstanceView → CaseData
 case_data i = record { title = i.creation.title; members = i.creation.members; items = i.creation.items; facts = i.creation.facts; bids = i.bids }
 
 -- the refusal that reports a fault of the solver
-abbrev pub refusal_of : SolveFault → ServiceRefusal
-refusal_of (fault.Void missing) = service.Void missing
-refusal_of (fault.OverLimit limit) = service.StepLimit limit
-refusal_of fault.NoMemory = service.Memory
+abbrev pub refusal_of_fault : SolveFault → ServiceRefusal
+refusal_of_fault (fault.Void missing) = service.Void missing
+refusal_of_fault (fault.OverLimit limit) = service.StepLimit limit
+refusal_of_fault fault.NoMemory = service.Memory
 
 -- a success, with a text of this type, and this is so of the text
-abbrev pub IsText : ContentType → (List ℕ → Type 0) → ContentView → Type 0
-IsText type so told = (told.status ≡ 200) × (told.content_type ≡ type) × so told.text
+abbrev pub IsSuccessWith : ContentType → (List ℕ → Type 0) → ContentView → Type 0
+IsSuccessWith type so told = (told.status ≡ 200) × (told.content_type ≡ type) × so told.text
 
 -- the audit of a case and its division, in the text of its kind; a rent has none
 abbrev pub IsAudit : CaseData → Case → Division → ContentView → Type 0
 IsAudit given (cases.Rent one) (divided.Rent found) told = told ≡ refusal_told service.NoAudit
-IsAudit given (cases.Goods one) (divided.Goods found) told = IsText Plain (IsDivisionAudit (names_of given) one found) told
-IsAudit given (cases.Fares one) (divided.Fares found) told = IsText Plain (IsFareAuditText given.title one found) told
+IsAudit given (cases.Goods one) (divided.Goods found) told = IsSuccessWith Plain (IsDivisionAudit (names_of given) one found) told
+IsAudit given (cases.Fares one) (divided.Fares found) told = IsSuccessWith Plain (IsFareAuditText given.title one found) told
 IsAudit given one found told = ⊥
 
--- what is published of a case and its division, by what is asked: the division as JSON, the canonical certificate, the report, or the audit;
--- the winner is told of the case alone
+-- what is published of a case and its division, by what is asked: the division as JSON, the canonical certificate, the report, or the audit; the
+-- winner depends only on the case
 abbrev pub IsPublished : What → CaseData → Case → Division → ContentView → Type 0
-IsPublished what.Division given case division told = IsText Json (IsDivisionText case division) told
-IsPublished what.Certificate given case division told = IsText Plain (IsCanonical case) told
-IsPublished what.Report given case division told = IsText Plain (IsReport given case division) told
+IsPublished what.Division given case division told = IsSuccessWith Json (IsDivisionText case division) told
+IsPublished what.Certificate given case division told = IsSuccessWith Plain (IsCanonical case) told
+IsPublished what.Report given case division told = IsSuccessWith Plain (IsReport given case division) told
 IsPublished what.Audit given case division told = IsAudit given case division told
 IsPublished what.Winner given case division told = ⊥
 
 -- why there is no division, told as a refusal; that memory ran out is not published
 abbrev pub TellsFault : SolveFault → ContentView → Type 0
-TellsFault (fault.Void missing) told = told ≡ refusal_told (refusal_of (fault.Void missing))
-TellsFault (fault.OverLimit limit) told = told ≡ refusal_told (refusal_of (fault.OverLimit limit))
+TellsFault (fault.Void missing) told = told ≡ refusal_told (refusal_of_fault (fault.Void missing))
+TellsFault (fault.OverLimit limit) told = told ≡ refusal_told (refusal_of_fault (fault.OverLimit limit))
 TellsFault fault.NoMemory told = ⊥
 
 -- what is said when a solver has ended: a case and its division, or why there is none
@@ -82,9 +82,9 @@ TellsAudit given (facts.Rent rent) told = told ≡ refusal_told service.NoAudit
 TellsAudit given (facts.Goods goods) told = TellsBest what.Audit given told
 TellsAudit given (facts.Fares fares) told = TellsBest what.Audit given told
 
--- the winner of goods, whose players are two or not
+-- the winner of goods if there are two players, otherwise the refusal that there are not
 abbrev pub TellsPair : Bool → GoodsCase → ContentView → Type 0
-TellsPair true goods told = IsText Plain (IsWinnerText goods) told
+TellsPair true goods told = IsSuccessWith Plain (IsWinnerText goods) told
 TellsPair false goods told = told ≡ refusal_told service.NotTwo
 
 -- a winner is one of goods between two players; the step limit plays no role
@@ -102,7 +102,7 @@ IsPublication given what.Report told = TellsBest what.Report given told
 IsPublication given what.Audit told = TellsAudit given given.facts told
 IsPublication given what.Winner told = TellsWinner (case_of given.facts given.bids) told
 
--- no winner is asked for: for the contract of a private function alone
+-- no winner is asked for. Only the contract of a private function uses this
 abbrev pub AsksBest : What → Type 0
 AsksBest what.Division = Unit {0}
 AsksBest what.Certificate = Unit {0}

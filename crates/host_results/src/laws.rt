@@ -26,7 +26,8 @@ pub fn instance_law()
 /// One thing alone is published of a case by what is asked: so neither the number of workers nor their order changes its status,
 /// its content type or its text.
 pub fn one_publication_law()
-    ensures { (given : CaseData) (asked : What) (told other : ContentView) → IsReady given → IsPublication given asked told → IsPublication given asked other → told ≡ other }
+    ensures { (given : CaseData) (asked : What) (told other : ContentView) → IsReady given
+        → IsPublication given asked told → IsPublication given asked other → told ≡ other }
 {
     case_law();
     certificate_law();
@@ -40,5 +41,7 @@ pub fn one_publication_law()
 
 /// What is published has the status 200, or it tells a refusal of the service.
 pub fn publication_status_law()
-    ensures { (given : CaseData) (asked : What) (told : ContentView) → IsPublication given asked told → (told.status ≡ 200) ⊎ ((refusal : ServiceRefusal) × (told ≡ refusal_told refusal)) }
+    ensures { (given : CaseData) (asked : What) (told : ContentView)
+        → IsPublication given asked told
+        → (told.status ≡ 200) ⊎ ((refusal : ServiceRefusal) × (told ≡ refusal_told refusal)) }
 {}

@@ -1,14 +1,13 @@
 // What is published.
-ghost use Rattle.std.specs.Prelude.{◌≡◌, ◌≤◌, ◌==◌, IfOk, Ok, length};
+ghost use Rattle.std.specs.Prelude.{◌≡◌, ◌==◌, IfOk, Ok, length};
 ghost use Rattle.bid_rules.specs.Facts.{IsValidCase, case_of};
 ghost use Rattle.bid_rules.specs.Goods.{IsValidGoodsCase, player_count};
 ghost use Rattle.certificates.specs.Division.{IsDivisionOf};
 ghost use Rattle.goods_audit.specs.Texts.{IsDivisionAudit};
 ghost use Rattle.nash_search.specs.Division.{IsGoodsDivision};
-ghost use Rattle.search_workers.specs.declared.limits.TheConstants.{MOST_WORKERS};
 ghost use Rattle.sealed_core.specs.Host.{IsCheckedInstance, instance_view};
 ghost use Rattle.host_results.specs.Contents.{content_view};
-ghost use Rattle.host_results.specs.Publications.{AsksBest, IsAudit, IsPublication, IsPublished, IsText, TellsAudit, TellsBest, TellsFault, TellsPair, TellsWinner, case_data};
+ghost use Rattle.host_results.specs.Publications.{AsksBest, IsAudit, IsPublication, IsPublished, IsSuccessWith, TellsAudit, TellsBest, TellsFault, TellsPair, TellsWinner, case_data};
 ghost use Rattle.split_reports.specs.Names.{names_of, shown_names};
 ghost use Rattle.bid_rules.specs.declared.limits.TheConstants.{PAIR};
 
@@ -25,7 +24,7 @@ use reply_texts::{ServiceRefusal, division_text};
 use sealed_core::{Instance, What};
 use split_base::{Gate, NoMemory};
 use split_reports::{Names, named_report};
-use split_solve::{KeptSearches, SolveFault, certificate_once, solve_once};
+use split_solve::{SolveFault, Solver, certificate_once, solve_once};
 use std::alloc::Global;
 use std::thread::Threads;
 
@@ -37,80 +36,67 @@ use std::thread::Threads;
 /// - The winner is told of a case of goods between two players, whatever its step count; else that bids are missing, or that they are not
 ///   two.
 ///
-/// It may be asked before the event that closes the instance is applied: that changes nothing of it. Goods are searched by 1 to
-/// `MOST_WORKERS` workers, unless a kept search is of the same case, and a certificate of goods that is kept is copied. Neither the workers nor
-/// what is kept change the answer.
+/// It may be asked before the event that closes the instance is applied: that changes nothing of it. Goods are searched by the workers,
+/// unless a kept search is of the same case, and a certificate of goods that is kept is copied. Neither the workers nor what is kept change
+/// the answer.
 /// `NoMemory` comes only where memory runs out.
 pub fn publication<R: Threads + Sync, G: Gate + Sync>(
-    alloc: Global,
-    rt: &R,
+    solver: &mut Solver<'_, R, G>,
     instance: &Instance,
     what: What,
-    searches: &mut KeptSearches,
-    workers: u8,
-    gate: &G,
 ) -> Result<ReplyContent, NoMemory>
     requires sound { IsCheckedInstance (instance_view instance.now) }
-    requires workers { (1 ≤ workers) × (workers ≤ MOST_WORKERS) }
-    ensures { IfOk result (λ told. IsPublication (case_data (instance_view instance.now)) what (content_view told)) }
+    ensures { IfOk result (λ told.
+        IsPublication (case_data (instance_view instance.now)) what (content_view told)) }
 {
     match what {
-        What::Division | What::Certificate | What::Report => {
-            best(alloc, rt, instance, what, searches, workers, gate)
-        }
-        What::Audit => audit(alloc, rt, instance, searches, workers, gate),
-        What::Winner => winner(alloc, instance),
+        What::Division | What::Certificate | What::Report => best(solver, instance, what),
+        What::Audit => audit(solver, instance),
+        What::Winner => winner(solver.means.alloc, instance),
     }
 }
 
-/// The best division, told as what is asked.
+// The best division, told as what is asked.
 fn best<R: Threads + Sync, G: Gate + Sync>(
-    alloc: Global,
-    rt: &R,
+    solver: &mut Solver<'_, R, G>,
     instance: &Instance,
     what: What,
-    searches: &mut KeptSearches,
-    workers: u8,
-    gate: &G,
 ) -> Result<ReplyContent, NoMemory>
     requires sound { IsCheckedInstance (instance_view instance.now) }
     requires asked { AsksBest what }
-    requires workers { (1 ≤ workers) × (workers ≤ MOST_WORKERS) }
-    ensures { IfOk result (λ told. TellsBest what (case_data (instance_view instance.now)) (content_view told)) }
+    ensures { IfOk result (λ told.
+        TellsBest what (case_data (instance_view instance.now)) (content_view told)) }
 {
     let facts = &instance.creation.facts;
     let bids = instance.bids.as_slice();
-    match solve_once(alloc, rt, facts, bids, searches, workers, gate) {
-        Ok((case, division)) => published(alloc, instance, what, &case, &division, searches),
-        Err(fault) => unsolved(alloc, fault),
+    match solve_once(solver, facts, bids) {
+        Ok((case, division)) => published(solver, instance, what, &case, &division),
+        Err(fault) => unsolved(solver.means.alloc, fault),
     }
 }
 
-/// The audit of an instance.
+// The audit of an instance.
 fn audit<R: Threads + Sync, G: Gate + Sync>(
-    alloc: Global,
-    rt: &R,
+    solver: &mut Solver<'_, R, G>,
     instance: &Instance,
-    searches: &mut KeptSearches,
-    workers: u8,
-    gate: &G,
 ) -> Result<ReplyContent, NoMemory>
     requires sound { IsCheckedInstance (instance_view instance.now) }
-    requires workers { (1 ≤ workers) × (workers ≤ MOST_WORKERS) }
-    ensures { IfOk result (λ told. TellsAudit (case_data (instance_view instance.now)) instance.now.creation.facts (content_view told)) }
+    ensures { IfOk result (λ told.
+        TellsAudit (case_data (instance_view instance.now)) instance.now.creation.facts
+        (content_view told)) }
 {
     match &instance.creation.facts {
-        Facts::Rent(_) => refusal_content(alloc, &ServiceRefusal::NoAudit),
-        Facts::Goods(_) | Facts::Fares(_) => {
-            best(alloc, rt, instance, What::Audit, searches, workers, gate)
-        }
+        Facts::Rent(_) => refusal_content(solver.means.alloc, &ServiceRefusal::NoAudit),
+        Facts::Goods(_) | Facts::Fares(_) => best(solver, instance, What::Audit),
     }
 }
 
-/// The winner of an instance.
+// The winner of an instance.
 fn winner(alloc: Global, instance: &Instance) -> Result<ReplyContent, NoMemory>
     requires sound { IsCheckedInstance (instance_view instance.now) }
-    ensures { IfOk result (λ told. TellsWinner (case_of instance.now.creation.facts instance.now.bids.items) (content_view told)) }
+    ensures { IfOk result (λ told.
+        TellsWinner (case_of instance.now.creation.facts instance.now.bids.items)
+        (content_view told)) }
 {
     match make_case(&instance.creation.facts, instance.bids.as_slice()) {
         Ok(Case::Goods(goods)) => winner_between(alloc, &goods),
@@ -119,10 +105,11 @@ fn winner(alloc: Global, instance: &Instance) -> Result<ReplyContent, NoMemory>
     }
 }
 
-/// The winner of goods, where the players are two.
+// The winner of goods, where the players are two.
 fn winner_between(alloc: Global, goods: &GoodsCase) -> Result<ReplyContent, NoMemory>
     requires { IsValidGoodsCase goods.now }
-    ensures { IfOk result (λ told. TellsPair (player_count goods.now == PAIR) goods.now (content_view told)) }
+    ensures { IfOk result (λ told.
+        TellsPair (player_count goods.now == PAIR) goods.now (content_view told)) }
 {
     if goods.values.len() != PAIR_ROOM {
         return refusal_content(alloc, &ServiceRefusal::NotTwo);
@@ -130,17 +117,18 @@ fn winner_between(alloc: Global, goods: &GoodsCase) -> Result<ReplyContent, NoMe
     winner_of_two(alloc, goods)
 }
 
-/// The winner of goods between two.
+// The winner of goods between two.
 fn winner_of_two(alloc: Global, goods: &GoodsCase) -> Result<ReplyContent, NoMemory>
     requires case { IsValidGoodsCase goods.now }
     requires two { player_count goods.now ≡ PAIR }
-    ensures { IfOk result (λ told. TellsPair (player_count goods.now == PAIR) goods.now (content_view told)) }
+    ensures { IfOk result (λ told.
+        TellsPair (player_count goods.now == PAIR) goods.now (content_view told)) }
 {
     let text = winner_text(alloc, goods)?;
     Ok(plain(text))
 }
 
-/// What is published of an instance that has no division.
+// What is published of an instance that has no division.
 fn unsolved(alloc: Global, fault: SolveFault) -> Result<ReplyContent, NoMemory>
     ensures { IfOk result (λ told. TellsFault fault (content_view told)) }
 {
@@ -152,32 +140,34 @@ fn unsolved(alloc: Global, fault: SolveFault) -> Result<ReplyContent, NoMemory>
     }
 }
 
-/// What is published of an instance with this case and its division.
-fn published(
-    alloc: Global,
+// What is published of an instance with this case and its division.
+fn published<R: Threads + Sync, G: Gate + Sync>(
+    solver: &mut Solver<'_, R, G>,
     instance: &Instance,
     what: What,
     case: &Case,
     division: &Division,
-    searches: &mut KeptSearches,
 ) -> Result<ReplyContent, NoMemory>
     requires sound { IsCheckedInstance (instance_view instance.now) }
     requires asked { AsksBest what }
     requires case { case_of instance.now.creation.facts instance.now.bids.items ≡ Ok case.now }
     requires division { IsDivisionOf case.now division.now }
-    ensures { IfOk result (λ told. IsPublished what (case_data (instance_view instance.now)) case.now division.now (content_view told)) }
+    ensures { IfOk result (λ told.
+        IsPublished what (case_data (instance_view instance.now)) case.now division.now
+        (content_view told)) }
 {
     case_law();
+    let alloc = solver.means.alloc;
     match what {
         What::Division => Ok(json(division_text(alloc, case, division)?)),
-        What::Certificate => Ok(plain(certificate_once(alloc, case, division, searches)?)),
+        What::Certificate => Ok(plain(certificate_once(solver, case, division)?)),
         What::Report => Ok(plain(named_report(alloc, &names_of(instance), case, division)?)),
         What::Audit => audited(alloc, instance, case, division),
         What::Winner => unreachable!(),
     }
 }
 
-/// The audit of an instance with this case and its division.
+// The audit of an instance with this case and its division.
 fn audited(
     alloc: Global,
     instance: &Instance,
@@ -188,7 +178,9 @@ fn audited(
     requires case { case_of instance.now.creation.facts instance.now.bids.items ≡ Ok case.now }
     requires valid { IsValidCase case.now }
     requires division { IsDivisionOf case.now division.now }
-    ensures { IfOk result (λ told. IsAudit (case_data (instance_view instance.now)) case.now division.now (content_view told)) }
+    ensures { IfOk result (λ told.
+        IsAudit (case_data (instance_view instance.now)) case.now division.now
+        (content_view told)) }
 {
     case_law();
     let title = instance.creation.title.as_str();
@@ -204,7 +196,7 @@ fn audited(
     }
 }
 
-/// The audit of an instance with this case of goods and its division.
+// The audit of an instance with this case of goods and its division.
 fn audited_goods(
     alloc: Global,
     instance: &Instance,
@@ -214,14 +206,17 @@ fn audited_goods(
     requires case { IsValidGoodsCase case.now }
     requires members { length instance.now.creation.members.items ≡ case.now.facts.members }
     requires division { IsGoodsDivision case.now division.now }
-    ensures { IfOk result (λ told. IsText ContentType.Plain (IsDivisionAudit (names_of (case_data (instance_view instance.now))) case.now division.now) (content_view told)) }
+    ensures { IfOk result (λ told.
+        IsSuccessWith ContentType.Plain
+        (IsDivisionAudit (names_of (case_data (instance_view instance.now))) case.now division.now)
+        (content_view told)) }
 {
     let names = names_of(instance);
     let text = division_audit(alloc, &names, case, division)?;
     Ok(plain(text))
 }
 
-/// The names that a report tells of an instance.
+// The names that a report tells of an instance.
 fn names_of(instance: &Instance) -> Names<'_>
     ensures { shown_names result ≡ names_of (case_data (instance_view instance.now)) }
 {
@@ -232,9 +227,10 @@ fn names_of(instance: &Instance) -> Names<'_>
     }
 }
 
-/// A success with a text of JSON.
+// A success with a text of JSON.
 fn json(text: Vec<u8>) -> ReplyContent
-    ensures { content_view result ≡ record { status = 200; content_type = ContentType.Json; text = text.items } }
+    ensures { content_view result
+        ≡ record { status = 200; content_type = ContentType.Json; text = text.items } }
 {
     ReplyContent {
         status: 200,
@@ -243,9 +239,10 @@ fn json(text: Vec<u8>) -> ReplyContent
     }
 }
 
-/// A success with a plain text.
+// A success with a plain text.
 fn plain(text: Vec<u8>) -> ReplyContent
-    ensures { content_view result ≡ record { status = 200; content_type = ContentType.Plain; text = text.items } }
+    ensures { content_view result
+        ≡ record { status = 200; content_type = ContentType.Plain; text = text.items } }
 {
     ReplyContent {
         status: 200,

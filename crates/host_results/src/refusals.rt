@@ -1,7 +1,7 @@
 // What is said when an instance has no division.
 ghost use Rattle.std.specs.Prelude.{◌≡◌, IfOk};
 ghost use Rattle.host_results.specs.Contents.{content_view, refusal_told};
-ghost use Rattle.host_results.specs.Publications.{refusal_of};
+ghost use Rattle.host_results.specs.Publications.{refusal_of_fault};
 
 use crate::contents::{ContentType, ReplyContent};
 use reply_texts::{ServiceRefusal, service_refusal_text};
@@ -11,7 +11,7 @@ use std::alloc::Global;
 
 /// The refusal by which a fault of the solver is told.
 pub fn refusal_of(fault: SolveFault) -> ServiceRefusal
-    ensures { result ≡ refusal_of fault }
+    ensures { result ≡ refusal_of_fault fault }
 {
     match fault {
         SolveFault::Void { missing } => ServiceRefusal::Void { missing },

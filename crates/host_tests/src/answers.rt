@@ -18,6 +18,7 @@ enum Asked {
     Division,
 }
 
+// The body of a bid of two values.
 fn body(turn: u32, values: [u32; 2]) -> BidBody {
     let [first, second] = values;
     let mut numbers = ArrayVec::new();
@@ -30,6 +31,7 @@ fn body(turn: u32, values: [u32; 2]) -> BidBody {
     }
 }
 
+// The command of a member, or of the organiser as member 0, under their key.
 fn command(member: u8, asked: Asked) -> Command
     ensures { IsCheckedCommand (command_view result) }
 {
@@ -65,6 +67,7 @@ fn told(rt: &impl Abort, host: &mut Host, moment: u64, command: Command) -> (Rep
     }
 }
 
+// What is replied to a creation, and whether there is an event.
 fn create(rt: &impl Abort, host: &mut Host, creation: Creation) -> (Reply, bool) {
     assert!(rt; creation.is_checked());
     told(rt, host, NOW, Command::Create { body: Ok(creation) })
@@ -99,6 +102,7 @@ const BID: Asked = Asked::Bid {
     values: [600, 400],
 };
 
+// The reply that refuses for this cause.
 fn refused(refusal: Refusal) -> Reply {
     Reply::Refused(refusal)
 }
@@ -108,6 +112,7 @@ const DIVISION: Reply = Reply::Publish {
     what: What::Division,
 };
 
+// Both the deadline and the organiser can close an instance, and only the first of them does.
 #[test]
 fn an_instance_is_closed_once(rt: HostRuntime) {
     let mut host = opened(&rt, rt.alloc());
@@ -154,6 +159,7 @@ fn an_instance_is_closed_once(rt: HostRuntime) {
     assert_answers(&rt, &mut host, &late);
 }
 
+// A request after the deadline closes the instance, whatever else is wrong with it.
 #[test]
 fn a_late_request_closes_before_its_body_is_refused(rt: HostRuntime) {
     let mut host = opened(&rt, rt.alloc());

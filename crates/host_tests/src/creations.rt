@@ -10,6 +10,7 @@ pub(crate) const NOW: u64 = 1_772_366_000;
 
 pub(crate) const DEADLINE: u64 = 1_772_366_400;
 
+// A text that has room.
 fn text<const N: usize>(rt: &impl Abort, words: &str) -> ArrayString<N> {
     let Ok(text) = ArrayString::from(words) else {
         panic!(rt; "too long");

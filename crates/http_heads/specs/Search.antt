@@ -42,22 +42,22 @@ IsAhead IsText AsksMore IsFound bytes fields ahead.Bad = IsBad IsText bytes
 IsAhead IsText AsksMore IsFound bytes fields ahead.End = bytes ≡ []
 IsAhead IsText AsksMore IsFound bytes fields ahead.Fault = IsOpen IsText AsksMore bytes
 
--- what the bytes that are left begin with, where the source tells them
+-- what the bytes that are left begin with, if the source tells them
 abbrev pub SearchSays : {T : Type 0} → (List ℕ → Type 0) → Option (List ℕ) → Ahead T → Type 0
 SearchSays IsText left (ahead.Found spans) = ⊤
 SearchSays IsText left ahead.Bad = IfSome left (IsBad IsText)
 SearchSays IsText left ahead.End = IfSome left (λ all. all ≡ [])
 SearchSays IsText left ahead.Fault = ⊤
 
--- the source's count of faults after a search: one more where a read failed
+-- the source's count of faults after a search: one more if a read failed
 abbrev pub faults_by : {T : Type 0} → ℕ → Ahead T → ℕ
 faults_by before (ahead.Found spans) = before
 faults_by before ahead.Bad = before
 faults_by before ahead.End = before
 faults_by before ahead.Fault = counted before
 
--- the most that the source's count of reads which gave nothing can be after a search: one more where the end was met, which a head or a failed read
--- excludes
+-- the most that the source's count of reads which gave nothing can be after a search: one more if the end was met, which rules out a head and a
+-- failed read
 abbrev pub ends_by : {T : Type 0} → ℕ → Ahead T → ℕ
 ends_by before (ahead.Found spans) = before
 ends_by before ahead.Bad = before + 1

@@ -66,10 +66,12 @@ impl Carry {
     /// Reads some more bytes after those that are there, or none at the end of input.
     pub fn fill<S: Source>(&mut self, source: &mut S) -> Result<usize, Failed>
         requires { length self.old < MAX_HEAD }
-        ensures same { Keeps (prepend_known self.old (S.left source.old)) (prepend_known self.new (S.left source.new)) }
+        ensures same { Keeps (prepend_known self.old (S.left source.old))
+            (prepend_known self.new (S.left source.new)) }
         ensures front { (read : List ℕ) × (self.new ≡ self.old ++ read) }
         ensures more { IfOk result (λ n. length self.new ≡ length self.old + n) }
-        ensures end { IfOk result (λ n. n ≡ 0 → IsAtEnd (S.left source.new) × (self.new ≡ self.old)) }
+        ensures end { IfOk result (λ n.
+            n ≡ 0 → IsAtEnd (S.left source.new) × (self.new ≡ self.old)) }
         ensures failed { OnErr result (self.new ≡ self.old) }
         ensures empty { CountsEmpty (S.empty_reads source.old) (S.empty_reads source.new) result }
         ensures cause { HasCause (S.faults source.old) (S.faults source.new) result }
@@ -81,11 +83,13 @@ impl Carry {
         Ok(count)
     }
 
-    /// Reads some bytes where there are none. 0 only at the end of input.
+    /// Reads some bytes if there are none. 0 only at the end of input.
     pub fn ready<S: Source>(&mut self, source: &mut S) -> Result<usize, Failed>
-        ensures same { Keeps (prepend_known self.old (S.left source.old)) (prepend_known self.new (S.left source.new)) }
+        ensures same { Keeps (prepend_known self.old (S.left source.old))
+            (prepend_known self.new (S.left source.new)) }
         ensures more { IfOk result (λ n. length self.new ≡ n) }
-        ensures end { IfOk result (λ n. n ≡ 0 → IsAtEnd (prepend_known self.new (S.left source.new))) }
+        ensures end { IfOk result (λ n.
+            n ≡ 0 → IsAtEnd (prepend_known self.new (S.left source.new))) }
         ensures failed { OnErr result (self.new ≡ []) }
         ensures empty { CountsEmpty (S.empty_reads source.old) (S.empty_reads source.new) result }
         ensures cause { HasCause (S.faults source.old) (S.faults source.new) result }

@@ -35,7 +35,8 @@ pub fn count_named(bytes: &[u8], fields: &[HeaderSpan], name: &[u8]) -> usize
 // The first field of that name.
 fn first_named<'f>(bytes: &[u8], fields: &'f [HeaderSpan], name: &[u8]) -> Option<&'f HeaderSpan>
     requires { All (IsHeaderWithin (length bytes.now)) fields.now }
-    ensures first { option_map (λ f. f.now) result ≡ find (λ f. is_named name.now (header_bytes bytes.now f)) fields.now }
+    ensures first { option_map (λ f. f.now) result
+        ≡ find (λ f. is_named name.now (header_bytes bytes.now f)) fields.now }
     ensures within { IfSome result (λ f. IsHeaderWithin (length bytes.now) f.now) }
 {
     fields.iter().find(|field| has_name(bytes, field, name))

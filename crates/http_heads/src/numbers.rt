@@ -4,12 +4,13 @@ ghost use Rattle.std.specs.Char.{IsAsciiDigit};
 ghost use Rattle.std.specs.Str.Parse.{digits_value};
 ghost use Rattle.http_heads.specs.Numbers.{number_in};
 
-/// The number that the digits write, or `most` where it is greater; `None` where a byte is no
+/// The number that the digits write, or `most` if it is greater; `None` if a byte is no
 /// digit. Zeros may lead, and any number of digits counts.
 #[tactic(auto, using(std::proofs::lemmas::Int::Digits::digits_value_more))]
 pub fn capped_number(text: &[u8], most: u64) -> Option<u64>
     requires { most ≤ 2 ^ 32 }
-    ensures { MatchOption result (¬ (All IsAsciiDigit text.now)) (λ n. All IsAsciiDigit text.now × (n ≡ min (digits_value 10 text.now) most)) }
+    ensures { MatchOption result (¬ (All IsAsciiDigit text.now)) (λ n.
+        All IsAsciiDigit text.now × (n ≡ min (digits_value 10 text.now) most)) }
 {
     let mut number = 0u64;
     for byte in text {
@@ -21,7 +22,7 @@ pub fn capped_number(text: &[u8], most: u64) -> Option<u64>
     Some(number)
 }
 
-/// The same of one or more digits; `None` where there are none. A Content-Length is read so.
+/// The same of one or more digits; `None` if there are none. This is how a Content-Length is read.
 pub fn whole_number(text: &[u8], most: u64) -> Option<u64>
     requires { most ≤ 2 ^ 32 }
     ensures { result ≡ number_in most text.now }

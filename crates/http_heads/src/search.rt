@@ -32,8 +32,10 @@ pub trait HeadKind {
 
     /// Parses the head at the front of the bytes.
     fn parse(bytes: &[u8], fields: &mut [HeaderSpan; ROOM]) -> httparse::Result<Self::Spans>
-        ensures found { IfComplete result (λ spans. size spans ≤ MAX_FIELDS → IsFound bytes.now fields.new spans) }
-        ensures many { IfComplete result (λ spans. MAX_FIELDS < size spans → NeverHasOne IsText bytes.now) }
+        ensures found { IfComplete result (λ spans.
+            size spans ≤ MAX_FIELDS → IsFound bytes.now fields.new spans) }
+        ensures many { IfComplete result (λ spans.
+            MAX_FIELDS < size spans → NeverHasOne IsText bytes.now) }
         ensures partial { OnPartial result (HasNone IsText bytes.now) }
         ensures more { OnPartial result (AsksMore bytes.now) }
         ensures invalid { OnInvalid result (NeverHasOne IsText bytes.now) }
@@ -69,7 +71,7 @@ pub enum Ahead<T> {
     Fault,
 }
 
-/// Looks for a head at the front of the bytes, with at most `MAX_FIELDS` fields. `NotYet` comes only where the parser asks for more of them, or
+/// Looks for a head at the front of the bytes, with at most `MAX_FIELDS` fields. `NotYet` comes only if the parser asks for more of them, or
 /// has no room for all their fields.
 pub fn find_head<K: HeadKind>(bytes: &[u8], fields: &mut [HeaderSpan; ROOM]) -> Look<K::Spans>
     ensures { LookSays K.IsText K.AsksMore K.IsFound bytes.now fields.new result }
@@ -91,19 +93,20 @@ pub fn find_head<K: HeadKind>(bytes: &[u8], fields: &mut [HeaderSpan; ROOM]) -> 
 /// Reads to the end of the next head, which stays in the carry. Once a read has met the end of the
 /// input it doesn't read again.
 ///
-/// - `Bad` comes where bytes are left, and no first part of them is a head of at most `MAX_HEAD`
+/// - `Bad` comes if bytes are left, and no first part of them is a head of at most `MAX_HEAD`
 ///   bytes and with at most `MAX_FIELDS` fields.
-/// - `End` comes where nothing is left.
+/// - `End` comes if nothing is left.
 /// - `Fault` comes for one failed read, which the source's count of faults tells. Each other answer
 ///   leaves that count as it is. A read is made only while the parser asks for more of what the carry
-///   holds, or has no room for all its fields: `Bad` comes at once where it tells that no head can
+///   holds, or has no room for all its fields: `Bad` comes at once if it tells that no head can
 ///   come. That a head has more than `MAX_FIELDS` fields is told at its end, up to `ROOM` of them.
 pub fn look_ahead<K: HeadKind, S: Source>(
     source: &mut S,
     carry: &mut Carry,
     fields: &mut [HeaderSpan; ROOM],
 ) -> Ahead<K::Spans>
-    ensures same { Keeps (prepend_known carry.old (S.left source.old)) (prepend_known carry.new (S.left source.new)) }
+    ensures same { Keeps (prepend_known carry.old (S.left source.old))
+        (prepend_known carry.new (S.left source.new)) }
     ensures ahead { IsAhead K.IsText K.AsksMore K.IsFound carry.new fields.new result }
     ensures says { SearchSays K.IsText (prepend_known carry.new (S.left source.new)) result }
     ensures more { (read : List ℕ) × (carry.new ≡ carry.old ++ read) }

@@ -8,7 +8,7 @@ use Rattle.bid_rules.specs.declared.goods.GoodsCase.{GoodsCase}
 use Rattle.bid_rules.specs.Facts.{case_of}
 use Rattle.bid_rules.specs.Goods.{in_search_order, player_count}
 use Rattle.adjusted_winner.specs.Texts.{IsWinnerText}
-use Rattle.case_fields.specs.declared.fields.BodyFault.{BodyFault}
+use Rattle.body_fields.specs.declared.fields.BodyFault.{BodyFault}
 use Rattle.certificates.specs.Division.{IsDivisionOf}
 use Rattle.certificates.specs.declared.division.Division.{Division}
 use Rattle.certificates.specs.declared.division.Division.TheVariants as division

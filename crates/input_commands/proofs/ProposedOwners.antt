@@ -12,7 +12,7 @@ use Rattle.bid_rules.specs.declared.cases.Missing.{Missing}
 use Rattle.bid_rules.specs.declared.goods.GoodsCase.{GoodsCase}
 use Rattle.bid_rules.specs.declared.limits.TheConstants.{ITEM_ROOM}
 use Rattle.bid_rules.specs.Facts.{IsCheckedFacts, case_of, members_where}
-use Rattle.case_fields.specs.Creations.{item_count}
+use Rattle.body_fields.specs.Creations.{item_count}
 use Rattle.split_json.specs.Proposals.{AreOfGoods, IsReadyProposal, has_bid}
 use Rattle.split_json.specs.Reading.{CaseData}
 use Rattle.input_commands.proofs.Bidders.{is_player, not_void}

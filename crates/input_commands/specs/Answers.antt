@@ -8,7 +8,7 @@ use Rattle.bid_rules.specs.declared.goods.GoodsCase.{GoodsCase}
 use Rattle.bid_rules.specs.Facts.{case_of}
 use Rattle.bid_rules.specs.Goods.{in_search_order, player_count}
 use Rattle.adjusted_winner.specs.Texts.{IsWinnerText}
-use Rattle.case_fields.specs.declared.fields.BodyFault.{BodyFault}
+use Rattle.body_fields.specs.declared.fields.BodyFault.{BodyFault}
 use Rattle.cert_checker.specs.Judged.{IsJudged}
 use Rattle.cert_reader.specs.Forms.{Pairs}
 use Rattle.cert_reader.specs.Text.{IsBrokenText, IsBrokenTextOf}
@@ -76,8 +76,8 @@ OfOwners given case owners (Err other) = ⊥
 abbrev pub OfProposal : CaseData × List ℕ → Result (List ℕ) Stop → Type 0
 OfProposal proposal ending = MakesGoods proposal.0 (λ case. OfOwners proposal.0 case (players_of case proposal.1) ending)
 
--- the answer to facts and bids of goods: the text of adjusted winner, where there are two players; or that there are not; or, where there
--- is no case, the members whose bids are missing
+-- the answer to facts and bids of goods: the text of adjusted winner, if there are two players; or that there are not; or, if there is no case, the
+-- members whose bids are missing
 abbrev pub OfPair : CaseData → Result (List ℕ) Stop → Type 0
 OfPair given (Ok text) = MakesGoods given (λ case. (player_count case ≡ PAIR) × IsWinnerText case text)
 OfPair given (Err (Void missing)) = IsVoid missing given
@@ -91,7 +91,7 @@ OfVerdict judged broken bytes (Err (BrokenRule rule)) = judged bytes (No rule)
 OfVerdict judged broken bytes (Err (BrokenLine number)) = broken bytes number
 OfVerdict judged broken bytes (Err other) = ⊥
 
--- what a command answers to the bytes of its input, where they are not too long
+-- what a command answers to the bytes of its input, if they are not too many
 abbrev pub Answers : InputCommand → List ℕ → Result (List ℕ) Stop → Type 0
 Answers (Solve workers) = OfBody case_in (OfCase (λ given case division text. IsCanonical case text))
 Answers (Report workers) = OfBody case_in (OfCase IsReport)

@@ -1,7 +1,6 @@
 -- What the commands read, and what they take for it.
-use Rattle.std.specs.Prelude.{◌≡◌, ◌≤◌, ℕ}
+use Rattle.std.specs.Prelude.{◌≡◌, ℕ}
 use Rattle.cert_reader.specs.declared.limits.TheConstants.{MOST_BYTES}
-use Rattle.search_workers.specs.declared.limits.TheConstants.{MOST_WORKERS}
 use Rattle.input_commands.specs.declared.command.InputCommand.{InputCommand}
 use Rattle.input_commands.specs.declared.command.InputCommand.TheVariants.{Solve, Report, Check, Weigh, Winner, CheckWinner}
 use Rattle.input_commands.specs.declared.limits.TheConstants.{LONGEST_INPUT}
@@ -23,19 +22,6 @@ TakesMemory Check = ⊥
 TakesMemory Weigh = Unit {0}
 TakesMemory Winner = Unit {0}
 TakesMemory CheckWinner = ⊥
-
--- there may be so many workers
-abbrev pub AreWorkers : ℕ → Type 0
-AreWorkers workers = (1 ≤ workers) × (workers ≤ MOST_WORKERS)
-
--- where the command has workers, there may be so many
-abbrev pub HasWorkers : InputCommand → Type 0
-HasWorkers (Solve workers) = AreWorkers workers
-HasWorkers (Report workers) = AreWorkers workers
-HasWorkers Check = Unit {0}
-HasWorkers Weigh = Unit {0}
-HasWorkers Winner = Unit {0}
-HasWorkers CheckWinner = Unit {0}
 
 -- the command with one worker, where it has workers
 abbrev pub at_one : InputCommand → InputCommand

@@ -14,13 +14,13 @@ EndsOn command input (Err ReadFault) = HasOneFault input × IsPartRead (longest 
 EndsOn command input (Err NoMemory) = TakesMemory command × IsPartRead (longest command) input × HasNoFault input
 EndsOn command input ending = (bytes : List ℕ) × IsWhole (longest command) input bytes × Answers command bytes ending
 
--- the ending that these bytes call for, where no call fails and memory suffices
+-- the ending that these bytes call for, if no call fails and there is enough memory
 abbrev pub CallsFor : InputCommand → List ℕ → Result (List ℕ) Stop → Type 0
 CallsFor command bytes ending =
     ((longest command < length bytes) × (ending ≡ Err TooLong))
     ⊎ ((length bytes ≤ longest command) × Answers command bytes ending)
 
--- how a command ends on bytes in memory, which are read without a fault: as they call for; or memory ran out, of a command that takes memory
+-- how a command ends on bytes in memory, which are read without a fault: as they call for; or, if it takes memory, because that ran out
 abbrev pub EndsOnBytes : InputCommand → List ℕ → Result (List ℕ) Stop → Type 0
 EndsOnBytes command bytes (Err NoMemory) = TakesMemory command
 EndsOnBytes command bytes ending = CallsFor command bytes ending

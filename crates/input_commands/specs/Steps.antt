@@ -24,7 +24,7 @@ abbrev pub IsTextOf : DivisionText → CaseData → Case → Division → List �
 IsTextOf Certificate given case division text = IsCanonical case text
 IsTextOf Report given case division text = IsReport given case division text
 
--- the answer to a case of goods: the text of adjusted winner, where there are two players; or that there are not
+-- the answer to a case of goods: the text of adjusted winner, if there are two players; or that there are not
 abbrev pub OfPlayers : GoodsCase → Result (List ℕ) Stop → Type 0
 OfPlayers case (Ok text) = (player_count case ≡ PAIR) × IsWinnerText case text
 OfPlayers case (Err NotTwo) = player_count case ≢ 2

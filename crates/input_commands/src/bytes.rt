@@ -1,7 +1,7 @@
 // How the commands end on bytes that a caller has in memory. Only the calling thread works.
 ghost use Rattle.std.specs.Prelude.{◌≡◌};
 ghost use Rattle.command_results.specs.Endings.{ending_of, verdict_ending};
-ghost use Rattle.split_json.specs.Reading.{IsReady, case_in, shown};
+ghost use Rattle.split_json.specs.Reading.{IsReady, case_in, case_data_of};
 ghost use Rattle.input_commands.specs.Answers.{Answers, OfBody, OfCase};
 ghost use Rattle.input_commands.specs.Commands.{TakesMemory};
 ghost use Rattle.input_commands.specs.Ends.{CallsFor, EndsOnBytes};
@@ -51,7 +51,7 @@ pub fn bytes_ending(alloc: Global, command: InputCommand, bytes: &[u8]) -> Resul
     }
 }
 
-/// The ending of a judge with its line.
+// The ending of a judge with its line.
 fn text_of(verdict: Result<(), Stop>) -> Result<Text, Stop>
     ensures { ending_of result ≡ verdict_ending verdict }
 {
@@ -61,7 +61,7 @@ fn text_of(verdict: Result<(), Stop>) -> Result<Text, Stop>
     }
 }
 
-/// How a command ends on these bytes that builds its text.
+// How a command ends on these bytes that builds its text.
 fn kept_bytes(alloc: Global, command: InputCommand, bytes: &[u8]) -> Result<Text, Stop>
     requires memory { TakesMemory command }
     ensures { EndsOnBytes command bytes.now (ending_of result) }
@@ -72,7 +72,7 @@ fn kept_bytes(alloc: Global, command: InputCommand, bytes: &[u8]) -> Result<Text
     answer(alloc, command, bytes)
 }
 
-/// What such a command answers to bytes that are not too long.
+// What such a command answers to bytes that are not too long.
 fn answer(alloc: Global, command: InputCommand, bytes: &[u8]) -> Result<Text, Stop>
     requires memory { TakesMemory command }
     ensures { UpToMemory (Answers command bytes.now) (ending_of result) }
@@ -86,7 +86,7 @@ fn answer(alloc: Global, command: InputCommand, bytes: &[u8]) -> Result<Text, St
     }
 }
 
-/// The text of the best division of the case that the bytes hold.
+// The text of the best division of the case that the bytes hold.
 fn divide_alone(alloc: Global, sort: DivisionText, bytes: &[u8]) -> Result<Text, Stop>
     ensures { UpToMemory (OfBody case_in (OfCase (IsTextOf sort)) bytes.now) (ending_of result) }
 {
@@ -97,10 +97,10 @@ fn divide_alone(alloc: Global, sort: DivisionText, bytes: &[u8]) -> Result<Text,
     }
 }
 
-/// The text of the best division of the case that facts and bids make.
+// The text of the best division of the case that facts and bids make.
 fn divide_case(alloc: Global, sort: DivisionText, input: &CaseInput) -> Result<Text, Stop>
-    requires input { IsReady (shown input.now) }
-    ensures { UpToMemory (OfCase (IsTextOf sort) (shown input.now)) (ending_of result) }
+    requires input { IsReady (case_data_of input.now) }
+    ensures { UpToMemory (OfCase (IsTextOf sort) (case_data_of input.now)) (ending_of result) }
 {
     let solved = solve_alone(alloc, &input.facts, input.bids.as_slice());
     solved_text(alloc, sort, input, solved)

@@ -1,12 +1,13 @@
 // The commands that read an input.
+use search_workers::Workers;
 
 /// A command that reads an input.
 #[derive(Clone, Copy, Debug, PartialEq, Eq)]
 pub enum InputCommand {
     /// `solve WORKERS`: reads a case as JSON, and writes the certificate of its best division.
-    Solve { workers: u8 },
+    Solve { workers: Workers },
     /// `report WORKERS`: reads a case as JSON, and writes what its best division means for each member.
-    Report { workers: u8 },
+    Report { workers: Workers },
     /// `check`: reads a certificate, and writes whether its rules hold.
     Check,
     /// `weigh`: reads a case of goods and a proposed division of them as JSON, and writes the audit of that division.

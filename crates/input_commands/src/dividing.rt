@@ -3,15 +3,15 @@ ghost use Rattle.std.specs.Prelude.{◌≡◌, Ok, IfOk};
 ghost use Rattle.bid_rules.specs.Facts.{case_of};
 ghost use Rattle.certificates.specs.Division.{IsDivisionOf};
 ghost use Rattle.command_results.specs.Endings.{ending_of};
-ghost use Rattle.split_json.specs.Reading.{IsReady, case_in, shown};
+ghost use Rattle.split_json.specs.Reading.{IsReady, case_in, case_data_of};
 ghost use Rattle.split_solve.specs.Solving.{IsSolved};
 ghost use Rattle.input_commands.specs.Answers.{OfBody, OfCase};
-ghost use Rattle.input_commands.specs.Commands.{AreWorkers};
 ghost use Rattle.input_commands.specs.Steps.{IsTextOf, UpToMemory};
 
 use bid_rules::{Case, case_law};
 use certificates::{Division, write_certificate};
 use command_results::{Stop, Text};
+use search_workers::{Means, Workers};
 use split_base::{Gate, NoMemory};
 use split_json::{CaseInput, read_case};
 use split_reports::report;
@@ -28,53 +28,48 @@ pub enum DivisionText {
     Report,
 }
 
-/// The text of the best division of the case that the bytes hold.
+// The text of the best division of the case that the bytes hold.
 pub(crate) fn divide<R: Threads + Sync, G: Gate + Sync>(
-    alloc: Global,
-    rt: &R,
-    workers: u8,
+    means: &Means<'_, R, G>,
+    workers: Workers,
     sort: DivisionText,
     bytes: &[u8],
-    gate: &G,
 ) -> Result<Text, Stop>
-    requires workers { AreWorkers workers }
     ensures { UpToMemory (OfBody case_in (OfCase (IsTextOf sort)) bytes.now) (ending_of result) }
 {
-    match read_case(alloc, bytes) {
-        Ok(Ok(input)) => divide_case(alloc, rt, workers, sort, &input, gate),
+    match read_case(means.alloc, bytes) {
+        Ok(Ok(input)) => divide_case(means, workers, sort, &input),
         Ok(Err(fault)) => Err(Stop::BadCase { fault }),
         Err(NoMemory) => Err(Stop::NoMemory),
     }
 }
 
-/// The text of the best division of the case that facts and bids make.
+// The text of the best division of the case that facts and bids make.
 fn divide_case<R: Threads + Sync, G: Gate + Sync>(
-    alloc: Global,
-    rt: &R,
-    workers: u8,
+    means: &Means<'_, R, G>,
+    workers: Workers,
     sort: DivisionText,
     input: &CaseInput,
-    gate: &G,
 ) -> Result<Text, Stop>
-    requires input { IsReady (shown input.now) }
-    requires workers { AreWorkers workers }
-    ensures { UpToMemory (OfCase (IsTextOf sort) (shown input.now)) (ending_of result) }
+    requires input { IsReady (case_data_of input.now) }
+    ensures { UpToMemory (OfCase (IsTextOf sort) (case_data_of input.now)) (ending_of result) }
 {
+    let (alloc, count) = (means.alloc, workers.count());
     let bids = input.bids.as_slice();
-    let solved = solve(alloc, rt, &input.facts, bids, workers, gate);
+    let solved = solve(alloc, means.rt, &input.facts, bids, count, means.gate);
     solved_text(alloc, sort, input, solved)
 }
 
-/// The text of what facts and bids have: of their case and its best division, or why they have none.
+// The text of what facts and bids have: of their case and its best division, or why they have none.
 pub(crate) fn solved_text(
     alloc: Global,
     sort: DivisionText,
     input: &CaseInput,
     solved: Result<(Case, Division), SolveFault>,
 ) -> Result<Text, Stop>
-    requires input { IsReady (shown input.now) }
+    requires input { IsReady (case_data_of input.now) }
     requires solved { IsSolved input.now.facts input.now.bids.items solved }
-    ensures { UpToMemory (OfCase (IsTextOf sort) (shown input.now)) (ending_of result) }
+    ensures { UpToMemory (OfCase (IsTextOf sort) (case_data_of input.now)) (ending_of result) }
 {
     match solved {
         Ok((case, division)) => match division_text(alloc, sort, input, &case, &division) {
@@ -87,7 +82,7 @@ pub(crate) fn solved_text(
     }
 }
 
-/// The text of a case and its division.
+// The text of a case and its division.
 fn division_text(
     alloc: Global,
     sort: DivisionText,
@@ -95,10 +90,11 @@ fn division_text(
     case: &Case,
     division: &Division,
 ) -> Result<Vec<u8>, NoMemory>
-    requires input { IsReady (shown input.now) }
+    requires input { IsReady (case_data_of input.now) }
     requires case { case_of input.now.facts input.now.bids.items ≡ Ok case.now }
     requires division { IsDivisionOf case.now division.now }
-    ensures { IfOk result (λ text. IsTextOf sort (shown input.now) case.now division.now text.items) }
+    ensures { IfOk result (λ text.
+        IsTextOf sort (case_data_of input.now) case.now division.now text.items) }
 {
     case_law();
     match sort {

@@ -1,9 +1,9 @@
 // How a command ends on its input.
 ghost use Rattle.std.specs.Prelude.{◌≤◌};
 ghost use Rattle.command_results.specs.Endings.{ending_of};
-ghost use Rattle.command_results.specs.ObjectUse.{told};
+ghost use Rattle.command_results.specs.ObjectUse.{use_of};
 ghost use Rattle.input_commands.specs.Answers.{Answers};
-ghost use Rattle.input_commands.specs.Commands.{HasWorkers, TakesMemory};
+ghost use Rattle.input_commands.specs.Commands.{TakesMemory};
 ghost use Rattle.input_commands.specs.Ends.{EndsOn};
 ghost use Rattle.input_commands.specs.Steps.{UpToMemory};
 
@@ -14,8 +14,8 @@ use crate::limits::LONGEST_INPUT;
 use crate::pairing::{check_pair, pair};
 use crate::weighing::weigh;
 use command_results::{Stop, Text};
+use search_workers::Means;
 use split_base::{Gate, ReadStop, Source, read_all};
-use std::alloc::Global;
 use std::thread::Threads;
 
 /// How a command ends on its input, before anything is written.
@@ -24,70 +24,61 @@ use std::thread::Threads;
 /// `cert_reader`, which they judge while they read, in fixed memory. The gate is told when a worker enters and leaves a task of the search
 /// of `solve` and `report`.
 ///
-/// - `TooLong` comes exactly where the input has more bytes. One byte more than the command may have was read then.
-/// - `ReadFault` comes only where the input's count of faults has risen, and at once: the failed read is not tried again.
-/// - `NoMemory` comes only where memory runs out, and never of `check` and `checkwinner`.
+/// - `TooLong` comes exactly if the input has more bytes. One byte more than the command may have was read then.
+/// - `ReadFault` comes only if the input's count of faults has risen, and at once: the failed read is not tried again.
+/// - `NoMemory` comes only if memory runs out, and never of `check` and `checkwinner`.
 /// - Each other ending is what the command answers to the bytes of the input, which was read to its end.
 pub fn input_ending<R: Threads + Sync, I: Source, G: Gate + Sync>(
-    alloc: Global,
-    rt: &R,
+    means: &Means<'_, R, G>,
     command: InputCommand,
     input: &mut I,
-    gate: &G,
 ) -> Result<Text, Stop>
-    requires workers { HasWorkers command }
-    ensures ending { EndsOn command (told I.left I.faults input.old input.new) (ending_of result) }
+    ensures ending { EndsOn command (use_of I.left I.faults input.old input.new)
+        (ending_of result) }
     ensures count { I.faults input.old ≤ I.faults input.new }
 {
     match command {
         InputCommand::Check => check(input),
         InputCommand::CheckWinner => check_pair(input),
-        _ => kept_ending(alloc, rt, command, input, gate),
+        _ => kept_ending(means, command, input),
     }
 }
 
-/// How a command ends that keeps its input.
+// How a command ends that keeps its input.
 fn kept_ending<R: Threads + Sync, I: Source, G: Gate + Sync>(
-    alloc: Global,
-    rt: &R,
+    means: &Means<'_, R, G>,
     command: InputCommand,
     input: &mut I,
-    gate: &G,
 ) -> Result<Text, Stop>
     requires memory { TakesMemory command }
-    requires workers { HasWorkers command }
-    ensures ending { EndsOn command (told I.left I.faults input.old input.new) (ending_of result) }
+    ensures ending { EndsOn command (use_of I.left I.faults input.old input.new)
+        (ending_of result) }
     ensures count { I.faults input.old ≤ I.faults input.new }
 {
-    match read_all(alloc, input, LONGEST_INPUT) {
-        Ok(bytes) => answer(alloc, rt, command, bytes.as_slice(), gate),
+    match read_all(means.alloc, input, LONGEST_INPUT) {
+        Ok(bytes) => answer(means, command, bytes.as_slice()),
         Err(ReadStop::Fault) => Err(Stop::ReadFault),
         Err(ReadStop::TooLong) => Err(Stop::TooLong),
         Err(ReadStop::NoMemory) => Err(Stop::NoMemory),
     }
 }
 
-/// What such a command answers to the bytes of its input.
+// What such a command answers to the bytes of its input.
 fn answer<R: Threads + Sync, G: Gate + Sync>(
-    alloc: Global,
-    rt: &R,
+    means: &Means<'_, R, G>,
     command: InputCommand,
     bytes: &[u8],
-    gate: &G,
 ) -> Result<Text, Stop>
     requires memory { TakesMemory command }
-    requires workers { HasWorkers command }
     ensures { UpToMemory (Answers command bytes.now) (ending_of result) }
 {
     match command {
         InputCommand::Solve { workers } => {
-            divide(alloc, rt, workers, DivisionText::Certificate, bytes, gate)
+            divide(means, workers, DivisionText::Certificate, bytes)
         }
-        InputCommand::Report { workers } => {
-            divide(alloc, rt, workers, DivisionText::Report, bytes, gate)
-        }
-        InputCommand::Weigh => weigh(alloc, bytes),
-        InputCommand::Winner => pair(alloc, bytes),
+        InputCommand::Report { workers } => divide(means, workers, DivisionText::Report, bytes),
+        InputCommand::Weigh => weigh(means.alloc, bytes),
+        InputCommand::Winner => pair(means.alloc, bytes),
         InputCommand::Check | InputCommand::CheckWinner => unreachable!(),
     }
 }

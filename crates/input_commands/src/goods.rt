@@ -6,7 +6,7 @@ ghost use Rattle.bid_rules.specs.declared.limits.TheConstants.{ITEM_ROOM};
 ghost use Rattle.bid_rules.specs.Facts.{case_of};
 ghost use Rattle.bid_rules.specs.Goods.{AreOwners, IsValidGoodsCase, player_count};
 ghost use Rattle.split_json.specs.Proposals.{IsReadyGoods};
-ghost use Rattle.split_json.specs.Reading.{shown};
+ghost use Rattle.split_json.specs.Reading.{case_data_of};
 ghost use Rattle.input_commands.specs.Players.{player_of, players_of};
 
 use arrayvec::ArrayVec;
@@ -14,10 +14,12 @@ use bid_rules::limits::ITEM_ROOM;
 use bid_rules::{Case, GoodsCase, Missing, case_law, make_case};
 use split_json::CaseInput;
 
-/// The case of goods that facts and bids make, or the members who lack a bid.
+// The case of goods that facts and bids make, or the members who lack a bid.
 pub(crate) fn goods_case(input: &CaseInput) -> Result<GoodsCase, Missing>
-    requires { IsReadyGoods (shown input.now) }
-    ensures case { MatchResult result (λ case. case_of input.now.facts input.now.bids.items ≡ Ok (Goods case)) (λ missing. case_of input.now.facts input.now.bids.items ≡ Err missing) }
+    requires { IsReadyGoods (case_data_of input.now) }
+    ensures case { MatchResult result
+        (λ case. case_of input.now.facts input.now.bids.items ≡ Ok (Goods case))
+        (λ missing. case_of input.now.facts input.now.bids.items ≡ Err missing) }
     ensures valid { IfOk result IsValidGoodsCase }
 {
     case_law();
@@ -29,7 +31,7 @@ pub(crate) fn goods_case(input: &CaseInput) -> Result<GoodsCase, Missing>
     }
 }
 
-/// The place of a number in a list, or how many there are.
+// The place of a number in a list, or how many there are.
 fn place_of(numbers: &[u8], number: u8) -> usize
     ensures { result ≡ position_or_len (λ other. other == number) numbers.now }
 {
@@ -41,7 +43,7 @@ fn place_of(numbers: &[u8], number: u8) -> usize
     numbers.len()
 }
 
-/// The player that a member with a bid is.
+// The player that a member with a bid is.
 fn player_of(case: &GoodsCase, member: u8) -> u8
     requires case { IsValidGoodsCase case.now }
     requires bidder { Contains case.now.who.items member }
@@ -52,7 +54,7 @@ fn player_of(case: &GoodsCase, member: u8) -> u8
     place_of(case.who.as_slice(), member) as u8 + 1
 }
 
-/// The players that members with bids are.
+// The players that members with bids are.
 pub(crate) fn players_of(case: &GoodsCase, members: &[u8]) -> ArrayVec<u8, ITEM_ROOM>
     requires case { IsValidGoodsCase case.now }
     requires few { length members.now ≤ ITEM_ROOM }

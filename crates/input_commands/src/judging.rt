@@ -1,7 +1,7 @@
 // The command that judges a certificate while it reads it. It takes no memory.
 ghost use Rattle.std.specs.Prelude.{◌≤◌};
 ghost use Rattle.command_results.specs.Endings.{ending_of, verdict_ending};
-ghost use Rattle.command_results.specs.ObjectUse.{told};
+ghost use Rattle.command_results.specs.ObjectUse.{use_of};
 ghost use Rattle.input_commands.specs.Ends.{EndsOn};
 ghost use Rattle.input_commands.specs.declared.command.InputCommand.TheVariants.{Check};
 
@@ -11,9 +11,9 @@ use command_results::{Stop, Text};
 use rule_verdicts::Verdict;
 use split_base::Source;
 
-/// How `check` ends on an input.
+// How `check` ends on an input.
 pub(crate) fn check<I: Source>(input: &mut I) -> Result<Text, Stop>
-    ensures ending { EndsOn Check (told I.left I.faults input.old input.new) (ending_of result) }
+    ensures ending { EndsOn Check (use_of I.left I.faults input.old input.new) (ending_of result) }
     ensures count { I.faults input.old ≤ I.faults input.new }
 {
     match judge_certificate(input) {
@@ -22,9 +22,10 @@ pub(crate) fn check<I: Source>(input: &mut I) -> Result<Text, Stop>
     }
 }
 
-/// Whether `check` says yes to an input, or why not. It reaches no allocator.
+// Whether `check` says yes to an input, or why not. It reaches no allocator.
 pub(crate) fn judge_certificate<I: Source>(input: &mut I) -> Result<(), Stop>
-    ensures ending { EndsOn Check (told I.left I.faults input.old input.new) (verdict_ending result) }
+    ensures ending { EndsOn Check (use_of I.left I.faults input.old input.new)
+        (verdict_ending result) }
     ensures count { I.faults input.old ≤ I.faults input.new }
 {
     match judge_text(input) {

@@ -26,13 +26,15 @@ use winner_rules::winner_verdict_law;
 
 /// What a command ends with is fixed by the input's bytes, so it is the same for every number of workers: its text, since a case has one
 /// best division and a division one text; and each other ending, with the members who lack a bid, the limit, the rule, the field and the
-/// line that it names. And an ending that is neither a fault nor a lack of memory is the one that the bytes of the input call for, where it
+/// line that it names. And an ending that is neither a fault nor a lack of memory is the one that the bytes of the input call for, if it
 /// tells them.
 pub fn input_answer_law()
-    ensures one { (command other : InputCommand) (bytes : List ℕ) (ending another : Result (List ℕ) Stop) → AreAlike command other
+    ensures one { (command other : InputCommand) (bytes : List ℕ)
+        (ending another : Result (List ℕ) Stop) → AreAlike command other
         → CallsFor command bytes ending → CallsFor other bytes another → ending ≡ another }
-    ensures ends { (command : InputCommand) (input : ObjectUse) (ending : Result (List ℕ) Stop) → ending ≢ Err ReadFault → ending ≢ Err NoMemory
-        → EndsOn command input ending → IfSome input.bytes_before (λ bytes. CallsFor command bytes ending) }
+    ensures ends { (command : InputCommand) (input : ObjectUse) (ending : Result (List ℕ) Stop)
+        → ending ≢ Err ReadFault → ending ≢ Err NoMemory → EndsOn command input ending
+        → IfSome input.bytes_before (λ bytes. CallsFor command bytes ending) }
 {
     case_law();
     case_in_law();
@@ -60,19 +62,23 @@ pub fn yes_law()
 
 /// What `solve` writes is a certificate whose rules all hold, and for which `check` is to say so.
 pub fn solved_law()
-    ensures judged { (workers : ℕ) (bytes text : List ℕ) → Answers (Solve workers) bytes (Ok text) → IsCertificate text }
-    ensures due { (workers : ℕ) (bytes text : List ℕ) → Answers (Solve workers) bytes (Ok text) → CallsFor Check text (Ok yes_line) }
+    ensures judged { (workers : ℕ) (bytes text : List ℕ) → Answers (Solve workers) bytes (Ok text)
+        → IsCertificate text }
+    ensures due { (workers : ℕ) (bytes text : List ℕ) → Answers (Solve workers) bytes (Ok text)
+        → CallsFor Check text (Ok yes_line) }
 {
     case_law();
     case_in_law();
     certificate_law();
 }
 
-/// Where a judge's status is 0, the certificate prints a valid case and its best division, and the text of adjusted winner a fair
-/// division: so the status alone shows it to a caller that is not written in Rattle.
+/// If a judge's status is 0, the certificate prints a valid case and its best division, and the text of adjusted winner a fair
+/// division: so the status is enough to show it to a caller that is not written in Rattle.
 pub fn status_law()
-    ensures best { (bytes : List ℕ) (size : ℕ) (before after : List ℕ) → Replies Check bytes 0 size before after → PrintsBest bytes }
-    ensures fair { (bytes : List ℕ) (size : ℕ) (before after : List ℕ) → Replies CheckWinner bytes 0 size before after → PrintsFair bytes }
+    ensures best { (bytes : List ℕ) (size : ℕ) (before after : List ℕ)
+        → Replies Check bytes 0 size before after → PrintsBest bytes }
+    ensures fair { (bytes : List ℕ) (size : ℕ) (before after : List ℕ)
+        → Replies CheckWinner bytes 0 size before after → PrintsFair bytes }
 {
     yes_law();
 }

@@ -2,9 +2,9 @@
 ghost use Rattle.std.specs.Prelude.{◌≤◌};
 ghost use Rattle.bid_rules.specs.Goods.{IsValidGoodsCase};
 ghost use Rattle.command_results.specs.Endings.{ending_of, verdict_ending};
-ghost use Rattle.command_results.specs.ObjectUse.{told};
+ghost use Rattle.command_results.specs.ObjectUse.{use_of};
 ghost use Rattle.split_json.specs.Proposals.{IsReadyGoods, goods_case_in};
-ghost use Rattle.split_json.specs.Reading.{shown};
+ghost use Rattle.split_json.specs.Reading.{case_data_of};
 ghost use Rattle.input_commands.specs.Answers.{OfBody, OfPair};
 ghost use Rattle.input_commands.specs.Ends.{EndsOn};
 ghost use Rattle.input_commands.specs.Steps.{OfPlayers, UpToMemory};
@@ -22,7 +22,7 @@ use split_json::{CaseInput, read_goods};
 use std::alloc::Global;
 use winner_rules::check_pair_text;
 
-/// The text of adjusted winner on the case of goods that the bytes hold.
+// The text of adjusted winner on the case of goods that the bytes hold.
 pub(crate) fn pair(alloc: Global, bytes: &[u8]) -> Result<Text, Stop>
     ensures { UpToMemory (OfBody goods_case_in OfPair bytes.now) (ending_of result) }
 {
@@ -33,10 +33,10 @@ pub(crate) fn pair(alloc: Global, bytes: &[u8]) -> Result<Text, Stop>
     }
 }
 
-/// The text on the case that facts and bids make.
+// The text on the case that facts and bids make.
 fn pair_case(alloc: Global, input: &CaseInput) -> Result<Text, Stop>
-    requires { IsReadyGoods (shown input.now) }
-    ensures { UpToMemory (OfPair (shown input.now)) (ending_of result) }
+    requires { IsReadyGoods (case_data_of input.now) }
+    ensures { UpToMemory (OfPair (case_data_of input.now)) (ending_of result) }
 {
     match goods_case(input) {
         Ok(case) => pair_players(alloc, &case),
@@ -44,7 +44,7 @@ fn pair_case(alloc: Global, input: &CaseInput) -> Result<Text, Stop>
     }
 }
 
-/// The text on a case, where it has two players.
+// The text on a case, if it has two players.
 fn pair_players(alloc: Global, case: &GoodsCase) -> Result<Text, Stop>
     requires { IsValidGoodsCase case.now }
     ensures { UpToMemory (OfPlayers case.now) (ending_of result) }
@@ -58,9 +58,10 @@ fn pair_players(alloc: Global, case: &GoodsCase) -> Result<Text, Stop>
     }
 }
 
-/// How `checkwinner` ends on an input.
+// How `checkwinner` ends on an input.
 pub(crate) fn check_pair<I: Source>(input: &mut I) -> Result<Text, Stop>
-    ensures ending { EndsOn CheckWinner (told I.left I.faults input.old input.new) (ending_of result) }
+    ensures ending { EndsOn CheckWinner (use_of I.left I.faults input.old input.new)
+        (ending_of result) }
     ensures count { I.faults input.old ≤ I.faults input.new }
 {
     match judge_pair(input) {
@@ -69,9 +70,10 @@ pub(crate) fn check_pair<I: Source>(input: &mut I) -> Result<Text, Stop>
     }
 }
 
-/// Whether `checkwinner` says yes to an input, or why not. It reaches no allocator.
+// Whether `checkwinner` says yes to an input, or why not. It reaches no allocator.
 pub(crate) fn judge_pair<I: Source>(input: &mut I) -> Result<(), Stop>
-    ensures ending { EndsOn CheckWinner (told I.left I.faults input.old input.new) (verdict_ending result) }
+    ensures ending { EndsOn CheckWinner (use_of I.left I.faults input.old input.new)
+        (verdict_ending result) }
     ensures count { I.faults input.old ≤ I.faults input.new }
 {
     match check_pair_text(input) {

@@ -9,7 +9,7 @@ ghost use Rattle.goods_audit.specs.Domination.{IsBetterDivision};
 ghost use Rattle.goods_audit.specs.Texts.{IsAuditText};
 ghost use Rattle.split_reports.specs.Names.{names_of};
 ghost use Rattle.split_json.specs.Proposals.{IsReadyProposal, proposal_in};
-ghost use Rattle.split_json.specs.Reading.{IsReady, shown};
+ghost use Rattle.split_json.specs.Reading.{IsReady, case_data_of};
 ghost use Rattle.input_commands.specs.Answers.{OfBody, OfOwners, OfProposal};
 ghost use Rattle.input_commands.specs.Steps.{UpToMemory};
 
@@ -24,7 +24,7 @@ use split_base::NoMemory;
 use split_json::{CaseInput, read_proposal};
 use std::alloc::Global;
 
-/// The audit of the proposed division that the bytes hold.
+// The audit of the proposed division that the bytes hold.
 pub(crate) fn weigh(alloc: Global, bytes: &[u8]) -> Result<Text, Stop>
     ensures { UpToMemory (OfBody proposal_in OfProposal bytes.now) (ending_of result) }
 {
@@ -35,10 +35,10 @@ pub(crate) fn weigh(alloc: Global, bytes: &[u8]) -> Result<Text, Stop>
     }
 }
 
-/// The audit of a proposal: facts and bids, and by good the number of the member who is to own it. There is a case, since an owner has bid.
+// The audit of a proposal: facts and bids, and by good the number of the member who is to own it. There is a case, since an owner has bid.
 fn weigh_proposal(alloc: Global, input: &CaseInput, members: &[u8]) -> Result<Text, Stop>
-    requires { IsReadyProposal (shown input.now) members.now }
-    ensures { UpToMemory (OfProposal (shown input.now, members.now)) (ending_of result) }
+    requires { IsReadyProposal (case_data_of input.now) members.now }
+    ensures { UpToMemory (OfProposal (case_data_of input.now, members.now)) (ending_of result) }
 {
     match goods_case(input) {
         Ok(case) => {
@@ -49,18 +49,19 @@ fn weigh_proposal(alloc: Global, input: &CaseInput, members: &[u8]) -> Result<Te
     }
 }
 
-/// The audit of a division of a case, with the least one that dominates it.
+// The audit of a division of a case, with the least one that dominates it.
 fn weigh_owners(
     alloc: Global,
     input: &CaseInput,
     case: &GoodsCase,
     owners: &[u8],
 ) -> Result<Text, Stop>
-    requires input { IsReady (shown input.now) }
+    requires input { IsReady (case_data_of input.now) }
     requires case { case_of input.now.facts input.now.bids.items ≡ Ok (Goods case.now) }
     requires each { length owners.now ≡ case.now.facts.goods }
     requires owners { AreOwners case.now owners.now }
-    ensures { UpToMemory (OfOwners (shown input.now) case.now owners.now) (ending_of result) }
+    ensures { UpToMemory (OfOwners (case_data_of input.now) case.now owners.now)
+        (ending_of result) }
 {
     case_law();
     match dominating(case, owners) {
@@ -72,7 +73,7 @@ fn weigh_owners(
     }
 }
 
-/// The audit of a division beside the least one that dominates it, where there is one.
+// The audit of a division beside the least one that dominates it, if there is one.
 fn audit_beside(
     alloc: Global,
     input: &CaseInput,
@@ -80,12 +81,14 @@ fn audit_beside(
     owners: &[u8],
     better: &Option<ArrayVec<u8, ITEM_ROOM>>,
 ) -> Result<Vec<u8>, NoMemory>
-    requires input { IsReady (shown input.now) }
+    requires input { IsReady (case_data_of input.now) }
     requires case { case_of input.now.facts input.now.bids.items ≡ Ok (Goods case.now) }
     requires each { length owners.now ≡ case.now.facts.goods }
     requires owners { AreOwners case.now owners.now }
     requires better { IsBetterDivision case.now (in_search_order case.now owners.now) better.now }
-    ensures { IfOk result (λ text. IsAuditText (names_of (shown input.now)) case.now owners.now (option_map (λ others. others.items) better.now) text.items) }
+    ensures { IfOk result (λ text.
+        IsAuditText (names_of (case_data_of input.now)) case.now owners.now
+        (option_map (λ others. others.items) better.now) text.items) }
 {
     owners_by_good_law();
     match better {

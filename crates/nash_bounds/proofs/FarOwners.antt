@@ -9,7 +9,7 @@ use Rattle.bid_rules.specs.declared.pair.Pair.{Pair}
 use Rattle.bid_rules.specs.Goods.{player_count, points}
 use Rattle.bid_rules.specs.Pairs.{positives, product, nash_welfare, IsLess}
 use Rattle.nash_bounds.specs.Bound.{IsBetween, IsBound}
-use Rattle.nash_bounds.specs.Levels.{entry_at, filled}
+use Rattle.nash_bounds.specs.Levels.{entry_at, entries_at_level}
 use Rattle.nash_bounds.specs.Prefixes.{prefix_bound}
 use Rattle.nash_bounds.specs.Lanes.{IsFork, HasFreeGood, next_good}
 use Rattle.nash_bounds.specs.Reach.{IsFlat, entries_at}
@@ -99,19 +99,19 @@ far_by_product lanes flat i points shares after over pair us span is l after_is 
     let some : 1 ≤ level = let few = short.0 in omega arith in
     let n = entries_length level lanes.low lanes.high (omega arith) in
     let before_is : before ≡ get_or old i 0 = ap (λ xs. get_or xs i 0) is.is_entries in
-    let new : filled level 0 lows highs ≡ set old i after =
+    let new : entries_at_level level 0 lows highs ≡ set old i after =
     filled_zero level lows highs ∙ entries_set level lanes.low lanes.high i (get_or lanes.low i 0 + points) (get_or lanes.high i 0 + points) (omega arith) ∙ ap (set old i) (sym after_is) in
     let sums : sum (set old i after) + get_or old i 0 ≡ sum old + after = sum_set old i after (omega arith) in
-    let new_sum : sum (filled level 0 lows highs) ≡ sum (set old i after) = ap sum new in
+    let new_sum : sum (entries_at_level level 0 lows highs) ≡ sum (set old i after) = ap sum new in
     let spare = is.is_spare in
     let top : sum us ≤ lanes.top + points = within.total in
-    let fits : sum us ≤ sum (filled level 0 lows highs) + over = omega arith in
-    let positive : positives us ≡ positives (filled level 0 lows highs) = same ∙ sym (entries_positive level lows highs some order) ∙ ap positives (sym (filled_zero level lows highs)) in
+    let fits : sum us ≤ sum (entries_at_level level 0 lows highs) + over = omega arith in
+    let positive : positives us ≡ positives (entries_at_level level 0 lows highs) = same ∙ sym (entries_positive level lows highs some order) ∙ ap positives (sym (filled_zero level lows highs)) in
     let near = slack_at level over lows highs us some order within.above within.below positive fits short.0 in
-    let ratio : product (filled level 0 lows highs) * max before 1 ≡ product old * max after 1 =
+    let ratio : product (entries_at_level level 0 lows highs) * max before 1 ≡ product old * max after 1 =
     ap (λ xs. product xs * max before 1) new ∙ ap (λ v. product (set old i after) * max v 1) before_is ∙ product_set old i after (omega arith) in
     let less : product old * SHARES < shares * pair.product = subst (λ v. v * SHARES < shares * pair.product) is.is_product above in
-    below_shares (product us) (2 * level - over) (2 * level + over) (product (filled level 0 lows highs)) (product old) (max before 1) (max after 1) shares pair.product near ratio less short.1
+    below_shares (product us) (2 * level - over) (2 * level + over) (product (entries_at_level level 0 lows highs)) (product old) (max before 1) (max after 1) shares pair.product near ratio less short.1
 
 -- where a lane is far, each list allowed has a smaller pair
 far_less : (lanes : Lanes) (flat : Flat) (i points shares : ℕ) (pair : Pair) (us : List ℕ) → IsSpan lanes → IsFlat lanes flat → i < LANES

@@ -4,7 +4,7 @@ use Rattle.std.specs.List.{AllZip}
 use Rattle.std.proofs.lemmas.Bool.{cases_lt}
 use Rattle.std.proofs.Math.Nat.{mul-le-mul_right, le_of_mul-le-mul_right}
 use Rattle.bid_rules.specs.Pairs.{positives, product}
-use Rattle.nash_bounds.specs.Levels.{filled}
+use Rattle.nash_bounds.specs.Levels.{entries_at_level}
 use Rattle.nash_bounds.proofs.LevelReach.{slack}
 
 -- the numbers of the test by units: a product u is below P
@@ -28,7 +28,7 @@ below_units u d e C' C c n p P q M some units near ratio above test =
     ]
 
 -- a list with as many positive entries and at most s points more than those at the level has at most their product times (2 * level + s) / (2 * level - s)
-pub slack_at : (level s : ℕ) (lows highs us : List ℕ) → 1 ≤ level → AllZip ◌≤◌ lows highs → AllZip ◌≤◌ lows us → AllZip ◌≤◌ us highs → positives us ≡ positives (filled level 0 lows highs)
-    → sum us ≤ sum (filled level 0 lows highs) + s → s < 2 * level → product us * (2 * level - s) ≤ product (filled level 0 lows highs) * (2 * level + s)
+pub slack_at : (level s : ℕ) (lows highs us : List ℕ) → 1 ≤ level → AllZip ◌≤◌ lows highs → AllZip ◌≤◌ lows us → AllZip ◌≤◌ us highs → positives us ≡ positives (entries_at_level level 0 lows highs)
+    → sum us ≤ sum (entries_at_level level 0 lows highs) + s → s < 2 * level → product us * (2 * level - s) ≤ product (entries_at_level level 0 lows highs) * (2 * level + s)
 slack_at zero s lows highs us one order above below same fits few = absurd (omega arith)
 slack_at (suc m) s lows highs us one order above below same fits few = slack m s lows highs us order above below same fits few

@@ -5,7 +5,7 @@ use Rattle.std.proofs.lemmas.List.Sums.{sum_by-cons}
 use Rattle.std.proofs.lemmas.Bool.{cases_order}
 use Rattle.std.proofs.Math.Nat.{mul-le-mul, mul-le-mul_left, mul-pos, le_of_mul-le-mul_right, le_of_mul-le-mul_left}
 use Rattle.bid_rules.specs.Pairs.{positives, product, nash_welfare, IsAtMost}
-use Rattle.nash_bounds.specs.Levels.{entry_at, filled}
+use Rattle.nash_bounds.specs.Levels.{entry_at, entries_at_level}
 use Rattle.nash_bounds.specs.Bound.{IsBetween, IsBound}
 use Rattle.nash_bounds.proofs.WeightRatios.{weight, power, power-add, weight_pos, power_pos, power_le, against}
 
@@ -68,7 +68,7 @@ FitsLevel level (low ∷ lows) (x ∷ xs) [] = ⊥
 FitsLevel level (low ∷ lows) (x ∷ xs) (high ∷ highs) = ((x < high → level ≤ x) × (low < x → x ≤ suc level)) × FitsLevel level lows xs highs
 
 -- the entries at a level do
-pub filled_fits : (level extra : ℕ) (lows highs : List ℕ) → AllZip ◌≤◌ lows highs → FitsLevel level lows (filled level extra lows highs) highs
+pub filled_fits : (level extra : ℕ) (lows highs : List ℕ) → AllZip ◌≤◌ lows highs → FitsLevel level lows (entries_at_level level extra lows highs) highs
 filled_fits level extra [] [] a = tt
 filled_fits level extra [] (high ∷ highs) a = absurd a
 filled_fits level extra (low ∷ lows) [] a = absurd a

@@ -8,7 +8,7 @@ use Rattle.bid_rules.specs.declared.pair.Pair.{Pair}
 use Rattle.bid_rules.specs.Pairs.{positives, product, IsLess}
 use Rattle.nash_bounds.specs.Bound.{IsBetween}
 use Rattle.nash_bounds.specs.Goals.{IsAbove, IsGoal, IsShort, is_reached}
-use Rattle.nash_bounds.specs.Levels.{bound_of, filled}
+use Rattle.nash_bounds.specs.Levels.{bound_of, entries_at_level}
 use Rattle.nash_bounds.specs.Reach.{IsFitting, IsSpan, entries_at}
 use Rattle.nash_bounds.specs.declared.fitting.Fitting.{Fitting}
 use Rattle.nash_bounds.specs.declared.goals.Goal.{Goal}
@@ -125,12 +125,12 @@ short_reach lanes at goal beyond span is one is_goal same short =
         let value : product us ≡ (bound_of lows highs lanes.top).product = ap (λ (pair : Pair). pair.product) is_bound.reached.2 in
         let counted : positives us ≡ (bound_of lows highs lanes.top).count = ap (λ (pair : Pair). pair.count) is_bound.reached.2 in
         let all = entries_positive at.level lows highs one span.in_order in
-        let flat : filled at.level 0 lows highs ≡ entries_at at.level lows highs = filled_zero at.level lows highs in
-        let positive : positives us ≡ positives (filled at.level 0 lows highs) = (let e = ap positives flat in omega arith) in
-        let fits : sum us ≤ sum (filled at.level 0 lows highs) + at.spare = (let e = ap sum flat in let s = is.is_spare in let t = is_bound.reached.1.total in omega arith) in
+        let flat : entries_at_level at.level 0 lows highs ≡ entries_at at.level lows highs = filled_zero at.level lows highs in
+        let positive : positives us ≡ positives (entries_at_level at.level 0 lows highs) = (let e = ap positives flat in omega arith) in
+        let fits : sum us ≤ sum (entries_at_level at.level 0 lows highs) + at.spare = (let e = ap sum flat in let s = is.is_spare in let t = is_bound.reached.1.total in omega arith) in
         let near = slack_at at.level at.spare lows highs us one span.in_order is_bound.reached.1.above is_bound.reached.1.below positive fits short.0 in
-        let same_product : product (filled at.level 0 lows highs) * 1 ≡ product (entries_at at.level lows highs) * 1 = ap (λ xs. product xs * 1) flat in
+        let same_product : product (entries_at_level at.level 0 lows highs) * 1 ≡ product (entries_at at.level lows highs) * 1 = ap (λ xs. product xs * 1) flat in
         let test : short.1 * (1 * (2 * at.level + at.spare)) < goal.units * (1 * (2 * at.level - at.spare)) = (let t = short.3 in omega arith) in
-        let less = below_units (product us) (2 * at.level - at.spare) (2 * at.level + at.spare) (product (filled at.level 0 lows highs)) (product (entries_at at.level lows highs)) 1 1 goal.units goal.pair.product short.1 (2 ^ goal.shift)
+        let less = below_units (product us) (2 * at.level - at.spare) (2 * at.level + at.spare) (product (entries_at_level at.level 0 lows highs)) (product (entries_at at.level lows highs)) 1 1 goal.units goal.pair.product short.1 (2 ^ goal.shift)
         (pow_pos goal.shift) is_goal.within near same_product above test in
         omega arith

@@ -4,13 +4,13 @@ use Rattle.std.specs.List.{AllZip, range_with_len}
 use Rattle.std.proofs.lemmas.List.Sums.{sum_by-cons}
 use Rattle.bid_rules.specs.declared.pair.Pair.{Pair}
 use Rattle.bid_rules.specs.Pairs.{positives, product, nash_welfare}
-use Rattle.nash_bounds.specs.Levels.{entry_at, level_sum, level_under, filled, bound_of}
+use Rattle.nash_bounds.specs.Levels.{entry_at, level_sum, level_under, entries_at_level, bound_of}
 use Rattle.nash_bounds.specs.Reach.{entries_at}
 use Rattle.bid_rules.specs.declared.limits.TheConstants.{WHOLE_POINTS}
 use Rattle.nash_bounds.specs.declared.limits.TheConstants.{LANES}
 
 -- with nothing left over the raised entries are those at the level
-pub filled_zero : (level : ℕ) (lows highs : List ℕ) → filled level 0 lows highs ≡ entries_at level lows highs
+pub filled_zero : (level : ℕ) (lows highs : List ℕ) → entries_at_level level 0 lows highs ≡ entries_at level lows highs
 filled_zero level [] highs = refl
 filled_zero level (low ∷ lows) [] = refl
 filled_zero level (low ∷ lows) (high ∷ highs) =
@@ -135,7 +135,7 @@ level_filled_up level k (low ∷ lows) [] e = absurd (omega arith)
 level_filled_up level k (low ∷ lows) (high ∷ highs) e = ap (λ n. entry_at level low high + n) (level_filled_up level k lows highs (omega arith))
 
 -- zeros stay zeros where all is raised
-filled_zeros : (level extra k : ℕ) → filled level extra (zeros k) (zeros k) ≡ zeros k
+filled_zeros : (level extra k : ℕ) → entries_at_level level extra (zeros k) (zeros k) ≡ zeros k
 unfolding zeros
 filled_zeros level extra zero = refl
 filled_zeros level extra (suc k) =
@@ -144,7 +144,7 @@ filled_zeros level extra (suc k) =
     rw (e, n) (ap (λ xs. 0 ∷ xs) (filled_zeros level extra k))
 
 -- lists filled up with zeros are raised as before, and filled up so
-filled_filled_up : (level extra k : ℕ) (lows highs : List ℕ) → length lows ≡ length highs → filled level extra (lows ++ zeros k) (highs ++ zeros k) ≡ filled level extra lows highs ++ zeros k
+filled_filled_up : (level extra k : ℕ) (lows highs : List ℕ) → length lows ≡ length highs → entries_at_level level extra (lows ++ zeros k) (highs ++ zeros k) ≡ entries_at_level level extra lows highs ++ zeros k
 filled_filled_up level extra k [] [] e = filled_zeros level extra k
 filled_filled_up level extra k [] (high ∷ highs) e = absurd (omega arith)
 filled_filled_up level extra k (low ∷ lows) [] e = absurd (omega arith)
@@ -202,10 +202,10 @@ pub bound_filled_up : (k : ℕ) (lows highs : List ℕ) (top : ℕ) → length l
 unfolding bound_of
 bound_filled_up k lows highs top e =
     let level = level_under WHOLE_POINTS lows highs top in
-    let xs = filled level (top - level_sum level lows highs) lows highs in
-    let same : filled (level_under WHOLE_POINTS (lows ++ zeros k) (highs ++ zeros k) top) (top - level_sum (level_under WHOLE_POINTS (lows ++ zeros k) (highs ++ zeros k) top) (lows ++ zeros k) (highs ++ zeros k)) (lows ++ zeros k) (highs ++ zeros k) ≡ xs ++ zeros k =
-    ap (λ n. filled n (top - level_sum n (lows ++ zeros k) (highs ++ zeros k)) (lows ++ zeros k) (highs ++ zeros k)) (under_filled_up WHOLE_POINTS k lows highs top e)
-    ∙ ap (λ n. filled level (top - n) (lows ++ zeros k) (highs ++ zeros k)) (level_filled_up level k lows highs e)
+    let xs = entries_at_level level (top - level_sum level lows highs) lows highs in
+    let same : entries_at_level (level_under WHOLE_POINTS (lows ++ zeros k) (highs ++ zeros k) top) (top - level_sum (level_under WHOLE_POINTS (lows ++ zeros k) (highs ++ zeros k) top) (lows ++ zeros k) (highs ++ zeros k)) (lows ++ zeros k) (highs ++ zeros k) ≡ xs ++ zeros k =
+    ap (λ n. entries_at_level n (top - level_sum n (lows ++ zeros k) (highs ++ zeros k)) (lows ++ zeros k) (highs ++ zeros k)) (under_filled_up WHOLE_POINTS k lows highs top e)
+    ∙ ap (λ n. entries_at_level level (top - n) (lows ++ zeros k) (highs ++ zeros k)) (level_filled_up level k lows highs e)
     ∙ filled_filled_up level (top - level_sum level lows highs) k lows highs e in
     ap nash_welfare same
     ∙ ap (λ n. let q : Pair = record { count = n; product = product (xs ++ zeros k) } in q) (positives_filled_up k xs)

@@ -11,7 +11,7 @@ use Rattle.nash_bounds.proofs.LaneEntries.{entries_length, entries_get, zeros, z
 use Rattle.std.proofs.lemmas.List.Sums.{sum_by-cons}
 use Rattle.bid_rules.specs.Pairs.{positives, product, nash_welfare}
 use Rattle.bid_rules.specs.declared.pair.Pair.{Pair}
-use Rattle.nash_bounds.specs.Levels.{entry_at, level_sum, filled, lifted}
+use Rattle.nash_bounds.specs.Levels.{entry_at, level_sum, entries_at_level, with_extra_points}
 use Rattle.nash_bounds.specs.Reach.{entries_at}
 use Rattle.nash_bounds.proofs.NextEntries.{sum_within}
 use Rattle.bid_rules.specs.declared.limits.TheConstants.{WHOLE_POINTS}
@@ -99,7 +99,7 @@ entries_rise level (low ∷ lows) [] = tt
 entries_rise level (low ∷ lows) (high ∷ highs) = (omega arith, entries_rise level lows highs)
 
 -- the raised entries are those at the level, lifted to those at the next
-pub filled_lifted : (level extra : ℕ) (lows highs : List ℕ) → filled level extra lows highs ≡ lifted extra (entries_at level lows highs) (entries_at (suc level) lows highs)
+pub filled_lifted : (level extra : ℕ) (lows highs : List ℕ) → entries_at_level level extra lows highs ≡ with_extra_points extra (entries_at level lows highs) (entries_at (suc level) lows highs)
 filled_lifted level extra [] highs = refl
 filled_lifted level extra (low ∷ lows) [] = refl
 filled_lifted level extra (low ∷ lows) (high ∷ highs) =
@@ -128,7 +128,7 @@ positives_taken zero (x ∷ xs) none =
 positives_taken (suc n) (x ∷ xs) none = ap (λ p. min x 1 + p) (positives_taken n xs (λ k l. none (suc k) (omega arith)))
 
 -- the first entries are lifted as before
-lifted_take : (n extra : ℕ) (entries above : List ℕ) → lifted extra (take n entries) (take n above) ≡ take n (lifted extra entries above)
+lifted_take : (n extra : ℕ) (entries above : List ℕ) → with_extra_points extra (take n entries) (take n above) ≡ take n (with_extra_points extra entries above)
 lifted_take zero extra [] above = refl
 lifted_take zero extra (entry ∷ entries) [] = refl
 lifted_take zero extra (entry ∷ entries) (most ∷ above) = refl
@@ -137,7 +137,7 @@ lifted_take (suc n) extra (entry ∷ entries) [] = refl
 lifted_take (suc n) extra (entry ∷ entries) (most ∷ above) = ap (λ xs. (entry + min extra (most - entry)) ∷ xs) (lifted_take n (extra - (most - entry)) entries above)
 
 -- an entry that cannot be above 0 stays 0
-lifted_none : (extra : ℕ) (entries above : List ℕ) (k : ℕ) → AllZip ◌≤◌ entries above → get_or above k 0 ≡ 0 → get_or (lifted extra entries above) k 0 ≡ 0
+lifted_none : (extra : ℕ) (entries above : List ℕ) (k : ℕ) → AllZip ◌≤◌ entries above → get_or above k 0 ≡ 0 → get_or (with_extra_points extra entries above) k 0 ≡ 0
 lifted_none extra [] above k order none = refl
 lifted_none extra (entry ∷ entries) [] k order none = refl
 lifted_none extra (entry ∷ entries) (most ∷ above) zero order none = (let l : entry ≤ most = order.0 in omega arith)
@@ -145,9 +145,9 @@ lifted_none extra (entry ∷ entries) (most ∷ above) (suc k) order none = lift
 
 -- the pair of the first entries is that of all, where the others cannot be above 0
 pub lifted_taken : (n extra : ℕ) (entries above : List ℕ) → AllZip ◌≤◌ entries above → ((k : ℕ) → n ≤ k → get_or above k 0 ≡ 0)
-    → nash_welfare (lifted extra (take n entries) (take n above)) ≡ nash_welfare (lifted extra entries above)
+    → nash_welfare (with_extra_points extra (take n entries) (take n above)) ≡ nash_welfare (with_extra_points extra entries above)
 lifted_taken n extra entries above order none =
-    let all = lifted extra entries above in
+    let all = with_extra_points extra entries above in
     let rest : (k : ℕ) → n ≤ k → get_or all k 0 ≡ 0 = λ k l. lifted_none extra entries above k order (none k l) in
     ap nash_welfare (lifted_take n extra entries above)
     ∙ ap (λ m. let q : Pair = record { count = m; product = product (take n all) } in q) (positives_taken n all rest)

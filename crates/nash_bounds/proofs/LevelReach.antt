@@ -4,7 +4,7 @@ use Rattle.std.proofs.Common.{◌≡◌, ℕ, suc, zero, ◌+◌, ◌*◌, ◌-�
 use Rattle.std.specs.List.{AllZip}
 use Rattle.std.proofs.Math.Nat.{mul-le-mul_left, mul-le-mul_right, le_of_mul-le-mul_right, le_of_mul-le-mul_left}
 use Rattle.bid_rules.specs.Pairs.{positives, product}
-use Rattle.nash_bounds.specs.Levels.{filled}
+use Rattle.nash_bounds.specs.Levels.{entries_at_level}
 use Rattle.nash_bounds.proofs.WeightRatios.{weight, power, power-add, power_pos}
 use Rattle.nash_bounds.proofs.GreatestPair.{weights, weights_are, weigh, lighter, filled_fits}
 
@@ -31,11 +31,11 @@ steps a (suc s) l =
     key_step s e a is = rw is (let h : (s + e + 1) * (e + 1) * (s + e + 1 + suc s) ≡ (s + e + 1 + 2) * (s + e + 1 + s) * e + (2 * (s * s) + 2 * (s + e + 1) + 2 * s) = omega arith in omega arith)
 
 -- entries at a level against any others with s points more, where as many are positive
-pub slack : (m s : ℕ) (lows highs us : List ℕ) → AllZip ◌≤◌ lows highs → AllZip ◌≤◌ lows us → AllZip ◌≤◌ us highs → positives us ≡ positives (filled (suc m) 0 lows highs)
-    → sum us ≤ sum (filled (suc m) 0 lows highs) + s → s < 2 * suc m → product us * (2 * suc m - s) ≤ product (filled (suc m) 0 lows highs) * (2 * suc m + s)
+pub slack : (m s : ℕ) (lows highs us : List ℕ) → AllZip ◌≤◌ lows highs → AllZip ◌≤◌ lows us → AllZip ◌≤◌ us highs → positives us ≡ positives (entries_at_level (suc m) 0 lows highs)
+    → sum us ≤ sum (entries_at_level (suc m) 0 lows highs) + s → s < 2 * suc m → product us * (2 * suc m - s) ≤ product (entries_at_level (suc m) 0 lows highs) * (2 * suc m + s)
 unfolding weight
 slack m s lows highs us order above below same fits few =
-    let xs = filled (suc m) 0 lows highs in
+    let xs = entries_at_level (suc m) 0 lows highs in
     let a = 2 * suc m in
     let b = 2 * suc (suc m) in
     let U = sum us in

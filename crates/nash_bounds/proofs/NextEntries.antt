@@ -4,12 +4,12 @@ use Rattle.std.proofs.Math.Nat.{mul-le-mul, pow-suc, pow-le-pow_right}
 use Rattle.bid_rules.specs.Pairs.{positives, product}
 use Rattle.std.proofs.lemmas.List.Sums.{sum_by-cons}
 use Rattle.std.proofs.lemmas.List.Elements.{All-head, All-tail}
-use Rattle.nash_bounds.specs.Levels.{lifted}
+use Rattle.nash_bounds.specs.Levels.{with_extra_points}
 use Rattle.bid_rules.specs.declared.limits.TheConstants.{MEMBER_ROOM, WHOLE_POINTS}
 
 -- the lifted entries from one place on: the first, and the rest
 pub lifted_next : (extra : ℕ) (entries above : List ℕ) (i step : ℕ) → i < length entries → i < length above → step ≡ min (get_or above i 0 - get_or entries i 0) extra
-    → lifted extra (drop i entries) (drop i above) ≡ (get_or entries i 0 + step) ∷ lifted (extra - step) (drop (i + 1) entries) (drop (i + 1) above)
+    → with_extra_points extra (drop i entries) (drop i above) ≡ (get_or entries i 0 + step) ∷ with_extra_points (extra - step) (drop (i + 1) entries) (drop (i + 1) above)
 lifted_next extra entries above i step a b is =
     let one : drop i entries ≡ get_or entries i 0 ∷ drop (suc i) entries = drop-cons entries i 0 a in
     let two : drop i above ≡ get_or above i 0 ∷ drop (suc i) above = drop-cons above i 0 b in

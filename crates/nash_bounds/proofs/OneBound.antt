@@ -7,7 +7,7 @@ use Rattle.bid_rules.specs.declared.pair.Pair.{Pair}
 use Rattle.split_lemmas.proofs.PairOrder.{same_from_at_most}
 use Rattle.bid_rules.specs.Pairs.{IsAtMost}
 use Rattle.nash_bounds.specs.Bound.{IsBound}
-use Rattle.nash_bounds.specs.Levels.{level_sum, filled, level_under, bound_of}
+use Rattle.nash_bounds.specs.Levels.{level_sum, entries_at_level, level_under, bound_of}
 use Rattle.nash_bounds.specs.Raised.{Reaches}
 use Rattle.nash_bounds.proofs.RaisedEntries.{level_start, level_full, filled_full, filled_sum, is_bound}
 use Rattle.bid_rules.specs.declared.limits.TheConstants.{WHOLE_POINTS}
@@ -51,7 +51,7 @@ reaches low high top level order small l fits (inl e) =
         let is = level_full low high order small in
         let same = filled_full (top - level_sum WHOLE_POINTS low high) low high order small in
         let total = filled_sum WHOLE_POINTS 0 low high in
-        let e : sum (filled WHOLE_POINTS 0 low high) ≡ sum high = ap sum is in
+        let e : sum (entries_at_level WHOLE_POINTS 0 low high) ≡ sum high = ap sum is in
         (omega arith, inr (same, omega arith))
 
 -- the pair of the entries raised as high as fits is the bound

@@ -3,7 +3,7 @@ use Rattle.std.proofs.Common.{◌≡◌, ℕ, suc, ◌+◌, ◌-◌, ◌≤◌, 
 use Rattle.std.specs.List.{AllZip}
 use Rattle.std.proofs.lemmas.List.Sums.{sum_by-cons}
 use Rattle.std.proofs.lemmas.List.Elements.{All-head, All-tail}
-use Rattle.nash_bounds.specs.Levels.{entry_at, filled, level_sum}
+use Rattle.nash_bounds.specs.Levels.{entry_at, entries_at_level, level_sum}
 use Rattle.nash_bounds.specs.Raised.{Reaches}
 use Rattle.nash_bounds.specs.Bound.{IsBound}
 use Rattle.bid_rules.specs.Pairs.{nash_welfare}
@@ -11,7 +11,7 @@ use Rattle.nash_bounds.proofs.GreatestPair.{filled_fits, fitting_bound}
 use Rattle.bid_rules.specs.declared.limits.TheConstants.{WHOLE_POINTS}
 
 -- no entry that is raised is below its low
-pub above_low : (level extra : ℕ) (lows highs : List ℕ) → AllZip ◌≤◌ lows highs → AllZip ◌≤◌ lows (filled level extra lows highs)
+pub above_low : (level extra : ℕ) (lows highs : List ℕ) → AllZip ◌≤◌ lows highs → AllZip ◌≤◌ lows (entries_at_level level extra lows highs)
 above_low level extra [] highs h = tt
 above_low level extra (low ∷ lows) [] h = absurd h
 above_low level extra (low ∷ lows) (high ∷ highs) h =
@@ -19,7 +19,7 @@ above_low level extra (low ∷ lows) (high ∷ highs) h =
     (e, above_low level (extra - (entry_at (suc level) low high - entry_at level low high)) lows highs h.1)
 
 -- no entry that is raised is above its high
-pub below_high : (level extra : ℕ) (lows highs : List ℕ) → AllZip ◌≤◌ lows highs → AllZip ◌≤◌ (filled level extra lows highs) highs
+pub below_high : (level extra : ℕ) (lows highs : List ℕ) → AllZip ◌≤◌ lows highs → AllZip ◌≤◌ (entries_at_level level extra lows highs) highs
 below_high level extra [] [] h = tt
 below_high level extra [] (high ∷ highs) h = absurd h
 below_high level extra (low ∷ lows) [] h = absurd h
@@ -36,13 +36,13 @@ level_rises level (low ∷ lows) (high ∷ highs) = let h = level_rises level lo
 
 -- what is left over raises the sum by itself, at most to that of the next level
 pub filled_sum : (level extra : ℕ) (lows highs : List ℕ)
-    → sum (filled level extra lows highs) ≡ level_sum level lows highs + min extra (level_sum (suc level) lows highs - level_sum level lows highs)
+    → sum (entries_at_level level extra lows highs) ≡ level_sum level lows highs + min extra (level_sum (suc level) lows highs - level_sum level lows highs)
 filled_sum level extra [] highs = omega arith
 filled_sum level extra (low ∷ lows) [] = omega arith
 filled_sum level extra (low ∷ lows) (high ∷ highs) =
     let step = entry_at (suc level) low high - entry_at level low high in
     let x = entry_at level low high + min extra step in
-    let xs = filled level (extra - step) lows highs in
+    let xs = entries_at_level level (extra - step) lows highs in
     let e : sum (x ∷ xs) ≡ x + sum xs = sum_by-cons (λ n. n) x xs in
     let h = filled_sum level (extra - step) lows highs in
     let m = level_rises level lows highs in
@@ -62,7 +62,7 @@ level_start (low ∷ lows) (high ∷ highs) h =
     omega arith
 
 -- at the highest level each entry is at its high
-pub level_full : (lows highs : List ℕ) → AllZip ◌≤◌ lows highs → All (λ v. v ≤ WHOLE_POINTS) highs → filled WHOLE_POINTS 0 lows highs ≡ highs
+pub level_full : (lows highs : List ℕ) → AllZip ◌≤◌ lows highs → All (λ v. v ≤ WHOLE_POINTS) highs → entries_at_level WHOLE_POINTS 0 lows highs ≡ highs
 level_full [] [] h a = refl
 level_full [] (high ∷ highs) h a = absurd h
 level_full (low ∷ lows) [] h a = absurd h
@@ -72,7 +72,7 @@ level_full (low ∷ lows) (high ∷ highs) h a =
     let le : low ≤ high = h.0 in
     let e : entry_at WHOLE_POINTS low high + min 0 (entry_at (suc WHOLE_POINTS) low high - entry_at WHOLE_POINTS low high) ≡ high = omega arith in
     let n : 0 - (entry_at (suc WHOLE_POINTS) low high - entry_at WHOLE_POINTS low high) ≡ 0 = omega arith in
-    let rest : filled WHOLE_POINTS 0 lows highs ≡ highs = level_full lows highs h.1 (All-tail P high highs a) in
+    let rest : entries_at_level WHOLE_POINTS 0 lows highs ≡ highs = level_full lows highs h.1 (All-tail P high highs a) in
     rw (e, n) (ap (λ zs. high ∷ zs) rest)
 
 -- and there the sum is that of the highest entries
@@ -80,11 +80,11 @@ pub full_sum : (lows highs : List ℕ) → AllZip ◌≤◌ lows highs → All (
 full_sum lows highs h a =
     let full = level_full lows highs h a in
     let total = filled_sum WHOLE_POINTS 0 lows highs in
-    let e : sum (filled WHOLE_POINTS 0 lows highs) ≡ sum highs = ap sum full in
+    let e : sum (entries_at_level WHOLE_POINTS 0 lows highs) ≡ sum highs = ap sum full in
     omega arith
 
 -- at the last level nothing is left to rise, whatever is left over
-pub filled_full : (extra : ℕ) (lows highs : List ℕ) → AllZip ◌≤◌ lows highs → All (λ v. v ≤ WHOLE_POINTS) highs → filled WHOLE_POINTS extra lows highs ≡ highs
+pub filled_full : (extra : ℕ) (lows highs : List ℕ) → AllZip ◌≤◌ lows highs → All (λ v. v ≤ WHOLE_POINTS) highs → entries_at_level WHOLE_POINTS extra lows highs ≡ highs
 filled_full extra [] [] h a = refl
 filled_full extra [] (high ∷ highs) h a = absurd h
 filled_full extra (low ∷ lows) [] h a = absurd h
@@ -94,10 +94,10 @@ filled_full extra (low ∷ lows) (high ∷ highs) h a =
     let le : low ≤ high = h.0 in
     let e : entry_at WHOLE_POINTS low high + min extra (entry_at (suc WHOLE_POINTS) low high - entry_at WHOLE_POINTS low high) ≡ high = omega arith in
     let n : extra - (entry_at (suc WHOLE_POINTS) low high - entry_at WHOLE_POINTS low high) ≡ extra = omega arith in
-    let rest : filled WHOLE_POINTS extra lows highs ≡ highs = filled_full extra lows highs h.1 (All-tail P high highs a) in
+    let rest : entries_at_level WHOLE_POINTS extra lows highs ≡ highs = filled_full extra lows highs h.1 (All-tail P high highs a) in
     rw (e, n) (ap (λ zs. high ∷ zs) rest)
 
 -- the pair at the level that is reached is the bound
-pub is_bound : (low high : List ℕ) (top level extra : ℕ) → AllZip ◌≤◌ low high → Reaches low high top level extra → IsBound low high top (nash_welfare (filled level extra low high))
+pub is_bound : (low high : List ℕ) (top level extra : ℕ) → AllZip ◌≤◌ low high → Reaches low high top level extra → IsBound low high top (nash_welfare (entries_at_level level extra low high))
 is_bound low high top level extra h reaches =
-    fitting_bound level low (filled level extra low high) high top (filled_fits level extra low high h) (above_low level extra low high h) (below_high level extra low high h) reaches.1
+    fitting_bound level low (entries_at_level level extra low high) high top (filled_fits level extra low high h) (above_low level extra low high h) (below_high level extra low high h) reaches.1

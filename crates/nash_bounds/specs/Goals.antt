@@ -10,7 +10,7 @@ use Rattle.nash_bounds.specs.declared.limits.TheConstants.{UNIT_BITS}
 use Rattle.nash_bounds.specs.FarLanes.{lane_bit}
 use Rattle.nash_bounds.specs.Prefixes.{prefix_bound}
 
--- the second pair is at least the goal, or above it if it has to be beyond
+-- the second pair reaches the goal: it is at least the goal, or above it if that is asked for
 abbrev pub is_reached : Pair → Bool → Pair → Bool
 is_reached goal beyond pair = cond beyond (is_less goal pair) (is_at_most goal pair)
 

@@ -21,7 +21,7 @@ use std::simd::prelude::*;
 pub struct Contenders {
     /// Bit k is set if player k + 1 could.
     pub owners: u64,
-    /// By lane, in points, what the entries at the level leave over of the top where the lane's player gets the good.
+    /// By lane, in points, what the entries at the level leave over of the top if the lane's player gets the good.
     pub over: u16x16,
     /// A level at which the lanes without the good fit.
     pub level: u32,
@@ -49,7 +49,7 @@ impl Contenders {
     }
 }
 
-/// By lane the entry at the level with the lane's points.
+// By lane the entry at the level with the lane's points.
 fn entries_with(low: u16x16, high: u16x16, points: u16x16, level: u32) -> u16x16
     requires lows { length low ≡ LANES }
     requires highs { length high ≡ LANES }
@@ -57,7 +57,10 @@ fn entries_with(low: u16x16, high: u16x16, points: u16x16, level: u32) -> u16x16
     requires order { (k : ℕ) → k < LANES → slice_index low k ≤ slice_index high k }
     requires fits { (k : ℕ) → k < LANES → slice_index high k + slice_index points k ≤ WHOLE_POINTS }
     requires level { level ≤ WHOLE_POINTS }
-    ensures each { (k : ℕ) → k < LANES → slice_index result k ≡ entry_at level (slice_index low k + slice_index points k) (slice_index high k + slice_index points k) }
+    ensures each { (k : ℕ) → k < LANES
+        → slice_index result k
+        ≡ entry_at level (slice_index low k + slice_index points k)
+        (slice_index high k + slice_index points k) }
     ensures long { length result ≡ LANES }
 {
     let low = low.strict_add(points);
@@ -65,7 +68,7 @@ fn entries_with(low: u16x16, high: u16x16, points: u16x16, level: u32) -> u16x16
     entries_of(low, high, level)
 }
 
-/// The number and the lane's, lane by lane.
+// The number and the lane's, lane by lane.
 fn sum_with(number: u32, numbers: u16x16) -> u16x16
     requires numbers { length numbers ≡ LANES }
     requires small { number < 2 ^ 16 }
@@ -76,7 +79,7 @@ fn sum_with(number: u32, numbers: u16x16) -> u16x16
     u16x16::splat(number as u16).strict_add(numbers)
 }
 
-/// The number less the lane's, lane by lane.
+// The number less the lane's, lane by lane.
 fn rest_of(number: u32, numbers: u16x16) -> u16x16
     requires numbers { length numbers ≡ LANES }
     requires small { number < 2 ^ 16 }
@@ -87,21 +90,25 @@ fn rest_of(number: u32, numbers: u16x16) -> u16x16
     u16x16::splat(number as u16).strict_sub(numbers)
 }
 
-/// By lane what is left over where the lane has its points to spare too, and the entry after in place of that before.
+// By lane what is left over if the lane has its points to spare too, and the entry after in place of that before.
 fn left_over(spare: u32, points: u16x16, before: u16x16, after: u16x16) -> u16x16
     requires points { length points ≡ LANES }
     requires befores { length before ≡ LANES }
     requires afters { length after ≡ LANES }
     requires small { spare < 2 ^ 16 }
-    requires fits { (k : ℕ) → k < LANES → spare + slice_index points k + slice_index before k < 2 ^ 16 }
-    requires less { (k : ℕ) → k < LANES → slice_index after k ≤ spare + slice_index points k + slice_index before k }
-    ensures each { (k : ℕ) → k < LANES → slice_index result k ≡ spare + slice_index points k + slice_index before k - slice_index after k }
+    requires fits { (k : ℕ) → k < LANES
+        → spare + slice_index points k + slice_index before k < 2 ^ 16 }
+    requires less { (k : ℕ) → k < LANES
+        → slice_index after k ≤ spare + slice_index points k + slice_index before k }
+    ensures each { (k : ℕ) → k < LANES
+        → slice_index result k
+        ≡ spare + slice_index points k + slice_index before k - slice_index after k }
     ensures long { length result ≡ LANES }
 {
     sum_with(spare, points).strict_add(before).strict_sub(after)
 }
 
-/// The numbers in wider lanes.
+// The numbers in wider lanes.
 fn widened(numbers: u16x16) -> u32x16
     requires { length numbers ≡ LANES }
     ensures each { (k : ℕ) → k < LANES → slice_index result k ≡ slice_index numbers k }
@@ -110,7 +117,7 @@ fn widened(numbers: u16x16) -> u32x16
     numbers.cast::<u32>()
 }
 
-/// By lane the entry's factor in a product.
+// By lane the entry's factor in a product.
 fn factors(entries: u16x16) -> u32x16
     requires { length entries ≡ LANES }
     ensures each { (k : ℕ) → k < LANES → slice_index result k ≡ max (slice_index entries k) 1 }
@@ -119,14 +126,15 @@ fn factors(entries: u16x16) -> u32x16
     widened(entries.simd_max(u16x16::splat(1)))
 }
 
-/// By lane the entry's factor times the number and the shares.
+// By lane the entry's factor times the number and the shares.
 fn weighed(entries: u16x16, numbers: u16x16, shares: u32) -> u32x16
     requires entries { length entries ≡ LANES }
     requires numbers { length numbers ≡ LANES }
     requires small { (k : ℕ) → k < LANES → slice_index entries k ≤ WHOLE_POINTS }
     requires numbers_small { (k : ℕ) → k < LANES → slice_index numbers k ≤ 4 * WHOLE_POINTS }
     requires shares { shares ≤ SHARES }
-    ensures each { (k : ℕ) → k < LANES → slice_index result k ≡ max (slice_index entries k) 1 * slice_index numbers k * shares }
+    ensures each { (k : ℕ) → k < LANES
+        → slice_index result k ≡ max (slice_index entries k) 1 * slice_index numbers k * shares }
     ensures long { length result ≡ LANES }
 {
     factors(entries)
@@ -134,16 +142,17 @@ fn weighed(entries: u16x16, numbers: u16x16, shares: u32) -> u32x16
         .strict_mul(u32x16::splat(shares))
 }
 
-/// Bit k is set if lane k of the first is at least that of the second.
+// Bit k is set if lane k of the first is at least that of the second.
 fn at_least(first: u32x16, second: u32x16) -> u64
     requires first { length first ≡ LANES }
     requires second { length second ≡ LANES }
-    ensures { (k : ℕ) → k < LANES → lane_bit result k ≡ cond (nat_le (slice_index second k) (slice_index first k)) 1 0 }
+    ensures { (k : ℕ) → k < LANES
+        → lane_bit result k ≡ cond (nat_le (slice_index second k) (slice_index first k)) 1 0 }
 {
     first.simd_ge(second).to_bitmask()
 }
 
-/// By lane the lower of the number and the limit.
+// By lane the lower of the number and the limit.
 fn limited(numbers: u16x16, limit: u32) -> u16x16
     requires numbers { length numbers ≡ LANES }
     requires limit { limit < 2 ^ 16 }
@@ -153,7 +162,7 @@ fn limited(numbers: u16x16, limit: u32) -> u16x16
     numbers.simd_min(u16x16::splat(limit as u16))
 }
 
-/// Bit k is clear only if the entry after in place of that before falls short of these shares.
+// Bit k is clear only if the entry after in place of that before falls short of these shares.
 fn reaching(before: u16x16, after: u16x16, over: u16x16, level: u32, shares: u32) -> u64
     requires befores { length before ≡ LANES }
     requires afters { length after ≡ LANES }
@@ -162,7 +171,9 @@ fn reaching(before: u16x16, after: u16x16, over: u16x16, level: u32, shares: u32
     requires after { (k : ℕ) → k < LANES → slice_index after k ≤ WHOLE_POINTS }
     requires level { level ≤ WHOLE_POINTS }
     requires shares { shares ≤ SHARES }
-    ensures { (k : ℕ) → k < LANES → lane_bit result k ≡ 0 → FallsShort level (slice_index before k) (slice_index after k) (slice_index over k) shares }
+    ensures { (k : ℕ) → k < LANES → lane_bit result k ≡ 0
+        → FallsShort level (slice_index before k) (slice_index after k) (slice_index over k)
+        shares }
 {
     let twice = 2 * level;
     let few = limited(over, twice);
@@ -171,16 +182,18 @@ fn reaching(before: u16x16, after: u16x16, over: u16x16, level: u32, shares: u32
     at_least(rises, stays)
 }
 
-/// Bit k is set if lane k has points with the good, and none without.
+// Bit k is set if lane k has points with the good, and none without.
 fn opened(high: u16x16, points: u16x16) -> u64
     requires highs { length high ≡ LANES }
     requires points { length points ≡ LANES }
-    ensures { (k : ℕ) → k < LANES → lane_bit result k ≡ min (slice_index high k + slice_index points k) 1 - min (slice_index high k) 1 }
+    ensures { (k : ℕ) → k < LANES
+        → lane_bit result k
+        ≡ min (slice_index high k + slice_index points k) 1 - min (slice_index high k) 1 }
 {
     high.simd_lt(points.simd_min(u16x16::splat(1))).to_bitmask()
 }
 
-/// The product is below so many shares of the goal's, or these are all.
+// The product is below so many shares of the goal's, or these are all.
 fn shares_of(product: u128, goal: &Goal) -> u32
     requires { IsGoal goal.now }
     ensures few { result ≤ SHARES }
@@ -193,9 +206,10 @@ fn shares_of(product: u128, goal: &Goal) -> u32
     shares.min(u64::from(SHARES)) as u32
 }
 
-/// Bit k is clear only if too few lanes are open with lane k for the count, or just as many and it does not reach the product.
+// Bit k is clear only if too few lanes are open with lane k for the count, or just as many and it does not reach the product.
 fn among(open_lanes: u8, count: u8, reaching: u64, opened: u64) -> u64
-    ensures { (k : ℕ) → k < LANES → lane_bit result k ≡ 0 → IsNoMore (open_lanes + lane_bit opened k) count (lane_bit reaching k) }
+    ensures { (k : ℕ) → k < LANES → lane_bit result k ≡ 0
+        → IsNoMore (open_lanes + lane_bit opened k) count (lane_bit reaching k) }
 {
     if open_lanes > count {
         ALL_LANES
@@ -208,7 +222,7 @@ fn among(open_lanes: u8, count: u8, reaching: u64, opened: u64) -> u64
     }
 }
 
-/// The same by the lanes at a level.
+// The same by the lanes at a level.
 #[inline(always)]
 fn contenders_at(
     case: &GoodsCase,

@@ -19,7 +19,7 @@ pub(crate) struct Fitting {
     pub(crate) spare: u32,
 }
 
-/// About how many lanes rise at the level: those with a low of at most it and a high above it.
+// About how many lanes rise at the level: those with a low of at most it and a high above it.
 pub(crate) fn rising(low: u16x16, high: u16x16, level: u32) -> u32
     requires { level ≤ WHOLE_POINTS }
 {
@@ -29,7 +29,7 @@ pub(crate) fn rising(low: u16x16, high: u16x16, level: u32) -> u32
         .count_ones()
 }
 
-/// A lower level, by what the entries' sum has too much for each lane that rises.
+// A lower level, by what the entries' sum has too much for each lane that rises.
 fn lowered(level: u32, excess: u32, rising: u32) -> u32
     requires level { 0 < level }
     requires level_small { level ≤ WHOLE_POINTS }
@@ -40,7 +40,7 @@ fn lowered(level: u32, excess: u32, rising: u32) -> u32
     level.saturating_sub(excess.div_ceil(rising.max(1)))
 }
 
-/// A level at which the lanes fit, from the start down. It need not be the last.
+// A level at which the lanes fit, from the start down. It need not be the last.
 pub(crate) fn fit(lanes: &Lanes, start: u32) -> Fitting
     requires { IsSpan lanes.now }
     ensures { IsFitting lanes.now result }

@@ -32,7 +32,7 @@ impl Goal {
         }
     }
 
-    /// More units than are in the product, or else than are in the goal's.
+    // More units than are in the product, or else than are in the goal's.
     pub(crate) fn units_above(&self, product: u128) -> u64
         requires { IsGoal self.now }
         ensures above { IsAbove self.now product result }

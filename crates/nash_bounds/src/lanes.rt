@@ -42,23 +42,25 @@ pub struct Lanes {
     pub top: u32,
 }
 
-/// The numbers less the points, lane by lane.
+// The numbers less the points, lane by lane.
 fn less(numbers: u16x16, points: u16x16) -> u16x16
     requires long { length numbers ≡ LANES }
     requires points { length points ≡ LANES }
     requires each { (k : ℕ) → k < LANES → slice_index points k ≤ slice_index numbers k }
-    ensures each { (k : ℕ) → k < LANES → slice_index result k ≡ slice_index numbers k - slice_index points k }
+    ensures each { (k : ℕ) → k < LANES
+        → slice_index result k ≡ slice_index numbers k - slice_index points k }
     ensures long { length result ≡ LANES }
 {
     numbers.strict_sub(points)
 }
 
-/// The numbers and the points, lane by lane.
+// The numbers and the points, lane by lane.
 fn more(numbers: u16x16, points: u16x16) -> u16x16
     requires long { length numbers ≡ LANES }
     requires points { length points ≡ LANES }
     requires each { (k : ℕ) → k < LANES → slice_index numbers k + slice_index points k < 2 ^ 16 }
-    ensures each { (k : ℕ) → k < LANES → slice_index result k ≡ slice_index numbers k + slice_index points k }
+    ensures each { (k : ℕ) → k < LANES
+        → slice_index result k ≡ slice_index numbers k + slice_index points k }
     ensures long { length result ≡ LANES }
 {
     numbers.strict_add(points)
@@ -88,6 +90,7 @@ pub fn join(case: &GoodsCase, table: &LaneTable, owners: &[u8], lanes: &mut Lane
     lanes.top = raised(lanes.top, row.greatest);
 }
 
+// A sum of its own, so that its range is shown once for all lanes.
 fn raised(top: u32, points: u32) -> u32
     requires { top + points ≤ MOST_TOP }
     ensures { result ≡ top + points }
@@ -95,7 +98,7 @@ fn raised(top: u32, points: u32) -> u32
     top + points
 }
 
-/// What the owner gives the next good.
+// What the owner gives the next good.
 fn points_of(case: &GoodsCase, table: &LaneTable, owners: &[u8], owner: u8) -> u32
     requires table { IsLaneTable case.now table.now }
     requires open { HasFreeGood case.now owners.now }
@@ -106,7 +109,7 @@ fn points_of(case: &GoodsCase, table: &LaneTable, owners: &[u8], owner: u8) -> u
     lane_of(&table.rows[owners.len()].points, owner)
 }
 
-/// The numbers with the points more in one lane.
+// The numbers with the points more in one lane.
 fn raised_lane(numbers: u16x16, owner: u8, points: u32) -> u16x16
     requires owner_low { 1 ≤ owner }
     requires owner_high { owner ≤ LANES }
@@ -118,7 +121,7 @@ fn raised_lane(numbers: u16x16, owner: u8, points: u32) -> u16x16
     u16x16::from_array(lanes)
 }
 
-/// The numbers with the points less in one lane.
+// The numbers with the points less in one lane.
 fn lowered_lane(numbers: u16x16, owner: u8, points: u32) -> u16x16
     requires owner_low { 1 ≤ owner }
     requires owner_high { owner ≤ LANES }
@@ -162,7 +165,7 @@ pub fn take(case: &GoodsCase, table: &LaneTable, owners: &[u8], owner: u8, lanes
     lanes.top -= points;
 }
 
-/// The numbers, one a lane, and 0 in the other lanes.
+// The numbers, one a lane, and 0 in the other lanes.
 pub(crate) fn laned(numbers: &[u32]) -> u16x16
     requires short { length numbers.now ≤ LANES }
     requires small { All (λ number. number ≤ WHOLE_POINTS) numbers.now }
@@ -190,6 +193,7 @@ pub fn lanes_of(case: &GoodsCase, prefix: &Prefix) -> Lanes
     }
 }
 
+// The points of a good as one vector, so that a step of the search adds for all players at once.
 fn lane_row(case: &GoodsCase, row: &PointRow, good: u8) -> LaneRow
     requires case { IsValidGoodsCase case.now }
     requires few { player_count case.now ≤ MEMBER_ROOM }

@@ -3,7 +3,7 @@ ghost use Rattle.std.specs.Prelude.{◌≡◌, ℕ, suc, ◌+◌, ◌-◌, ◌*�
 ghost use Rattle.std.specs.List.{AllZip};
 ghost use Rattle.bid_rules.specs.Pairs.{nash_welfare};
 ghost use Rattle.nash_bounds.specs.Bound.{IsBound};
-ghost use Rattle.nash_bounds.specs.Levels.{level_sum, filled, lifted};
+ghost use Rattle.nash_bounds.specs.Levels.{level_sum, entries_at_level, with_extra_points};
 ghost use Rattle.nash_bounds.specs.Raised.{Reaches};
 
 use crate::limits::{LANES, MOST_LANES_SUM};
@@ -26,7 +26,7 @@ struct AtLevel {
     rising: u32,
 }
 
-/// The entries' sum at a level, and how many of them rise from there.
+// The entries' sum at a level, and how many of them rise from there.
 fn at_level(low: u16x16, high: u16x16, level: u32) -> AtLevel
     requires lows { length low ≡ LANES }
     requires highs { length high ≡ LANES }
@@ -46,7 +46,7 @@ fn at_level(low: u16x16, high: u16x16, level: u32) -> AtLevel
     }
 }
 
-/// The level at which the sum would be `top`, if as many entries rose all the way; `middle` where none does.
+// The level at which the sum would be `top`, if as many entries rose all the way; `middle` if none does.
 fn aim(at: AtLevel, level: u32, top: u32, middle: u32) -> u32
     requires sum { at.sum ≤ MOST_LANES_SUM }
     requires rising { at.rising ≤ LANES }
@@ -60,10 +60,10 @@ fn aim(at: AtLevel, level: u32, top: u32, middle: u32) -> u32
     }
 }
 
-/// The last level at which the sum is at most `top`, where the highest entries sum to more.
-///
-/// It lies between a level that fits and one that does not. The first guess is `start`, any number. Each further one takes the number of rising entries as constant, and so meets
-/// it as soon as no entry's ends lie between.
+// The last level at which the sum is at most `top`, if the highest entries sum to more.
+//
+// It lies between a level that fits and one that does not. The first guess is `start`, any number. Each further one takes the number of rising entries as constant, and so meets
+// it as soon as no entry's ends lie between.
 fn last_level(low: u16x16, high: u16x16, top: u32, start: u32) -> Height
     requires lows { length low ≡ LANES }
     requires highs { length high ≡ LANES }
@@ -97,9 +97,9 @@ fn last_level(low: u16x16, high: u16x16, top: u32, start: u32) -> Height
     }
 }
 
-/// How high the entries rise together from low, until they sum to `top` or are all high.
-///
-/// No whole list allowed has a greater pair: one more point multiplies the smallest utility by the most.
+// How high the entries rise together from low, until they sum to `top` or are all high.
+//
+// No whole list allowed has a greater pair: one more point multiplies the smallest utility by the most.
 fn raise(low: u16x16, high: u16x16, top: u32, start: u32) -> Height
     requires lows { length low ≡ LANES }
     requires highs { length high ≡ LANES }
@@ -118,13 +118,13 @@ fn raise(low: u16x16, high: u16x16, top: u32, start: u32) -> Height
     last_level(low, high, top, start)
 }
 
-/// The pair of the entries, of which the first few are raised, each at most as high as above.
+// The pair of the entries, of which the first few are raised, each at most as high as above.
 fn pair_of(entries: &[u16], above: &[u16], extra: u32) -> Pair
     requires lengths { length entries.now ≡ length above.now }
     requires short { length entries.now ≤ MEMBER_ROOM }
     requires order { AllZip ◌≤◌ entries.now above.now }
     requires small { All (λ h. h ≤ WHOLE_POINTS) above.now }
-    ensures { result ≡ nash_welfare (lifted extra entries.now above.now) }
+    ensures { result ≡ nash_welfare (with_extra_points extra entries.now above.now) }
 {
     let mut count = 0;
     let mut product: u128 = 1;
@@ -139,7 +139,7 @@ fn pair_of(entries: &[u16], above: &[u16], extra: u32) -> Pair
     Pair { count, product }
 }
 
-/// The pair of the entries at the level.
+// The pair of the entries at the level.
 fn pair_at(low: u16x16, high: u16x16, at: Height) -> Pair
     requires lows { length low ≡ LANES }
     requires highs { length high ≡ LANES }
@@ -147,7 +147,7 @@ fn pair_at(low: u16x16, high: u16x16, at: Height) -> Pair
     requires small { All (λ h. h ≤ WHOLE_POINTS) high }
     requires rest { (k : ℕ) → MEMBER_ROOM ≤ k → slice_index high k ≡ 0 }
     requires level { at.level ≤ WHOLE_POINTS }
-    ensures { result ≡ nash_welfare (filled at.level at.extra low high) }
+    ensures { result ≡ nash_welfare (entries_at_level at.level at.extra low high) }
 {
     let entries = entries_of(low, high, at.level);
     let above = entries_of(low, high, at.level + 1);
@@ -158,7 +158,7 @@ fn pair_at(low: u16x16, high: u16x16, at: Height) -> Pair
     )
 }
 
-/// The greatest pair of a whole list between low and high with a sum of at most `top`.
+// The greatest pair of a whole list between low and high with a sum of at most `top`.
 pub(crate) fn bound_between(low: u16x16, high: u16x16, top: u32, start: u32) -> Pair
     requires lows { length low ≡ LANES }
     requires highs { length high ≡ LANES }

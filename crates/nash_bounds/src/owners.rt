@@ -21,7 +21,7 @@ pub fn owners_by_good(case: &GoodsCase, order: &[u8], list: &[u8]) -> ArrayVec<u
     owners
 }
 
-/// Who has the good, from owners in search order.
+// Who has the good, from owners in search order.
 fn owner_of(order: &[u8], list: &[u8], good: u8) -> u8
     requires { length list.now ≡ length order.now }
     ensures { result ≡ slice_index list.now (position_or_len (λ other. other == good) order.now) }
@@ -48,7 +48,7 @@ pub fn owners_in_order(case: &GoodsCase, order: &[u8], owners: &[u8]) -> ArrayVe
     list
 }
 
-/// The owner of the good at a place of the search order.
+// The owner of the good at a place of the search order.
 fn owner_at(case: &GoodsCase, order: &[u8], owners: &[u8], place: usize) -> u8
     requires case { IsValidGoodsCase case.now }
     requires order { order.now ≡ order_of case.now }

@@ -75,7 +75,7 @@ pub fn empty_prefix(case: &GoodsCase) -> Prefix
     }
 }
 
-/// The same points for each player.
+// The same points for each player.
 fn alike(players: usize, points: u32) -> ArrayVec<u32, MEMBER_ROOM>
     requires { players ≤ MEMBER_ROOM }
     ensures { result.items ≡ map (λ _. points) (range_with_len 1 players) }
@@ -87,7 +87,7 @@ fn alike(players: usize, points: u32) -> ArrayVec<u32, MEMBER_ROOM>
     entries
 }
 
-/// For each good the greatest points that any player gives it, in sum.
+// For each good the greatest points that any player gives it, in sum.
 fn greatest_sum(case: &GoodsCase) -> u32
     requires { IsValidGoodsCase case.now }
     ensures { result ≡ sum_by (greatest_points case.now) (range_with_len 1 case.now.facts.goods) }
@@ -110,7 +110,8 @@ pub fn extend(case: &GoodsCase, order: &[u8], prefix: &Prefix, owner: u8) -> Pre
     ensures prefix { IsPrefix case.now result }
     ensures bound { HasBound result }
     ensures owners { result.owners.items ≡ prefix.now.owners.items ++ owner ∷ [] }
-    ensures never_higher { (before after : Pair) → IsBound prefix.now.low.items prefix.now.high.items prefix.now.top before
+    ensures never_higher { (before after : Pair)
+        → IsBound prefix.now.low.items prefix.now.high.items prefix.now.top before
         → IsBound result.low.items result.high.items result.top after → IsAtMost after before }
 {
     let row = point_row(case, next_good(case, order, prefix));
@@ -128,14 +129,15 @@ pub fn extend_by(case: &GoodsCase, table: &PointTable, prefix: &Prefix, owner: u
     ensures prefix { IsPrefix case.now result }
     ensures bound { HasBound result }
     ensures owners { result.owners.items ≡ prefix.now.owners.items ++ owner ∷ [] }
-    ensures never_higher { (before after : Pair) → IsBound prefix.now.low.items prefix.now.high.items prefix.now.top before
+    ensures never_higher { (before after : Pair)
+        → IsBound prefix.now.low.items prefix.now.high.items prefix.now.top before
         → IsBound result.low.items result.high.items result.top after → IsAtMost after before }
 {
     let row = &table.rows[prefix.owners.len()];
     with_limits(case, prefix, owner, limits_after(case, row, prefix, owner))
 }
 
-/// The first good in search order that has no owner yet.
+// The first good in search order that has no owner yet.
 fn next_good(case: &GoodsCase, order: &[u8], prefix: &Prefix) -> u8
     requires order { order.now ≡ order_of case.now }
     requires shorter { length prefix.now.owners.items < case.now.facts.goods }
@@ -146,7 +148,7 @@ fn next_good(case: &GoodsCase, order: &[u8], prefix: &Prefix) -> u8
     order[prefix.owners.len()]
 }
 
-/// What a player gains where the owner gets a good to which the player gives these points.
+// What a player gains if the owner gets a good to which the player gives these points.
 fn gained(points: u32, owner: u8, player: u8) -> u32
     ensures value { result ≡ cond (owner == player) points 0 }
     ensures most { result ≤ points }
@@ -154,10 +156,12 @@ fn gained(points: u32, owner: u8, player: u8) -> u32
     if owner == player { points } else { 0 }
 }
 
-/// What the players have and may have, and what all may have, once the owner gets the next good, whose points the row gives.
+// What the players have and may have, and what all may have, once the owner gets the next good, whose points the row gives.
 fn limits_after(case: &GoodsCase, row: &PointRow, prefix: &Prefix, owner: u8) -> Limits
-    requires next { IsNext case.now prefix.now (slice_index (order_of case.now) (length prefix.now.owners.items)) owner }
-    requires row { IsPointRow case.now (slice_index (order_of case.now) (length prefix.now.owners.items)) row.now }
+    requires next { IsNext case.now prefix.now
+        (slice_index (order_of case.now) (length prefix.now.owners.items)) owner }
+    requires row { IsPointRow case.now
+        (slice_index (order_of case.now) (length prefix.now.owners.items)) row.now }
     ensures low { result.low.items ≡ utilities case.now (prefix.now.owners.items ++ owner ∷ []) }
     ensures high { result.high.items ≡ highest case.now (prefix.now.owners.items ++ owner ∷ []) }
     ensures top { result.top ≡ top_of case.now (prefix.now.owners.items ++ owner ∷ []) }
@@ -177,7 +181,7 @@ fn limits_after(case: &GoodsCase, row: &PointRow, prefix: &Prefix, owner: u8) ->
     }
 }
 
-/// The prefix with one more owner, and with these limits.
+// The prefix with one more owner, and with these limits.
 fn with_limits(case: &GoodsCase, prefix: &Prefix, owner: u8, limits: Limits) -> Prefix
     requires case { IsValidGoodsCase case.now }
     requires prefix { IsPrefix case.now prefix.now }
@@ -190,7 +194,8 @@ fn with_limits(case: &GoodsCase, prefix: &Prefix, owner: u8, limits: Limits) -> 
     ensures prefix { IsPrefix case.now result }
     ensures bound { HasBound result }
     ensures owners { result.owners.items ≡ prefix.now.owners.items ++ owner ∷ [] }
-    ensures never_higher { (before after : Pair) → IsBound prefix.now.low.items prefix.now.high.items prefix.now.top before
+    ensures never_higher { (before after : Pair)
+        → IsBound prefix.now.low.items prefix.now.high.items prefix.now.top before
         → IsBound result.low.items result.high.items result.top after → IsAtMost after before }
 {
     let mut owners = ArrayVec::new();

@@ -55,7 +55,7 @@ pub fn pair_so_far(case: &GoodsCase, owners: &[u8], lanes: &Lanes) -> Pair
     }
 }
 
-/// The lanes without the next good at a level at which they fit. It is found soonest if `start` is near the level of the owners' bound.
+// The lanes without the next good at a level at which they fit. It is found soonest if `start` is near the level of the owners' bound.
 pub(crate) fn flat_of(
     case: &GoodsCase,
     table: &LaneTable,
@@ -73,6 +73,8 @@ pub(crate) fn flat_of(
     flat_at(lanes, start.saturating_sub(fall))
 }
 
+// The product is greatest if what is left to give raises the lowest lanes to one level, so the bound is read off this
+// shape.
 fn flat_at(lanes: &Lanes, start: u32) -> Flat
     requires { IsSpan lanes.now }
     ensures { IsFlat lanes.now result }
@@ -88,8 +90,8 @@ fn flat_at(lanes: &Lanes, start: u32) -> Flat
     }
 }
 
-/// Whether no list with so many points more than the entries reaches the goal's product: they multiply the entries' product by at most
-/// (2 * level + spare) / (2 * level - spare).
+// Whether no list with so many points more than the entries reaches the goal's product: they multiply the entries' product by at most
+// (2 * level + spare) / (2 * level - spare).
 fn is_short(at: &Fitting, product: u128, goal: &Goal) -> bool
     requires level { at.now.level ≤ WHOLE_POINTS }
     requires goal { IsGoal goal.now }
@@ -103,13 +105,15 @@ fn is_short(at: &Fitting, product: u128, goal: &Goal) -> bool
     units * u64::from(twice + at.spare) < goal.units * u64::from(twice - at.spare)
 }
 
-/// Whether the greatest pair of a list between the lanes' low and high, and within their top, reaches the goal, where a level tells: the
-/// entries there are such a list.
+// Whether the greatest pair of a list between the lanes' low and high, and within their top, reaches the goal, if a level tells: the
+// entries there are such a list.
 fn by_level(lanes: &Lanes, at: &Fitting, goal: &Goal, beyond: bool) -> Option<bool>
     requires lanes { IsSpan lanes.now }
     requires at { IsFitting lanes.now at.now }
     requires goal { IsGoal goal.now }
-    ensures { IfSome result (λ reaches. reaches ≡ is_reached goal.now.pair beyond (bound_of lanes.now.low lanes.now.high lanes.now.top)) }
+    ensures { IfSome result (λ reaches.
+        reaches
+        ≡ is_reached goal.now.pair beyond (bound_of lanes.now.low lanes.now.high lanes.now.top)) }
 {
     let open = count_positive(lanes.high);
     if at.level == 0 {
@@ -132,11 +136,12 @@ fn by_level(lanes: &Lanes, at: &Fitting, goal: &Goal, beyond: bool) -> Option<bo
     None
 }
 
-/// Whether the greatest pair of a list between the lanes' low and high, and within their top, reaches the goal.
+// Whether the greatest pair of a list between the lanes' low and high, and within their top, reaches the goal.
 fn judge(lanes: &Lanes, start: u32, goal: &Goal, beyond: bool) -> Reached
     requires lanes { IsSpan lanes.now }
     requires goal { IsGoal goal.now }
-    ensures { result.reaches ≡ is_reached goal.now.pair beyond (bound_of lanes.now.low lanes.now.high lanes.now.top) }
+    ensures { result.reaches
+        ≡ is_reached goal.now.pair beyond (bound_of lanes.now.low lanes.now.high lanes.now.top) }
 {
     let at = fit(lanes, start);
     let reaches = match by_level(lanes, &at, goal, beyond) {
@@ -152,7 +157,7 @@ fn judge(lanes: &Lanes, start: u32, goal: &Goal, beyond: bool) -> Reached
     }
 }
 
-/// Whether the bound is at least the pair, or above it if it has to be beyond.
+// Whether the bound is at least the pair, or above it if it has to be beyond.
 fn reaches_by(pair: Pair, beyond: bool, bound: Pair) -> bool
     ensures { result ≡ is_reached pair beyond bound }
 {
@@ -196,7 +201,8 @@ pub fn next_reaches(
     requires owner_high { owner ≤ player_count case.now }
     requires lanes { IsFork case.now owners.now lanes.now }
     requires goal { IsGoal goal.now }
-    ensures { result.reaches ≡ is_reached goal.now.pair beyond (prefix_bound case.now (owners.now ++ owner ∷ [])) }
+    ensures { result.reaches
+        ≡ is_reached goal.now.pair beyond (prefix_bound case.now (owners.now ++ owner ∷ [])) }
 {
     let mut child = *lanes;
     give(case, table, owners, owner, &mut child);

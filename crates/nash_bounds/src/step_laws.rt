@@ -24,15 +24,19 @@ ghost use Rattle.nash_bounds.specs.declared.limits.TheConstants.{BLOCK_TASKS, FE
 /// The lists of a length are all of that length, in rising order and so each once. The lists that begin with some owners are all that go on
 /// with so many more or fewer, each once; the leaves are those that go on with exactly so many, in rising order.
 pub fn owner_lists_law()
-    ensures listed { (n k : ℕ) (owners : List ℕ) → Contains (lists n k) owners ↔ (length owners ≡ k) × ArePlayers n owners }
-    ensures rising { (n k : ℕ) → AllPairs (λ owners later. slice_cmp nat_cmp owners later ≡ Less) (lists n k) }
+    ensures listed { (n k : ℕ) (owners : List ℕ) → Contains (lists n k) owners
+        ↔ (length owners ≡ k) × ArePlayers n owners }
+    ensures rising { (n k : ℕ)
+        → AllPairs (λ owners later. slice_cmp nat_cmp owners later ≡ Less) (lists n k) }
     ensures once { (n k : ℕ) → AllPairs ◌≢◌ (lists n k) }
     ensures count { (n k : ℕ) → length (lists n k) ≡ n ^ k }
-    ensures below { (n k : ℕ) (owners longer : List ℕ) → Contains (below n k owners) longer ↔ IsLonger n k owners longer }
+    ensures below { (n k : ℕ) (owners longer : List ℕ) → Contains (below n k owners) longer
+        ↔ IsLonger n k owners longer }
     ensures below_once { (n k : ℕ) (owners : List ℕ) → AllPairs ◌≢◌ (below n k owners) }
     ensures leaves { (n k : ℕ) (owners longer : List ℕ) → Contains (leaves n k owners) longer
         ↔ (rest : List ℕ) × (longer ≡ owners ++ rest) × (length rest ≡ k) × ArePlayers n rest }
-    ensures leaves_rising { (n k : ℕ) (owners : List ℕ) → AllPairs (λ one later. slice_cmp nat_cmp one later ≡ Less) (leaves n k owners) }
+    ensures leaves_rising { (n k : ℕ) (owners : List ℕ)
+        → AllPairs (λ one later. slice_cmp nat_cmp one later ≡ Less) (leaves n k owners) }
 {}
 
 /// A task begins with a list of the least length for which there are `FEWEST_LISTS` or more, or with an owner for each good. The
@@ -40,86 +44,129 @@ pub fn owner_lists_law()
 /// all goods, each once.
 pub fn tasks_law()
     ensures within { (case : GoodsCase) → depth_of case ≤ case.facts.goods }
-    ensures enough { (case : GoodsCase) → depth_of case < case.facts.goods → FEWEST_LISTS ≤ player_count case ^ depth_of case }
-    ensures least { (case : GoodsCase) (depth : ℕ) → depth < depth_of case → player_count case ^ depth < FEWEST_LISTS }
-    ensures begins { (case : GoodsCase) (task : ℕ) → task < tasks_of case → (length (task_list case task) ≡ depth_of case) × AreOwners case (task_list case task) }
+    ensures enough { (case : GoodsCase) → depth_of case < case.facts.goods
+        → FEWEST_LISTS ≤ player_count case ^ depth_of case }
+    ensures least { (case : GoodsCase) (depth : ℕ) → depth < depth_of case
+        → player_count case ^ depth < FEWEST_LISTS }
+    ensures begins { (case : GoodsCase) (task : ℕ) → task < tasks_of case
+        → (length (task_list case task) ≡ depth_of case) × AreOwners case (task_list case task) }
     ensures prefixes { (case : GoodsCase) (task : ℕ) (owners : List ℕ) → task < tasks_of case
-        → Contains (below (player_count case) (case.facts.goods - depth_of case) (task_list case task)) owners
-        ↔ (rest : List ℕ) × (owners ≡ task_list case task ++ rest) × (length owners ≤ case.facts.goods) × AreOwners case rest }
-    ensures once { (case : GoodsCase) (task : ℕ) → AllPairs ◌≢◌ (below (player_count case) (case.facts.goods - depth_of case) (task_list case task)) }
+        → Contains
+        (below (player_count case) (case.facts.goods - depth_of case) (task_list case task)) owners
+        ↔ (rest : List ℕ) × (owners ≡ task_list case task ++ rest)
+        × (length owners ≤ case.facts.goods) × AreOwners case rest }
+    ensures once { (case : GoodsCase) (task : ℕ)
+        → AllPairs ◌≢◌
+        (below (player_count case) (case.facts.goods - depth_of case) (task_list case task)) }
 {}
 
 /// The listed allocations are all allocations, in rising order and so each once. They are those of all tasks, in turn.
 pub fn allocations_law()
-    ensures listed { (case : GoodsCase) (owners : List ℕ) → Contains (lists (player_count case) case.facts.goods) owners ↔ IsAllocation case owners }
-    ensures rising { (case : GoodsCase) → AllPairs (λ owners later. slice_cmp nat_cmp owners later ≡ Less) (lists (player_count case) case.facts.goods) }
+    ensures listed { (case : GoodsCase) (owners : List ℕ)
+        → Contains (lists (player_count case) case.facts.goods) owners ↔ IsAllocation case owners }
+    ensures rising { (case : GoodsCase)
+        → AllPairs (λ owners later. slice_cmp nat_cmp owners later ≡ Less)
+        (lists (player_count case) case.facts.goods) }
     ensures once { (case : GoodsCase) → AllPairs ◌≢◌ (lists (player_count case) case.facts.goods) }
-    ensures count { (case : GoodsCase) → length (lists (player_count case) case.facts.goods) ≡ player_count case ^ case.facts.goods }
-    ensures tasks { (case : GoodsCase) → flat_map (task_leaves case) (range_with_len 0 (tasks_of case)) ≡ lists (player_count case) case.facts.goods }
+    ensures count { (case : GoodsCase)
+        → length (lists (player_count case) case.facts.goods)
+        ≡ player_count case ^ case.facts.goods }
+    ensures tasks { (case : GoodsCase)
+        → flat_map (task_leaves case) (range_with_len 0 (tasks_of case))
+        ≡ lists (player_count case) case.facts.goods }
 {}
 
 /// The best allocation of the first few tasks is one of theirs. None of these has a greater pair, and none with the same pair is before
 /// it as a list. There is none if they have no allocation.
 pub fn best_before_law()
-    ensures found { (case : GoodsCase) (task : ℕ) (owners : List ℕ) → best_before case task ≡ Some owners
+    ensures found { (case : GoodsCase) (task : ℕ) (owners : List ℕ)
+        → best_before case task ≡ Some owners
         → Contains (flat_map (task_leaves case) (range_with_len 0 task)) owners }
-    ensures best { (case : GoodsCase) (task : ℕ) (owners : List ℕ) → task ≤ tasks_of case → best_before case task ≡ Some owners
-        → All (λ other. IsBehind case other owners) (flat_map (task_leaves case) (range_with_len 0 task)) }
-    ensures none { (case : GoodsCase) (task : ℕ) → best_before case task ≡ None → flat_map (task_leaves case) (range_with_len 0 task) ≡ [] }
+    ensures best { (case : GoodsCase) (task : ℕ) (owners : List ℕ) → task ≤ tasks_of case
+        → best_before case task ≡ Some owners
+        → All (λ other. IsBehind case other owners)
+        (flat_map (task_leaves case) (range_with_len 0 task)) }
+    ensures none { (case : GoodsCase) (task : ℕ) → best_before case task ≡ None
+        → flat_map (task_leaves case) (range_with_len 0 task) ≡ [] }
 {}
 
 /// The best of the counted allocations of a task, kept in turn, is the best of them, the least list among equals. There is at most one best
 /// of any allocations, whatever their order.
 pub fn best_counted_law()
     ensures kept { (case : GoodsCase) (task : ℕ) (floor : Pair) (above : Option Pair)
-        → IsBestOf case (counted_leaves case task floor above) (best case floor above (case.facts.goods - depth_of case) (task_list case task) None) }
-    ensures one { (case : GoodsCase) (allocations : List (List ℕ)) (a b : Option (List ℕ)) → IsBestOf case allocations a → IsBestOf case allocations b → a ≡ b }
+        → IsBestOf case (counted_leaves case task floor above)
+        (best case floor above (case.facts.goods - depth_of case) (task_list case task) None) }
+    ensures one { (case : GoodsCase) (allocations : List (List ℕ)) (a b : Option (List ℕ))
+        → IsBestOf case allocations a → IsBestOf case allocations b → a ≡ b }
 {}
 
 /// What tasks in a row count is what each of them counts, and so are their counted allocations.
 pub fn tasks_in_row_law()
-    ensures none { (case : GoodsCase) (floor : Pair) (above : Option Pair) (from : ℕ) → count_tasks case floor above from 0 ≡ 0 }
+    ensures none { (case : GoodsCase) (floor : Pair) (above : Option Pair) (from : ℕ)
+        → count_tasks case floor above from 0 ≡ 0 }
     ensures more { (case : GoodsCase) (floor : Pair) (above : Option Pair) (from n : ℕ)
-        → count_tasks case floor above from (n + 1) ≡ count_tasks case floor above from n + count_task case (from + n) floor above }
-    ensures rises { (case : GoodsCase) (floor : Pair) (above : Option Pair) (from n more : ℕ) → count_tasks case floor above from n ≤ count_tasks case floor above from (n + more) }
-    ensures none_counted { (case : GoodsCase) (floor : Pair) (above : Option Pair) (from : ℕ) → counted_of_tasks case floor above from 0 ≡ [] }
+        → count_tasks case floor above from (n + 1)
+        ≡ count_tasks case floor above from n + count_task case (from + n) floor above }
+    ensures rises { (case : GoodsCase) (floor : Pair) (above : Option Pair) (from n more : ℕ)
+        → count_tasks case floor above from n ≤ count_tasks case floor above from (n + more) }
+    ensures none_counted { (case : GoodsCase) (floor : Pair) (above : Option Pair) (from : ℕ)
+        → counted_of_tasks case floor above from 0 ≡ [] }
     ensures more_counted { (case : GoodsCase) (floor : Pair) (above : Option Pair) (from n : ℕ)
-        → counted_of_tasks case floor above from (n + 1) ≡ counted_of_tasks case floor above from n ++ counted_leaves case (from + n) floor above }
+        → counted_of_tasks case floor above from (n + 1)
+        ≡ counted_of_tasks case floor above from n ++ counted_leaves case (from + n) floor above }
 {}
 
 /// What is found among the counted allocations of the earlier blocks serves for the best of all earlier allocations. By it as many prefixes
 /// of the next block are counted; the better of it and of what is counted in tasks after it serves on; after all tasks it is the best
 /// allocation, which so exists.
 pub fn serving_law()
-    ensures begins { (case : GoodsCase) (floor : Pair) → Serves case floor None (best_before case 0) }
-    ensures counts { (case : GoodsCase) (floor : Pair) (found : Option (List ℕ)) (block n : ℕ) → n ≤ BLOCK_TASKS → Serves case floor found (best_before case (BLOCK_TASKS * block))
-        → steps_before case floor (BLOCK_TASKS * block + n) ≡ steps_before case floor (BLOCK_TASKS * block) + count_tasks case floor (pair_kept case found) (BLOCK_TASKS * block) n }
-    ensures goes_on { (case : GoodsCase) (floor : Pair) (found next : Option (List ℕ)) (from n : ℕ) → IsValidGoodsCase case → from + n ≤ tasks_of case
-        → Serves case floor found (best_before case from) → IsBestOf case (option_to_list found ++ counted_of_tasks case floor (pair_kept case found) from n) next
+    ensures begins { (case : GoodsCase) (floor : Pair)
+        → Serves case floor None (best_before case 0) }
+    ensures counts { (case : GoodsCase) (floor : Pair) (found : Option (List ℕ)) (block n : ℕ)
+        → n ≤ BLOCK_TASKS → Serves case floor found (best_before case (BLOCK_TASKS * block))
+        → steps_before case floor (BLOCK_TASKS * block + n)
+        ≡ steps_before case floor (BLOCK_TASKS * block)
+        + count_tasks case floor (pair_kept case found) (BLOCK_TASKS * block) n }
+    ensures goes_on { (case : GoodsCase) (floor : Pair) (found next : Option (List ℕ)) (from n : ℕ)
+        → IsValidGoodsCase case → from + n ≤ tasks_of case
+        → Serves case floor found (best_before case from)
+        → IsBestOf case
+        (option_to_list found ++ counted_of_tasks case floor (pair_kept case found) from n) next
         → Serves case floor next (best_before case (from + n)) }
-    ensures best { (case : GoodsCase) (floor : Pair) (found : Option (List ℕ)) → IsValidGoodsCase case → IsStartValue case floor
-        → Serves case floor found (best_before case (tasks_of case)) → (owners : List ℕ) × (found ≡ Some owners) × GoodsBest case owners }
-    ensures exists { (case : GoodsCase) → IsValidGoodsCase case → (owners : List ℕ) × GoodsBest case owners }
+    ensures best { (case : GoodsCase) (floor : Pair) (found : Option (List ℕ))
+        → IsValidGoodsCase case → IsStartValue case floor
+        → Serves case floor found (best_before case (tasks_of case))
+        → (owners : List ℕ) × (found ≡ Some owners) × GoodsBest case owners }
+    ensures exists { (case : GoodsCase) → IsValidGoodsCase case
+        → (owners : List ℕ) × GoodsBest case owners }
 {}
 
 /// A case has at most one start value, and so one step count. It begins with nothing and rises from task to task.
 pub fn steps_law()
-    ensures one_start { (case : GoodsCase) (pair other : Pair) → IsStartValue case pair → IsStartValue case other → pair ≡ other }
-    ensures one_count { (case : GoodsCase) (steps other : ℕ) → HasSteps case steps → HasSteps case other → steps ≡ other }
+    ensures one_start { (case : GoodsCase) (pair other : Pair) → IsStartValue case pair
+        → IsStartValue case other → pair ≡ other }
+    ensures one_count { (case : GoodsCase) (steps other : ℕ) → HasSteps case steps
+        → HasSteps case other → steps ≡ other }
     ensures none { (case : GoodsCase) (floor : Pair) → steps_before case floor 0 ≡ 0 }
-    ensures rises { (case : GoodsCase) (floor : Pair) (task more : ℕ) → steps_before case floor task ≤ steps_before case floor (task + more) }
+    ensures rises { (case : GoodsCase) (floor : Pair) (task more : ℕ)
+        → steps_before case floor task ≤ steps_before case floor (task + more) }
 {}
 
 /// The step law is about the prefixes that a tree which shows the best allocation may not leave out. They have all lengths, and the empty
 /// one is among them. They are at most as many as the step count and `MOST_SHORTER`. One may be left out if its bound is below the
-/// answer's pair, or the same and it is after the answer's first owners: where its bound does not reach the pair, or is not above it where
+/// answer's pair, or the same and it is after the answer's first owners: if its bound does not reach the pair, or is not above it if
 /// the owners are after the answer's first ones.
 pub fn open_prefixes_law()
-    ensures left { (case : GoodsCase) (answer owners : List ℕ) → may_be_left case answer owners ≡ true
+    ensures left { (case : GoodsCase) (answer owners : List ℕ)
+        → may_be_left case answer owners ≡ true
         ↔ IsLess (prefix_bound case owners) (pair_of case answer)
-        ⊎ ((prefix_bound case owners ≡ pair_of case answer) × (slice_cmp nat_cmp owners (take (length owners) answer) ≡ Greater)) }
+        ⊎ ((prefix_bound case owners ≡ pair_of case answer)
+        × (slice_cmp nat_cmp owners (take (length owners) answer) ≡ Greater)) }
     ensures reached { (case : GoodsCase) (answer owners : List ℕ)
-        → may_be_left case answer owners ≡ not (is_reached (pair_of case answer) (is_after answer owners) (prefix_bound case owners)) }
-    ensures few { (case : GoodsCase) (floor : Pair) (answer : List ℕ) → IsValidGoodsCase case → IsStartValue case floor → GoodsBest case answer
+        → may_be_left case answer owners
+        ≡ not
+        (is_reached (pair_of case answer) (is_after answer owners) (prefix_bound case owners)) }
+    ensures few { (case : GoodsCase) (floor : Pair) (answer : List ℕ) → IsValidGoodsCase case
+        → IsStartValue case floor → GoodsBest case answer
         → open_count case answer ≤ step_count case floor + MOST_SHORTER }
 {}

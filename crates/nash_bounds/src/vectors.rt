@@ -7,7 +7,7 @@ use crate::limits::{HALF_ROOM, LANES};
 use bid_rules::limits::{MEMBER_ROOM, WHOLE_POINTS};
 use std::simd::prelude::*;
 
-/// The number of a player's lane.
+// The number of a player's lane.
 pub(crate) fn lane_of(numbers: &u16x16, player: u8) -> u32
     requires long { length numbers.now ≡ LANES }
     requires low { 1 ≤ player }
@@ -17,7 +17,7 @@ pub(crate) fn lane_of(numbers: &u16x16, player: u8) -> u32
     u32::from(numbers.as_array()[player as usize - 1])
 }
 
-/// The entries at a level.
+// The entries at a level.
 pub(crate) fn entries_of(low: u16x16, high: u16x16, level: u32) -> u16x16
     requires lows { length low ≡ LANES }
     requires highs { length high ≡ LANES }
@@ -27,7 +27,7 @@ pub(crate) fn entries_of(low: u16x16, high: u16x16, level: u32) -> u16x16
     high.simd_min(u16x16::splat(level as u16)).simd_max(low)
 }
 
-/// The sum of the lanes.
+// The sum of the lanes.
 pub(crate) fn total(numbers: u16x16) -> u32
     requires { sum numbers < 2 ^ 16 }
     ensures { result ≡ sum numbers }
@@ -35,7 +35,7 @@ pub(crate) fn total(numbers: u16x16) -> u32
     u32::from(numbers.strict_reduce_sum())
 }
 
-/// How many of the lanes are positive.
+// How many of the lanes are positive.
 pub(crate) fn count_positive(numbers: u16x16) -> u8
     requires { length numbers ≡ LANES }
     ensures value { result ≡ positives numbers }
@@ -44,7 +44,7 @@ pub(crate) fn count_positive(numbers: u16x16) -> u8
     total(numbers.simd_min(u16x16::splat(1))) as u8
 }
 
-/// The numbers, each at least 1.
+// The numbers, each at least 1.
 fn raised(numbers: u16x16) -> u16x16
     requires { length numbers ≡ LANES }
     ensures { result ≡ map (λ number. max number 1) numbers }
@@ -52,7 +52,7 @@ fn raised(numbers: u16x16) -> u16x16
     numbers.simd_max(u16x16::splat(1))
 }
 
-/// The product of up to half as many numbers as there is room for players.
+// The product of up to half as many numbers as there is room for players.
 fn half_product(numbers: &[u16]) -> u64
     requires short { length numbers.now ≤ HALF_ROOM }
     requires some { All (λ number. 1 ≤ number) numbers.now }
@@ -67,9 +67,9 @@ fn half_product(numbers: &[u16]) -> u64
     product
 }
 
-/// The product of the positive numbers, of which there is one for each player, and 0 in the other lanes.
-///
-/// Each half of the players' numbers has a product that fits 64 bits.
+// The product of the positive numbers, of which there is one for each player, and 0 in the other lanes.
+//
+// Each half of the players' numbers has a product that fits 64 bits.
 pub(crate) fn product_of(numbers: u16x16) -> u128
     requires long { length numbers ≡ LANES }
     requires small { All (λ number. number ≤ WHOLE_POINTS) numbers }

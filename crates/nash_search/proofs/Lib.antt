@@ -4,6 +4,9 @@ pub mod WalkMoves
 pub mod ReachedGoals
 pub mod LevelForks
 pub mod WalkPieces
+pub mod PartCounts
+pub mod PartWalks
+pub mod BestInOrder
 pub mod TaskPlaces
 pub mod FirstPlayers
 pub mod SomeStart
@@ -11,3 +14,4 @@ pub mod BetterFound
 pub mod BlockEnds
 pub mod OneDivision
 pub mod TaskEnds
+pub mod PartEnds

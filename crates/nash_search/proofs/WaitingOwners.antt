@@ -9,7 +9,7 @@ use Rattle.bid_rules.specs.declared.pair.Pair.{Pair}
 use Rattle.bid_rules.specs.Goods.{IsValidGoodsCase, player_count}
 use Rattle.nash_bounds.specs.Counted.{is_counted, count, best}
 use Rattle.nash_bounds.specs.Allocations.{keep}
-use Rattle.nash_search.specs.Waiting.{waiting, count_all, best_all}
+use Rattle.nash_search.specs.Waiting.{waiting_prefixes, count_all, best_all}
 use Rattle.split_lemmas.proofs.RangeSteps.{range_more}
 use Rattle.nash_search.proofs.CountedBelow.{BoundFalls, count_upto, best_upto, count_upto-none, count_upto-more, best_upto-none, best_upto-more, count-more, best-more, count-not, best-not, count-leaf, best-leaf}
 
@@ -25,7 +25,7 @@ map_by f g (x ∷ xs) h = ap (λ y. y ∷ map f xs) (h x) ∙ ap (λ ys. g x ∷
 
 -- the last level waits first
 pub waits_last : (above path : List ℕ) (front : List (List ℕ)) (level : List ℕ) → length front ≡ length path
-    → waiting above path (front ++ level ∷ []) ≡ map (λ owner. (above ++ path) ++ owner ∷ []) (reverse level) ++ waiting above path front
+    → waiting_prefixes above path (front ++ level ∷ []) ≡ map (λ owner. (above ++ path) ++ owner ∷ []) (reverse level) ++ waiting_prefixes above path front
 waits_last above [] [] level e =
     map_by (λ owner. above ++ owner ∷ []) (λ owner. (above ++ []) ++ owner ∷ []) (reverse level) (λ owner. ap (λ xs. xs ++ owner ∷ []) (sym (append-nil above)))
     ∙ sym (append-nil (map (λ owner. (above ++ []) ++ owner ∷ []) (reverse level)))
@@ -33,14 +33,14 @@ waits_last above [] (f ∷ front) level e = absurd (omega arith)
 waits_last above (p ∷ path) [] level e = absurd (omega arith)
 waits_last above (p ∷ path) (f ∷ front) level e =
     let own = map (λ owner. above ++ owner ∷ []) (reverse f) in
-    let rest = waiting (above ++ p ∷ []) path front in
+    let rest = waiting_prefixes (above ++ p ∷ []) path front in
     let join : (above ++ p ∷ []) ++ path ≡ above ++ p ∷ path = append_assoc above (p ∷ []) path in
     ap (λ xs. xs ++ own) (waits_last (above ++ p ∷ []) path front level (omega arith))
     ∙ append_assoc (map (λ owner. ((above ++ p ∷ []) ++ path) ++ owner ∷ []) (reverse level)) rest own
     ∙ ap (λ zs. map (λ owner. zs ++ owner ∷ []) (reverse level) ++ (rest ++ own)) join
 
 -- an owner without a level is not seen
-pub waits_shorter : (above path : List ℕ) (owner : ℕ) (levels : List (List ℕ)) → length levels ≡ length path + 1 → waiting above (path ++ owner ∷ []) levels ≡ waiting above path levels
+pub waits_shorter : (above path : List ℕ) (owner : ℕ) (levels : List (List ℕ)) → length levels ≡ length path + 1 → waiting_prefixes above (path ++ owner ∷ []) levels ≡ waiting_prefixes above path levels
 waits_shorter above [] owner [] e = absurd (omega arith)
 waits_shorter above [] owner (f ∷ []) e = refl
 waits_shorter above [] owner (f ∷ g ∷ levels) e = absurd (omega arith)

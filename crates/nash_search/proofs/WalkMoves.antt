@@ -10,7 +10,7 @@ use Rattle.bid_rules.specs.Goods.{player_count, AreOwners}
 use Rattle.nash_bounds.specs.Lanes.{IsFork, IsLaneTable}
 use Rattle.nash_bounds.specs.Counted.{is_counted, best}
 use Rattle.nash_search.specs.Best.{IsKept, list_of}
-use Rattle.nash_search.specs.Waiting.{HaveForks, owners_of, waiting, to_come, count_all, best_all, IsWalk, AreRules, IsSettled, Goes}
+use Rattle.nash_search.specs.Waiting.{HaveForks, owners_of, waiting_prefixes, to_come, count_all, best_all, IsWalk, AreRules, IsReadyForNext, WalksOn}
 use Rattle.nash_bounds.specs.declared.lanes.Lanes.{Lanes}
 use Rattle.nash_search.specs.declared.levels.Level.{Level}
 use Rattle.nash_search.specs.declared.walk.Walk.{Walk}
@@ -26,7 +26,7 @@ levels_length (l ∷ levels) = ap suc (levels_length levels)
 
 -- the same path and levels have the same to come
 pub come_from : (old new : Walk) → new.path.items ≡ old.path.items → new.levels.items ≡ old.levels.items → to_come new ≡ to_come old
-come_from old new path levels = ap (λ xs. waiting [] xs (map owners_of new.levels.items)) path ∙ ap (λ (ls : List Level). waiting [] old.path.items (map owners_of ls)) levels
+come_from old new path levels = ap (λ xs. waiting_prefixes [] xs (map owners_of new.levels.items)) path ∙ ap (λ (ls : List Level). waiting_prefixes [] old.path.items (map owners_of ls)) levels
 
 -- a walk whose path, levels and rules stay is a walk
 pub walk_from : (case : GoodsCase) (old new : Walk) → IsWalk case old → new.table ≡ old.table → new.path.items ≡ old.path.items → new.levels.items ≡ old.levels.items
@@ -45,13 +45,13 @@ walk_from case old new is table path levels rules kept = record {
 
 -- the last level and the others
 pub come_last : (path : List ℕ) (front : List Level) (last : Level) → length front ≡ length path
-    → waiting [] path (map owners_of (front ++ last ∷ [])) ≡ map (λ owner. path ++ owner ∷ []) (reverse last.owners.items) ++ waiting [] path (map owners_of front)
+    → waiting_prefixes [] path (map owners_of (front ++ last ∷ [])) ≡ map (λ owner. path ++ owner ∷ []) (reverse last.owners.items) ++ waiting_prefixes [] path (map owners_of front)
 come_last path front last e =
     let n = levels_length front in
-    ap (waiting [] path) (map_append owners_of front (last ∷ [])) ∙ waits_last [] path (map owners_of front) last.owners.items (omega arith)
+    ap (waiting_prefixes [] path) (map_append owners_of front (last ∷ [])) ∙ waits_last [] path (map owners_of front) last.owners.items (omega arith)
 
 -- the levels above a path's last owner hold what waits, without that owner
-pub come_shorter : (path : List ℕ) (owner : ℕ) (levels : List Level) → length levels ≡ length path + 1 → waiting [] (path ++ owner ∷ []) (map owners_of levels) ≡ waiting [] path (map owners_of levels)
+pub come_shorter : (path : List ℕ) (owner : ℕ) (levels : List Level) → length levels ≡ length path + 1 → waiting_prefixes [] (path ++ owner ∷ []) (map owners_of levels) ≡ waiting_prefixes [] path (map owners_of levels)
 come_shorter path owner levels e = let n = levels_length levels in waits_shorter [] path owner (map owners_of levels) (omega arith)
 
 -- a longer path that has no owner for some good
@@ -72,10 +72,10 @@ come_deeper case old new owner level here path levels is =
     let longer = old.path.items ++ owner ∷ [] in
     let is' : reverse level.owners.items ≡ filter (λ o. is_counted case old.rules.floor old.rules.above (longer ++ o ∷ [])) (range_with_len 1 (player_count case)) =
     subst (λ xs. reverse level.owners.items ≡ filter (λ o. is_counted case old.rules.floor old.rules.above (xs ++ o ∷ [])) (range_with_len 1 (player_count case))) path is in
-    ap (λ xs. waiting [] xs (map owners_of new.levels.items)) path
-    ∙ ap (λ (ls : List Level). waiting [] longer (map owners_of ls)) levels
+    ap (λ xs. waiting_prefixes [] xs (map owners_of new.levels.items)) path
+    ∙ ap (λ (ls : List Level). waiting_prefixes [] longer (map owners_of ls)) levels
     ∙ come_last longer old.levels.items level (omega arith)
-    ∙ ap (λ xs. map (λ o. longer ++ o ∷ []) xs ++ waiting [] longer (map owners_of old.levels.items)) is'
+    ∙ ap (λ xs. map (λ o. longer ++ o ∷ []) xs ++ waiting_prefixes [] longer (map owners_of old.levels.items)) is'
     ∙ ap (λ ws. counted_next case old.rules.floor old.rules.above longer (player_count case) ++ ws) (come_shorter old.path.items owner old.levels.items here)
 
 -- a walk with one more owner on its path and one more level is a walk
@@ -140,7 +140,7 @@ write_last old now front last next k same is here =
     take_at (slice_set now (k - 1) next) (drop (length (slice_set now (k - 1) next)) old) (length old) long ∙ set
 
 -- somebody waits at the last level of a settled walk that has levels
-pub settled_last : (walk : Walk) → IsSettled walk → 0 < length walk.levels.items → (front : List Level) × (last : Level) × (walk.levels.items ≡ front ++ last ∷ []) × (0 < length last.owners.items)
+pub settled_last : (walk : Walk) → IsReadyForNext walk → 0 < length walk.levels.items → (front : List Level) × (last : Level) × (walk.levels.items ≡ front ++ last ∷ []) × (0 < length last.owners.items)
 settled_last walk (inl none) some = absurd (let z : length walk.levels.items ≡ 0 = ap length none in omega arith)
 settled_last walk (inr last) some = last
 
@@ -154,11 +154,11 @@ here_of case walk front last is levels = go is.levelled
 
 -- nobody waits at the last level
 pub come_stuck : (case : GoodsCase) (walk : Walk) (front : List Level) (last : Level) → IsWalk case walk → walk.levels.items ≡ front ++ last ∷ [] → last.owners.items ≡ []
-    → to_come walk ≡ waiting [] walk.path.items (map owners_of front)
+    → to_come walk ≡ waiting_prefixes [] walk.path.items (map owners_of front)
 come_stuck case walk front last is levels none =
-    ap (λ (ls : List Level). waiting [] walk.path.items (map owners_of ls)) levels
+    ap (λ (ls : List Level). waiting_prefixes [] walk.path.items (map owners_of ls)) levels
     ∙ come_last walk.path.items front last (here_of case walk front last is levels)
-    ∙ ap (λ xs. map (λ owner. walk.path.items ++ owner ∷ []) (reverse xs) ++ waiting [] walk.path.items (map owners_of front)) none
+    ∙ ap (λ xs. map (λ owner. walk.path.items ++ owner ∷ []) (reverse xs) ++ waiting_prefixes [] walk.path.items (map owners_of front)) none
 
 -- no level is left where the front is empty
 pub no_levels : (front : List Level) → length front ≡ 0 → front ≡ []
@@ -166,13 +166,13 @@ no_levels [] e = refl
 no_levels (f ∷ front) e = absurd (omega arith)
 
 -- no levels hold nothing
-come_empty : (path : List ℕ) → waiting [] path [] ≡ []
+come_empty : (path : List ℕ) → waiting_prefixes [] path [] ≡ []
 come_empty [] = refl
 come_empty (o ∷ path) = refl
 
 -- without levels nothing is to come
 pub come_none : (walk : Walk) → walk.levels.items ≡ [] → to_come walk ≡ []
-come_none walk none = ap (λ (ls : List Level). waiting [] walk.path.items (map owners_of ls)) none ∙ come_empty walk.path.items
+come_none walk none = ap (λ (ls : List Level). waiting_prefixes [] walk.path.items (map owners_of ls)) none ∙ come_empty walk.path.items
 
 -- a walk without its last level, at which nobody waits, and its last owner is a walk, and as much is to come
 pub walk_back : (case : GoodsCase) (old new : Walk) (front : List Level) (last : Level) (popped : Option ℕ) → IsWalk case old → old.levels.items ≡ front ++ last ∷ [] → last.owners.items ≡ []
@@ -183,7 +183,7 @@ walk_back case old new front last None is levels none rest path some table rules
     let same : old.path.items ≡ new.path.items = path ∙ append-nil new.path.items in
     let empty : length old.path.items ≡ 0 = none_left (length old.path.items) some in
     let gone : new.levels.items ≡ [] = rest ∙ no_levels front (omega arith) in
-    let come : to_come new ≡ to_come old = come_none new gone ∙ sym (come_stuck case old front last is levels none ∙ ap (λ (ls : List Level). waiting [] old.path.items (map owners_of ls)) (no_levels front (omega arith)) ∙ come_empty old.path.items) in (
+    let come : to_come new ≡ to_come old = come_none new gone ∙ sym (come_stuck case old front last is levels none ∙ ap (λ (ls : List Level). waiting_prefixes [] old.path.items (map owners_of ls)) (no_levels front (omega arith)) ∙ come_empty old.path.items) in (
       record {
         table = rw table is.table;
         forks = rw gone (λ k other l. absurd (omega arith));
@@ -209,9 +209,9 @@ walk_back case old new front last (Some owner) is levels none rest path some tab
     let m : length new.levels.items ≡ length front = ap length rest in
     let short = is.short in
     let come : to_come new ≡ to_come old =
-    ap (λ (ls : List Level). waiting [] new.path.items (map owners_of ls)) rest
+    ap (λ (ls : List Level). waiting_prefixes [] new.path.items (map owners_of ls)) rest
     ∙ sym (come_shorter new.path.items owner front (omega arith))
-    ∙ ap (λ xs. waiting [] xs (map owners_of front)) (sym path)
+    ∙ ap (λ xs. waiting_prefixes [] xs (map owners_of front)) (sym path)
     ∙ sym (come_stuck case old front last is levels none) in
     let forks : HaveForks case old.path.items front = forks_front case old.path.items front (last ∷ []) (subst (HaveForks case old.path.items) levels is.forks) in (
       record {
@@ -235,13 +235,13 @@ come_next case old new front level rest owner is levels last after path =
     let here = here_of case old front level is levels in
     let p = old.path.items in
     let f : ℕ → List ℕ = λ o. p ++ o ∷ [] in
-    ap (λ (ls : List Level). waiting [] p (map owners_of ls)) levels
+    ap (λ (ls : List Level). waiting_prefixes [] p (map owners_of ls)) levels
     ∙ come_last p front level here
-    ∙ ap (λ xs. map f (reverse xs) ++ waiting [] p (map owners_of front)) last
-    ∙ ap (λ xs. map f xs ++ waiting [] p (map owners_of front)) (reverse-append rest.owners.items (owner ∷ []))
+    ∙ ap (λ xs. map f (reverse xs) ++ waiting_prefixes [] p (map owners_of front)) last
+    ∙ ap (λ xs. map f xs ++ waiting_prefixes [] p (map owners_of front)) (reverse-append rest.owners.items (owner ∷ []))
     ∙ ap (λ ws. (p ++ owner ∷ []) ∷ ws) (sym (come_last p front rest here))
-    ∙ ap (λ (ls : List Level). (p ++ owner ∷ []) ∷ waiting [] p (map owners_of ls)) (sym after)
-    ∙ ap (λ xs. (p ++ owner ∷ []) ∷ waiting [] xs (map owners_of new.levels.items)) (sym path)
+    ∙ ap (λ (ls : List Level). (p ++ owner ∷ []) ∷ waiting_prefixes [] p (map owners_of ls)) (sym after)
+    ∙ ap (λ xs. (p ++ owner ∷ []) ∷ waiting_prefixes [] xs (map owners_of new.levels.items)) (sym path)
 
 -- a walk whose last waiting owner is taken off is a walk without that owner
 pub walk_next : (case : GoodsCase) (old new : Walk) (front : List Level) (level rest : Level) (owner : ℕ) → IsWalk case old → old.levels.items ≡ front ++ level ∷ [] → level.owners.items ≡ rest.owners.items ++ owner ∷ []
@@ -278,11 +278,11 @@ walk_next case old new front level rest owner is levels last after lanes path ta
     )
 
 -- a walk that stays has gone nowhere
-pub goes_none : (case : GoodsCase) (walk : Walk) → Goes case walk walk
+pub goes_none : (case : GoodsCase) (walk : Walk) → WalksOn case walk walk
 goes_none case walk = record { rules = refl; nodes = refl; best = refl }
 
 -- two goes one after another are one
-pub goes_on : (case : GoodsCase) (a b c : Walk) → Goes case a b → Goes case b c → Goes case a c
+pub goes_on : (case : GoodsCase) (a b c : Walk) → WalksOn case a b → WalksOn case b c → WalksOn case a c
 goes_on case a b c one two = record {
   rules = two.rules ∙ one.rules;
   nodes = one.nodes ∙ subst (λ (r : Rules). b.nodes + count_all case r.floor r.above (to_come b) ≡ c.nodes + count_all case r.floor r.above (to_come c)) one.rules two.nodes;
@@ -293,16 +293,16 @@ goes_on case a b c one two = record {
 pub more_left : (case : GoodsCase) (walk : Walk) (front : List Level) (last : Level) → IsWalk case walk → walk.levels.items ≡ front ++ last ∷ [] → 0 < length last.owners.items
     → 0 < count_all case walk.rules.floor walk.rules.above (to_come walk)
 more_left case walk front last is levels some =
-    let come = ap (λ (ls : List Level). waiting [] walk.path.items (map owners_of ls)) levels ∙ come_last walk.path.items front last (here_of case walk front last is levels) in
+    let come = ap (λ (ls : List Level). waiting_prefixes [] walk.path.items (map owners_of ls)) levels ∙ come_last walk.path.items front last (here_of case walk front last is levels) in
     let n = length-reverse last.owners.items in
     go (reverse last.owners.items) (omega arith) come
   where
-    go : (os : List ℕ) → 0 < length os → to_come walk ≡ map (λ owner. walk.path.items ++ owner ∷ []) os ++ waiting [] walk.path.items (map owners_of front) → 0 < count_all case walk.rules.floor walk.rules.above (to_come walk)
+    go : (os : List ℕ) → 0 < length os → to_come walk ≡ map (λ owner. walk.path.items ++ owner ∷ []) os ++ waiting_prefixes [] walk.path.items (map owners_of front) → 0 < count_all case walk.rules.floor walk.rules.above (to_come walk)
     go [] l come = absurd (omega arith)
     go (o ∷ os) l come =
         let C : List ℕ → Type 0 = λ ws. is_counted case walk.rules.floor walk.rules.above ws ≡ true in
         let x = walk.path.items ++ o ∷ [] in
-        let rest = map (λ owner. walk.path.items ++ owner ∷ []) os ++ waiting [] walk.path.items (map owners_of front) in
+        let rest = map (λ owner. walk.path.items ++ owner ∷ []) os ++ waiting_prefixes [] walk.path.items (map owners_of front) in
         let all : All C (x ∷ rest) = subst (All C) come is.counted in
         let one = count-some case walk.rules.floor walk.rules.above (case.facts.goods - length x) x (All-head C x rest all) in
         let cons = count_all-cons case walk.rules.floor walk.rules.above x rest in
@@ -310,11 +310,11 @@ more_left case walk front last is levels some =
         omega arith
 
 -- a settled walk with a level has counted prefixes to come
-pub settled_left : (case : GoodsCase) (walk : Walk) → IsWalk case walk → IsSettled walk → 0 < length walk.levels.items → 0 < count_all case walk.rules.floor walk.rules.above (to_come walk)
+pub settled_left : (case : GoodsCase) (walk : Walk) → IsWalk case walk → IsReadyForNext walk → 0 < length walk.levels.items → 0 < count_all case walk.rules.floor walk.rules.above (to_come walk)
 settled_left case walk is settled some = let last = settled_last walk settled some in more_left case walk last.0 last.1 is last.2 last.3
 
 -- levels at which nobody waits have nothing to come
-pub come_blank : (above path : List ℕ) (levels : List Level) → All (λ (l : Level). l.owners.items ≡ []) levels → waiting above path (map owners_of levels) ≡ []
+pub come_blank : (above path : List ℕ) (levels : List Level) → All (λ (l : Level). l.owners.items ≡ []) levels → waiting_prefixes above path (map owners_of levels) ≡ []
 come_blank above [] [] h = refl
 come_blank above (o ∷ path) [] h = refl
 come_blank above [] (l ∷ levels) h =
@@ -325,10 +325,10 @@ come_blank above (o ∷ path) (l ∷ levels) h =
 
 -- one prefix waits alone
 pub come_alone : (path : List ℕ) (levels : List Level) (last : Level) (owner : ℕ) → All (λ (l : Level). l.owners.items ≡ []) levels → length levels ≡ length path → last.owners.items ≡ owner ∷ []
-    → waiting [] path (map owners_of (levels ++ last ∷ [])) ≡ (path ++ owner ∷ []) ∷ []
+    → waiting_prefixes [] path (map owners_of (levels ++ last ∷ [])) ≡ (path ++ owner ∷ []) ∷ []
 come_alone path levels last owner blank here is =
     come_last path levels last here
-    ∙ ap (λ xs. map (λ o. path ++ o ∷ []) (reverse xs) ++ waiting [] path (map owners_of levels)) is
+    ∙ ap (λ xs. map (λ o. path ++ o ∷ []) (reverse xs) ++ waiting_prefixes [] path (map owners_of levels)) is
     ∙ ap (λ ws. (path ++ owner ∷ []) ∷ ws) (come_blank [] path levels blank)
 
 -- the levels before the first step: none, or as many empty ones as the path has owners, and one at which one owner waits
@@ -338,7 +338,7 @@ IsFirst walk lanes owner false = walk.levels.items ≡ []
 
 -- the first prefix is to come, if it waits
 first_come : (walk : Walk) (lanes : Lanes) (owner : ℕ) (waits : Bool) → IsFirst walk lanes owner waits → to_come walk ≡ cond waits ((walk.path.items ++ owner ∷ []) ∷ []) []
-first_come walk lanes owner true first = ap (λ (ls : List Level). waiting [] walk.path.items (map owners_of ls)) first.2 ∙ come_alone walk.path.items first.0 first.1 owner first.4 first.3 first.5
+first_come walk lanes owner true first = ap (λ (ls : List Level). waiting_prefixes [] walk.path.items (map owners_of ls)) first.2 ∙ come_alone walk.path.items first.0 first.1 owner first.4 first.3 first.5
 first_come walk lanes owner false first = come_none walk first
 
 -- the first levels are none, or one more than the path's owners
@@ -347,7 +347,7 @@ first_levelled walk lanes owner true first = inr (let e : length walk.levels.ite
 first_levelled walk lanes owner false first = inl first
 
 -- the first walk is settled
-first_settled : (walk : Walk) (lanes : Lanes) (owner : ℕ) (waits : Bool) → IsFirst walk lanes owner waits → IsSettled walk
+first_settled : (walk : Walk) (lanes : Lanes) (owner : ℕ) (waits : Bool) → IsFirst walk lanes owner waits → IsReadyForNext walk
 first_settled walk lanes owner true first = inr (first.0, first.1, first.2, (let e : length first.1.owners.items ≡ 1 = ap length first.5 in omega arith))
 first_settled walk lanes owner false first = inl first
 
@@ -377,7 +377,7 @@ first_counted case walk owners false counted = All-nil (λ ws. is_counted case w
 pub first_walk : (case : GoodsCase) (walk : Walk) (lanes : Lanes) (owners : List ℕ) (owner : ℕ) (waits : Bool) → owners ≡ walk.path.items ++ owner ∷ [] → length owners ≤ case.facts.goods → AreOwners case owners
     → 1 ≤ owner → owner ≤ player_count case → IsFirst walk lanes owner waits → waits ≡ is_counted case walk.rules.floor walk.rules.above owners → IsLaneTable case walk.table → IsFork case walk.path.items lanes
     → IsKept case walk.best → AreRules walk.rules
-    → IsWalk case walk × IsSettled walk × (to_come walk ≡ cond (is_counted case walk.rules.floor walk.rules.above owners) (owners ∷ []) [])
+    → IsWalk case walk × IsReadyForNext walk × (to_come walk ≡ cond (is_counted case walk.rules.floor walk.rules.above owners) (owners ∷ []) [])
 first_walk case walk lanes owners owner waits path short owned a b first counted table fork kept rules =
     let O : ℕ → Type 0 = λ o. (1 ≤ o) × (o ≤ player_count case) in
     let C : List ℕ → Type 0 = λ ws. is_counted case walk.rules.floor walk.rules.above ws ≡ true in

@@ -7,7 +7,7 @@ use Rattle.nash_bounds.specs.Allocations.{IsBestOf}
 use Rattle.nash_bounds.specs.Tasks.{depth_of, task_list}
 use Rattle.nash_bounds.specs.Counted.{is_counted, count, best, count_task, counted_leaves}
 use Rattle.nash_search.specs.Best.{list_of}
-use Rattle.nash_search.specs.Waiting.{IsSettled, IsWalk, to_come, count_all, best_all, Goes}
+use Rattle.nash_search.specs.Waiting.{IsReadyForNext, IsWalk, to_come, count_all, best_all, WalksOn}
 use Rattle.nash_search.specs.Pieces.{Advanced, IsTaskWalk, Pieces}
 use Rattle.nash_search.specs.declared.found.Found.{Found}
 use Rattle.nash_search.specs.declared.rules.Rules.{Rules}
@@ -21,7 +21,7 @@ view_of task walk = record { task = task; floor = walk.rules.floor; above = walk
 
 -- a walk that has the whole task to come
 pub begins : BoundFalls → (case : GoodsCase) (task : ℕ) (owners : List ℕ) (walk : Walk) → IsValidGoodsCase case → owners ≡ task_list case task → length owners ≡ depth_of case
-    → length owners ≤ case.facts.goods → IsWalk case walk → IsSettled walk → walk.nodes ≡ 0 → walk.best ≡ None
+    → length owners ≤ case.facts.goods → IsWalk case walk → IsReadyForNext walk → walk.nodes ≡ 0 → walk.best ≡ None
     → to_come walk ≡ cond (is_counted case walk.rules.floor walk.rules.above owners) (owners ∷ []) [] → IsTaskWalk case (view_of task walk)
 begins falls case task owners walk valid is long short works settled n b come =
     let floor = walk.rules.floor in
@@ -46,13 +46,13 @@ begins falls case task owners walk valid is long short works settled n b come =
     }
 
 -- what is counted and what is to come stay the same together
-goes_count : (case : GoodsCase) (old : Pieces) (new : Walk) → IsTaskWalk case old → Goes case old.place new
+goes_count : (case : GoodsCase) (old : Pieces) (new : Walk) → IsTaskWalk case old → WalksOn case old.place new
     → old.place.nodes + count_all case old.floor old.above (to_come old.place) ≡ new.nodes + count_all case old.floor old.above (to_come new)
 goes_count case old new is goes = subst (λ a. old.place.nodes + count_all case old.floor a (to_come old.place) ≡ new.nodes + count_all case old.floor a (to_come new)) is.is_above
     (subst (λ (f : Pair). old.place.nodes + count_all case f old.place.rules.above (to_come old.place) ≡ new.nodes + count_all case f old.place.rules.above (to_come new)) is.is_floor goes.nodes)
 
 -- by rules of their own, the walk after a piece is one through the same task
-again : (case : GoodsCase) (old : Pieces) (new : Walk) (floor : Pair) (above : Option Pair) → new.rules.floor ≡ floor → new.rules.above ≡ above → IsWalk case new → IsSettled new
+again : (case : GoodsCase) (old : Pieces) (new : Walk) (floor : Pair) (above : Option Pair) → new.rules.floor ≡ floor → new.rules.above ≡ above → IsWalk case new → IsReadyForNext new
     → new.nodes + count_all case floor above (to_come new) ≡ count_task case old.task floor above
     → best_all case floor above (to_come new) (list_of new.best) ≡ best case floor above (case.facts.goods - depth_of case) (task_list case old.task) None
     → IsTaskWalk case (record { task = old.task; floor = floor; above = above; nodes = new.nodes; best = new.best; place = new })
@@ -72,7 +72,7 @@ abbrev pub after_piece : Pieces → Walk → Pieces
 after_piece old new = record { task = old.task; floor = old.floor; above = old.above; nodes = new.nodes; best = new.best; place = new }
 
 -- a walk that goes on walks through its task
-pub goes_task : (case : GoodsCase) (old : Pieces) (new : Walk) → IsTaskWalk case old → Goes case old.place new → IsWalk case new → IsSettled new → IsTaskWalk case (after_piece old new)
+pub goes_task : (case : GoodsCase) (old : Pieces) (new : Walk) → IsTaskWalk case old → WalksOn case old.place new → IsWalk case new → IsReadyForNext new → IsTaskWalk case (after_piece old new)
 goes_task case old new is goes works settled =
     let n = goes_count case old new is goes in
     let m = is.count in
@@ -92,7 +92,7 @@ TaskKept = (case : GoodsCase) (task : ℕ) (floor : Pair) (above : Option Pair)
     → IsBestOf case (counted_leaves case task floor above) (best case floor above (case.facts.goods - depth_of case) (task_list case task) None)
 
 -- a piece that ends with nothing to come, or after so many prefixes, advances so
-pub goes_far : TaskKept → (case : GoodsCase) (old : Pieces) (new : Walk) (most : ℕ) (done : Bool) → IsTaskWalk case old → Goes case old.place new → IsWalk case new → IsSettled new
+pub goes_far : TaskKept → (case : GoodsCase) (old : Pieces) (new : Walk) (most : ℕ) (done : Bool) → IsTaskWalk case old → WalksOn case old.place new → IsWalk case new → IsReadyForNext new
     → new.nodes ≤ old.place.nodes + most → (done ≡ true → to_come new ≡ [])
     → (done ≡ false → (new.nodes ≡ old.place.nodes + most) × (0 < count_all case old.place.rules.floor old.place.rules.above (to_come new))) → Advanced case old (after_piece old new) most done
 goes_far kept case old new most true is goes works settled few end more =

@@ -5,4 +5,5 @@ pub mod Division
 pub mod First
 pub mod Waiting
 pub mod Pieces
+pub mod Parts
 pub mod Tables

@@ -5,7 +5,7 @@ use Rattle.bid_rules.specs.declared.pair.Pair.{Pair}
 use Rattle.nash_bounds.specs.Tasks.{depth_of, task_list}
 use Rattle.nash_bounds.specs.Counted.{best, count_task, counted_leaves}
 use Rattle.nash_search.specs.Best.{IsFoundBest, list_of}
-use Rattle.nash_search.specs.Waiting.{IsSettled, IsWalk, to_come, count_all, best_all}
+use Rattle.nash_search.specs.Waiting.{IsReadyForNext, IsWalk, to_come, count_all, best_all}
 use Rattle.nash_search.specs.declared.found.Found.{Found}
 use Rattle.nash_search.specs.declared.walk.Walk.{Walk}
 
@@ -23,7 +23,7 @@ pub record Pieces : Type 0 where
 -- task's best
 pub record IsTaskWalk (case : GoodsCase) (pieces : Pieces) : Type 0 where
   pub walk : IsWalk case pieces.place
-  pub settled : IsSettled pieces.place
+  pub settled : IsReadyForNext pieces.place
   pub is_floor : pieces.place.rules.floor ≡ pieces.floor
   pub is_above : pieces.place.rules.above ≡ pieces.above
   pub is_nodes : pieces.nodes ≡ pieces.place.nodes

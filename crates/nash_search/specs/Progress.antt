@@ -13,7 +13,7 @@ use Rattle.nash_search.specs.Best.{IsFoundBest, IsKept, list_of}
 use Rattle.nash_search.specs.declared.progress.Progress.{Progress}
 use Rattle.nash_search.specs.declared.tally.Tally.{Tally}
 
--- all counted prefixes of n tasks in a row are counted, and the best of their counted allocations is found
+-- the tally counts the counted prefixes of n tasks in a row, and has the best of the counted allocations
 pub record IsTallied (case : GoodsCase) (floor : Pair) (above : Option Pair) (from n : ℕ) (tally : Tally) : Type 0 where
   pub count : tally.nodes ≡ count_tasks case floor above from n
   pub found : IsFoundBest case (counted_of_tasks case floor above from n) tally.best

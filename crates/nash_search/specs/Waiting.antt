@@ -1,4 +1,16 @@
--- What a walk on a path has still to come.
+-- What a walk has still to visit.
+--
+-- A walk goes down and up the prefixes of a task. Its path has the owners of the prefix that it visited last. For each owner on the path, and for the
+-- next good, it keeps a level: the owners of that good whose turn has not come, the next one last. Say that the path is 2, 1:
+--
+--     good      first     second    third
+--     path      2         1
+--     level     3         nobody    3, 1
+--
+-- The third good may still go to 1, then to 3. After that the walk goes back up: nobody else waits for the second good, and 3 waits for the first. So
+-- it has three prefixes to come, in this order, which is the rising order of lists:
+--
+--     2, 1, 1     2, 1, 3     3
 use Rattle.std.specs.Prelude.{◌≡◌, ℕ, ◌-◌, ◌+◌, ◌<◌, ◌⊎◌, List, [], ◌∷◌, ◌++◌, length, map, fold, reverse, take, slice_index_or, All, Option, ◌&&◌, true}
 use Rattle.std.specs.List.{sum_by}
 use Rattle.bid_rules.specs.declared.goods.GoodsCase.{GoodsCase}
@@ -13,19 +25,20 @@ use Rattle.nash_search.specs.declared.levels.Level.{Level}
 use Rattle.nash_search.specs.declared.rules.Rules.{Rules}
 use Rattle.nash_search.specs.declared.walk.Walk.{Walk}
 
--- the owners who wait at a level of the path
+-- the owners who wait at a level, the next one last
 abbrev pub owners_of : Level → List ℕ
 owners_of level = level.owners.items
 
--- the prefixes that wait, in rising order: first those that extend the whole path, and last those that share no owner with it
-abbrev pub waiting : List ℕ → List ℕ → List (List ℕ) → List (List ℕ)
-waiting above path [] = []
-waiting above [] (level ∷ levels) = map (λ owner. above ++ owner ∷ []) (reverse level)
-waiting above (owner ∷ path) (level ∷ levels) = waiting (above ++ owner ∷ []) path levels ++ map (λ owner. above ++ owner ∷ []) (reverse level)
+-- the prefixes to come, where the levels belong to the goods after the owners `above`: first those that go on from the end of the path, and last those
+-- that leave it at its first owner
+abbrev pub waiting_prefixes : List ℕ → List ℕ → List (List ℕ) → List (List ℕ)
+waiting_prefixes above path [] = []
+waiting_prefixes above [] (level ∷ levels) = map (λ owner. above ++ owner ∷ []) (reverse level)
+waiting_prefixes above (owner ∷ path) (level ∷ levels) = waiting_prefixes (above ++ owner ∷ []) path levels ++ map (λ owner. above ++ owner ∷ []) (reverse level)
 
--- the prefixes that a walk has still to visit
+-- the prefixes that a walk has still to visit, as in the picture
 abbrev pub to_come : Walk → List (List ℕ)
-to_come walk = waiting [] walk.path.items (map owners_of walk.levels.items)
+to_come walk = waiting_prefixes [] walk.path.items (map owners_of walk.levels.items)
 
 -- how many prefixes that begin with one of these are counted
 abbrev pub count_all : GoodsCase → Pair → Option Pair → List (List ℕ) → ℕ
@@ -61,11 +74,11 @@ pub record IsWalk (case : GoodsCase) (walk : Walk) : Type 0 where
   pub rules : AreRules walk.rules
 
 -- nothing waits, or an owner waits at the last level
-abbrev pub IsSettled : Walk → Type 0
-IsSettled walk = (walk.levels.items ≡ []) ⊎ ((front : List Level) × (last : Level) × (walk.levels.items ≡ front ++ last ∷ []) × (0 < length last.owners.items))
+abbrev pub IsReadyForNext : Walk → Type 0
+IsReadyForNext walk = (walk.levels.items ≡ []) ⊎ ((front : List Level) × (last : Level) × (walk.levels.items ≡ front ++ last ∷ []) × (0 < length last.owners.items))
 
 -- the walk goes on: what was counted and what is still to come is the same together
-pub record Goes (case : GoodsCase) (old new : Walk) : Type 0 where
+pub record WalksOn (case : GoodsCase) (old new : Walk) : Type 0 where
   pub rules : new.rules ≡ old.rules
   pub nodes : old.nodes + count_all case old.rules.floor old.rules.above (to_come old) ≡ new.nodes + count_all case old.rules.floor old.rules.above (to_come new)
   pub best : best_all case old.rules.floor old.rules.above (to_come old) (list_of old.best) ≡ best_all case old.rules.floor old.rules.above (to_come new) (list_of new.best)

@@ -42,7 +42,8 @@ pub fn search_block(
     requires tables { AreTables case.now tables.now }
     requires block { BLOCK_TASKS * block < tasks_of case.now }
     requires allowance { allowance ≤ MOST_STEPS }
-    ensures { EndsTask case.now (count_block case.now floor above block) (counted_of_block case.now floor above block) allowance result }
+    ensures { EndsTask case.now (count_block case.now floor above block)
+        (counted_of_block case.now floor above block) allowance result }
 {
     tasks_in_row_law();
     let tasks = tasks_in_block(case, block);

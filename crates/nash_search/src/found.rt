@@ -24,12 +24,14 @@ pub struct Found {
 }
 
 impl Found {
-    /// Whether the other is at least as good: it has a greater pair, or the same and is not after this one.
+    // Whether the other is at least as good: it has a greater pair, or the same and is not after this one.
     fn is_behind(&self, other: &Found) -> bool
-        ensures behind { (case : GoodsCase) → self.now.pair ≡ pair_of case self.now.list.items → other.now.pair ≡ pair_of case other.now.list.items
-            → result ≡ true → IsBehind case self.now.list.items other.now.list.items }
-        ensures ahead { (case : GoodsCase) → self.now.pair ≡ pair_of case self.now.list.items → other.now.pair ≡ pair_of case other.now.list.items
-            → result ≡ false → IsBehind case other.now.list.items self.now.list.items }
+        ensures behind { (case : GoodsCase) → self.now.pair ≡ pair_of case self.now.list.items
+            → other.now.pair ≡ pair_of case other.now.list.items → result ≡ true
+            → IsBehind case self.now.list.items other.now.list.items }
+        ensures ahead { (case : GoodsCase) → self.now.pair ≡ pair_of case self.now.list.items
+            → other.now.pair ≡ pair_of case other.now.list.items → result ≡ false
+            → IsBehind case other.now.list.items self.now.list.items }
     {
         if self.pair == other.pair {
             return !comes_before(self.list.as_slice(), other.list.as_slice());
@@ -38,14 +40,14 @@ impl Found {
     }
 }
 
-/// Whether the first list comes before the second.
+// Whether the first list comes before the second.
 fn comes_before(a: &[u8], b: &[u8]) -> bool
     ensures { result ≡ true ↔ slice_cmp nat_cmp a.now b.now ≡ Less }
 {
     a.cmp(b) == Ordering::Less
 }
 
-/// Whether the first of two different pairs is smaller.
+// Whether the first of two different pairs is smaller.
 fn is_smaller(a: Pair, b: Pair) -> bool
     requires { a ≡ b → ⊥ }
     ensures less { result ≡ true → IsLess a b }
@@ -58,7 +60,8 @@ fn is_smaller(a: Pair, b: Pair) -> bool
 ///
 /// In what order several are put together plays no part.
 pub fn better(first: Option<Found>, second: Option<Found>) -> Option<Found>
-    ensures { (case : GoodsCase) (xs ys : List (List ℕ)) → IsFoundBest case xs first → IsFoundBest case ys second → IsFoundBest case (xs ++ ys) result }
+    ensures { (case : GoodsCase) (xs ys : List (List ℕ)) → IsFoundBest case xs first
+        → IsFoundBest case ys second → IsFoundBest case (xs ++ ys) result }
 {
     let Some(one) = first else {
         return second;
@@ -75,7 +78,8 @@ pub fn better(first: Option<Found>, second: Option<Found>) -> Option<Found>
 
 /// The pair of what is found.
 pub fn pair_found(found: &Option<Found>) -> Option<Pair>
-    ensures { (case : GoodsCase) → IsKept case found.now → result ≡ pair_kept case (list_of found.now) }
+    ensures { (case : GoodsCase) → IsKept case found.now
+        → result ≡ pair_kept case (list_of found.now) }
 {
     match found {
         Some(found) => Some(found.pair),
@@ -83,7 +87,7 @@ pub fn pair_found(found: &Option<Found>) -> Option<Pair>
     }
 }
 
-/// A copy of some owners.
+// A copy of some owners.
 pub(crate) fn copied(owners: &[u8]) -> ArrayVec<u8, ITEM_ROOM>
     requires { length owners.now ≤ ITEM_ROOM }
     ensures { result.items ≡ owners.now }

@@ -38,7 +38,7 @@ impl Model for TaskWalk {
 }
 
 /// A walk that has its whole task to come. It will count the prefixes whose bound is at least `floor` and, if there is an `above`, greater
-/// than it. The program makes the case's tables once and walks by them with `walk_by`; this is for a walk of one task alone.
+/// than it. The program makes the case's tables once and walks by them with `walk_by`; this is for a walk of a single task.
 pub fn start_walk(case: &GoodsCase, task: u32, floor: Pair, above: Option<Pair>) -> TaskWalk
     requires case { IsValidGoodsCase case.now }
     requires task { task < tasks_of case.now }
@@ -91,7 +91,8 @@ impl TaskWalk {
         ensures floor { self.new.floor ≡ self.old.floor }
         ensures above { self.new.above ≡ self.old.above }
         ensures advanced { Advanced case.now self.old self.new most result }
-        ensures all { result ≡ true ↔ self.new.nodes ≡ count_task case.now self.old.task self.old.floor self.old.above }
+        ensures all { result ≡ true
+            ↔ self.new.nodes ≡ count_task case.now self.old.task self.old.floor self.old.above }
     {
         best_counted_law();
         self.walk.run(case, most)

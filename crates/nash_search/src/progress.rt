@@ -87,8 +87,11 @@ impl Progress {
         requires progress { IsProgress case.now self.old }
         requires block { BLOCK_TASKS * self.old.block < tasks_of case.now }
         requires within { nodes ≤ case.now.facts.limit - self.old.nodes }
-        requires count { nodes ≡ count_block case.now self.old.floor (pair_so_far case.now self.old) self.old.block }
-        requires best { IsFoundBest case.now (counted_of_block case.now self.old.floor (pair_so_far case.now self.old) self.old.block) best }
+        requires count { nodes
+            ≡ count_block case.now self.old.floor (pair_so_far case.now self.old) self.old.block }
+        requires best { IsFoundBest case.now
+            (counted_of_block case.now self.old.floor (pair_so_far case.now self.old)
+            self.old.block) best }
         ensures progress { IsProgress case.now self.new }
         ensures block { self.new.block ≡ self.old.block + 1 }
     {
@@ -100,12 +103,13 @@ impl Progress {
         self.best = better(earlier, best);
     }
 
-    /// The refusal, where the next block has more counted prefixes than were left.
+    /// The refusal, if the next block has more counted prefixes than were left.
     pub fn over(&self, case: &GoodsCase) -> OverLimit
         requires case { IsValidGoodsCase case.now }
         requires progress { IsProgress case.now self.now }
         requires block { BLOCK_TASKS * self.now.block < tasks_of case.now }
-        requires over { case.now.facts.limit - self.now.nodes < count_block case.now self.now.floor (pair_so_far case.now self.now) self.now.block }
+        requires over { case.now.facts.limit - self.now.nodes
+            < count_block case.now self.now.floor (pair_so_far case.now self.now) self.now.block }
         ensures { IsOverLimit case.now result }
     {
         serving_law();

@@ -17,7 +17,7 @@ pub(crate) struct Rules {
     pub(crate) beyond: bool,
 }
 
-/// The rules by which a counted prefix has at least `floor` as its bound and, where `above` is there, a greater one than that.
+// The rules by which a counted prefix has at least `floor` as its bound and, if `above` is there, a greater one than that.
 pub(crate) fn rules_of(floor: Pair, above: Option<Pair>) -> Rules
     ensures rules { AreRules result }
     ensures floor { result.floor ≡ floor }

@@ -28,7 +28,7 @@ impl Tables {
         Tables { points, lanes }
     }
 
-    /// A copy of the lanes' table, for a walk to keep.
+    // A copy of the lanes' table, for a walk to keep.
     pub(crate) fn copied_lanes(&self) -> LaneTable
         ensures { result ≡ self.now.lanes }
     {

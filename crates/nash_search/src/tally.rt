@@ -23,7 +23,8 @@ impl Tally {
     /// Nothing counted and nothing found, before the first task.
     pub fn new() -> Tally
         ensures nodes { result.nodes ≡ 0 }
-        ensures row { (case : GoodsCase) (floor : Pair) (above : Option Pair) (from : ℕ) → IsTallied case floor above from 0 result }
+        ensures row { (case : GoodsCase) (floor : Pair) (above : Option Pair) (from : ℕ)
+            → IsTallied case floor above from 0 result }
     {
         tasks_in_row_law();
         Tally {
@@ -35,8 +36,10 @@ impl Tally {
     /// Adds the end of the next task, which was searched with what the earlier ones left of the allowance; false if it was stopped.
     pub fn add(&mut self, end: TaskEnd) -> bool
         requires { self.old.nodes + nodes_in end < 2 ^ 32 }
-        ensures { (case : GoodsCase) (floor : Pair) (above : Option Pair) (from n allowance : ℕ) → self.old.nodes ≤ allowance → IsTallied case floor above from n self.old
-            → EndsTask case (count_task case (from + n) floor above) (counted_leaves case (from + n) floor above) (allowance - self.old.nodes) end
+        ensures { (case : GoodsCase) (floor : Pair) (above : Option Pair) (from n allowance : ℕ)
+            → self.old.nodes ≤ allowance → IsTallied case floor above from n self.old
+            → EndsTask case (count_task case (from + n) floor above)
+            (counted_leaves case (from + n) floor above) (allowance - self.old.nodes) end
             → AfterTask case floor above from n allowance self.new result }
     {
         tasks_in_row_law();

@@ -32,6 +32,7 @@ struct Split {
     tasks: u32,
 }
 
+// The length of the lists with which tasks begin, and how many there are.
 fn split_tasks(case: &GoodsCase) -> Split
     requires { IsValidGoodsCase case.now }
     ensures depth { result.depth ≡ depth_of case.now }
@@ -62,7 +63,7 @@ pub fn tasks(case: &GoodsCase) -> u32
 }
 
 /// The prefix that a task begins with.
-pub(crate) fn task_prefix(case: &GoodsCase, table: &PointTable, task: u32) -> Prefix
+pub fn task_prefix(case: &GoodsCase, table: &PointTable, task: u32) -> Prefix
     requires case { IsValidGoodsCase case.now }
     requires table { IsTable case.now table.now }
     requires task { task < tasks_of case.now }
@@ -90,7 +91,7 @@ pub(crate) fn task_prefix(case: &GoodsCase, table: &PointTable, task: u32) -> Pr
 /// allocation among them, the least list among equals.
 ///
 /// `task` is a task of the case, from 0, and `allowance` at most `MOST_STEPS`. The search stops exactly if more prefixes are counted than
-/// the allowance, and then it has counted one more. A search of a whole case makes the tables once, for all its tasks; this is for one task alone.
+/// the allowance, and then it has counted one more. A search of a whole case makes the tables once, for all its tasks; this is for a single task.
 pub fn search_task(
     case: &GoodsCase,
     task: u32,
@@ -101,7 +102,8 @@ pub fn search_task(
     requires case { IsValidGoodsCase case.now }
     requires task { task < tasks_of case.now }
     requires allowance { allowance ≤ MOST_STEPS }
-    ensures { EndsTask case.now (count_task case.now task floor above) (counted_leaves case.now task floor above) allowance result }
+    ensures { EndsTask case.now (count_task case.now task floor above)
+        (counted_leaves case.now task floor above) allowance result }
 {
     search_by(case, &Tables::of(case), task, floor, above, allowance)
 }
@@ -119,7 +121,8 @@ pub fn search_by(
     requires tables { AreTables case.now tables.now }
     requires task { task < tasks_of case.now }
     requires allowance { allowance ≤ MOST_STEPS }
-    ensures { EndsTask case.now (count_task case.now task floor above) (counted_leaves case.now task floor above) allowance result }
+    ensures { EndsTask case.now (count_task case.now task floor above)
+        (counted_leaves case.now task floor above) allowance result }
 {
     let mut walk = walk_by(case, tables, task, floor, above);
     let _all = walk.advance(case, allowance + 1);

@@ -9,7 +9,7 @@ ghost use Rattle.nash_bounds.specs.Allocations.{keep};
 ghost use Rattle.nash_bounds.specs.Counted.{is_counted};
 ghost use Rattle.nash_search.specs.Best.{IsKept, list_of};
 ghost use Rattle.nash_search.specs.declared.levels.Level.{Level};
-ghost use Rattle.nash_search.specs.Waiting.{AreRules, IsWalk, IsSettled, Goes, to_come, count_all, best_all};
+ghost use Rattle.nash_search.specs.Waiting.{AreRules, IsWalk, IsReadyForNext, WalksOn, to_come, count_all, best_all};
 
 use crate::found::{Found, copied};
 use crate::levels::{Level, Turn, next_level};
@@ -33,7 +33,7 @@ pub(crate) struct Walk {
     pub(crate) best: Option<Found>,
 }
 
-/// Keeps an allocation that is better than the best so far.
+// Keeps an allocation that is better than the best so far.
 fn offer(best: Option<Found>, pair: Pair, owners: &[u8]) -> Option<Found>
     requires { length owners.now ≤ ITEM_ROOM }
     ensures { (case : GoodsCase) → IsKept case best → pair ≡ pair_of case owners.now
@@ -50,7 +50,7 @@ fn offer(best: Option<Found>, pair: Pair, owners: &[u8]) -> Option<Found>
 }
 
 impl Walk {
-    /// Gives the next good to the owner; the lanes of the longer path.
+    // Gives the next good to the owner; the lanes of the longer path.
     fn descend(&mut self, case: &GoodsCase, turn: &Turn) -> Lanes
         requires table { IsLaneTable case.now self.old.table }
         requires fork { IsFork case.now self.old.path.items turn.now.lanes }
@@ -77,10 +77,12 @@ impl Walk {
         lanes
     }
 
-    /// Whether nobody waits at the last level.
+    // Whether nobody waits at the last level.
     fn is_stuck(&self) -> bool
-        ensures stuck { result ≡ true → (front : List Level) × (last : Level) × (self.now.levels.items ≡ front ++ last ∷ []) × (last.owners.items ≡ []) }
-        ensures settled { result ≡ false → IsSettled self.now }
+        ensures stuck { result ≡ true
+            → (front : List Level) × (last : Level) × (self.now.levels.items ≡ front ++ last ∷ [])
+            × (last.owners.items ≡ []) }
+        ensures settled { result ≡ false → IsReadyForNext self.now }
     {
         match self.levels.last() {
             Some(level) => level.owners.is_empty(),
@@ -88,11 +90,12 @@ impl Walk {
         }
     }
 
-    /// Leaves the last level, at which nobody waits.
+    // Leaves the last level, at which nobody waits.
     fn back(&mut self, case: &GoodsCase)
         requires case { IsValidGoodsCase case.now }
         requires walk { IsWalk case.now self.old }
-        requires stuck { (front : List Level) × (last : Level) × (self.old.levels.items ≡ front ++ last ∷ []) × (last.owners.items ≡ []) }
+        requires stuck { (front : List Level) × (last : Level)
+            × (self.old.levels.items ≡ front ++ last ∷ []) × (last.owners.items ≡ []) }
         ensures walk { IsWalk case.now self.new }
         ensures same { to_come self.new ≡ to_come self.old }
         ensures rules { self.new.rules ≡ self.old.rules }
@@ -104,7 +107,7 @@ impl Walk {
         let _ = self.path.pop();
     }
 
-    /// Leaves the levels at which nobody waits.
+    // Leaves the levels at which nobody waits.
     fn settle(&mut self, case: &GoodsCase)
         requires case { IsValidGoodsCase case.now }
         requires walk { IsWalk case.now self.old }
@@ -113,26 +116,28 @@ impl Walk {
         ensures rules { self.new.rules ≡ self.old.rules }
         ensures best { self.new.best ≡ self.old.best }
         ensures nodes { self.new.nodes ≡ self.old.nodes }
-        ensures settled { IsSettled self.new }
+        ensures settled { IsReadyForNext self.new }
     {
         'levels: while self.is_stuck() {
             self.back(case);
         }
     }
 
-    /// The next prefix that waits.
+    // The next prefix that waits.
     fn next(&mut self, case: &GoodsCase) -> Turn
         requires case { IsValidGoodsCase case.now }
         requires walk { IsWalk case.now self.old }
-        requires settled { IsSettled self.old }
+        requires settled { IsReadyForNext self.old }
         requires some { 0 < length self.old.levels.items }
         ensures walk { IsWalk case.now self.new }
         ensures here { length self.new.levels.items ≡ length self.new.path.items + 1 }
         ensures path { self.new.path.items ≡ self.old.path.items }
-        ensures next { to_come self.old ≡ (self.old.path.items ++ result.owner ∷ []) ∷ to_come self.new }
+        ensures next { to_come self.old
+            ≡ (self.old.path.items ++ result.owner ∷ []) ∷ to_come self.new }
         ensures owner { (1 ≤ result.owner) × (result.owner ≤ player_count case.now) }
         ensures fork { IsFork case.now self.old.path.items result.lanes }
-        ensures counted { is_counted case.now self.old.rules.floor self.old.rules.above (self.old.path.items ++ result.owner ∷ []) ≡ true }
+        ensures counted { is_counted case.now self.old.rules.floor self.old.rules.above
+            (self.old.path.items ++ result.owner ∷ []) ≡ true }
         ensures rules { self.new.rules ≡ self.old.rules }
         ensures nodes { self.new.nodes ≡ self.old.nodes }
         ensures best { self.new.best ≡ self.old.best }
@@ -141,7 +146,7 @@ impl Walk {
         self.levels[last].turn()
     }
 
-    /// Goes on to the prefix: offers it if it is an allocation, and otherwise sees who waits after it.
+    // Goes on to the prefix: offers it if it is an allocation, and otherwise sees who waits after it.
     fn enter(&mut self, case: &GoodsCase, turn: &Turn)
         requires case { IsValidGoodsCase case.now }
         requires walk { IsWalk case.now self.old }
@@ -149,14 +154,20 @@ impl Walk {
         requires owner_low { 1 ≤ turn.now.owner }
         requires owner_high { turn.now.owner ≤ player_count case.now }
         requires fork { IsFork case.now self.old.path.items turn.now.lanes }
-        requires counted { is_counted case.now self.old.rules.floor self.old.rules.above (self.old.path.items ++ turn.now.owner ∷ []) ≡ true }
+        requires counted { is_counted case.now self.old.rules.floor self.old.rules.above
+            (self.old.path.items ++ turn.now.owner ∷ []) ≡ true }
         ensures walk { IsWalk case.now self.new }
         ensures nodes { self.new.nodes ≡ self.old.nodes }
         ensures rules { self.new.rules ≡ self.old.rules }
-        ensures count { 1 + count_all case.now self.old.rules.floor self.old.rules.above (to_come self.new)
-            ≡ count_all case.now self.old.rules.floor self.old.rules.above ((self.old.path.items ++ turn.now.owner ∷ []) ∷ to_come self.old) }
-        ensures best { best_all case.now self.old.rules.floor self.old.rules.above (to_come self.new) (list_of self.new.best)
-            ≡ best_all case.now self.old.rules.floor self.old.rules.above ((self.old.path.items ++ turn.now.owner ∷ []) ∷ to_come self.old) (list_of self.old.best) }
+        ensures count { 1
+            + count_all case.now self.old.rules.floor self.old.rules.above (to_come self.new)
+            ≡ count_all case.now self.old.rules.floor self.old.rules.above
+            ((self.old.path.items ++ turn.now.owner ∷ []) ∷ to_come self.old) }
+        ensures best { best_all case.now self.old.rules.floor self.old.rules.above
+            (to_come self.new) (list_of self.new.best)
+            ≡ best_all case.now self.old.rules.floor self.old.rules.above
+            ((self.old.path.items ++ turn.now.owner ∷ []) ∷ to_come self.old)
+            (list_of self.old.best) }
     {
         bound_law();
         let lanes = self.descend(case, turn);
@@ -168,7 +179,7 @@ impl Walk {
         }
     }
 
-    /// Keeps the allocation of the path, if it is better than the best so far.
+    // Keeps the allocation of the path, if it is better than the best so far.
     fn offer(&mut self, case: &GoodsCase, lanes: &Lanes)
         requires case { IsValidGoodsCase case.now }
         requires few { player_count case.now ≤ MEMBER_ROOM }
@@ -176,7 +187,8 @@ impl Walk {
         requires whole { length self.old.path.items ≡ case.now.facts.goods }
         requires kept { IsKept case.now self.old.best }
         ensures kept { IsKept case.now self.new.best }
-        ensures best { list_of self.new.best ≡ keep case.now (list_of self.old.best) self.old.path.items }
+        ensures best { list_of self.new.best
+            ≡ keep case.now (list_of self.old.best) self.old.path.items }
         ensures path { self.new.path.items ≡ self.old.path.items }
         ensures rules { self.new.rules ≡ self.old.rules }
         ensures table { self.new.table ≡ self.old.table }
@@ -188,15 +200,22 @@ impl Walk {
         self.best = offer(best, pair, self.path.as_slice());
     }
 
-    /// Sees which owners of the next good wait.
+    // Sees which owners of the next good wait.
     fn look(&mut self, case: &GoodsCase, lanes: &Lanes, start: u32)
         requires table { IsLaneTable case.now self.old.table }
         requires open { HasFreeGood case.now self.old.path.items }
         requires lanes { IsLanes case.now self.old.path.items lanes.now }
         requires rules { AreRules self.old.rules }
         requires levels { length self.old.levels.items ≤ length self.old.path.items }
-        ensures levels { (level : Level) × (self.new.levels.items ≡ self.old.levels.items ++ level ∷ []) × AreOwners case.now level.owners.items × IsFork case.now self.old.path.items level.lanes
-            × (reverse level.owners.items ≡ filter (λ owner. is_counted case.now self.old.rules.floor self.old.rules.above (self.old.path.items ++ owner ∷ [])) (range_with_len 1 (player_count case.now))) }
+        ensures levels { (level : Level)
+            × (self.new.levels.items ≡ self.old.levels.items ++ level ∷ [])
+            × AreOwners case.now level.owners.items
+            × IsFork case.now self.old.path.items level.lanes
+            × (reverse level.owners.items
+            ≡ filter
+            (λ owner.
+            is_counted case.now self.old.rules.floor self.old.rules.above
+            (self.old.path.items ++ owner ∷ [])) (range_with_len 1 (player_count case.now))) }
         ensures path { self.new.path.items ≡ self.old.path.items }
         ensures rules { self.new.rules ≡ self.old.rules }
         ensures table { self.new.table ≡ self.old.table }
@@ -214,17 +233,17 @@ impl Walk {
         self.levels.push(level);
     }
 
-    /// Counts the next prefix that waits.
+    // Counts the next prefix that waits.
     fn step(&mut self, case: &GoodsCase)
         requires case { IsValidGoodsCase case.now }
         requires walk { IsWalk case.now self.old }
-        requires settled { IsSettled self.old }
+        requires settled { IsReadyForNext self.old }
         requires some { 0 < length self.old.levels.items }
         requires fits { self.old.nodes + 1 < 2 ^ 32 }
         ensures walk { IsWalk case.now self.new }
-        ensures goes { Goes case.now self.old self.new }
+        ensures goes { WalksOn case.now self.old self.new }
         ensures nodes { self.new.nodes ≡ self.old.nodes + 1 }
-        ensures settled { IsSettled self.new }
+        ensures settled { IsReadyForNext self.new }
     {
         let turn = self.next(case);
         self.enter(case, &turn);
@@ -232,18 +251,21 @@ impl Walk {
         self.settle(case);
     }
 
-    /// Counts up to so many further prefixes; whether all are counted.
+    // Counts up to so many further prefixes; whether all are counted.
     pub(crate) fn run(&mut self, case: &GoodsCase, most: u32) -> bool
         requires case { IsValidGoodsCase case.now }
         requires walk { IsWalk case.now self.old }
-        requires settled { IsSettled self.old }
+        requires settled { IsReadyForNext self.old }
         requires fits { self.old.nodes + most < 2 ^ 32 }
         ensures walk { IsWalk case.now self.new }
-        ensures goes { Goes case.now self.old self.new }
-        ensures settled { IsSettled self.new }
+        ensures goes { WalksOn case.now self.old self.new }
+        ensures settled { IsReadyForNext self.new }
         ensures end { result ≡ true → to_come self.new ≡ [] }
         ensures few { self.new.nodes ≤ self.old.nodes + most }
-        ensures more { result ≡ false → (self.new.nodes ≡ self.old.nodes + most) × (0 < count_all case.now self.old.rules.floor self.old.rules.above (to_come self.new)) }
+        ensures more { result ≡ false
+            → (self.new.nodes ≡ self.old.nodes + most)
+            ×
+            (0 < count_all case.now self.old.rules.floor self.old.rules.above (to_come self.new)) }
     {
         'pieces: for _k in 0..most {
             if self.levels.is_empty() {
@@ -255,7 +277,7 @@ impl Walk {
     }
 }
 
-/// A walk that has the prefix and those below it to come.
+// A walk that has the prefix and those below it to come.
 pub(crate) fn start(case: &GoodsCase, table: LaneTable, prefix: &Prefix, rules: Rules) -> Walk
     requires case { IsValidGoodsCase case.now }
     requires table { IsLaneTable case.now table }
@@ -263,11 +285,13 @@ pub(crate) fn start(case: &GoodsCase, table: LaneTable, prefix: &Prefix, rules: 
     requires some { 0 < length prefix.now.owners.items }
     requires rules { AreRules rules }
     ensures walk { IsWalk case.now result }
-    ensures settled { IsSettled result }
+    ensures settled { IsReadyForNext result }
     ensures rules { result.rules ≡ rules }
     ensures nodes { result.nodes ≡ 0 }
     ensures best { result.best ≡ None }
-    ensures come { to_come result ≡ cond (is_counted case.now rules.floor rules.above prefix.now.owners.items) (prefix.now.owners.items ∷ []) [] }
+    ensures come { to_come result
+        ≡ cond (is_counted case.now rules.floor rules.above prefix.now.owners.items)
+        (prefix.now.owners.items ∷ []) [] }
 {
     let mut lanes = lanes_of(case, prefix);
     let mut path = copied(prefix.owners.as_slice());
@@ -292,7 +316,7 @@ pub(crate) fn start(case: &GoodsCase, table: LaneTable, prefix: &Prefix, rules: 
     }
 }
 
-/// No level, or one for each of the owners, at which nobody waits, and one at which this owner waits.
+// No level, or one for each of the owners, at which nobody waits, and one at which this owner waits.
 fn first_levels(
     owners: usize,
     lanes: Lanes,
@@ -301,7 +325,10 @@ fn first_levels(
 ) -> ArrayVec<Level, ITEM_ROOM>
     requires { owners < ITEM_ROOM }
     ensures none { reached.reaches ≡ false → result.items ≡ [] }
-    ensures one { reached.reaches ≡ true → (front : List Level) × (last : Level) × (result.items ≡ front ++ last ∷ []) × (length front ≡ owners) × All (λ (l : Level). l.owners.items ≡ []) front × (last.owners.items ≡ owner ∷ []) × (last.lanes ≡ lanes) }
+    ensures one { reached.reaches ≡ true
+        → (front : List Level) × (last : Level) × (result.items ≡ front ++ last ∷ [])
+        × (length front ≡ owners) × All (λ (l : Level). l.owners.items ≡ []) front
+        × (last.owners.items ≡ owner ∷ []) × (last.lanes ≡ lanes) }
 {
     let mut levels = ArrayVec::new();
     if !reached.reaches {

@@ -11,7 +11,7 @@ use Rattle.httparse.proofs.GrammarLemmas.{print_response-append}
 use Rattle.http_heads.specs.declared.limits.TheConstants.{MAX_FIELDS, MAX_HEAD}
 use Rattle.remote_check.specs.Fields.{told_length}
 use Rattle.remote_check.specs.Heads.{IsHead, fields_of}
-use Rattle.split_http.specs.Replies.{close_line, joined, kind_line}
+use Rattle.split_http.specs.Replies.{close_line, reply_of_parts, kind_line}
 use Rattle.program_laws.proofs.DateBytes.{FitsIn}
 use Rattle.program_laws.proofs.Lengths.{decimal_digits, digits_pass, length_told}
 
@@ -51,7 +51,7 @@ date_line (Some text) = codes "Date: " ++ text ++ codes "\r\n"
 
 -- the bytes of a host's reply of status 200 with this body
 abbrev pub reply_bytes : Option (List ℕ) → Bool → ℕ → Bool → List ℕ → List ℕ
-reply_bytes date plain size close body = joined (codes "200") (codes "OK") (date_line date) (kind_line plain) (decimal size) [] (close_line close) body
+reply_bytes date plain size close body = reply_of_parts (codes "200") (codes "OK") (date_line date) (kind_line plain) (decimal size) [] (close_line close) body
 
 size_regrouped : (size end close last body : List ℕ) → (((size ++ end) ++ close) ++ last) ++ body ≡ size ++ (end ++ (close ++ (last ++ body)))
 size_regrouped size end close last body = simp append_assoc
@@ -148,7 +148,7 @@ short_close : (close : Bool) → length (close_line close) ≤ 19
 short_close true = omega arith
 short_close false = omega arith
 
-joined_length : (date kind size close : List ℕ) → length (joined (codes "200") (codes "OK") date kind size [] close []) ≡ length date + length kind + length size + length close + 37
+joined_length : (date kind size close : List ℕ) → length (reply_of_parts (codes "200") (codes "OK") date kind size [] close []) ≡ length date + length kind + length size + length close + 37
 joined_length date kind size close =
     let kinds = date ++ kind in
     let label = kinds ++ codes "Content-Length: " in

@@ -26,10 +26,15 @@ use split_frac::{quotient_law, value_law};
 ///
 /// A division has all numbers that its certificate shows, and its amounts are fractions in lowest terms.
 pub fn some_best_law()
-    ensures rent { (rent : RentCase) → IsValidRentCase rent → (division : Division) × IsDivisionOf (case.Rent rent) division }
-    ensures goods { (goods : GoodsCase) → IsValidGoodsCase goods → (owners : List ℕ) × GoodsBest goods owners }
-    ensures within_limit { (goods : GoodsCase) (steps : ℕ) → IsValidGoodsCase goods → HasSteps goods steps → steps ≤ goods.facts.limit → (division : Division) × IsDivisionOf (case.Goods goods) division }
-    ensures fares { (fares : FareCase) → IsValidFareCase fares → (division : Division) × IsDivisionOf (case.Fares fares) division }
+    ensures rent { (rent : RentCase) → IsValidRentCase rent
+        → (division : Division) × IsDivisionOf (case.Rent rent) division }
+    ensures goods { (goods : GoodsCase) → IsValidGoodsCase goods
+        → (owners : List ℕ) × GoodsBest goods owners }
+    ensures within_limit { (goods : GoodsCase) (steps : ℕ) → IsValidGoodsCase goods
+        → HasSteps goods steps → steps ≤ goods.facts.limit
+        → (division : Division) × IsDivisionOf (case.Goods goods) division }
+    ensures fares { (fares : FareCase) → IsValidFareCase fares
+        → (division : Division) × IsDivisionOf (case.Fares fares) division }
 {
     assignment_law();
     best_fares_law();

@@ -3,7 +3,7 @@
 //! Each law is the contract of a function that does nothing.
 //!
 //! A host's certificate is one to which a fetch says yes (`host_certificates_law`). That the host
-//! reads the request of a fetch as one for that certificate is shown by tests alone. Nothing is
+//! reads the request of a fetch as one for that certificate is shown only by tests. Nothing is
 //! built on this crate. It is a crate of its own, since its laws speak of crates that do not use each other.
 #![tactic(auto)]
 

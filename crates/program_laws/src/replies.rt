@@ -15,14 +15,17 @@ use certificates::certificate_law;
 use remote_check::fetched_law;
 
 /// The bytes that a host writes for a reply of status 200 with a body of at most 4,000,000 bytes and no `Allow` are a head that a fetch takes, and then that
-/// body, whatever its type and date are, whether the connection is closed, and whatever follows. Where the body is the canonical certificate of a valid
+/// body, whatever its type and date are, whether the connection is closed, and whatever follows. If the body is the canonical certificate of a valid
 /// case, the answer of a fetch is yes, unless a call on its link failed.
 pub fn host_reply_law()
-    ensures reply { (reply : HttpReply) (bytes rest text : List ℕ) → Brings reply text → IsReply reply bytes → length text ≤ MOST_BYTES → IsReplyOf (bytes ++ rest) text }
-    ensures due { (due : DueView) (bytes rest text : List ℕ) → IsToBring due text → AreBytes due bytes → length text ≤ MOST_BYTES → IsReplyOf (bytes ++ rest) text }
-    ensures yes { (case : Case) (due : DueView) (bytes rest text : List ℕ) → IsValidCase case → IsCanonical case text → IsToBring due text → AreBytes due bytes
-        → IsYes (bytes ++ rest) }
-    ensures only { (case : Case) (due : DueView) (bytes rest text : List ℕ) → IsValidCase case → IsCanonical case text → IsToBring due text → AreBytes due bytes
+    ensures reply { (reply : HttpReply) (bytes rest text : List ℕ) → Brings reply text
+        → IsReply reply bytes → length text ≤ MOST_BYTES → IsReplyOf (bytes ++ rest) text }
+    ensures due { (due : DueView) (bytes rest text : List ℕ) → IsToBring due text
+        → AreBytes due bytes → length text ≤ MOST_BYTES → IsReplyOf (bytes ++ rest) text }
+    ensures yes { (case : Case) (due : DueView) (bytes rest text : List ℕ) → IsValidCase case
+        → IsCanonical case text → IsToBring due text → AreBytes due bytes → IsYes (bytes ++ rest) }
+    ensures only { (case : Case) (due : DueView) (bytes rest text : List ℕ) → IsValidCase case
+        → IsCanonical case text → IsToBring due text → AreBytes due bytes
         → IsYesOnly (bytes ++ rest) }
 {
     certificate_law();

@@ -12,11 +12,14 @@ use split_base::{Clock, Disk, Port};
 /// In every run of a host, whatever its disk, its connections, their bytes and the moments of the clock were: each certificate that is sent in reply to a GET
 /// is one to which a fetch says yes, and nothing else, unless a call on its link failed.
 pub fn host_certificates_law<D: Disk, P: Port, C: Clock>()
-    ensures yes { (disk after : D) (begun : D × State) (port port_after : P) (clock clock_after : C) (number : ℕ)
-        → (host : Headline D.Disk P.Port (tells_of P.Link.Source P.Link.Sink) C.Clock disk begun after port port_after clock clock_after number)
-        → Every (IsOfCertificates IsYes) host.run }
-    ensures only { (disk after : D) (begun : D × State) (port port_after : P) (clock clock_after : C) (number : ℕ)
-        → (host : Headline D.Disk P.Port (tells_of P.Link.Source P.Link.Sink) C.Clock disk begun after port port_after clock clock_after number)
+    ensures yes { (disk after : D) (begun : D × State) (port port_after : P) (clock clock_after : C)
+        (number : ℕ)
+        → (host : Headline D.Disk P.Port (tells_of P.Link.Source P.Link.Sink) C.Clock disk begun
+        after port port_after clock clock_after number) → Every (IsOfCertificates IsYes) host.run }
+    ensures only { (disk after : D) (begun : D × State) (port port_after : P)
+        (clock clock_after : C) (number : ℕ)
+        → (host : Headline D.Disk P.Port (tells_of P.Link.Source P.Link.Sink) C.Clock disk begun
+        after port port_after clock clock_after number)
         → Every (IsOfCertificates IsYesOnly) host.run }
 {
     host_reply_law();

@@ -6,13 +6,13 @@ use std::alloc::Global;
 use std::process::Abort;
 use std::thread::Threads;
 
-/// A command, its input, and how it ends where no call fails: one that judges its input on the way, and one that reads all of it first.
+/// A command, its input, and how it ends if no call fails: one that judges its input on the way, and one that reads all of it first.
 const COMMANDS: [(&[&str], &str, (u8, &str)); 2] = [
     (&["check"], "fairsplit 2\n", (3, "refused: line 1\n")),
     (&["solve", "1"], "[", (3, "refused: json\n")),
 ];
 
-/// Stops unless the command of these words, which uses no disk, ends with this status and text.
+// Stops unless the command of these words, which uses no disk, ends with this status and text.
 fn ends(
     rt: &(impl Abort + Threads + Sync),
     alloc: Global,
@@ -25,6 +25,7 @@ fn ends(
     running::ends(rt, alloc, &mut disk, words, outside, due);
 }
 
+// Each read fails once, also the one that finds the end.
 #[test]
 fn ends_at_a_failed_read(rt: HostRuntime) {
     let alloc = rt.alloc();
@@ -47,6 +48,7 @@ fn ends_at_a_failed_read(rt: HostRuntime) {
     }
 }
 
+// The first write fails, or none that is made.
 #[test]
 fn ends_at_a_failed_write(rt: HostRuntime) {
     let alloc = rt.alloc();

@@ -9,6 +9,7 @@ const DIGITS: &str = "0123456789abcdef0123456789abcdef0123456789abcdef0123456789
 /// Room for the file and for the list of its calls.
 const ROOM: usize = 1024;
 
+// Each row is a command and what its file or port does.
 #[test]
 fn ends_at_the_faults_of_a_host(rt: HostRuntime) {
     let alloc = rt.alloc();

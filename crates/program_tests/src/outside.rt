@@ -11,6 +11,7 @@ struct Failing {
 }
 
 impl Failing {
+    // Counts a call, and gives its number, or an error at the first.
     fn next(&mut self) -> io::Result<u8> {
         self.calls = self.calls.saturating_add(1);
         match self.calls {
@@ -46,6 +47,7 @@ impl Write for Failing {
     }
 }
 
+// A failed read leaves the buffer as it was and is counted once.
 #[test]
 fn counts_a_failed_read(rt: HostRuntime) {
     let mut source = Reading::new(Failing { calls: 0 });
@@ -56,6 +58,7 @@ fn counts_a_failed_read(rt: HostRuntime) {
     assert_eq!(rt; (into, source.faults()), ([2, 0, 0, 0], 1));
 }
 
+// A failed write is counted once, and the next one is tried.
 #[test]
 fn counts_a_failed_write(rt: HostRuntime) {
     let mut sink = Writing::new(Failing { calls: 0 });

@@ -2,6 +2,7 @@
 use reply_texts::{ServiceRefusal, memory_text, service_refusal_text};
 use std::process::Abort;
 
+// Their texts are told to clients, so they are compared byte by byte.
 #[test]
 fn the_service_refuses(rt: HostRuntime) {
     let rows = [

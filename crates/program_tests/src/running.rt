@@ -34,7 +34,7 @@ pub(crate) const AMPLE: Outside<'static> = Outside {
     bad_ports: &[],
 };
 
-/// A source, in these pieces, whose listed reads fail.
+// A source, in these pieces, whose listed reads fail.
 fn source_of(rt: &impl Abort, alloc: Global, outside: Outside<'_>) -> MemSource {
     let pieces = outside.pieces.to_vec(alloc).expect(rt, "no memory");
     assert!(rt; pieces.iter().all(|size| *size > 0));
@@ -43,13 +43,13 @@ fn source_of(rt: &impl Abort, alloc: Global, outside: Outside<'_>) -> MemSource 
     MemSource::new(bytes.expect(rt, "no memory"), pieces, fails)
 }
 
-/// A sink whose listed writes fail.
+// A sink whose listed writes fail.
 fn sink_of(rt: &impl Abort, alloc: Global, outside: Outside<'_>) -> MemSink {
     let fails = outside.bad_writes.to_vec(alloc).expect(rt, "no memory");
     MemSink::new(alloc, ROOM, fails).expect(rt, "no memory")
 }
 
-/// A port without links whose listed calls fail.
+// A port without links whose listed calls fail.
 fn port_of(rt: &impl Abort, alloc: Global, outside: Outside<'_>) -> MemPort
     ensures out { result.out ≡ 0 }
     ensures goes_on { IsTrue result.is_over → ⊥ }
@@ -58,13 +58,13 @@ fn port_of(rt: &impl Abort, alloc: Global, outside: Outside<'_>) -> MemPort
     MemPort::new(alloc, Vec::new(alloc), fails).expect(rt, "no memory")
 }
 
-/// A clock that shows the first second of 1970.
+// A clock that shows the first second of 1970.
 fn clock_of(rt: &impl Abort, alloc: Global) -> MemClock {
     let moments = [0].to_vec(alloc).expect(rt, "no memory");
     MemClock::new(moments, Vec::new(alloc))
 }
 
-/// The words of a command.
+// The words of a command.
 fn words_of(rt: &impl Abort, alloc: Global, words: &[&str]) -> Vec<String> {
     let mut given = Vec::new(alloc);
     for word in words {
@@ -74,7 +74,7 @@ fn words_of(rt: &impl Abort, alloc: Global, words: &[&str]) -> Vec<String> {
     given
 }
 
-/// Stops unless the command of these words, on this disk, ends with this status and text.
+// Stops unless the command of these words, on this disk, ends with this status and text.
 pub(crate) fn ends(
     rt: &(impl Abort + Threads + Sync),
     alloc: Global,

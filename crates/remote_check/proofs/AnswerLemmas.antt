@@ -19,7 +19,7 @@ use Rattle.remote_check.specs.declared.ends.FetchEnd.TheVariants as ends
 use Rattle.remote_check.specs.Bodies.{JudgeSays, filler_of, given, given_of}
 use Rattle.remote_check.proofs.BodyLemmas.{awaited_gone, only_filler}
 use Rattle.remote_check.specs.Fetched.{FetchSays, Fetched, SaysBody, SaysLength}
-use Rattle.remote_check.specs.Heads.{AsksMore, BeginsWith, HasNoHead, IsText}
+use Rattle.remote_check.specs.Heads.{AsksMore, BeginsWith, HasNoHead, IsResponseText}
 use Rattle.remote_check.specs.Taken.{Ends, GoesOn, IsInBody, IsUnsettled, LeavesSome}
 
 -- the judge's answer is on all that it was given
@@ -122,7 +122,7 @@ in_body held rest None left count reads on some = tt
 in_body held rest (Some more) left count reads on some = record { rest = rest ++ more; count = count; goes_on = goes_more held rest more count on; some = some }
 
 -- what was read of what was to come settles no answer
-pub head_unsettled : (held : List ℕ) (ahead left : Option (List ℕ)) (reads : ℕ) → Keeps ahead (prepend_known held left) → IsOpen IsText AsksMore held
+pub head_unsettled : (held : List ℕ) (ahead left : Option (List ℕ)) (reads : ℕ) → Keeps ahead (prepend_known held left) → IsOpen IsResponseText AsksMore held
     → IsUnsettled ahead left reads
 head_unsettled held None left reads same unended = IsUnsettled.in_head held tt unended
 head_unsettled held (Some x) None reads same unended = absurd same

@@ -7,7 +7,7 @@ use Rattle.std.specs.Io.KnownBytes.{Consumes, IsAtEnd, prepend_known}
 use Rattle.remote_check.specs.declared.body.Due.{Due}
 use Rattle.remote_check.specs.declared.body.Due.TheVariants.{Awaited, Filler}
 use Rattle.remote_check.specs.declared.limits.TheConstants.{FILLER}
-use Rattle.remote_check.specs.Bodies.{filler_of, given, given_by, given_of, named}
+use Rattle.remote_check.specs.Bodies.{filler_of, given, given_by, given_of, under_name}
 
 -- the name, the count, and what is beside the link, under what is told of them
 abbrev name_in : Option (List ℕ) × ℕ × ℕ → ℕ
@@ -28,20 +28,20 @@ beside_in (Some (name ∷ []), faults, tag) = (None, 0, 0)
 beside_in (Some (name ∷ (count ∷ [])), faults, tag) = (None, 0, 0)
 beside_in (Some (name ∷ (count ∷ (empty ∷ written))), faults, tag) = (cond (tag == 0) None (Some written), faults, empty)
 
-name_is : (name count : ℕ) (beside : Option (List ℕ) × ℕ × ℕ) → name_in (named name count beside) ≡ name
+name_is : (name count : ℕ) (beside : Option (List ℕ) × ℕ × ℕ) → name_in (under_name name count beside) ≡ name
 name_is name count (None, faults, empty) = refl
 name_is name count (Some x, faults, empty) = refl
 
-count_is : (name count : ℕ) (beside : Option (List ℕ) × ℕ × ℕ) → count_in (named name count beside) ≡ count
+count_is : (name count : ℕ) (beside : Option (List ℕ) × ℕ × ℕ) → count_in (under_name name count beside) ≡ count
 count_is name count (None, faults, empty) = refl
 count_is name count (Some x, faults, empty) = refl
 
-beside_is : (name count : ℕ) (beside : Option (List ℕ) × ℕ × ℕ) → beside_in (named name count beside) ≡ beside
+beside_is : (name count : ℕ) (beside : Option (List ℕ) × ℕ × ℕ) → beside_in (under_name name count beside) ≡ beside
 beside_is name count (None, faults, empty) = refl
 beside_is name count (Some x, faults, empty) = refl
 
 -- they are told apart
-pub named_same : (name other count counts : ℕ) (beside those : Option (List ℕ) × ℕ × ℕ) → named name count beside ≡ named other counts those
+pub named_same : (name other count counts : ℕ) (beside those : Option (List ℕ) × ℕ × ℕ) → under_name name count beside ≡ under_name other counts those
     → (name ≡ other) × (count ≡ counts) × (beside ≡ those)
 named_same name other count counts beside those e = (
   sym (name_is name count beside) ∙ ap name_in e ∙ name_is other counts those,

@@ -3,7 +3,7 @@ use Rattle.std.proofs.Common.{◌≡◌, ℕ, ◌+◌, ◌-◌, ◌*◌, ◌^◌
 use Rattle.std.proofs.lemmas.Bool.{cases_lt}
 use Rattle.std.specs.Io.KnownBytes.{Consumes, prepend_known}
 use Rattle.cert_reader.specs.declared.limits.TheConstants.{MOST_BYTES}
-use Rattle.cert_reader.specs.Stream.{ends_at, faults_after}
+use Rattle.cert_reader.specs.Stream.{ends_at, faults_after_reading}
 use Rattle.cert_reader.specs.declared.ends.TextEnd.{TextEnd}
 use Rattle.cert_reader.specs.declared.ends.TextEnd.TheVariants as reads
 use Rattle.rule_verdicts.specs.declared.verdict.Verdict.{Verdict}
@@ -15,7 +15,7 @@ use Rattle.remote_check.specs.Taken.{LeavesSome}
 use Rattle.remote_check.proofs.AnswerLemmas.{front_told, leaves_some}
 
 -- the link's count, by what the judge says of the other
-pub told_count : (due : Due) (s t : ℕ) (result : Result Verdict TextEnd) → count_at_fault due t ≡ counted s → count_with due t ≡ faults_after s result → t ≡ faults_after s result
+pub told_count : (due : Due) (s t : ℕ) (result : Result Verdict TextEnd) → count_at_fault due t ≡ counted s → count_with due t ≡ faults_after_reading s result → t ≡ faults_after_reading s result
 told_count (Awaited n) s t result fault count = count
 told_count (Filler n) s t result fault count = count
 told_count (Refused behind more) s t (Ok verdict) fault count = omega (arith, fault, count)
@@ -23,7 +23,7 @@ told_count (Refused behind more) s t (Err (reads.NotText line)) fault count = om
 told_count (Refused behind more) s t (Err reads.TooLong) fault count = omega (arith, fault, count)
 told_count (Refused behind more) s t (Err reads.ReadFault) fault count = fault
 
-pub told_risen : (s t : ℕ) (result : Result Verdict TextEnd) → t ≡ faults_after s result → IsErrOf result reads.ReadFault → HasRisen s t
+pub told_risen : (s t : ℕ) (result : Result Verdict TextEnd) → t ≡ faults_after_reading s result → IsErrOf result reads.ReadFault → HasRisen s t
 told_risen s t (Ok verdict) count is = absurd cc
 told_risen s t (Err (reads.NotText line)) count is = absurd cc
 told_risen s t (Err reads.TooLong) count is = absurd cc
@@ -34,7 +34,7 @@ told_risen s t (Err reads.ReadFault) count is =
     ]
 
 -- below the greatest count a fault that is told is one of the link
-no_fault : (s t : ℕ) (result : Result Verdict TextEnd) → counted t ≡ counted s → t ≡ faults_after s result → IsErrOf result reads.ReadFault → t < 2 ^ 64 - 1 → ⊥
+no_fault : (s t : ℕ) (result : Result Verdict TextEnd) → counted t ≡ counted s → t ≡ faults_after_reading s result → IsErrOf result reads.ReadFault → t < 2 ^ 64 - 1 → ⊥
 no_fault s t (Ok verdict) fault count is less = cc
 no_fault s t (Err (reads.NotText line)) fault count is less = cc
 no_fault s t (Err reads.TooLong) fault count is less = cc
@@ -42,7 +42,7 @@ no_fault s t (Err reads.ReadFault) fault count is less = omega (arith, fault, co
 
 -- so some of the body is still to come
 pub told_some : (due : Due) (s t : ℕ) (result : Result Verdict TextEnd) (count : ℕ) (input left : Option (List ℕ)) (taken held : List ℕ) → count_at_fault due t ≡ counted s
-    → count_with due t ≡ faults_after s result → IsErrOf result reads.ReadFault → t < 2 ^ 64 - 1 → count ≤ MOST_BYTES
+    → count_with due t ≡ faults_after_reading s result → IsErrOf result reads.ReadFault → t < 2 ^ 64 - 1 → count ≤ MOST_BYTES
     → Consumes (given count 0 input) (prepend_known held (given_by due left)) taken → IfSome input (λ rest. LeavesSome count rest left)
 told_some (Awaited n) s t result count input left taken held fault told is less most took = absurd (no_fault s t result fault told is less)
 told_some (Filler n) s t result count input left taken held fault told is less most took = absurd (no_fault s t result fault told is less)
@@ -50,7 +50,7 @@ told_some (Refused behind more) s t result count input left taken held fault tol
     leaves_some count (behind + 1) 0 input left taken held most (omega arith) refl took
 
 pub front_some : (due : Due) (s t : ℕ) (result : Result Verdict TextEnd) (held : List ℕ) (count n : ℕ) (input left : Option (List ℕ)) (taken behind : List ℕ)
-    → count_at_fault due t ≡ counted s → count_with due t ≡ faults_after s result → n ≡ min (length held) count
+    → count_at_fault due t ≡ counted s → count_with due t ≡ faults_after_reading s result → n ≡ min (length held) count
     → Consumes (prepend_known (take n held) (given (count - n) 0 input)) (prepend_known behind (given_by due left)) taken
     → IsErrOf result reads.ReadFault → t < 2 ^ 64 - 1 → count ≤ MOST_BYTES → IfSome (prepend_known held input) (λ rest. LeavesSome count rest left)
 front_some due s t result held count n input left taken behind fault told front took is less most =
@@ -71,7 +71,7 @@ told_once (Filler n) ends ends_now result most = omega (arith, most, one_end (2 
 told_once (Refused behind more) ends ends_now result most = omega (arith, most, one_end (2 * (ends + 1)) result)
 
 -- and not at all where a read failed
-pub told_before : (due : Due) (s t ends ends_now : ℕ) (result : Result Verdict TextEnd) → count_at_fault due t ≡ counted s → count_with due t ≡ faults_after s result
+pub told_before : (due : Due) (s t ends ends_now : ℕ) (result : Result Verdict TextEnd) → count_at_fault due t ≡ counted s → count_with due t ≡ faults_after_reading s result
     → ends_with due ends_now ≤ ends_at (2 * (ends + 1)) result → IsErrOf result reads.ReadFault → t < 2 ^ 64 - 1 → ends_now ≤ ends
 told_before (Awaited n) s t ends ends_now result fault told most is less = absurd (no_fault s t result fault told is less)
 told_before (Filler n) s t ends ends_now result fault told most is less = absurd (no_fault s t result fault told is less)

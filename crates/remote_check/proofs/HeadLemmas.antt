@@ -13,7 +13,7 @@ use Rattle.httparse.specs.declared.spans.ResponseSpans.{ResponseSpans}
 use Rattle.httparse.proofs.GrammarLemmas.{response_prefix_free, print_response-append}
 use Rattle.http_heads.specs.declared.limits.TheConstants.{MAX_FIELDS, ROOM}
 use Rattle.http_heads.specs.Search.{IsBad, NeverHasOne}
-use Rattle.remote_check.specs.Heads.{AsksMore, HasNoHead, IsText}
+use Rattle.remote_check.specs.Heads.{AsksMore, HasNoHead, IsResponseText}
 
 -- as many fields as were written
 fields_count : (bytes : List ℕ) (headers : List HeaderSpan) (r : ResponseSpans) (h : ResponseHead)
@@ -24,7 +24,7 @@ fields_count bytes headers r h at fits =
 
 -- a head with more fields leaves no room for another
 too_many_fields : (bytes : List ℕ) (headers : List HeaderSpan) (r : ResponseSpans)
-    → IsResponseOf bytes headers r → r.headers ≤ length headers → MAX_FIELDS < r.headers → NeverHasOne IsText bytes
+    → IsResponseOf bytes headers r → r.headers ≤ length headers → MAX_FIELDS < r.headers → NeverHasOne IsResponseText bytes
 too_many_fields bytes headers r of fits many more text rest (k, valid, few, printed) is =
     let h = of.0 in
     let same = response_prefix_free bytes more h k _ rest of.1.reads (valid, is ∙ ap (λ z. z ++ rest) printed) in
@@ -35,7 +35,7 @@ too_many_fields bytes headers r of fits many more text rest (k, valid, few, prin
 -- the same of what the parser answers
 pub many_fields : (bytes : List ℕ) (headers : List HeaderSpan) (result : Result (Status ResponseSpans) Error)
     → IfComplete result (IsResponseOf bytes headers) → IfComplete result (IsResponseWithin bytes headers)
-    → IfComplete result (λ spans. MAX_FIELDS < spans.headers → NeverHasOne IsText bytes)
+    → IfComplete result (λ spans. MAX_FIELDS < spans.headers → NeverHasOne IsResponseText bytes)
 many_fields bytes headers (Ok (Complete spans)) of within = too_many_fields bytes headers spans of within.section.count_fits
 many_fields bytes headers (Ok Partial) of within = tt
 many_fields bytes headers (Err error) of within = tt
@@ -50,7 +50,7 @@ pub asks_room : (bytes : List ℕ) (room : ℕ) (result : Result (Status Respons
 asks_room bytes room result size many is = inr (subst (λ n. ResponseExceeds n bytes) size (many is))
 
 -- bytes that begin with no text of a head begin with no head
-none_bytes : (bytes : List ℕ) → IsBad IsText bytes → HasNoHead bytes
+none_bytes : (bytes : List ℕ) → IsBad IsResponseText bytes → HasNoHead bytes
 none_bytes bytes bad h rest head is = bad.none (print_response h) rest (h, head.valid, head.few, refl) head.short is
 
 -- no head has no bytes
@@ -58,7 +58,7 @@ none_empty : HasNoHead []
 none_empty h rest head is = omega (arith, ap length is, ap length (print_response-append h rest), length-append {A = ℕ})
 
 -- what was read and is left has no head, nor has what was to come
-pub none_to_come : (held : List ℕ) (before now : Option (List ℕ)) → held ≡ [] → Keeps (prepend_known held before) now → IfSome now (IsBad IsText) → IfSome before HasNoHead
+pub none_to_come : (held : List ℕ) (before now : Option (List ℕ)) → held ≡ [] → Keeps (prepend_known held before) now → IfSome now (IsBad IsResponseText) → IfSome before HasNoHead
 none_to_come held None now empty same bad = tt
 none_to_come held (Some x) None empty same bad = absurd same
 none_to_come held (Some x) (Some y) empty same bad = subst HasNoHead (same ∙ ap (λ z. z ++ x) empty) (none_bytes y bad)

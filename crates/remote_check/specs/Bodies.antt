@@ -19,7 +19,7 @@ filler_of awaited filler input = if nat_lt (length input) awaited then FILLER el
 abbrev pub given_of : ℕ → ℕ → List ℕ → List ℕ
 given_of awaited filler input = take awaited input ++ replicate (filler_of awaited filler input) 0
 
--- the same where the input is told
+-- the same, if the input tells its bytes
 abbrev pub given : ℕ → ℕ → Option (List ℕ) → Option (List ℕ)
 given awaited filler input = option_map (given_of awaited filler) input
 
@@ -29,7 +29,7 @@ given_by (Awaited count) left = given count 0 left
 given_by (Filler count) left = given 0 count left
 given_by (Refused behind more) left = given (behind + 1) 0 left
 
--- the link's count of failed reads once one has failed, whether or not one has
+-- the link's count of failed reads as it is once one has failed, whether that has happened yet or not
 abbrev pub count_at_fault : Due → ℕ → ℕ
 count_at_fault (Awaited count) faults = counted faults
 count_at_fault (Filler count) faults = counted faults
@@ -42,7 +42,7 @@ count_with (Filler count) faults = faults
 count_with (Refused behind more) faults = min (faults + more) (2 ^ 64 - 1)
 
 -- Twice the link's count of reads that gave nothing, with the one that may still come, while no read has met its input's end or failed. So a read that takes
--- bytes never raises this number: a read of the link that meets the end uses up the one, and no other may follow it. Twice, since the judge may count one
+-- bytes never raises this number: a read of the link that meets the end is the one that could still come, and no other may follow it. Twice, since the judge may count one
 -- more, for the end of the body, which is no read of the link.
 abbrev pub ends_with : Due → ℕ → ℕ
 ends_with (Awaited count) ends = 2 * (ends + 1)
@@ -50,9 +50,9 @@ ends_with (Filler count) ends = 2 * ends
 ends_with (Refused behind more) ends = 2 * (ends + 1)
 
 -- what is beside a link, and under it the name of the reference to the link and its count once a read has failed, as one
-abbrev pub named : ℕ → ℕ → Option (List ℕ) × ℕ × ℕ → Option (List ℕ) × ℕ × ℕ
-named name count (None, faults, empty) = (Some (name ∷ count ∷ empty ∷ []), faults, 0)
-named name count (Some written, faults, empty) = (Some (name ∷ count ∷ empty ∷ written), faults, 1)
+abbrev pub under_name : ℕ → ℕ → Option (List ℕ) × ℕ × ℕ → Option (List ℕ) × ℕ × ℕ
+under_name name count (None, faults, empty) = (Some (name ∷ count ∷ empty ∷ []), faults, 0)
+under_name name count (Some written, faults, empty) = (Some (name ∷ count ∷ empty ∷ written), faults, 1)
 
 -- what the judge says of what it was given
 abbrev pub JudgeSays : List ℕ → Result Verdict TextEnd → Type 0

@@ -33,7 +33,7 @@ SaysLength (Some count) rest result =
     ((MOST_BYTES < count) × (result ≡ Err TooLong))
     ⊎ ((count ≤ MOST_BYTES) × SaysBody count rest result)
 
--- second, whether the status is another than 200
+-- second, whether the status is anything but 200
 abbrev pub SaysHead : ResponseHead → List ℕ → Result Verdict FetchEnd → Type 0
 SaysHead head rest result =
     ((status_code head ≢ OK_STATUS) × (result ≡ Err (Status (status_code head))))
@@ -45,7 +45,7 @@ Fetched bytes result =
     (HasNoHead bytes × (result ≡ Err Reply))
     ⊎ ((head : ResponseHead) × (rest : List ℕ) × BeginsWith bytes head rest × SaysHead head rest result)
 
--- the same of a link's bytes, where it tells them and no call failed
+-- the same of a link's bytes, if it tells them and no call failed
 abbrev pub FetchSays : Option (List ℕ) → Result Verdict FetchEnd → Type 0
 FetchSays known result = IfSome known (λ bytes. result ≢ Err LinkFault → Fetched bytes result)
 

@@ -15,7 +15,7 @@ abbrev pub length_in : Option (List ℕ) → Option ℕ
 length_in None = None
 length_in (Some value) = if is_length value then Some (digits_value 10 value) else None
 
--- the length of the body that the fields tell: none where there is a Transfer-Encoding, or not exactly one Content-Length of one to ten digits
+-- the length of the body that the fields tell: none if there is a Transfer-Encoding, or not exactly one Content-Length of one to ten digits
 abbrev pub told_length : List Pair → Option ℕ
 told_length fields =
     if nat_lt 0 (count_of (codes "transfer-encoding") fields) then None

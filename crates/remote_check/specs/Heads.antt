@@ -1,4 +1,5 @@
 -- The head of a response at the front of bytes.
+-- `split_http` says the same of requests: `httparse` has a grammar of its own for each of the two, and no words for both.
 use Rattle.std.specs.Prelude.{◌≡◌, ◌≢◌, ◌⊎◌, ℕ, ◌≤◌, List, ◌++◌, length, map}
 use Rattle.httparse.specs.Grammar.{ResponseHead, HasNoResponse, IsResponseHead, MayBecomeResponse, print_response}
 use Rattle.httparse.specs.Spans.{IsResponseAt, IsResponseWithin, ResponseExceeds, name_and_value}
@@ -28,10 +29,10 @@ abbrev pub AsksMore : List ℕ → Type 0
 AsksMore bytes = (HasNoResponse bytes × MayBecomeResponse bytes) ⊎ ResponseExceeds ROOM bytes
 
 -- the text of such a head, however long
-abbrev pub IsText : List ℕ → Type 0
-IsText text = (head : ResponseHead) × IsResponseHead head × (length head.fields ≤ MAX_FIELDS) × (text ≡ print_response head)
+abbrev pub IsResponseText : List ℕ → Type 0
+IsResponseText text = (head : ResponseHead) × IsResponseHead head × (length head.fields ≤ MAX_FIELDS) × (text ≡ print_response head)
 
--- the head is at the front of the bytes, at these spans
+-- the bytes begin with the head, and these are the spans of its parts
 pub record IsFoundAt (bytes : List ℕ) (fields : List HeaderSpan) (spans : ResponseSpans) : Type 0 where
   pub head : (h : ResponseHead) × IsResponseAt bytes fields spans h × (length h.fields ≤ MAX_FIELDS)
   pub within : IsResponseWithin bytes fields spans

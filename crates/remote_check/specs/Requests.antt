@@ -23,13 +23,14 @@ pub data AsksOnce (ahead left before now : Option (List ℕ)) (reads reads_now w
   read_failed : result ≡ Err LinkFault → Appends before now request → reads_now ≡ counted reads → writes_now ≡ writes → IsUnsettled ahead left reads_now
       → AsksOnce ahead left before now reads reads_now writes writes_now request result
 
--- The reads that gave nothing, by their count before and now: one at most, as at the end of the input, and none where a call failed. So no read came after
--- the end. The second is said while the count of failed reads is below its greatest value: at that it tells of no read whether it failed.
+-- The reads that gave nothing, by their count before and now: one at most, as at the end of the input, and none if a call failed. So no read came
+-- after the end. The second is said while the count of failed reads is below its greatest value: at that it doesn't tell of any read whether it
+-- failed.
 pub record MeetsEndOnce (ends ends_now reads_now : ℕ) (result : Result Verdict FetchEnd) : Type 0 where
   pub once : ends_now ≤ ends + 1
   pub failed : result ≡ Err LinkFault → reads_now < 2 ^ 64 - 1 → ends_now ≤ ends
 
--- the count of failed reads after the reply: one more where a read failed, and else the same
+-- the count of failed reads after the reply: one more if a read failed, otherwise the same
 abbrev pub faults_of : ℕ → Result Verdict FetchEnd → ℕ
 faults_of before (Ok verdict) = before
 faults_of before (Err Reply) = before

@@ -3,7 +3,7 @@ ghost use Rattle.std.specs.Prelude.{◌≡◌, ◌≤◌, ◌<◌, length, take,
 ghost use Rattle.std.specs.Io.KnownBytes.{Consumes, IsAtEnd, Keeps};
 ghost use Rattle.split_base.specs.Faults.{HasCause, IsCounted};
 ghost use Rattle.split_base.specs.Streams.{CountsEmpty, Reads};
-ghost use Rattle.remote_check.specs.Bodies.{count_at_fault, count_with, ends_with, given_by, named};
+ghost use Rattle.remote_check.specs.Bodies.{count_at_fault, count_with, ends_with, given_by, under_name};
 
 use crate::limits::FILLER;
 use split_base::{Failed, Source};
@@ -19,7 +19,7 @@ pub(crate) enum Due {
     Refused(usize, u64),
 }
 
-// Gives the awaited bytes of the link, so many, and then ends. Where the input ends within them, filler follows, more than a certificate has, so that the judge
+// Gives as many bytes of the link as are awaited, and then ends. If the input ends within them, filler follows, more than a certificate has, so that the judge
 // finds the body too long, whatever was sent of it; it finds no other so. Once a read has failed, or has met the end of the input, the link is not read again.
 #[derive(Drop)]
 pub(crate) struct Body<'l, S> {
@@ -28,16 +28,23 @@ pub(crate) struct Body<'l, S> {
 }
 
 impl<'l, S: Source> Body<'l, S> {
-    // Gives some of the awaited bytes, so many, or filler where the input ends.
+    // Gives some of the awaited bytes, so many, or filler if the input ends.
     fn take_awaited(&mut self, into: &mut [u8], count: usize) -> Result<usize, Failed>
         requires some { 0 < length into.old }
         requires due { self.old.due ≡ Due.Awaited count }
-        ensures bytes { Reads (given_by self.old.due (S.left self.old.link.now)) (given_by self.new.due (S.left self.new.link.now)) result into.new }
-        ensures kept { named self.new.link.ghost_name (count_at_fault self.new.due (S.faults self.new.link.now)) (S.beside self.new.link.now)
-            ≡ named self.old.link.ghost_name (count_at_fault self.old.due (S.faults self.old.link.now)) (S.beside self.old.link.now) }
-        ensures empty { CountsEmpty (ends_with self.old.due (S.empty_reads self.old.link.now)) (ends_with self.new.due (S.empty_reads self.new.link.now)) result }
-        ensures cause { HasCause (count_with self.old.due (S.faults self.old.link.now)) (count_with self.new.due (S.faults self.new.link.now)) result }
-        ensures count { IsCounted (count_with self.old.due (S.faults self.old.link.now)) (count_with self.new.due (S.faults self.new.link.now)) result }
+        ensures bytes { Reads (given_by self.old.due (S.left self.old.link.now))
+            (given_by self.new.due (S.left self.new.link.now)) result into.new }
+        ensures kept { under_name self.new.link.ghost_name
+            (count_at_fault self.new.due (S.faults self.new.link.now)) (S.beside self.new.link.now)
+            ≡ under_name self.old.link.ghost_name
+            (count_at_fault self.old.due (S.faults self.old.link.now))
+            (S.beside self.old.link.now) }
+        ensures empty { CountsEmpty (ends_with self.old.due (S.empty_reads self.old.link.now))
+            (ends_with self.new.due (S.empty_reads self.new.link.now)) result }
+        ensures cause { HasCause (count_with self.old.due (S.faults self.old.link.now))
+            (count_with self.new.due (S.faults self.new.link.now)) result }
+        ensures count { IsCounted (count_with self.old.due (S.faults self.old.link.now))
+            (count_with self.new.due (S.faults self.new.link.now)) result }
     {
         if count == 0 {
             return Ok(0);
@@ -59,16 +66,23 @@ impl<'l, S: Source> Body<'l, S> {
         }
     }
 
-    // Gives some of the filler, so much, or none where none is left.
+    // Gives some of the filler, so much, or none if none is left.
     fn take_filler(&mut self, into: &mut [u8], count: usize) -> usize
         requires { self.old.due ≡ Due.Filler count }
         ensures few { result ≤ length into.new }
-        ensures bytes { Consumes (given_by self.old.due (S.left self.old.link.now)) (given_by self.new.due (S.left self.new.link.now)) (take result into.new) }
-        ensures end { result ≡ 0 → 0 < length into.new → IsAtEnd (given_by self.new.due (S.left self.new.link.now)) }
-        ensures kept { named self.new.link.ghost_name (count_at_fault self.new.due (S.faults self.new.link.now)) (S.beside self.new.link.now)
-            ≡ named self.old.link.ghost_name (count_at_fault self.old.due (S.faults self.old.link.now)) (S.beside self.old.link.now) }
-        ensures empty { ends_with self.new.due (S.empty_reads self.new.link.now) ≡ ends_with self.old.due (S.empty_reads self.old.link.now) }
-        ensures count { count_with self.new.due (S.faults self.new.link.now) ≡ count_with self.old.due (S.faults self.old.link.now) }
+        ensures bytes { Consumes (given_by self.old.due (S.left self.old.link.now))
+            (given_by self.new.due (S.left self.new.link.now)) (take result into.new) }
+        ensures end { result ≡ 0 → 0 < length into.new
+            → IsAtEnd (given_by self.new.due (S.left self.new.link.now)) }
+        ensures kept { under_name self.new.link.ghost_name
+            (count_at_fault self.new.due (S.faults self.new.link.now)) (S.beside self.new.link.now)
+            ≡ under_name self.old.link.ghost_name
+            (count_at_fault self.old.due (S.faults self.old.link.now))
+            (S.beside self.old.link.now) }
+        ensures empty { ends_with self.new.due (S.empty_reads self.new.link.now)
+            ≡ ends_with self.old.due (S.empty_reads self.old.link.now) }
+        ensures count { count_with self.new.due (S.faults self.new.link.now)
+            ≡ count_with self.old.due (S.faults self.old.link.now) }
     {
         let filled = into.len().min(count);
         into[..filled].fill(0);
@@ -84,7 +98,7 @@ impl<'l, S: Source> Source for Body<'l, S> {
 
     ghost empty_reads = { λ body. ends_with body.due (S.empty_reads body.link.now) };
 
-    ghost beside = { λ body. named body.link.ghost_name (count_at_fault body.due (S.faults body.link.now)) (S.beside body.link.now) };
+    ghost beside = { λ body. under_name body.link.ghost_name (count_at_fault body.due (S.faults body.link.now)) (S.beside body.link.now) };
 
     fn read(&mut self, into: &mut [u8]) -> Result<usize, Failed> {
         if into.is_empty() {

@@ -12,8 +12,9 @@ use httparse::spans::HeaderSpan;
 
 // The number that a Content-Length writes; one past the limit of a certificate counts as one more than it.
 fn number_in(value: &[u8]) -> Option<usize>
-    ensures { MatchOption result (length_in (Some value.now) ≡ None)
-        (λ n. (count : ℕ) × (length_in (Some value.now) ≡ Some count) × (n ≡ min count (MOST_BYTES + 1))) }
+    ensures { MatchOption result (length_in (Some value.now) ≡ None) (λ n.
+        (count : ℕ) × (length_in (Some value.now) ≡ Some count)
+        × (n ≡ min count (MOST_BYTES + 1))) }
 {
     if value.len() > MAX_LENGTH_DIGITS {
         return None;
@@ -28,7 +29,9 @@ fn number_in(value: &[u8]) -> Option<usize>
 pub(crate) fn body_length(bytes: &[u8], fields: &[HeaderSpan]) -> Option<usize>
     requires { All (IsHeaderWithin (length bytes.now)) fields.now }
     ensures { MatchOption result (told_length (fields_at bytes.now fields.now) ≡ None)
-        (λ n. (count : ℕ) × (told_length (fields_at bytes.now fields.now) ≡ Some count) × (n ≡ min count (MOST_BYTES + 1))) }
+        (λ n.
+        (count : ℕ) × (told_length (fields_at bytes.now fields.now) ≡ Some count)
+        × (n ≡ min count (MOST_BYTES + 1))) }
 {
     if count_named(bytes, fields, b"transfer-encoding") > 0 {
         return None;

@@ -22,7 +22,8 @@ pub(crate) fn length_of(
     requires found { IsFoundAt bytes.now fields.now spans.now }
     requires most { length bytes.now ≤ MAX_HEAD }
     ensures within { spans.now.len ≤ length bytes.now }
-    ensures says { MatchResult result (GoesOn bytes.now (drop spans.now.len bytes.now)) (Ends bytes.now (drop spans.now.len bytes.now)) }
+    ensures says { MatchResult result (GoesOn bytes.now (drop spans.now.len bytes.now))
+        (Ends bytes.now (drop spans.now.len bytes.now)) }
 {
     if spans.code != OK_STATUS {
         return Err(FetchEnd::Status { code: spans.code });

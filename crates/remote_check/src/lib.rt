@@ -1,6 +1,6 @@
 //! A certificate fetched from a host over a link, and judged as it comes, in fixed memory.
 //!
-//! `fetch` writes one request, and answers by the bytes of the reply alone. A yes shows a valid
+//! `fetch` writes one request, and answers only by the bytes of the reply. A yes shows a valid
 //! case and the best division of it, and bytes have one answer at most (`fetched_law`). It uses no
 //! part of a host.
 #![tactic(auto)]

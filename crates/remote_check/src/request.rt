@@ -35,6 +35,7 @@ pub(crate) fn request_text(words: &Words) -> ArrayVec<u8, REQUEST_ROOM>
     text
 }
 
+// The room is that of the longest request, so a piece always fits.
 fn add(text: &mut ArrayVec<u8, REQUEST_ROOM>, piece: &[u8])
     requires { array_vec_len text.old + length piece.now ≤ REQUEST_ROOM }
     ensures items { text.new.items ≡ text.old.items ++ piece.now }

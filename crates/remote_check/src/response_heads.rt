@@ -1,5 +1,5 @@
 // Heads of responses, as the search for heads takes them.
-ghost use Rattle.remote_check.specs.Heads.{AsksMore, IsFoundAt, IsText};
+ghost use Rattle.remote_check.specs.Heads.{AsksMore, IsFoundAt, IsResponseText};
 
 use http_heads::{HeadKind, ROOM};
 use httparse::spans::{HeaderSpan, ResponseSpans, parse_response};
@@ -10,7 +10,7 @@ pub(crate) struct ResponseHeads;
 impl HeadKind for ResponseHeads {
     type Spans = ResponseSpans;
 
-    ghost IsText = { IsText };
+    ghost IsText = { IsResponseText };
 
     ghost AsksMore = { AsksMore };
 

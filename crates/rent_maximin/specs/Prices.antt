@@ -1,4 +1,4 @@
--- What the prices are computed from, and prices by room, where the formula goes by member.
+-- What the prices are computed from, and the prices by room, while the formula goes by member.
 use Rattle.std.specs.Prelude.{◌≡◌, ℕ, ℤ, ◌+◌, ◌*◌, ◌<◌, ◌≤◌, List, length, All, slice_index, unsigned_abs}
 use Rattle.bid_rules.specs.declared.limits.TheConstants.{MOST_MEMBERS}
 use Rattle.bid_rules.specs.declared.rents.RentCase.{RentCase}

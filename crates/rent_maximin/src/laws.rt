@@ -12,15 +12,20 @@ use split_frac::value_law;
 
 /// The prices and the least utility lie in the ranges that calls on fractions ask for, and within `MOST_AMOUNT` cents of 0.
 pub fn division_range_law()
-    ensures prices { (case : RentCase) (division : RentDivision) → IsValidRentCase case → IsRentDivision case division
-        → All (λ price. IsWithinLimits price × (unsigned_abs price.num ≤ MOST_AMOUNT * price.den)) division.prices.items }
-    ensures least { (case : RentCase) (division : RentDivision) → IsValidRentCase case → IsRentDivision case division
-        → IsWithinLimits division.least × (unsigned_abs division.least.num ≤ MOST_AMOUNT * division.least.den) }
+    ensures prices { (case : RentCase) (division : RentDivision) → IsValidRentCase case
+        → IsRentDivision case division
+        → All (λ price. IsWithinLimits price × (unsigned_abs price.num ≤ MOST_AMOUNT * price.den))
+        division.prices.items }
+    ensures least { (case : RentCase) (division : RentDivision) → IsValidRentCase case
+        → IsRentDivision case division
+        → IsWithinLimits division.least
+        × (unsigned_abs division.least.num ≤ MOST_AMOUNT * division.least.den) }
 {}
 
 /// A valid case has one division: two are equal in every field.
 pub fn one_rent_division_law()
-    ensures { (case : RentCase) (division other : RentDivision) → IsValidRentCase case → IsRentDivision case division → IsRentDivision case other → division ≡ other }
+    ensures { (case : RentCase) (division other : RentDivision) → IsValidRentCase case
+        → IsRentDivision case division → IsRentDivision case other → division ≡ other }
 {
     best_rent_law();
     key_law();

@@ -16,7 +16,7 @@ use room_assignment::limits::MOST_STEP;
 use split_frac::limits::MOST_NUMERATOR;
 use split_frac::{Frac, make};
 
-/// What a member, from 0, would pay for a room, from 1.
+// What a member, from 0, would pay for a room, from 1.
 fn value_of(case: &RentCase, member: usize, room: usize) -> i128
     requires case { IsValidRentCase case.now }
     requires member { member < room_count case.now }
@@ -29,7 +29,7 @@ fn value_of(case: &RentCase, member: usize, room: usize) -> i128
     i128::from(case.value(member as u8 + 1, room as u8))
 }
 
-/// The sum of what the members would pay for their own rooms.
+// The sum of what the members would pay for their own rooms.
 fn welfare_of(case: &RentCase, rooms: &[u8]) -> i128
     requires case { IsValidRentCase case.now }
     requires rooms { IsAssignment case.now rooms.now }
@@ -43,7 +43,7 @@ fn welfare_of(case: &RentCase, rooms: &[u8]) -> i128
     sum
 }
 
-/// The sum of the weights of the walks.
+// The sum of the weights of the walks.
 fn sum_of(walks: &[i128]) -> i128
     requires few { length walks.now ≤ MEMBER_ROOM }
     requires small { All (λ weight. unsigned_abs weight ≤ MOST_MEMBERS * MOST_STEP) walks.now }
@@ -57,7 +57,7 @@ fn sum_of(walks: &[i128]) -> i128
     sum
 }
 
-/// A number some times.
+// A number some times.
 fn times(count: u8, number: i128) -> i128
     requires count { count ≤ MEMBER_ROOM }
     requires number { unsigned_abs number ≤ MOST_MEMBERS * MOST_STEP }
@@ -67,7 +67,7 @@ fn times(count: u8, number: i128) -> i128
     i128::from(count) * number
 }
 
-/// The member, from 0, who has the room, from 1.
+// The member, from 0, who has the room, from 1.
 fn holder(rooms: &[u8], room: usize) -> usize
     requires rooms { IsPermutation (range_with_len 1 (length rooms.now)) rooms.now }
     requires low { 1 ≤ room }
@@ -83,7 +83,7 @@ fn holder(rooms: &[u8], room: usize) -> usize
     0
 }
 
-/// n times the price of a room, from 0.
+// n times the price of a room, from 0.
 fn part_of(case: &RentCase, rooms: &[u8], walks: &[i128], least: i128, room: usize) -> i128
     requires walks { HasWalks case.now rooms.now walks.now }
     requires least { IsLeastOf case.now rooms.now walks.now least }
@@ -96,7 +96,7 @@ fn part_of(case: &RentCase, rooms: &[u8], walks: &[i128], least: i128, room: usi
     times(count, value_of(case, member, room + 1)) - (least + times(count, walks[member]))
 }
 
-/// The price of a room, from 0.
+// The price of a room, from 0.
 fn price_of(case: &RentCase, rooms: &[u8], walks: &[i128], least: i128, room: usize) -> Frac
     requires walks { HasWalks case.now rooms.now walks.now }
     requires least { IsLeastOf case.now rooms.now walks.now least }
@@ -109,7 +109,7 @@ fn price_of(case: &RentCase, rooms: &[u8], walks: &[i128], least: i128, room: us
     )
 }
 
-/// The prices by room that leave each member the least utility, of which n times is given, and the weight of its walk.
+// The prices by room that leave each member the least utility, of which n times is given, and the weight of its walk.
 pub(crate) fn prices_of(
     case: &RentCase,
     rooms: &[u8],
@@ -127,7 +127,7 @@ pub(crate) fn prices_of(
     prices
 }
 
-/// n times the least utility: the welfare less the rent and the walks.
+// n times the least utility: the welfare less the rent and the walks.
 pub(crate) fn least_of(case: &RentCase, rooms: &[u8], walks: &[i128]) -> i128
     requires { HasWalks case.now rooms.now walks.now }
     ensures { IsLeastOf case.now rooms.now walks.now result }

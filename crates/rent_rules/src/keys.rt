@@ -9,7 +9,7 @@ ghost use Rattle.rent_rules.specs.Rules.{AreAbove, AreReached};
 use crate::numbers::{key_of, plus, room_at};
 use bid_rules::RentCase;
 
-/// Whether a member's number and those of the rooms are at least the member's keys.
+// Whether a member's number and those of the rooms are at least the member's keys.
 fn is_above(case: &RentCase, member: usize, left: &[i128], right: &[i128]) -> bool
     requires case { IsValidRentCase case.now }
     requires member { member < room_count case.now }
@@ -17,7 +17,9 @@ fn is_above(case: &RentCase, member: usize, left: &[i128], right: &[i128]) -> bo
     requires lefts { length left.now ≡ room_count case.now }
     requires right { AreSmall right.now }
     requires each { length right.now ≡ room_count case.now }
-    ensures { IsTrue result ↔ ((room : ℕ) → 1 ≤ room → room ≤ room_count case.now → key case.now member room ≤ℤ (weight_at left.now member +ℤ price_of right.now room)) }
+    ensures { IsTrue result
+        ↔ ((room : ℕ) → 1 ≤ room → room ≤ room_count case.now
+        → key case.now member room ≤ℤ (weight_at left.now member +ℤ price_of right.now room)) }
 {
     for room in 0..right.len() {
         if plus(left[member], right[room]) < key_of(case, member, room) {
@@ -27,7 +29,7 @@ fn is_above(case: &RentCase, member: usize, left: &[i128], right: &[i128]) -> bo
     true
 }
 
-/// Whether the dual numbers are at least the keys.
+// Whether the dual numbers are at least the keys.
 pub(crate) fn are_above(case: &RentCase, left: &[i128], right: &[i128]) -> bool
     requires case { IsValidRentCase case.now }
     requires left { AreSmall left.now }
@@ -44,7 +46,7 @@ pub(crate) fn are_above(case: &RentCase, left: &[i128], right: &[i128]) -> bool
     true
 }
 
-/// Whether the dual numbers of a member and a room are the member's key.
+// Whether the dual numbers of a member and a room are the member's key.
 fn is_reached(case: &RentCase, member: usize, room: u8, left: i128, right: i128) -> bool
     requires case { IsValidRentCase case.now }
     requires member { member < room_count case.now }
@@ -57,7 +59,7 @@ fn is_reached(case: &RentCase, member: usize, room: u8, left: i128, right: i128)
     plus(left, right) == key_of(case, member, room as usize - 1)
 }
 
-/// Whether the dual numbers reach the key of each member's own room.
+// Whether the dual numbers reach the key of each member's own room.
 pub(crate) fn are_reached(case: &RentCase, rooms: &[u8], left: &[i128], right: &[i128]) -> bool
     requires case { IsValidRentCase case.now }
     requires rooms { IsAssignment case.now rooms.now }

@@ -13,9 +13,13 @@ use best_laws::{key_law, shown_rent_law, walk_law};
 /// If all rules hold, the printed case is valid, and the printed rooms and prices are best for it: the dual numbers show it of the rooms,
 /// and the walks of the prices (Gal, Mash, Procaccia and Zick 2016). A certificate has one verdict.
 pub fn rent_certificate_law()
-    ensures valid { (view : RentView) → IsVerdictOf (rules_of_rent view) Yes → IsValidRentCase (printed_case view) }
-    ensures best { (view : RentView) → IsVerdictOf (rules_of_rent view) Yes → RentBest (printed_case view) (printed_rooms view) view.prices }
-    ensures one { (view : RentView) (verdict other : Verdict) → IsVerdictOf (rules_of_rent view) verdict → IsVerdictOf (rules_of_rent view) other → other ≡ verdict }
+    ensures valid { (view : RentView) → IsVerdictOf (rules_of_rent view) Yes
+        → IsValidRentCase (printed_case view) }
+    ensures best { (view : RentView) → IsVerdictOf (rules_of_rent view) Yes
+        → RentBest (printed_case view) (printed_rooms view) view.prices }
+    ensures one { (view : RentView) (verdict other : Verdict)
+        → IsVerdictOf (rules_of_rent view) verdict → IsVerdictOf (rules_of_rent view) other
+        → other ≡ verdict }
 {
     key_law();
     walk_law();

@@ -10,7 +10,7 @@ ghost use Rattle.room_assignment.specs.declared.limits.TheConstants.{MOST_KEY};
 use bid_rules::RentCase;
 use room_assignment::key_at;
 
-/// The sum of two numbers of a text.
+// The sum of two numbers of a text.
 pub(crate) fn plus(a: i128, b: i128) -> i128
     requires a { IsSmall a }
     requires b { IsSmall b }
@@ -20,7 +20,7 @@ pub(crate) fn plus(a: i128, b: i128) -> i128
     a + b
 }
 
-/// The room of a member, who is given by place.
+// The room of a member, who is given by place.
 pub(crate) fn room_at(_case: &RentCase, rooms: &[u8], member: usize) -> u8
     requires rooms { IsAssignment _case.now rooms.now }
     requires member { member < room_count _case.now }
@@ -31,7 +31,7 @@ pub(crate) fn room_at(_case: &RentCase, rooms: &[u8], member: usize) -> u8
     rooms[member]
 }
 
-/// What a member, given by place, would pay for a room, in cents.
+// What a member, given by place, would pay for a room, in cents.
 pub(crate) fn value_at(case: &RentCase, member: usize, room: u8) -> i128
     requires case { IsValidRentCase case.now }
     requires member { member < room_count case.now }
@@ -44,7 +44,7 @@ pub(crate) fn value_at(case: &RentCase, member: usize, room: u8) -> i128
     i128::from(case.value(member as u8 + 1, room))
 }
 
-/// The key of a member and a room, both given by place.
+// The key of a member and a room, both given by place.
 pub(crate) fn key_of(case: &RentCase, member: usize, room: usize) -> i128
     requires case { IsValidRentCase case.now }
     requires member { member < room_count case.now }

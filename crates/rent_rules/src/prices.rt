@@ -15,7 +15,7 @@ use crate::numbers::{room_at, value_at};
 use bid_rules::RentCase;
 use split_frac::Frac;
 
-/// The sum of what the members would pay for their own rooms.
+// The sum of what the members would pay for their own rooms.
 fn welfare_of(case: &RentCase, rooms: &[u8]) -> i128
     requires case { IsValidRentCase case.now }
     requires rooms { IsAssignment case.now rooms.now }
@@ -29,7 +29,7 @@ fn welfare_of(case: &RentCase, rooms: &[u8]) -> i128
     sum
 }
 
-/// The sum of the walks.
+// The sum of the walks.
 fn sum_of(walks: &[i128]) -> i128
     requires few { length walks.now ≤ MOST_MEMBERS }
     requires small { AreSmall walks.now }
@@ -43,7 +43,7 @@ fn sum_of(walks: &[i128]) -> i128
     sum
 }
 
-/// n times the least utility.
+// n times the least utility.
 fn least_of(case: &RentCase, rooms: &[u8], walks: &[i128]) -> i128
     requires case { IsValidRentCase case.now }
     requires rooms { IsAssignment case.now rooms.now }
@@ -55,7 +55,7 @@ fn least_of(case: &RentCase, rooms: &[u8], walks: &[i128]) -> i128
     welfare_of(case, rooms) - i128::from(case.facts.rent) - sum_of(walks)
 }
 
-/// A number some times.
+// A number some times.
 fn times(count: u8, number: i128) -> i128
     requires count { count ≤ MOST_MEMBERS }
     requires number { IsSmall number }
@@ -65,7 +65,7 @@ fn times(count: u8, number: i128) -> i128
     i128::from(count) * number
 }
 
-/// Whether a fraction is this whole number divided by this many.
+// Whether a fraction is this whole number divided by this many.
 fn is_quotient(fraction: &Frac, whole: i128, parts: u8) -> bool
     requires parts { parts ≤ MOST_MEMBERS }
     requires num { IsSmall fraction.now.num }
@@ -76,7 +76,7 @@ fn is_quotient(fraction: &Frac, whole: i128, parts: u8) -> bool
     fraction.num * i128::from(parts) == whole * i128::from(fraction.den)
 }
 
-/// A value less the least utility and a walk, each some times.
+// A value less the least utility and a walk, each some times.
 fn less(worth: i128, least: i128, walk: i128) -> i128
     requires worth { unsigned_abs worth ≤ MOST_MEMBERS * 10 ^ MOST_DIGITS }
     requires least { unsigned_abs least ≤ (MOST_MEMBERS + 1) * 10 ^ MOST_DIGITS }
@@ -87,7 +87,7 @@ fn less(worth: i128, least: i128, walk: i128) -> i128
     worth - (least + walk)
 }
 
-/// n times the price of a member's room.
+// n times the price of a member's room.
 fn part_of(case: &RentCase, rooms: &[u8], walks: &[i128], least: i128, member: usize) -> i128
     requires case { IsValidRentCase case.now }
     requires rooms { IsAssignment case.now rooms.now }
@@ -104,7 +104,7 @@ fn part_of(case: &RentCase, rooms: &[u8], walks: &[i128], least: i128, member: u
     less(times(count, value), least, times(count, walks[member]))
 }
 
-/// Whether the price of a member's room is that of the formula.
+// Whether the price of a member's room is that of the formula.
 fn is_price(
     case: &RentCase,
     rooms: &[u8],
@@ -122,7 +122,10 @@ fn is_price(
     requires least { least ≡ least_in_parts case.now rooms.now walks.now }
     requires least_small { unsigned_abs least ≤ (MOST_MEMBERS + 1) * 10 ^ MOST_DIGITS }
     requires member { member < room_count case.now }
-    ensures { IsTrue result ↔ IsQuotient (slice_index_or (map fraction_of prices.now) (slice_index rooms.now member - 1) (pos 0, 1)) (price_in_parts case.now rooms.now walks.now member) (room_count case.now) }
+    ensures { IsTrue result
+        ↔ IsQuotient
+        (slice_index_or (map fraction_of prices.now) (slice_index rooms.now member - 1) (pos 0, 1))
+        (price_in_parts case.now rooms.now walks.now member) (room_count case.now) }
 {
     let part = part_of(case, rooms, walks, least, member);
     is_quotient(
@@ -132,7 +135,7 @@ fn is_price(
     )
 }
 
-/// Whether the prices by room are those of the formula.
+// Whether the prices by room are those of the formula.
 pub(crate) fn are_prices(case: &RentCase, rooms: &[u8], walks: &[i128], prices: &[Frac]) -> bool
     requires case { IsValidRentCase case.now }
     requires rooms { IsAssignment case.now rooms.now }
@@ -140,7 +143,8 @@ pub(crate) fn are_prices(case: &RentCase, rooms: &[u8], walks: &[i128], prices: 
     requires each { length walks.now ≡ room_count case.now }
     requires prices { AreShort prices.now }
     requires each_price { length prices.now ≡ room_count case.now }
-    ensures { IsTrue result ↔ AreMaximinPrices case.now rooms.now walks.now (map fraction_of prices.now) }
+    ensures { IsTrue result
+        ↔ AreMaximinPrices case.now rooms.now walks.now (map fraction_of prices.now) }
 {
     let least = least_of(case, rooms, walks);
     for member in 0..usize::from(case.facts.members) {

@@ -10,9 +10,10 @@ use bid_rules::{Rent, RentCase};
 use cert_reader::RentText;
 use rule_verdicts::{has_each, members_between, rows_of_amounts};
 
-/// The printed case, where it is one.
+// The printed case, if it is one.
 pub(crate) fn case_of(text: &RentText) -> Option<RentCase>
-    ensures { MatchOption result (HasCase (rent_view text.now) → ⊥) (λ case. HasCase (rent_view text.now) × (case ≡ printed_case (rent_view text.now))) }
+    ensures { MatchOption result (HasCase (rent_view text.now) → ⊥) (λ case.
+        HasCase (rent_view text.now) × (case ≡ printed_case (rent_view text.now))) }
 {
     if text.rent < 0 || text.rent > i128::from(MOST_RENT) {
         return None;
@@ -30,9 +31,10 @@ pub(crate) fn case_of(text: &RentText) -> Option<RentCase>
     if case.is_valid() { Some(case) } else { None }
 }
 
-/// The printed rooms, where they are the rooms of the case in some order.
+// The printed rooms, if they are the rooms of the case in some order.
 pub(crate) fn rooms_of(text: &RentText) -> Option<MemberList>
-    ensures { MatchOption result (HasRooms (rent_view text.now) → ⊥) (λ rooms. HasRooms (rent_view text.now) × (rooms.items ≡ printed_rooms (rent_view text.now))) }
+    ensures { MatchOption result (HasRooms (rent_view text.now) → ⊥) (λ rooms.
+        HasRooms (rent_view text.now) × (rooms.items ≡ printed_rooms (rent_view text.now))) }
 {
     let count = text.rooms.len() as u8;
     let Some(rooms) = members_between(text.rooms.as_slice(), 1, count) else {

@@ -11,7 +11,7 @@ ghost use Rattle.rent_rules.specs.Rules.{AreRanked, AreSettled, IsLed};
 use crate::numbers::{plus, room_at, value_at};
 use bid_rules::RentCase;
 
-/// The step from one member to another.
+// The step from one member to another.
 fn step(case: &RentCase, rooms: &[u8], from: usize, to: usize) -> i128
     requires case { IsValidRentCase case.now }
     requires rooms { IsAssignment case.now rooms.now }
@@ -24,7 +24,7 @@ fn step(case: &RentCase, rooms: &[u8], from: usize, to: usize) -> i128
     value_at(case, to, room) - value_at(case, from, room)
 }
 
-/// The walk that a step leads to.
+// The walk that a step leads to.
 fn led_to(case: &RentCase, rooms: &[u8], walks: &[i128], from: usize, to: usize) -> i128
     requires case { IsValidRentCase case.now }
     requires rooms { IsAssignment case.now rooms.now }
@@ -38,14 +38,17 @@ fn led_to(case: &RentCase, rooms: &[u8], walks: &[i128], from: usize, to: usize)
     plus(walks[from], step(case, rooms, from, to))
 }
 
-/// Whether no step to a member exceeds its walk.
+// Whether no step to a member exceeds its walk.
 fn is_settled(case: &RentCase, rooms: &[u8], walks: &[i128], to: usize) -> bool
     requires case { IsValidRentCase case.now }
     requires rooms { IsAssignment case.now rooms.now }
     requires walks { AreSmall walks.now }
     requires each { length walks.now ≡ room_count case.now }
     requires to { to < room_count case.now }
-    ensures { IsTrue result ↔ ((from : ℕ) → from < room_count case.now → (weight_at walks.now from +ℤ value_step case.now rooms.now from to) ≤ℤ weight_at walks.now to) }
+    ensures { IsTrue result
+        ↔ ((from : ℕ) → from < room_count case.now
+        → (weight_at walks.now from +ℤ value_step case.now rooms.now from to)
+        ≤ℤ weight_at walks.now to) }
 {
     for from in 0..walks.len() {
         if led_to(case, rooms, walks, from, to) > walks[to] {
@@ -55,7 +58,7 @@ fn is_settled(case: &RentCase, rooms: &[u8], walks: &[i128], to: usize) -> bool
     true
 }
 
-/// Whether the walks are 0 or more, and no step exceeds one.
+// Whether the walks are 0 or more, and no step exceeds one.
 pub(crate) fn are_settled(case: &RentCase, rooms: &[u8], walks: &[i128]) -> bool
     requires case { IsValidRentCase case.now }
     requires rooms { IsAssignment case.now rooms.now }
@@ -74,7 +77,7 @@ pub(crate) fn are_settled(case: &RentCase, rooms: &[u8], walks: &[i128]) -> bool
     true
 }
 
-/// Whether a member's rank is one less than another's.
+// Whether a member's rank is one less than another's.
 fn precedes(ranks: &[i128], from: usize, to: usize) -> bool
     requires ranks { AreSmall ranks.now }
     requires from { from < length ranks.now }
@@ -84,7 +87,7 @@ fn precedes(ranks: &[i128], from: usize, to: usize) -> bool
     plus(ranks[from], 1) == ranks[to]
 }
 
-/// Whether a step from a member leads to another one's walk.
+// Whether a step from a member leads to another one's walk.
 fn leads(case: &RentCase, rooms: &[u8], walks: &[i128], from: usize, to: usize) -> bool
     requires case { IsValidRentCase case.now }
     requires rooms { IsAssignment case.now rooms.now }
@@ -92,12 +95,14 @@ fn leads(case: &RentCase, rooms: &[u8], walks: &[i128], from: usize, to: usize) 
     requires each { length walks.now ≡ room_count case.now }
     requires from { from < room_count case.now }
     requires to { to < room_count case.now }
-    ensures { IsTrue result ↔ (weight_at walks.now to ≡ weight_at walks.now from +ℤ value_step case.now rooms.now from to) }
+    ensures { IsTrue result
+        ↔ (weight_at walks.now to
+        ≡ weight_at walks.now from +ℤ value_step case.now rooms.now from to) }
 {
     led_to(case, rooms, walks, from, to) == walks[to]
 }
 
-/// Whether a step from a member leads to another one's walk, whose rank is one more.
+// Whether a step from a member leads to another one's walk, whose rank is one more.
 fn is_led(
     case: &RentCase,
     rooms: &[u8],
@@ -119,7 +124,7 @@ fn is_led(
     precedes(ranks, from, to) && leads(case, rooms, walks, from, to)
 }
 
-/// Whether a step from some member of the rank below leads to the walk.
+// Whether a step from some member of the rank below leads to the walk.
 fn some_leads(case: &RentCase, rooms: &[u8], walks: &[i128], ranks: &[i128], to: usize) -> bool
     requires case { IsValidRentCase case.now }
     requires rooms { IsAssignment case.now rooms.now }
@@ -128,7 +133,9 @@ fn some_leads(case: &RentCase, rooms: &[u8], walks: &[i128], ranks: &[i128], to:
     requires ranks { AreSmall ranks.now }
     requires each_rank { length ranks.now ≡ room_count case.now }
     requires to { to < room_count case.now }
-    ensures { IsTrue result ↔ ((from : ℕ) × (from < room_count case.now) × IsLed case.now rooms.now walks.now ranks.now to from) }
+    ensures { IsTrue result
+        ↔ ((from : ℕ) × (from < room_count case.now)
+        × IsLed case.now rooms.now walks.now ranks.now to from) }
 {
     for from in 0..walks.len() {
         if is_led(case, rooms, walks, ranks, to, from) {
@@ -138,7 +145,7 @@ fn some_leads(case: &RentCase, rooms: &[u8], walks: &[i128], ranks: &[i128], to:
     false
 }
 
-/// Whether a member's rank is 0 and so is its walk, or a step from a member of the rank below leads to the walk.
+// Whether a member's rank is 0 and so is its walk, or a step from a member of the rank below leads to the walk.
 fn is_ranked(case: &RentCase, rooms: &[u8], walks: &[i128], ranks: &[i128], to: usize) -> bool
     requires case { IsValidRentCase case.now }
     requires rooms { IsAssignment case.now rooms.now }
@@ -147,8 +154,12 @@ fn is_ranked(case: &RentCase, rooms: &[u8], walks: &[i128], ranks: &[i128], to: 
     requires ranks { AreSmall ranks.now }
     requires each_rank { length ranks.now ≡ room_count case.now }
     requires to { to < room_count case.now }
-    ensures { IsTrue result ↔ (((weight_at ranks.now to ≡ pos 0) × (weight_at walks.now to ≡ pos 0))
-        ⊎ ((pos 1 ≤ℤ weight_at ranks.now to) × (weight_at ranks.now to ≤ℤ pos (room_count case.now - 1)) × ((from : ℕ) × (from < room_count case.now) × IsLed case.now rooms.now walks.now ranks.now to from))) }
+    ensures { IsTrue result
+        ↔ (((weight_at ranks.now to ≡ pos 0) × (weight_at walks.now to ≡ pos 0))
+        ⊎ ((pos 1 ≤ℤ weight_at ranks.now to)
+        × (weight_at ranks.now to ≤ℤ pos (room_count case.now - 1))
+        × ((from : ℕ) × (from < room_count case.now)
+        × IsLed case.now rooms.now walks.now ranks.now to from))) }
 {
     let rank = ranks[to];
     let walk = walks[to];
@@ -161,7 +172,7 @@ fn is_ranked(case: &RentCase, rooms: &[u8], walks: &[i128], ranks: &[i128], to: 
     some_leads(case, rooms, walks, ranks, to)
 }
 
-/// Whether the ranks show that each walk is attained.
+// Whether the ranks show that each walk is attained.
 pub(crate) fn are_ranked(case: &RentCase, rooms: &[u8], walks: &[i128], ranks: &[i128]) -> bool
     requires case { IsValidRentCase case.now }
     requires rooms { IsAssignment case.now rooms.now }

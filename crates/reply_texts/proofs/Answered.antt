@@ -8,11 +8,11 @@ use Rattle.bid_rules.specs.declared.bids.Bid.{Bid}
 use Rattle.sealed_core.specs.declared.limits.TheConstants.{MOST_INSTANCES, MOST_TURNS}
 use Rattle.sealed_core.specs.declared.commands.Ask.{Ask}
 use Rattle.sealed_core.specs.declared.commands.Ask.TheVariants as asks
-use Rattle.case_fields.specs.declared.bodies.BidBody.{BidBody}
+use Rattle.body_fields.specs.declared.bodies.BidBody.{BidBody}
 use Rattle.sealed_core.specs.declared.commands.What.{What}
-use Rattle.case_fields.specs.declared.fields.BodyFault.{BodyFault}
-use Rattle.case_fields.specs.declared.fields.BodyFault.TheVariants.{Json, Field}
-use Rattle.case_fields.specs.declared.fields.FieldName.TheVariants as field
+use Rattle.body_fields.specs.declared.fields.BodyFault.{BodyFault}
+use Rattle.body_fields.specs.declared.fields.BodyFault.TheVariants.{Json, Field}
+use Rattle.body_fields.specs.declared.fields.FieldName.TheVariants as field
 use Rattle.sealed_core.specs.declared.replies.Refusal.{Refusal}
 use Rattle.sealed_core.specs.declared.replies.Refusal.TheVariants as refusal
 use Rattle.sealed_core.specs.declared.replies.Reply.{Reply}
@@ -20,7 +20,7 @@ use Rattle.sealed_core.specs.declared.replies.Reply.TheVariants as reply
 use Rattle.sealed_core.specs.Host.{CreationView, InstanceView, HostView, EventView, BidKept, Closed, Created, Withdrawn, instance_at}
 use Rattle.sealed_core.specs.Keys.{first_holder, key_text}
 use Rattle.sealed_core.specs.Sameness.{is_kept, same_creation, same_text}
-use Rattle.sealed_core.specs.Step.{Answer, CommandView, Create, To, Standing, standing_of, says, refused, broken, bid_turn, bid_form, bid_body, checked, form_field, form_of, withdrawal_turn, withdrawal_body, answer_close, answer_ask, answer_caller, is_over, may_ask, answer_to, caller_by, caller_in, holder, tagged_from, new_creation, step}
+use Rattle.sealed_core.specs.Step.{Answer, CommandView, Create, To, Standing, standing_of, says, refused, answer_to_fault, bid_turn, bid_form, bid_body, bid_by_rule, form_field, form_of, withdrawal_turn, withdrawal_body, answer_close, answer_ask, answer_caller, is_over, may_ask, answer_to, caller_by, caller_in, holder, tagged_from, new_creation, step}
 use Rattle.reply_texts.specs.Telling.{IsAnswered, IsCloseOf, Tells, is_publication}
 
 -- what holds of each refusal, kept turn, close and publication, and of a status and an own bid where they are asked for, holds of every
@@ -50,7 +50,7 @@ module _ (G : Reply → Type 0) (refusals : (r : Refusal) → G (reply.Refused r
   -- and body
   good_bid_body : (s : Standing) (body : BidBody) (turn : Option ℕ) → Good (bid_body now id m s body turn)
   good_bid_body s body None = refusals (refusal.BadField field.Turn)
-  good_bid_body s body (Some turn) = good_bid_form s turn (checked s.facts (form_of s.facts body))
+  good_bid_body s body (Some turn) = good_bid_form s turn (bid_by_rule s.facts (form_of s.facts body))
 
   -- of a withdrawal with a turn
   good_withdrawal_turn : (s : Standing) (turn : ℕ) → Good (withdrawal_turn now id m s turn)
@@ -81,7 +81,7 @@ module _ (G : Reply → Type 0) (refusals : (r : Refusal) → G (reply.Refused r
       cond_both s.closed (refused refusal.Closed) second Good (λ _. refusals refusal.Closed) (λ _. cond_both all shut (refused refusal.NotAll) Good (λ _. closes) (λ _. refusals refusal.NotAll))
 
   -- of a body at fault
-  good_fault : (fault : BodyFault) → Good (broken fault)
+  good_fault : (fault : BodyFault) → Good (answer_to_fault fault)
   good_fault Json = refusals refusal.BadJson
   good_fault (Field name) = refusals (refusal.BadField name)
 

@@ -8,7 +8,7 @@ use Rattle.sealed_core.specs.declared.replies.Refusal.TheVariants as refusal
 use Rattle.sealed_core.specs.declared.replies.Reply.{Reply}
 use Rattle.sealed_core.specs.declared.replies.Reply.TheVariants as reply
 use Rattle.sealed_core.specs.Host.{EventView, HostView, InstanceView, Closed, instance_at, kept_bid, kept_turn}
-use Rattle.sealed_core.specs.Sealed.{Asked, Caller, View, applied, caller_number, caller_with, heard, heard_of, host_after, is_closed, is_shut, next, public_of, same_caller, view, view_of, views}
+use Rattle.sealed_core.specs.Sealed.{Asked, Caller, View, with_event, caller_number, caller_with, heard, heard_of, host_after, is_closed, is_shut, next, public_of, same_caller, view, view_of, views}
 use Rattle.sealed_core.specs.Step.{Answer, CommandView, Create, To, Standing, standing_of, refused, answer_ask, answer_caller, is_over, may_ask, answer_to, caller_by, caller_in, holder, step}
 use Rattle.reply_texts.specs.Replies.{of_created, of_own, of_reply, of_status, status_of, text_of}
 use Rattle.reply_texts.specs.Sealing.{IsSealedText, ShowSame, Told, own_of, sealed_told, told, told_all, told_in, told_of, value_in}
@@ -21,7 +21,7 @@ seen h found caller = view_of h.moment found caller
 
 -- the value over the host after an event is the one that follows from the view before
 abbrev FollowsIn : HostView → ℕ → View → Option EventView → Reply → Type 0
-FollowsIn h id v e r = is_closed (applied h e) id ≡ false → of_reply (applied h e) r ≡ value_in v r
+FollowsIn h id v e r = is_closed (with_event h e) id ≡ false → of_reply (with_event h e) r ≡ value_in v r
 
 -- a member's own turn and bid, found and seen
 own_seen : (h : HostView) (id m : ℕ) (i : InstanceView) → instance_at h id ≡ Some i → of_reply h (reply.Own id m) ≡ value_in (seen h (Some i) (Some m)) (reply.Own id m)
@@ -29,11 +29,11 @@ own_seen h id m i there = ap (option_map (λ (i : InstanceView). of_own (kept_tu
 
 -- before the deadline the event is the answer's own
 follows_before : (h : HostView) (now id m : ℕ) (i : InstanceView) → instance_at h id ≡ Some i → (s : Standing) (ask : Ask) → may_ask m ask ≡ true
-    → of_reply (applied h (answer_ask now id m s ask).event) (answer_ask now id m s ask).reply ≡ value_in (seen h (Some i) (Some m)) (answer_ask now id m s ask).reply
+    → of_reply (with_event h (answer_ask now id m s ask).event) (answer_ask now id m s ask).reply ≡ value_in (seen h (Some i) (Some m)) (answer_ask now id m s ask).reply
 follows_before h now id m i there s ask may =
-    good_ask (λ r. of_reply (applied h (answer_ask now id m s ask).event) r ≡ value_in (seen h (Some i) (Some m)) r) (λ r. refl) (λ turn. refl) refl (λ id what. refl) now id m s ask may
-    (λ status. ap (λ (a : Ask). of_reply (applied h (answer_ask now id m s a).event) (reply.Status id m)) status ∙ ap (λ (o : Option InstanceView). option_map (of_status id m) (option_map public_of o)) there)
-    (λ own some. ap (λ (a : Ask). of_reply (applied h (answer_ask now id m s a).event) (reply.Own id m)) own ∙ own_seen h id m i there)
+    good_ask (λ r. of_reply (with_event h (answer_ask now id m s ask).event) r ≡ value_in (seen h (Some i) (Some m)) r) (λ r. refl) (λ turn. refl) refl (λ id what. refl) now id m s ask may
+    (λ status. ap (λ (a : Ask). of_reply (with_event h (answer_ask now id m s a).event) (reply.Status id m)) status ∙ ap (λ (o : Option InstanceView). option_map (of_status id m) (option_map public_of o)) there)
+    (λ own some. ap (λ (a : Ask). of_reply (with_event h (answer_ask now id m s a).event) (reply.Own id m)) own ∙ own_seen h id m i there)
 
 -- of whatever a caller asks
 follows_caller : (h : HostView) (now id m : ℕ) (ask : Ask) (i : InstanceView) → instance_at h id ≡ Some i
@@ -71,9 +71,9 @@ told_is h t id key ask open_ =
 -- the text over the host after the event is that of the sealed reply, where what is told is
 pub sealed_text : (h : HostView)
     → ((t id : ℕ) (key : Option (List ℕ)) (ask : Ask) → is_closed (host_after h t (To id key ask)) id ≡ false → told h t (To id key ask) ≡ sealed_told (view h id (caller_number h id key)) t id key ask)
-    → (a : Answer) (text : List ℕ) → text_of (applied h a.event) a.reply ≡ Some text → IsSealedText h a text
+    → (a : Answer) (text : List ℕ) → text_of (with_event h a.event) a.reply ≡ Some text → IsSealedText h a text
 sealed_text h law a text there t id key ask is =
-    subst (λ (b : Answer). text_of (applied h b.event) b.reply ≡ Some text → is_closed (applied h b.event) id ≡ false → sealed_told (view h id (caller_number h id key)) t id key ask ≡ record { status = status_of b.reply; text = Some text })
+    subst (λ (b : Answer). text_of (with_event h b.event) b.reply ≡ Some text → is_closed (with_event h b.event) id ≡ false → sealed_told (view h id (caller_number h id key)) t id key ask ≡ record { status = status_of b.reply; text = Some text })
     (sym is) (λ said open_. sym (law t id key ask open_) ∙ (λ i. record { status = status_of (step h t (To id key ask)).reply; text = said i })) there
 
 -- ---- runs

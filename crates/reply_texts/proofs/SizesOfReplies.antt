@@ -20,12 +20,12 @@ use Rattle.bid_rules.specs.declared.goods.Goods.{Goods}
 use Rattle.bid_rules.specs.declared.rents.Rent.{Rent}
 use Rattle.bid_rules.specs.declared.limits.TheConstants.{ITEM_ROOM, MOST_FARE_CENTS, MOST_MEMBERS, MOST_RENT, PLACE_ROOM}
 use Rattle.bid_rules.specs.Facts.{IsCheckedBid, IsCheckedFacts, legs_in_order, member_count}
-use Rattle.case_fields.specs.declared.fields.FieldName.{FieldName}
-use Rattle.case_fields.specs.declared.fields.FieldName.TheVariants as field
-use Rattle.case_fields.specs.declared.limits.TheConstants.{LAST_DEADLINE}
-use Rattle.case_fields.specs.Creations.{item_count}
-use Rattle.case_fields.specs.Fields.{field_text}
-use Rattle.case_fields.specs.Rules.{IsName}
+use Rattle.body_fields.specs.declared.fields.FieldName.{FieldName}
+use Rattle.body_fields.specs.declared.fields.FieldName.TheVariants as field
+use Rattle.body_fields.specs.declared.limits.TheConstants.{LAST_DEADLINE}
+use Rattle.body_fields.specs.Creations.{item_count}
+use Rattle.body_fields.specs.Fields.{field_text}
+use Rattle.body_fields.specs.Rules.{IsName}
 use Rattle.sealed_core.specs.declared.limits.TheConstants.{MOST_INSTANCES, MOST_TURNS}
 use Rattle.sealed_core.specs.declared.replies.Refusal.{Refusal}
 use Rattle.sealed_core.specs.declared.replies.Refusal.TheVariants as refusal

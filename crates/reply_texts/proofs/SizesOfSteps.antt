@@ -10,20 +10,20 @@ use Rattle.bid_rules.specs.declared.bids.Facts.{Facts}
 use Rattle.bid_rules.specs.declared.bids.Facts.TheVariants as facts
 use Rattle.bid_rules.specs.declared.limits.TheConstants.{MOST_MEMBERS}
 use Rattle.bid_rules.specs.Facts.{IsCheckedFacts, member_count}
-use Rattle.case_fields.specs.declared.bodies.BidBody.{BidBody}
-use Rattle.case_fields.specs.declared.fields.BodyFault.TheVariants.{Json, Field}
+use Rattle.body_fields.specs.declared.bodies.BidBody.{BidBody}
+use Rattle.body_fields.specs.declared.fields.BodyFault.TheVariants.{Json, Field}
 use Rattle.sealed_core.specs.declared.limits.TheConstants.{MOST_INSTANCES, MOST_TURNS}
 use Rattle.sealed_core.specs.declared.commands.Ask.{Ask}
 use Rattle.sealed_core.specs.declared.commands.Ask.TheVariants as asks
 use Rattle.sealed_core.specs.declared.replies.Refusal.TheVariants as refusal
 use Rattle.sealed_core.specs.declared.replies.Reply.{Reply}
 use Rattle.sealed_core.specs.declared.replies.Reply.TheVariants as reply
-use Rattle.sealed_core.specs.Host.{AreCheckedInstances, CreationView, EventView, HostView, InstanceView, IsCheckedCreation, IsCheckedInstance, BidKept, Closed, Created, Withdrawn, as_closed, fresh, instance_at, kept_bid, kept_turn, moment_of}
+use Rattle.sealed_core.specs.Host.{AreCheckedInstances, CreationView, EventView, HostView, InstanceView, IsCheckedCreation, IsCheckedInstance, BidKept, Closed, Created, Withdrawn, as_closed, new_instance, instance_at, kept_bid, kept_turn, moment_of}
 use Rattle.sealed_core.specs.Keys.{IsKeyDigit, key_text}
 use Rattle.sealed_core.specs.Origins.{ComesOf}
 use Rattle.sealed_core.specs.Sameness.{is_kept, same_creation}
-use Rattle.sealed_core.specs.Sealed.{applied, public_of}
-use Rattle.sealed_core.specs.Step.{Answer, CommandView, Create, IsCheckedCommand, Standing, To, answer_ask, answer_caller, answer_close, answer_to, bid_body, bid_form, bid_turn, caller_by, caller_in, checked, form_of, holder, is_over, may_ask, new_creation, refused, says, standing_of, step, tagged_from, withdrawal_body, withdrawal_turn}
+use Rattle.sealed_core.specs.Sealed.{with_event, public_of}
+use Rattle.sealed_core.specs.Step.{Answer, CommandView, Create, IsCheckedCommand, Standing, To, answer_ask, answer_caller, answer_close, answer_to, bid_body, bid_form, bid_turn, caller_by, caller_in, bid_by_rule, form_of, holder, is_over, may_ask, new_creation, refused, says, standing_of, step, tagged_from, withdrawal_body, withdrawal_turn}
 use Rattle.reply_texts.specs.declared.sizes.TheConstants.{REPLY_MOST}
 use Rattle.reply_texts.specs.Refusals.{of_refusal}
 use Rattle.reply_texts.specs.Replies.{of_closed, of_created, of_own, of_status, of_turn, text_of}
@@ -75,7 +75,7 @@ module _ (now id m : ℕ) (s : Standing) (caller : m < 100) (used : s.turn ≤ M
   -- and body
   low_bid_body : (body : BidBody) (turn : Option ℕ) → AnswersLow (bid_body now id m s body turn)
   low_bid_body body None = tt
-  low_bid_body body (Some turn) = low_bid_form turn (checked s.facts (form_of s.facts body))
+  low_bid_body body (Some turn) = low_bid_form turn (bid_by_rule s.facts (form_of s.facts body))
 
   -- of a withdrawal with a turn
   low_withdrawal_turn : (turn : ℕ) → AnswersLow (withdrawal_turn now id m s turn)
@@ -195,7 +195,7 @@ step_low h t (To id key ask) sound = low_instance h.secret (max t h.moment) id k
 -- the instance under an id after the event
 record IsAfter (h : HostView) (e : Option EventView) (id : ℕ) : Type 0 where
   pub i : InstanceView
-  pub there : instance_at (applied h e) id ≡ Some i
+  pub there : instance_at (with_event h e) id ≡ Some i
   pub named : IsNamed id i
 
 -- a closed instance keeps its rules
@@ -265,30 +265,30 @@ created_short keys g id i text there few most is =
 
 -- of a creation that is the event
 new_short : AreKeys → (h : HostView) (now id : ℕ) (c : CreationView) (text : List ℕ) → AreCheckedInstances h.instances → IsCheckedCreation c → id ≡ length h.instances + 1
-    → text_of (applied h (Some (Created now c))) (reply.Created id) ≡ Some text → length text ≤ REPLY_MOST
+    → text_of (with_event h (Some (Created now c))) (reply.Created id) ≡ Some text → length text ≤ REPLY_MOST
 new_short keys h now id c text sound right next is =
-    created_short keys (applied h (Some (Created now c))) id (fresh c) text (new_at h now c id next) (omega (arith, next, sound.few)) (creation_members c right) is
+    created_short keys (with_event h (Some (Created now c))) id (new_instance c) text (new_at h now c id next) (omega (arith, next, sound.few)) (creation_members c right) is
 
 -- the text of a reply that tells what is there, with low numbers and a right event
 text_short : AreKeys → (h : HostView) (e : Option EventView) (r : Reply) (text : List ℕ) → AreCheckedInstances h.instances → (is_publication r ≡ false → Tells h e r) → IsRightEvent e → IsLow r
-    → text_of (applied h e) r ≡ Some text → length text ≤ REPLY_MOST
+    → text_of (with_event h e) r ≡ Some text → length text ≤ REPLY_MOST
 text_short keys h e (reply.Created id) text sound tells right low is = by_case (tells refl)
   where
     by_case : Tells h e (reply.Created id) → length text ≤ REPLY_MOST
     by_case (inl (there, none)) =
         let a = after h e id sound there (inl none) in
-        created_short keys (applied h e) id a.i text a.there a.named.few (creation_members a.i.creation a.named.right.creation) is
+        created_short keys (with_event h e) id a.i text a.there a.named.few (creation_members a.i.creation a.named.right.creation) is
     by_case (inr (now, c, made, next)) =
-        new_short keys h now id c text sound (subst IsRightEvent made right) next (subst (λ (e : Option EventView). text_of (applied h e) (reply.Created id) ≡ Some text) made is)
+        new_short keys h now id c text sound (subst IsRightEvent made right) next (subst (λ (e : Option EventView). text_of (with_event h e) (reply.Created id) ≡ Some text) made is)
 text_short keys h e (reply.Status id you) text sound tells right low is =
     let told = tells refl in
     let a = after h e id sound told.0 told.1 in
-    short (of_status id you) (option_map public_of (instance_at (applied h e) id)) (public_of a.i) text (ap (option_map public_of) a.there) (status_size id you a.i a.named.right a.named.few low) is
+    short (of_status id you) (option_map public_of (instance_at (with_event h e) id)) (public_of a.i) text (ap (option_map public_of) a.there) (status_size id you a.i a.named.right a.named.few low) is
 text_short keys h e (reply.Kept turn) text sound tells right low is = short_value (of_turn turn) text (turn_size turn low) is
 text_short keys h e (reply.Own id m) text sound tells right low is =
     let told = tells refl in
     let a = after h e id sound (holding (λ i. m ≤ length i.creation.members) (instance_at h id) told.1) told.2 in
-    short (λ (i : InstanceView). of_own (kept_turn i m) (kept_bid i m)) (instance_at (applied h e) id) a.i text a.there (own_size a.i m a.named.right) is
+    short (λ (i : InstanceView). of_own (kept_turn i m) (kept_bid i m)) (instance_at (with_event h e) id) a.i text a.there (own_size a.i m a.named.right) is
 text_short keys h e reply.Closed text sound tells right low is = short_value of_closed text closed_size is
 text_short keys h e (reply.Publish id what) text sound tells right low is = absurd (true≢false (sym (ap is_some is)))
 text_short keys h e (reply.Refused r) text sound tells right low is = short_value (of_refusal r) text (refusal_size r low) is
@@ -299,7 +299,7 @@ HaveOrigins = (h : HostView) (t : ℕ) (command : CommandView) → IfSome (step 
 
 -- the text of a step's reply
 step_short : AreKeys → HaveOrigins → (h : HostView) (t : ℕ) (command : CommandView) (text : List ℕ) → AreCheckedInstances h.instances → IsCheckedCommand command
-    → text_of (applied h (step h t command).event) (step h t command).reply ≡ Some text → length text ≤ REPLY_MOST
+    → text_of (with_event h (step h t command).event) (step h t command).reply ≡ Some text → length text ≤ REPLY_MOST
 step_short keys origins h t command text sound right is =
     let a = step h t command in
     let own = right_event h command (λ e. moment_of e ≡ max t h.moment) a.event right (origins h t command) in
@@ -307,6 +307,6 @@ step_short keys origins h t command text sound right is =
 
 -- the text of an answer's reply
 pub answer_short : ((secret : List ℕ) (id m : ℕ) → All IsKeyDigit (key_text secret id m)) → ((secret : List ℕ) (id m : ℕ) → length (key_text secret id m) ≡ 64) → HaveOrigins
-    → (h : HostView) (a : Answer) (text : List ℕ) → AreCheckedInstances h.instances → IsAnswered h a → text_of (applied h a.event) a.reply ≡ Some text → length text ≤ REPLY_MOST
+    → (h : HostView) (a : Answer) (text : List ℕ) → AreCheckedInstances h.instances → IsAnswered h a → text_of (with_event h a.event) a.reply ≡ Some text → length text ≤ REPLY_MOST
 answer_short digits whole origins h a text sound (t, command, right, answered) is =
-    step_short (record { digits = digits; whole = whole }) origins h t command text sound right (subst (λ (a : Answer). text_of (applied h a.event) a.reply ≡ Some text) answered is)
+    step_short (record { digits = digits; whole = whole }) origins h t command text sound right (subst (λ (a : Answer). text_of (with_event h a.event) a.reply ≡ Some text) answered is)

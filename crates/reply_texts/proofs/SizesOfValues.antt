@@ -9,7 +9,7 @@ use Rattle.serde_json.specs.Data.{Data, null, boolean, number, string, array, ob
 use Rattle.serde_json.specs.View.{items_of}
 use Rattle.serde_json.specs.Written.{comma_if, compact_text, items_text, members_text}
 use Rattle.bid_rules.specs.declared.limits.TheConstants.{LONGEST_NAME}
-use Rattle.case_fields.specs.Rules.{IsName, is_plain}
+use Rattle.body_fields.specs.Rules.{IsName, is_plain}
 use Rattle.reply_texts.specs.Values.{list_by}
 
 -- ---- strings

@@ -6,7 +6,7 @@ use Rattle.sealed_core.specs.declared.commands.What.{What}
 use Rattle.sealed_core.specs.declared.replies.Reply.{Reply}
 use Rattle.sealed_core.specs.declared.replies.Reply.TheVariants as reply
 use Rattle.sealed_core.specs.Host.{EventView, HostView, InstanceView, instance_at}
-use Rattle.sealed_core.specs.Sealed.{IsLateClose, applied}
+use Rattle.sealed_core.specs.Sealed.{IsLateClose, with_event}
 use Rattle.sealed_core.specs.Step.{CommandView, To}
 use Rattle.reply_texts.specs.Replies.{text_of}
 use Rattle.reply_texts.specs.Telling.{IsCloseOf, Tells, is_publication}
@@ -23,20 +23,20 @@ holding P None it = absurd it
 holding P (Some x) it = refl
 
 -- an instance that is found
-found_stays : (h : HostView) (e : Option EventView) (id : ℕ) → IsCloseOf e id → (found : Option InstanceView) → instance_at h id ≡ found → IsSome found → IsSome (instance_at (applied h e) id)
+found_stays : (h : HostView) (e : Option EventView) (id : ℕ) → IsCloseOf e id → (found : Option InstanceView) → instance_at h id ≡ found → IsSome found → IsSome (instance_at (with_event h e) id)
 found_stays h e id close None is there = absurd (true≢false (sym there))
-found_stays h e id (inl none) (Some i) is there = subst (λ (e : Option EventView). IsSome (instance_at (applied h e) id)) (sym none) (ap is_some is)
-found_stays h e id (inr (now, close)) (Some i) is there = subst (λ (e : Option EventView). IsSome (instance_at (applied h e) id)) (sym close) (ap is_some (closed_at h now id i is))
+found_stays h e id (inl none) (Some i) is there = subst (λ (e : Option EventView). IsSome (instance_at (with_event h e) id)) (sym none) (ap is_some is)
+found_stays h e id (inr (now, close)) (Some i) is there = subst (λ (e : Option EventView). IsSome (instance_at (with_event h e) id)) (sym close) (ap is_some (closed_at h now id i is))
 
 -- an instance is there after its close, or after no event
-stays : (h : HostView) (e : Option EventView) (id : ℕ) → IsCloseOf e id → IsSome (instance_at h id) → IsSome (instance_at (applied h e) id)
+stays : (h : HostView) (e : Option EventView) (id : ℕ) → IsCloseOf e id → IsSome (instance_at h id) → IsSome (instance_at (with_event h e) id)
 stays h e id close there = found_stays h e id close (instance_at h id) refl there
 
 -- each reply except a publication has a text where what it names is there
-pub text_there : (h : HostView) (e : Option EventView) (r : Reply) → is_publication r ≡ false → Tells h e r → IsSome (text_of (applied h e) r)
-text_there h e (reply.Created id) never (inl (there, none)) = mapped _ _ (mapped _ _ (mapped _ _ (subst (λ (e : Option EventView). IsSome (instance_at (applied h e) id)) (sym none) there)))
+pub text_there : (h : HostView) (e : Option EventView) (r : Reply) → is_publication r ≡ false → Tells h e r → IsSome (text_of (with_event h e) r)
+text_there h e (reply.Created id) never (inl (there, none)) = mapped _ _ (mapped _ _ (mapped _ _ (subst (λ (e : Option EventView). IsSome (instance_at (with_event h e) id)) (sym none) there)))
 text_there h e (reply.Created id) never (inr (now, c, made, is)) =
-    mapped _ _ (mapped _ _ (mapped _ _ (subst (λ (e : Option EventView). IsSome (instance_at (applied h e) id)) (sym made) (ap is_some (new_at h now c id is)))))
+    mapped _ _ (mapped _ _ (mapped _ _ (subst (λ (e : Option EventView). IsSome (instance_at (with_event h e) id)) (sym made) (ap is_some (new_at h now c id is)))))
 text_there h e (reply.Status id you) never tells = mapped _ _ (mapped _ _ (mapped _ _ (stays h e id tells.1 tells.0)))
 text_there h e (reply.Kept turn) never tells = refl
 text_there h e (reply.Own id m) never tells = mapped _ _ (mapped _ _ (stays h e id tells.2 (holding (λ i. m ≤ length i.creation.members) (instance_at h id) tells.1)))

@@ -4,7 +4,7 @@ use Rattle.std.specs.Prelude.{ℕ, Bool, true, false, List, [], ◌∷◌, ◌==
 use Rattle.std.specs.List.{list_any}
 use Rattle.serde_json.specs.Data.{Data, object, Members, member, no_members}
 use Rattle.serde_json.specs.Written.{compact_text}
-use Rattle.case_fields.specs.Fields.{field_text}
+use Rattle.body_fields.specs.Fields.{field_text}
 use Rattle.sealed_core.specs.declared.replies.Refusal.{Refusal}
 use Rattle.sealed_core.specs.declared.replies.Refusal.TheVariants as refusal
 use Rattle.reply_texts.specs.Values.{list_by, of_number, of_text}

@@ -25,7 +25,7 @@ of_created secret id members =
     (member (codes "keys") (list_by (λ m. of_text (key_text secret id m)) (range_with_len 1 members))
     (member (codes "organiser") (of_text (key_text secret id 0)) no_members)))
 
--- the numbers of the members who have a bid, in rising order, where the list begins with the member of the given number
+-- the numbers of the members who have a bid, in rising order; the list begins with the member of the given number
 abbrev pub bidders_from : ℕ → List Bool → List ℕ
 bidders_from m [] = []
 bidders_from m (true ∷ have) = m ∷ bidders_from (m + 1) have

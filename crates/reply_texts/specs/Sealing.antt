@@ -7,7 +7,7 @@ use Rattle.sealed_core.specs.declared.commands.Ask.{Ask}
 use Rattle.sealed_core.specs.declared.replies.Reply.{Reply}
 use Rattle.sealed_core.specs.declared.replies.Reply.TheVariants as reply
 use Rattle.sealed_core.specs.Host.{HostView, InstanceView, instance_at, kept_bid, kept_turn}
-use Rattle.sealed_core.specs.Sealed.{Asked, Caller, View, applied, caller_number, host_after, is_closed, next, public_of, same_caller, sealed_reply, view}
+use Rattle.sealed_core.specs.Sealed.{Asked, Caller, View, with_event, caller_number, host_after, is_closed, next, public_of, same_caller, sealed_reply, view}
 use Rattle.sealed_core.specs.Step.{Answer, CommandView, Create, To, step}
 use Rattle.reply_texts.specs.Refusals.{of_refusal}
 use Rattle.reply_texts.specs.Replies.{of_closed, of_own, of_status, of_turn, status_of, text_of}
@@ -21,7 +21,7 @@ pub record Told : Type 0 where
 abbrev pub told : HostView → ℕ → CommandView → Told
 told h t command = record { status = status_of (step h t command).reply; text = text_of (host_after h t command) (step h t command).reply }
 
--- a reply as JSON, made from what the caller may see alone
+-- a reply as JSON, made only from what the caller may see
 abbrev pub value_in : View → Reply → Option Data
 value_in v (reply.Created id) = None
 value_in v (reply.Status id you) = option_map (of_status id you) v.public
@@ -31,18 +31,18 @@ value_in v reply.Closed = Some of_closed
 value_in v (reply.Publish id what) = None
 value_in v (reply.Refused r) = Some (of_refusal r)
 
--- what is told in a reply, made from what the caller may see alone
+-- what is told in a reply, made only from what the caller may see
 abbrev pub told_in : View → Reply → Told
 told_in v r = record { status = status_of r; text = option_map compact_text (value_in v r) }
 
--- what is told in reply to a command on an instance that is not closed after it, made from what the caller may see alone
+-- what is told in reply to a command on an instance that is not closed after it, made only from what the caller may see
 abbrev pub sealed_told : View → ℕ → ℕ → Option (List ℕ) → Ask → Told
 sealed_told v t id key ask = told_in v (sealed_reply v t id key ask)
 
--- if this answers a command on an instance that is not closed after it, its status and this text are those made from what the caller may see alone
+-- if this answers a command on an instance that is not closed after it, its status and this text are made only from what the caller may see
 abbrev pub IsSealedText : HostView → Answer → List ℕ → Type 0
 IsSealedText h a text =
-    (t id : ℕ) (key : Option (List ℕ)) (ask : Ask) → a ≡ step h t (To id key ask) → is_closed (applied h a.event) id ≡ false
+    (t id : ℕ) (key : Option (List ℕ)) (ask : Ask) → a ≡ step h t (To id key ask) → is_closed (with_event h a.event) id ≡ false
     → sealed_told (view h id (caller_number h id key)) t id key ask ≡ record { status = status_of a.reply; text = Some text }
 
 -- what a step of a run tells the caller of an instance: the reply if the command is the caller's own and on this instance, and otherwise nothing

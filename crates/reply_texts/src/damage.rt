@@ -25,6 +25,7 @@ pub fn damage_text(place: u64) -> DamageText
     text
 }
 
+// The room is that of the longest text, so the bytes always fit.
 fn put(text: &mut DamageText, bytes: &[u8])
     requires { length text.old.items + length bytes.now ≤ DAMAGE_ROOM }
     ensures bytes { text.new.items ≡ text.old.items ++ bytes.now }

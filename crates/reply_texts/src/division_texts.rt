@@ -30,6 +30,7 @@ use shapley_core::FareDivision;
 use split_base::NoMemory;
 use std::alloc::{AllocError, Global};
 
+// A rent as JSON, with the payments in whole cents beside the exact prices.
 #[tactic(auto, unfolding(crate::specs::Divisions::of_rent))]
 fn rent_value(alloc: Global, case: &RentCase, division: &RentDivision) -> Result<Value, AllocError>
     requires case { IsValidRentCase case.now }
@@ -43,7 +44,7 @@ fn rent_value(alloc: Global, case: &RentCase, division: &RentDivision) -> Result
     })
 }
 
-/// The numbers of members of some players or riders, in their order.
+// The numbers of members of some players or riders, in their order.
 fn members_of(who: &[u8], players: &[u8]) -> ArrayVec<u8, ITEM_ROOM>
     requires few { length players.now ≤ ITEM_ROOM }
     requires players { All (λ player. (1 ≤ player) × (player ≤ length who.now)) players.now }
@@ -56,6 +57,7 @@ fn members_of(who: &[u8], players: &[u8]) -> ArrayVec<u8, ITEM_ROOM>
     members
 }
 
+// Players are numbered among those who bid, but readers know the members of the case.
 fn members_value(alloc: Global, who: &[u8], players: &[u8]) -> Result<Value, AllocError>
     requires few { length players.now ≤ ITEM_ROOM }
     requires players { All (λ player. (1 ≤ player) × (player ≤ length who.now)) players.now }
@@ -65,18 +67,21 @@ fn members_value(alloc: Global, who: &[u8], players: &[u8]) -> Result<Value, All
     numbers(alloc, members.as_slice())
 }
 
-/// A product of utilities, which may be greater than a number of JSON: as a text.
+// A product of utilities, which may be greater than a number of JSON: as a text.
 fn product_value(alloc: Global, product: u128) -> Result<Value, AllocError>
     ensures { IfOk result (λ v. view v ≡ of_text (decimal product)) }
 {
     Ok(Value::String(product.to_string(alloc)?))
 }
 
-/// By player the points of their own goods.
+// By player the points of their own goods.
 fn points_value(alloc: Global, case: &GoodsCase, owners: &[u8]) -> Result<Value, AllocError>
     requires case { IsValidGoodsCase case.now }
     requires each { length owners.now ≡ case.now.facts.goods }
-    ensures { IfOk result (λ v. view v ≡ list_by (λ player. of_number (points_for case.now player (goods_of owners.now player))) (range_with_len 1 (player_count case.now))) }
+    ensures { IfOk result (λ v.
+        view v
+        ≡ list_by (λ player. of_number (points_for case.now player (goods_of owners.now player)))
+        (range_with_len 1 (player_count case.now))) }
 {
     let mut list = Vec::new(alloc);
     for place in 0..case.values.len() as u8 {
@@ -86,15 +91,21 @@ fn points_value(alloc: Global, case: &GoodsCase, owners: &[u8]) -> Result<Value,
     Ok(Value::Array(list))
 }
 
-/// By player the points of the goods that a division gives them.
+// By player the points of the goods that a division gives them.
 fn won_value(alloc: Global, case: &GoodsCase, division: &GoodsDivision) -> Result<Value, AllocError>
     requires case { IsValidGoodsCase case.now }
     requires each { length division.now.owners.items ≡ case.now.facts.goods }
-    ensures { IfOk result (λ v. view v ≡ list_by (λ player. of_number (points_for case.now player (goods_of division.now.owners.items player))) (range_with_len 1 (player_count case.now))) }
+    ensures { IfOk result (λ v.
+        view v
+        ≡ list_by
+        (λ player.
+        of_number (points_for case.now player (goods_of division.now.owners.items player)))
+        (range_with_len 1 (player_count case.now))) }
 {
     points_value(alloc, case, division.owners.as_slice())
 }
 
+// Goods as JSON, with the steps of the search, which everyone can count again.
 #[tactic(auto, unfolding(crate::specs::Divisions::of_goods))]
 fn goods_value(
     alloc: Global,
@@ -113,15 +124,17 @@ fn goods_value(
     })
 }
 
-/// What each rider pays, in whole cents.
+// What each rider pays, in whole cents.
 fn fare_pays(case: &FareCase, division: &FareDivision) -> ArrayVec<i64, MEMBER_ROOM>
     requires case { IsValidFareCase case.now }
     requires division { IsFareDivision case.now division.now }
-    ensures { result.items ≡ cent_plan (map fraction_of division.now.fares.items) (pos division.now.total) }
+    ensures { result.items
+        ≡ cent_plan (map fraction_of division.now.fares.items) (pos division.now.total) }
 {
     cent_plan(division.fares.as_slice(), i64::from(division.total))
 }
 
+// Fares as JSON, with the payments in whole cents beside the exact fares.
 #[tactic(auto, unfolding(crate::specs::Divisions::of_fares))]
 fn fares_value(alloc: Global, case: &FareCase, division: &FareDivision) -> Result<Value, AllocError>
     requires case { IsValidFareCase case.now }
@@ -137,15 +150,18 @@ fn fares_value(alloc: Global, case: &FareCase, division: &FareDivision) -> Resul
     })
 }
 
+// The object of a rent as bytes.
 fn rent_text(alloc: Global, case: &RentCase, division: &RentDivision) -> Result<Vec<u8>, AllocError>
     requires case { IsValidRentCase case.now }
     requires division { IsRentDivision case.now division.now }
-    ensures { IfOk result (λ text. IsDivisionText (Case.Rent case.now) (Division.Rent division.now) text.items) }
+    ensures { IfOk result (λ text.
+        IsDivisionText (Case.Rent case.now) (Division.Rent division.now) text.items) }
 {
     let value = rent_value(alloc, case, division)?;
     written(alloc, &value)
 }
 
+// The object of goods as bytes.
 fn goods_text(
     alloc: Global,
     case: &GoodsCase,
@@ -153,12 +169,14 @@ fn goods_text(
 ) -> Result<Vec<u8>, AllocError>
     requires case { IsValidGoodsCase case.now }
     requires division { IsGoodsDivision case.now division.now }
-    ensures { IfOk result (λ text. IsDivisionText (Case.Goods case.now) (Division.Goods division.now) text.items) }
+    ensures { IfOk result (λ text.
+        IsDivisionText (Case.Goods case.now) (Division.Goods division.now) text.items) }
 {
     let value = goods_value(alloc, case, division)?;
     written(alloc, &value)
 }
 
+// The object of fares as bytes.
 fn fares_text(
     alloc: Global,
     case: &FareCase,
@@ -166,12 +184,14 @@ fn fares_text(
 ) -> Result<Vec<u8>, AllocError>
     requires case { IsValidFareCase case.now }
     requires division { IsFareDivision case.now division.now }
-    ensures { IfOk result (λ text. IsDivisionText (Case.Fares case.now) (Division.Fares division.now) text.items) }
+    ensures { IfOk result (λ text.
+        IsDivisionText (Case.Fares case.now) (Division.Fares division.now) text.items) }
 {
     let value = fares_value(alloc, case, division)?;
     written(alloc, &value)
 }
 
+// A division is of its case's kind, so no other pair comes here.
 fn text_of(alloc: Global, case: &Case, division: &Division) -> Result<Vec<u8>, AllocError>
     requires case { IsValidCase case.now }
     requires division { IsDivisionOf case.now division.now }

@@ -26,12 +26,15 @@ use sealed_core::{publication_law, sealing_law};
 /// one status and one text; and in two runs alike (`sealing_law` of `sealed_core`) a caller is told the same, up to the step at which the
 /// instance is closed.
 pub fn text_sealing_law()
-    ensures from_view { (h : HostView) (t id : ℕ) (key : Option (List ℕ)) (ask : Ask) → is_closed (host_after h t (To id key ask)) id ≡ false
+    ensures from_view { (h : HostView) (t id : ℕ) (key : Option (List ℕ)) (ask : Ask)
+        → is_closed (host_after h t (To id key ask)) id ≡ false
         → told h t (To id key ask) ≡ sealed_told (view h id (caller_number h id key)) t id key ask }
-    ensures one_step { (g h : HostView) (t id : ℕ) (key : Option (List ℕ)) (ask : Ask) → view g id (caller_number g id key) ≡ view h id (caller_number h id key)
+    ensures one_step { (g h : HostView) (t id : ℕ) (key : Option (List ℕ)) (ask : Ask)
+        → view g id (caller_number g id key) ≡ view h id (caller_number h id key)
         → is_closed (host_after g t (To id key ask)) id ≡ false
         → told g t (To id key ask) ≡ told h t (To id key ask) }
-    ensures runs { (g h : HostView) (id : ℕ) (caller : Caller) (run others : List Asked) → LookAlike id caller g h → RunAlike g h id caller run others
+    ensures runs { (g h : HostView) (id : ℕ) (caller : Caller) (run others : List Asked)
+        → LookAlike id caller g h → RunAlike g h id caller run others
         → told_all g id caller run ≡ told_all h id caller others }
 {
     sealing_law();
@@ -48,8 +51,11 @@ pub fn shown_law()
 /// What the reply of a step names is there before the event, except for a new instance. So each reply has a text over the host after
 /// the event, except for a publication, whose text is made of a division.
 pub fn telling_law()
-    ensures tells { (h : HostView) (t : ℕ) (command : CommandView) → Tells h (step h t command).event (step h t command).reply }
-    ensures text { (h : HostView) (t : ℕ) (command : CommandView) → is_publication (step h t command).reply ≡ false → IsSome (text_of (host_after h t command) (step h t command).reply) }
+    ensures tells { (h : HostView) (t : ℕ) (command : CommandView)
+        → Tells h (step h t command).event (step h t command).reply }
+    ensures text { (h : HostView) (t : ℕ) (command : CommandView)
+        → is_publication (step h t command).reply ≡ false
+        → IsSome (text_of (host_after h t command) (step h t command).reply) }
 {
     publication_law();
 }
@@ -57,13 +63,15 @@ pub fn telling_law()
 /// Each refusal has one of the ten statuses of refusals, none of which is that of a reply that grants what was asked.
 pub fn refusal_status_law()
     ensures refusal { (refusal : Refusal) → IsTrue (is_refusal_status (refusal_row refusal).0) }
-    ensures service { (refusal : ServiceRefusal) → IsTrue (is_refusal_status (service_row refusal).status) }
+    ensures service { (refusal : ServiceRefusal)
+        → IsTrue (is_refusal_status (service_row refusal).status) }
 {}
 
 /// A case has one text of its division.
 pub fn division_text_law()
-    ensures { (case : Case) (division other : Division) (text others : List ℕ) → IsValidCase case → IsDivisionOf case division → IsDivisionOf case other
-        → IsDivisionText case division text → IsDivisionText case other others → text ≡ others }
+    ensures { (case : Case) (division other : Division) (text others : List ℕ) → IsValidCase case
+        → IsDivisionOf case division → IsDivisionOf case other → IsDivisionText case division text
+        → IsDivisionText case other others → text ≡ others }
 {
     division_law();
 }

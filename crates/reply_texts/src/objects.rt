@@ -30,6 +30,7 @@ pub(crate) struct Field<'a> {
     pub(crate) part: Part<'a>,
 }
 
+// A list of numbers, without blanks, like all JSON of a reply.
 fn put_numbers(page: &mut Page, numbers: &[u32])
     ensures { Puts page.old page.new (compact_text (list_by of_number numbers.now)) }
 {
@@ -43,8 +44,10 @@ fn put_numbers(page: &mut Page, numbers: &[u32])
     put(page, b"]");
 }
 
+// Names are quoted and escaped, since members choose them freely.
 fn put_names(page: &mut Page, names: &[Name])
-    ensures { Puts page.old page.new (compact_text (list_by of_text (map (λ name. name.bytes) names.now))) }
+    ensures { Puts page.old page.new
+        (compact_text (list_by of_text (map (λ name. name.bytes) names.now))) }
 {
     put(page, b"[");
     let mut later = false;
@@ -56,6 +59,7 @@ fn put_names(page: &mut Page, names: &[Name])
     put(page, b"]");
 }
 
+// Keys are hexadecimal digits, in quotes like any text.
 fn put_keys(page: &mut Page, keys: &[Key])
     ensures { Puts page.old page.new (compact_text (list_by of_text keys.now)) }
 {
@@ -69,8 +73,10 @@ fn put_keys(page: &mut Page, keys: &[Key])
     put(page, b"]");
 }
 
+// A table of costs, row by row.
 fn put_rows(page: &mut Page, rows: &[LegRow])
-    ensures { Puts page.old page.new (compact_text (list_by (λ row. list_by of_number row.items) rows.now)) }
+    ensures { Puts page.old page.new
+        (compact_text (list_by (λ row. list_by of_number row.items) rows.now)) }
 {
     put(page, b"[");
     let mut later = false;
@@ -82,6 +88,7 @@ fn put_rows(page: &mut Page, rows: &[LegRow])
     put(page, b"]");
 }
 
+// One form for each kind of value that a reply can hold.
 fn put_part(page: &mut Page, part: &Part<'_>)
     ensures { Puts page.old page.new (compact_text (of_part part.now)) }
 {
@@ -96,6 +103,7 @@ fn put_part(page: &mut Page, part: &Part<'_>)
     }
 }
 
+// An object, with its fields in the order in which they are given.
 fn put_fields(page: &mut Page, fields: &[Field<'_>])
     ensures { Puts page.old page.new (compact_text (of_fields fields.now)) }
 {
@@ -111,7 +119,7 @@ fn put_fields(page: &mut Page, fields: &[Field<'_>])
     put(page, b"}");
 }
 
-/// The text of an object, if there is room for it.
+// The text of an object, if there is room for it.
 pub(crate) fn object_text(fields: &[Field<'_>]) -> Result<ReplyBytes, TooLong>
     ensures { IsTextOf (of_fields fields.now) result }
 {

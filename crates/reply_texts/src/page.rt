@@ -25,7 +25,7 @@ pub(crate) struct Page {
     pub(crate) full: bool,
 }
 
-/// A page with nothing on it.
+// A page with nothing on it.
 pub(crate) fn blank() -> Page
     ensures { Holds result [] }
 {
@@ -35,9 +35,10 @@ pub(crate) fn blank() -> Page
     }
 }
 
-/// What was written, if there was room for it.
+// What was written, if there was room for it.
 pub(crate) fn finished(page: Page) -> Result<ReplyBytes, TooLong>
-    ensures { (text : List ℕ) → Holds page text → MatchResult result (λ bytes. bytes.items ≡ text) (λ _. REPLY_MOST < length text) }
+    ensures { (text : List ℕ) → Holds page text
+        → MatchResult result (λ bytes. bytes.items ≡ text) (λ _. REPLY_MOST < length text) }
 {
     if page.full {
         return Err(TooLong);
@@ -45,6 +46,7 @@ pub(crate) fn finished(page: Page) -> Result<ReplyBytes, TooLong>
     Ok(page.bytes)
 }
 
+// A page that is full once stays full, so that a text that doesn't fit is never sent in part.
 pub(crate) fn put(page: &mut Page, bytes: &[u8])
     ensures { Puts page.old page.new bytes.now }
 {
@@ -56,7 +58,7 @@ pub(crate) fn put(page: &mut Page, bytes: &[u8])
     }
 }
 
-/// A comma, where something stands before.
+// A comma, where something stands before.
 pub(crate) fn put_comma(page: &mut Page, later: bool)
     ensures { Puts page.old page.new (comma_if later) }
 {
@@ -65,6 +67,7 @@ pub(crate) fn put_comma(page: &mut Page, later: bool)
     }
 }
 
+// In decimal, as JSON has it.
 pub(crate) fn put_number(page: &mut Page, number: u64)
     ensures { Puts page.old page.new (decimal number) }
 {
@@ -72,6 +75,7 @@ pub(crate) fn put_number(page: &mut Page, number: u64)
     put(page, buffer.format(number).as_bytes());
 }
 
+// The words of JSON for the two truth values.
 pub(crate) fn put_flag(page: &mut Page, flag: bool)
     ensures { Puts page.old page.new (compact_text (boolean flag)) }
 {
@@ -79,7 +83,7 @@ pub(crate) fn put_flag(page: &mut Page, flag: bool)
     put(page, text);
 }
 
-/// A text in quotes, with its escapes.
+// A text in quotes, with its escapes.
 pub(crate) fn put_quoted(page: &mut Page, text: &[u8])
     ensures { Puts page.old page.new (quoted text.now) }
 {
@@ -88,6 +92,7 @@ pub(crate) fn put_quoted(page: &mut Page, text: &[u8])
     put(page, b"\"");
 }
 
+// Byte by byte, because quotes, backslashes and control bytes are spelled in another way.
 fn put_escaped(page: &mut Page, text: &[u8])
     ensures { Puts page.old page.new (escape text.now) }
 {
@@ -96,7 +101,7 @@ fn put_escaped(page: &mut Page, text: &[u8])
     }
 }
 
-/// A byte of a text, or its escape.
+// A byte of a text, or its escape.
 #[tactic(auto, unfolding(json::specs::Print::escape_byte))]
 fn put_byte(page: &mut Page, byte: u8)
     ensures { Puts page.old page.new (escape_byte byte) }
@@ -112,7 +117,7 @@ fn put_byte(page: &mut Page, byte: u8)
     }
 }
 
-/// The letter of a byte's short escape, or 0 where it has none.
+// The letter of a byte's short escape, or 0 where it has none.
 fn escape_letter(byte: u8) -> u8
     ensures { result ≡ escape_letter byte }
 {
@@ -127,6 +132,7 @@ fn escape_letter(byte: u8) -> u8
     }
 }
 
+// Escapes are spelled with small letters.
 fn hex_digit(digit: u8) -> u8
     requires { digit < 16 }
     ensures { result ≡ digit_char digit }

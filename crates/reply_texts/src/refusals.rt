@@ -122,7 +122,7 @@ impl ServiceRefusal {
     }
 }
 
-/// The HTTP status of a refusal of the host.
+// The HTTP status of a refusal of the host.
 pub(crate) fn refusal_status(refusal: Refusal) -> u16
     ensures { result ≡ (refusal_row refusal).0 }
 {
@@ -144,6 +144,7 @@ pub(crate) fn refusal_status(refusal: Refusal) -> u16
     }
 }
 
+// Clients match these words, so they never change.
 fn refusal_code(refusal: Refusal) -> &'static str
     ensures { result.now ≡ (refusal_row refusal).1 }
 {
@@ -165,32 +166,45 @@ fn refusal_code(refusal: Refusal) -> &'static str
     }
 }
 
-/// A code alone.
+// Only a code.
 fn coded(alloc: Global, code: &str) -> Result<Value, AllocError>
-    ensures { IfOk result (λ v. view v ≡ object (member (codes "code") (of_text code.now) no_members)) }
+    ensures { IfOk result (λ v.
+        view v ≡ object (member (codes "code") (of_text code.now) no_members)) }
 {
     json!(in alloc; {"code": code})
 }
 
+// A client is told the limit that was passed.
 fn with_limit(alloc: Global, code: &str, limit: u32) -> Result<Value, AllocError>
-    ensures { IfOk result (λ v. view v ≡ object (member (codes "code") (of_text code.now) (member (codes "limit") (of_number limit) no_members))) }
+    ensures { IfOk result (λ v.
+        view v
+        ≡ object (member (codes "code") (of_text code.now)
+        (member (codes "limit") (of_number limit) no_members))) }
 {
     json!(in alloc; {"code": code, "limit": limit})
 }
 
+// A client is told whose bids are missing.
 fn with_missing(alloc: Global, code: &str, missing: &Missing) -> Result<Value, AllocError>
-    ensures { IfOk result (λ v. view v ≡ object (member (codes "code") (of_text code.now) (member (codes "missing") (list_by of_number missing.now.members.items) no_members))) }
+    ensures { IfOk result (λ v.
+        view v
+        ≡ object (member (codes "code") (of_text code.now)
+        (member (codes "missing") (list_by of_number missing.now.members.items) no_members))) }
 {
     json!(in alloc; {"code": code, "missing": numbers(alloc, missing.members.as_slice())?})
 }
 
+// An operator is told where the journal is damaged.
 fn with_place(alloc: Global, code: &str, place: u64) -> Result<Value, AllocError>
-    ensures { IfOk result (λ v. view v ≡ object (member (codes "code") (of_text code.now) (member (codes "place") (of_number place) no_members))) }
+    ensures { IfOk result (λ v.
+        view v
+        ≡ object (member (codes "code") (of_text code.now)
+        (member (codes "place") (of_number place) no_members))) }
 {
     json!(in alloc; {"code": code, "place": place})
 }
 
-/// A code alone, without memory.
+// Only a code, without memory.
 fn code_text(code: &str) -> Result<ReplyBytes, TooLong>
     ensures { IsTextOf (object (member (codes "code") (of_text code.now) no_members)) result }
 {
@@ -200,8 +214,11 @@ fn code_text(code: &str) -> Result<ReplyBytes, TooLong>
     }])
 }
 
+// A client is told which field to mend.
 fn code_with_field<'a>(code: &'a str, field: &'a str) -> Result<ReplyBytes, TooLong>
-    ensures { IsTextOf (object (member (codes "code") (of_text code.now) (member (codes "field") (of_text field.now) no_members))) result }
+    ensures { IsTextOf
+        (object (member (codes "code") (of_text code.now)
+        (member (codes "field") (of_text field.now) no_members))) result }
 {
     object_text(&[
         Field {
@@ -215,8 +232,11 @@ fn code_with_field<'a>(code: &'a str, field: &'a str) -> Result<ReplyBytes, TooL
     ])
 }
 
+// A client is told the turn that the host has kept, so that it can go on from there.
 fn code_with_kept(code: &str, kept: u8) -> Result<ReplyBytes, TooLong>
-    ensures { IsTextOf (object (member (codes "code") (of_text code.now) (member (codes "kept") (of_number kept) no_members))) result }
+    ensures { IsTextOf
+        (object (member (codes "code") (of_text code.now)
+        (member (codes "kept") (of_number kept) no_members))) result }
 {
     object_text(&[
         Field {
@@ -230,7 +250,7 @@ fn code_with_kept(code: &str, kept: u8) -> Result<ReplyBytes, TooLong>
     ])
 }
 
-/// What the host refuses, without memory.
+// What the host refuses, without memory.
 #[tactic(auto, unfolding(crate::specs::Refusals::of_refusal))]
 pub(crate) fn refusal_text(refusal: Refusal) -> Result<ReplyBytes, TooLong>
     ensures { IsTextOf (of_refusal refusal) result }
@@ -243,6 +263,7 @@ pub(crate) fn refusal_text(refusal: Refusal) -> Result<ReplyBytes, TooLong>
     }
 }
 
+// Only three of these refusals have more to say than their code.
 #[tactic(auto, unfolding(crate::specs::Refusals::of_service_refusal))]
 fn service_refusal_value(alloc: Global, refusal: &ServiceRefusal) -> Result<Value, AllocError>
     ensures { IfOk result (λ v. view v ≡ of_service_refusal refusal.now) }
@@ -256,6 +277,7 @@ fn service_refusal_value(alloc: Global, refusal: &ServiceRefusal) -> Result<Valu
     }
 }
 
+// The refusal as bytes, in memory.
 fn written_refusal(alloc: Global, refusal: &ServiceRefusal) -> Result<Vec<u8>, AllocError>
     ensures { IfOk result (λ text. text.items ≡ service_text refusal.now) }
 {

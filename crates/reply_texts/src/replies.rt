@@ -4,7 +4,7 @@ ghost use Rattle.std.specs.List.{range_with_len};
 ghost use Rattle.bid_rules.specs.declared.limits.TheConstants.{MEMBER_ROOM};
 ghost use Rattle.sealed_core.specs.Host.{IsCheckedInstance, event_view, instance_at, instance_view, kept_bid, kept_turn};
 ghost use Rattle.sealed_core.specs.Keys.{key_text};
-ghost use Rattle.sealed_core.specs.Sealed.{applied};
+ghost use Rattle.sealed_core.specs.Sealed.{with_event};
 ghost use Rattle.sealed_core.specs.Step.{answer_view};
 ghost use Rattle.reply_texts.specs.Objects.{of_keys};
 ghost use Rattle.reply_texts.specs.Pages.{IsTextAt, IsTextOf};
@@ -49,6 +49,7 @@ pub fn is_publication(reply: &Reply) -> bool
     }
 }
 
+// The turn that was kept, which a client needs for its next bid.
 #[tactic(auto, unfolding(crate::specs::Replies::of_turn))]
 fn turn_text(turn: u8) -> Result<ReplyBytes, TooLong>
     ensures { IsTextOf (of_turn turn) result }
@@ -59,6 +60,7 @@ fn turn_text(turn: u8) -> Result<ReplyBytes, TooLong>
     }])
 }
 
+// A member's own bid of values, and its turn.
 #[tactic(auto, unfolding(crate::specs::Replies::of_values))]
 fn values_text(turn: u8, values: &[u32]) -> Result<ReplyBytes, TooLong>
     ensures { IsTextOf (of_values turn values.now) result }
@@ -75,6 +77,7 @@ fn values_text(turn: u8, values: &[u32]) -> Result<ReplyBytes, TooLong>
     ])
 }
 
+// A member's own bid of a place, and its turn.
 #[tactic(auto, unfolding(crate::specs::Replies::of_place))]
 fn place_text(turn: u8, place: u8) -> Result<ReplyBytes, TooLong>
     ensures { IsTextOf (of_place turn place) result }
@@ -91,12 +94,14 @@ fn place_text(turn: u8, place: u8) -> Result<ReplyBytes, TooLong>
     ])
 }
 
-/// The member's own kept turn and bid.
+// The member's own kept turn and bid.
 fn own_text(instance: &Instance, member: u8) -> Result<ReplyBytes, TooLong>
     requires least { 1 ≤ member }
     requires most { member ≤ length instance.now.creation.members.items }
     requires sound { IsCheckedInstance (instance_view instance.now) }
-    ensures { IsTextOf (of_own (kept_turn (instance_view instance.now) member) (kept_bid (instance_view instance.now) member)) result }
+    ensures { IsTextOf
+        (of_own (kept_turn (instance_view instance.now) member)
+        (kept_bid (instance_view instance.now) member)) result }
 {
     let turn = turn_of(instance, member);
     match bid_of(instance, member) {
@@ -106,6 +111,7 @@ fn own_text(instance: &Instance, member: u8) -> Result<ReplyBytes, TooLong>
     }
 }
 
+// A close has nothing else to say.
 #[tactic(auto, unfolding(crate::specs::Replies::of_closed))]
 fn closed_text() -> Result<ReplyBytes, TooLong>
     ensures { IsTextOf of_closed result }
@@ -116,10 +122,11 @@ fn closed_text() -> Result<ReplyBytes, TooLong>
     }])
 }
 
-/// The keys of the members, in their order.
+// The keys of the members, in their order.
 fn member_keys(secret: &[u8; 32], id: u32, members: u8) -> ArrayVec<Key, MEMBER_ROOM>
     requires { members ≤ MEMBER_ROOM }
-    ensures { list_by of_text result.items ≡ list_by (λ m. of_text (key_text secret.now id m)) (range_with_len 1 members) }
+    ensures { list_by of_text result.items
+        ≡ list_by (λ m. of_text (key_text secret.now id m)) (range_with_len 1 members) }
 {
     let mut keys = ArrayVec::new();
     for place in 0..members {
@@ -128,7 +135,7 @@ fn member_keys(secret: &[u8; 32], id: u32, members: u8) -> ArrayVec<Key, MEMBER_
     keys
 }
 
-/// The id and the keys of a new instance.
+// The id and the keys of a new instance.
 fn keys_text<'a>(id: u32, keys: &'a [Key], organiser: &'a Key) -> Result<ReplyBytes, TooLong>
     ensures { IsTextOf (of_keys id keys.now organiser.now) result }
 {
@@ -148,6 +155,7 @@ fn keys_text<'a>(id: u32, keys: &'a [Key], organiser: &'a Key) -> Result<ReplyBy
     ])
 }
 
+// The only reply that has keys: the organiser hands them out.
 fn created_text(secret: &[u8; 32], id: u32, members: u8) -> Result<ReplyBytes, TooLong>
     requires { members ≤ MEMBER_ROOM }
     ensures { IsTextOf (of_created secret.now id members) result }
@@ -157,11 +165,13 @@ fn created_text(secret: &[u8; 32], id: u32, members: u8) -> Result<ReplyBytes, T
     keys_text(id, keys.as_slice(), &organiser)
 }
 
-/// How many members the instance has that a reply names as created.
+// How many members the instance has that a reply names as created.
 fn members_after(host: &Host, event: &Option<Event>, id: u32) -> u8
     requires { Tells host.now.content (option_map event_view event.now) (Reply.Created id) }
     ensures few { result ≤ MEMBER_ROOM }
-    ensures members { option_map (λ i. length i.creation.members) (instance_at (applied host.now.content (option_map event_view event.now)) id) ≡ Some result }
+    ensures members { option_map (λ i. length i.creation.members)
+        (instance_at (with_event host.now.content (option_map event_view event.now)) id)
+        ≡ Some result }
 {
     if let Some(Event::Create { creation, .. }) = event {
         return creation.members.len() as u8;
@@ -172,14 +182,18 @@ fn members_after(host: &Host, event: &Option<Event>, id: u32) -> u8
     instance.creation.members.len() as u8
 }
 
+// The event is not applied yet when the text is made, so the members are counted with it.
 fn created_after(host: &Host, event: &Option<Event>, id: u32) -> Result<ReplyBytes, TooLong>
     requires { Tells host.now.content (option_map event_view event.now) (Reply.Created id) }
-    ensures { IsTextAt (of_reply (applied host.now.content (option_map event_view event.now)) (Reply.Created id)) result }
+    ensures { IsTextAt
+        (of_reply (with_event host.now.content (option_map event_view event.now))
+        (Reply.Created id)) result }
 {
     let members = members_after(host, event, id);
     created_text(host.secret(), id, members)
 }
 
+// A status must already say that the instance is closed by its own event.
 fn is_close(event: &Option<Event>) -> bool
     ensures { result ≡ is_close (option_map event_view event.now) }
 {
@@ -189,16 +203,20 @@ fn is_close(event: &Option<Event>) -> bool
     }
 }
 
-/// Whether the instance is closed after the event.
+// Whether the instance is closed after the event.
 fn is_closed_after(instance: &Instance, event: &Option<Event>) -> bool
-    ensures { result ≡ ((instance_view instance.now).closed || is_close (option_map event_view event.now)) }
+    ensures { result
+        ≡ ((instance_view instance.now).closed || is_close (option_map event_view event.now)) }
 {
     instance.closed || is_close(event)
 }
 
+// The text is made before the event is applied, so that a reply is there whole before anything is kept.
 fn status_after(host: &Host, event: &Option<Event>, id: u32, you: u8) -> Result<ReplyBytes, TooLong>
     requires { Tells host.now.content (option_map event_view event.now) (Reply.Status id you) }
-    ensures { IsTextAt (of_reply (applied host.now.content (option_map event_view event.now)) (Reply.Status id you)) result }
+    ensures { IsTextAt
+        (of_reply (with_event host.now.content (option_map event_view event.now))
+        (Reply.Status id you)) result }
 {
     let Some(instance) = instance_at(host, id) else {
         unreachable!();
@@ -207,9 +225,12 @@ fn status_after(host: &Host, event: &Option<Event>, id: u32, you: u8) -> Result<
     status_text(id, you, instance, closed)
 }
 
+// A member's own bid is as it was before the event, since only a close can come with it.
 fn own_after(host: &Host, event: &Option<Event>, id: u32, member: u8) -> Result<ReplyBytes, TooLong>
     requires { Tells host.now.content (option_map event_view event.now) (Reply.Own id member) }
-    ensures { IsTextAt (of_reply (applied host.now.content (option_map event_view event.now)) (Reply.Own id member)) result }
+    ensures { IsTextAt
+        (of_reply (with_event host.now.content (option_map event_view event.now))
+        (Reply.Own id member)) result }
 {
     let Some(instance) = instance_at(host, id) else {
         unreachable!();
@@ -217,11 +238,12 @@ fn own_after(host: &Host, event: &Option<Event>, id: u32, member: u8) -> Result<
     own_text(instance, member)
 }
 
-/// The text of a reply over the host after the event.
+// The text of a reply over the host after the event.
 fn text_after(host: &Host, event: &Option<Event>, reply: Reply) -> Result<ReplyBytes, TooLong>
     requires tells { Tells host.now.content (option_map event_view event.now) reply }
     requires reply { is_publication reply ≡ false }
-    ensures { IsTextAt (of_reply (applied host.now.content (option_map event_view event.now)) reply) result }
+    ensures { IsTextAt
+        (of_reply (with_event host.now.content (option_map event_view event.now)) reply) result }
 {
     match reply {
         Reply::Created { id } => created_after(host, event, id),
@@ -242,7 +264,8 @@ fn text_after(host: &Host, event: &Option<Event>, reply: Reply) -> Result<ReplyB
 pub fn reply_bytes(host: &Host, answered: &Answered) -> ReplyBytes
     requires answered { IsAnswered host.now.content (answer_view answered.now) }
     requires reply { is_publication answered.now.reply ≡ false }
-    ensures text { text_of (applied host.now.content (answer_view answered.now).event) answered.now.reply ≡ Some result.items }
+    ensures text { text_of (with_event host.now.content (answer_view answered.now).event)
+        answered.now.reply ≡ Some result.items }
     ensures sealed { IsSealedText host.now.content (answer_view answered.now) result.items }
 {
     text_sealing_law();
@@ -258,8 +281,11 @@ pub fn reply_bytes(host: &Host, answered: &Answered) -> ReplyBytes
 pub fn reply_text(alloc: Global, host: &Host, answered: &Answered) -> Result<Vec<u8>, NoMemory>
     requires answered { IsAnswered host.now.content (answer_view answered.now) }
     requires reply { is_publication answered.now.reply ≡ false }
-    ensures text { IfOk result (λ text. text_of (applied host.now.content (answer_view answered.now).event) answered.now.reply ≡ Some text.items) }
-    ensures sealed { IfOk result (λ text. IsSealedText host.now.content (answer_view answered.now) text.items) }
+    ensures text { IfOk result (λ text.
+        text_of (with_event host.now.content (answer_view answered.now).event) answered.now.reply
+        ≡ Some text.items) }
+    ensures sealed { IfOk result (λ text.
+        IsSealedText host.now.content (answer_view answered.now) text.items) }
 {
     let bytes = reply_bytes(host, answered);
     match Vec::from_slice(alloc, bytes.as_slice()) {

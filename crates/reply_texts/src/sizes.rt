@@ -1,7 +1,7 @@
 // How long replies are.
 ghost use Rattle.std.specs.Prelude.{◌≡◌, ℕ, ◌≤◌, List, length, Some};
 ghost use Rattle.sealed_core.specs.Host.{AreCheckedInstances, HostView};
-ghost use Rattle.sealed_core.specs.Sealed.{applied};
+ghost use Rattle.sealed_core.specs.Sealed.{with_event};
 ghost use Rattle.sealed_core.specs.Step.{Answer};
 ghost use Rattle.reply_texts.specs.Replies.{text_of};
 ghost use Rattle.reply_texts.specs.Telling.{IsAnswered};
@@ -14,7 +14,8 @@ pub const REPLY_MOST: usize = 4_096;
 
 /// No host answers a reply with a longer text. A publication has none here: its text is made of a division.
 pub fn reply_size_law()
-    ensures { (h : HostView) (a : Answer) (text : List ℕ) → AreCheckedInstances h.instances → IsAnswered h a → text_of (applied h a.event) a.reply ≡ Some text
+    ensures { (h : HostView) (a : Answer) (text : List ℕ) → AreCheckedInstances h.instances
+        → IsAnswered h a → text_of (with_event h a.event) a.reply ≡ Some text
         → length text ≤ REPLY_MOST }
 {
     key_law();

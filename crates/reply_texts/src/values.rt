@@ -9,7 +9,7 @@ use serde_json::Value;
 use split_frac::{Frac, text};
 use std::alloc::{AllocError, Global};
 
-/// The numbers of members, rooms or goods.
+// The numbers of members, rooms or goods.
 pub(crate) fn numbers(alloc: Global, numbers: &[u8]) -> Result<Value, AllocError>
     ensures { IfOk result (λ v. view v ≡ list_by of_number numbers.now) }
 {
@@ -20,7 +20,7 @@ pub(crate) fn numbers(alloc: Global, numbers: &[u8]) -> Result<Value, AllocError
     Ok(Value::Array(list))
 }
 
-/// Numbers of cents, which may be below 0.
+// Numbers of cents, which may be below 0.
 pub(crate) fn cents(alloc: Global, cents: &[i64]) -> Result<Value, AllocError>
     ensures { IfOk result (λ v. view v ≡ list_by of_cents cents.now) }
 {
@@ -31,7 +31,7 @@ pub(crate) fn cents(alloc: Global, cents: &[i64]) -> Result<Value, AllocError>
     Ok(Value::Array(list))
 }
 
-/// A fraction, as a text.
+// A fraction, as a text.
 pub(crate) fn fraction(alloc: Global, fraction: &Frac) -> Result<Value, AllocError>
     ensures { IfOk result (λ v. view v ≡ of_frac fraction.now) }
 {
@@ -41,6 +41,7 @@ pub(crate) fn fraction(alloc: Global, fraction: &Frac) -> Result<Value, AllocErr
     }
 }
 
+// Exact amounts are texts, since a JSON number would lose digits.
 pub(crate) fn fractions(alloc: Global, fractions: &[Frac]) -> Result<Value, AllocError>
     ensures { IfOk result (λ v. view v ≡ list_by of_frac fractions.now) }
 {
@@ -51,7 +52,7 @@ pub(crate) fn fractions(alloc: Global, fractions: &[Frac]) -> Result<Value, Allo
     Ok(Value::Array(list))
 }
 
-/// The text of a value without floats, as `serde_json` writes it.
+// The text of a value without floats, as `serde_json` writes it.
 pub(crate) fn written(alloc: Global, value: &Value) -> Result<Vec<u8>, AllocError>
     requires { has_float (view value.now) ≡ false }
     ensures { IfOk result (λ text. text.items ≡ compact_text (view value.now)) }

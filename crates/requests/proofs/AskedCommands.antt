@@ -2,8 +2,8 @@
 use Rattle.std.proofs.Common.{◌≡◌, Result, Ok, Err, refl}
 use Rattle.std.specs.Result.{result_map_both}
 use Rattle.std.specs.Prelude.{IfOk}
-use Rattle.case_fields.specs.declared.creations.Creation.{Creation}
-use Rattle.case_fields.specs.declared.fields.BodyFault.{BodyFault}
+use Rattle.body_fields.specs.declared.creations.Creation.{Creation}
+use Rattle.body_fields.specs.declared.fields.BodyFault.{BodyFault}
 use Rattle.sealed_core.specs.Host.{IsCheckedCreation, creation_view}
 use Rattle.sealed_core.specs.Step.{Create, IsCheckedCommand, creation_seen}
 

@@ -10,7 +10,7 @@ use Rattle.sealed_core.specs.declared.commands.What.{What}
 use Rattle.sealed_core.specs.declared.replies.Reply.{Reply}
 use Rattle.sealed_core.specs.declared.replies.Reply.TheVariants as reply
 use Rattle.sealed_core.specs.Host.{Closed, EventView, HostView, InstanceView, apply, as_closed, instance_at}
-use Rattle.sealed_core.specs.Sealed.{IsLateClose, applied}
+use Rattle.sealed_core.specs.Sealed.{IsLateClose, with_event}
 use Rattle.sealed_core.specs.Step.{Answer, CommandView, To, step}
 use Rattle.requests.specs.Replies.{Shows}
 
@@ -27,20 +27,20 @@ if_ok (Err e) P Q f p = p
 module _ (h : HostView) (closing : (now id : ℕ) (i : InstanceView) → instance_at h id ≡ Some i → instance_at (apply h (Closed now id)) id ≡ Some (as_closed i)) where
   -- the event is none, or closes the instance, of whose case that changes nothing
   shows_after : (t id : ℕ) (key : List ℕ) (asked : What) (i : InstanceView) (told : ContentView) (e : Option EventView) → instance_at h id ≡ Some i → IsPublication (case_data i) asked told
-      → IsLateClose h t (To id (Some key) (asks.Publish asked)) e → Shows (applied h e) (reply.Publish id asked) told
-  shows_after t id key asked i told e there is (inl none) = subst (λ (x : Option EventView). Shows (applied h x) (reply.Publish id asked) told) (sym none) (Shows.published id asked i refl there is)
-  shows_after t id key asked i told e there is (inr (close, over)) = subst (λ (x : Option EventView). Shows (applied h x) (reply.Publish id asked) told) (sym close)
+      → IsLateClose h t (To id (Some key) (asks.Publish asked)) e → Shows (with_event h e) (reply.Publish id asked) told
+  shows_after t id key asked i told e there is (inl none) = subst (λ (x : Option EventView). Shows (with_event h x) (reply.Publish id asked) told) (sym none) (Shows.published id asked i refl there is)
+  shows_after t id key asked i told e there is (inr (close, over)) = subst (λ (x : Option EventView). Shows (with_event h x) (reply.Publish id asked) told) (sym close)
       (Shows.published id asked (as_closed i) refl (closing (max t h.moment) id i there) is)
 
   pub shows_published : (asked_for : (t id : ℕ) (command : CommandView) (what : What) → (step h t command).reply ≡ reply.Publish id what → (key : List ℕ) × (command ≡ To id (Some key) (asks.Publish what)))
       → (late : (t id : ℕ) (command : CommandView) (what : What) → (step h t command).reply ≡ reply.Publish id what → IsLateClose h t command (step h t command).event)
       → (a : Answer) → IsAnswered h a → (id : ℕ) (asked : What) → a.reply ≡ reply.Publish id asked → (i : InstanceView) → instance_at h id ≡ Some i
-      → (told : ContentView) → IsPublication (case_data i) asked told → Shows (applied h a.event) a.reply told
+      → (told : ContentView) → IsPublication (case_data i) asked told → Shows (with_event h a.event) a.reply told
   shows_published asked_for late a (t, command, right, is) id asked publishes i there told tells =
       let step_publishes : (step h t command).reply ≡ reply.Publish id asked = ap (λ (x : Answer). x.reply) (sym is) ∙ publishes in
       let (key, command_is) = asked_for t id command asked step_publishes in
       let close : IsLateClose h t command a.event = subst (λ (x : Answer). IsLateClose h t command x.event) (sym is) (late t id command asked step_publishes) in
-      subst (λ (r : Reply). Shows (applied h a.event) r told) (sym publishes)
+      subst (λ (r : Reply). Shows (with_event h a.event) r told) (sym publishes)
       (shows_after t id key asked i told a.event there tells (subst (λ (x : CommandView). IsLateClose h t x a.event) command_is close))
 
 -- the instance of a publication is there

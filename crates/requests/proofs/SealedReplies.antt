@@ -12,7 +12,7 @@ use Rattle.sealed_core.specs.Step.{CommandView, To, step}
 use Rattle.reply_texts.specs.Replies.{status_of}
 use Rattle.reply_texts.specs.Sealing.{Told, told}
 use Rattle.requests.specs.Replies.{Replies, Shows}
-use Rattle.requests.specs.Sent.{sent}
+use Rattle.requests.specs.Sent.{status_and_text}
 
 -- what is told by a reply with this text
 abbrev told_with : Reply → Option (List ℕ) → Told
@@ -26,9 +26,9 @@ module _ (h : HostView)
     same_instance id other key shown ask what e = cc
 
     pub sent_told : (t id : ℕ) (key : Option (List ℕ)) (ask : Ask) (content : ContentView) → is_closed (host_after h t (To id key ask)) id ≡ false
-        → Replies h t (To id key ask) content → sent content ≡ told h t (To id key ask)
+        → Replies h t (To id key ask) content → status_and_text content ≡ told h t (To id key ask)
     sent_told t id key ask content open_ (Shows.own bytes text is) =
-        ap sent is ∙ ap (told_with (step h t (To id key ask)).reply) (sym text)
+        ap status_and_text is ∙ ap (told_with (step h t (To id key ask)).reply) (sym text)
     sent_told t id key ask content open_ (Shows.published other what i publishes there tells) =
         let (shown, command_is) = asked_for t other (To id key ask) what publishes in
         let shut : is_closed (host_after h t (To id key ask)) id ≡ true = subst (λ x. is_closed (host_after h t (To id key ask)) x ≡ true) (same_instance id other key shown ask what command_is) (closed t other (To id key ask) what publishes) in

@@ -9,7 +9,7 @@ use Rattle.host_results.specs.Contents.{ContentView}
 use Rattle.reply_texts.specs.declared.refusals.ServiceRefusal.TheVariants as service
 use Rattle.sealed_core.specs.declared.replies.Reply.{Reply}
 use Rattle.sealed_core.specs.Host.{CanApply, EventView, HostView}
-use Rattle.sealed_core.specs.Sealed.{applied}
+use Rattle.sealed_core.specs.Sealed.{with_event}
 use Rattle.sealed_core.specs.Step.{Answer, CommandView, step}
 use Rattle.requests.specs.Cases.{Steps}
 use Rattle.requests.specs.Keeping.{FaultSays, KeepsSaid}
@@ -44,9 +44,9 @@ module _ (h : HostView) (s : State) (is_host : h ≡ host_in s) (moment : ℕ) (
   same_answer = is ∙ ap (λ (x : HostView). step x moment command) is_host
 
   -- the reply of the step is the one that was made
-  pub replied : (told : ContentView) → Shows (applied h answered.event) answered.reply told → Replies (host_in s) moment command told
+  pub replied : (told : ContentView) → Shows (with_event h answered.event) answered.reply told → Replies (host_in s) moment command told
   replied told shows =
-      subst (λ (x : HostView). Replies x moment command told) is_host (subst (λ (a : Answer). Shows (applied h a.event) a.reply told) is shows)
+      subst (λ (x : HostView). Replies x moment command told) is_host (subst (λ (a : Answer). Shows (with_event h a.event) a.reply told) is shows)
 
   pub reply_is : (reply : Reply) → answered.reply ≡ reply → (step (host_in s) moment command).reply ≡ reply
   reply_is reply was = ap (λ (a : Answer). a.reply) (sym same_answer) ∙ was

@@ -23,7 +23,7 @@ pub data KeepsSaid {D : Type 0} (d : Ghosts D) (disk after : D) (event : EventVi
       → new ≡ ready_with s.secret (s.kept ++ event ∷ []) → said ≡ due → KeepsSaid d disk after event due s new said
   failed : d.faults after ≡ counted (d.faults disk) → new ≡ waits_with s event → said ≡ refused_said service.StoreFault → KeepsSaid d disk after event due s new said
 
--- what is said where the journal has failed
+-- what is said once the journal has failed
 abbrev pub FaultSays : LogFault → SaidView → Type 0
 FaultSays fault.Disk said = said ≡ refused_said service.StoreFault
 FaultSays (fault.NotALog place) said = said ≡ refused_said (service.StoreDamaged place)
@@ -33,7 +33,7 @@ FaultSays fault.NoMemory said = said ≡ memory_said
 abbrev pub SaysShown : HostView → Reply → SaidView → Type 0
 SaysShown h r said = (told : ContentView) × Shows h r told × (said ≡ content_said told)
 
--- what is said where a request leads nowhere
+-- what is said if a request leads nowhere
 abbrev pub unrouted_said : RouteFault → SaidView
 unrouted_said NoRoute = refused_said service.NoRoute
 unrouted_said (Method allow) = method_said allow

@@ -17,7 +17,8 @@ pub fn command_of(
     key: Option<Key>,
     body: &[u8],
 ) -> Result<Command, NoMemory>
-    ensures command { IfOk result (λ c. command_view c ≡ command_of route.place route.id key body.now) }
+    ensures command { IfOk result (λ c.
+        command_view c ≡ command_of route.place route.id key body.now) }
     ensures memory { OnErr result (reads_body route.place ≡ true) }
     ensures checked { IfOk result (λ c. IsCheckedCommand (command_view c)) }
 {
@@ -46,6 +47,7 @@ pub fn command_of(
     }
 }
 
+// The command that asks for what is published of an instance.
 fn published(id: u32, key: Option<Key>, what: What) -> Command
     ensures { result ≡ Command.Publish id key what }
 {

@@ -3,7 +3,7 @@ ghost use Rattle.std.specs.Prelude.{◌≡◌, ℕ, List, Option, false};
 ghost use Rattle.host_results.specs.Contents.{ContentView};
 ghost use Rattle.reply_texts.specs.Sealing.{sealed_told};
 ghost use Rattle.requests.specs.Replies.{Replies};
-ghost use Rattle.requests.specs.Sent.{sent};
+ghost use Rattle.requests.specs.Sent.{status_and_text};
 ghost use Rattle.sealed_core.specs.Host.{HostView};
 ghost use Rattle.sealed_core.specs.Sealed.{caller_number, host_after, is_closed, view};
 ghost use Rattle.sealed_core.specs.Step.{To};
@@ -16,10 +16,15 @@ use sealed_core::{publication_law, sealing_law};
 /// from what the caller may know of it, the command and the moment. So at two hosts one command from callers with equal views gets one
 /// status and one text.
 pub fn sent_sealing_law()
-    ensures from_view { (h : HostView) (t id : ℕ) (key : Option (List ℕ)) (ask : Ask) (told : ContentView) → is_closed (host_after h t (To id key ask)) id ≡ false
-        → Replies h t (To id key ask) told → sent told ≡ sealed_told (view h id (caller_number h id key)) t id key ask }
-    ensures one_step { (g h : HostView) (t id : ℕ) (key : Option (List ℕ)) (ask : Ask) (told other : ContentView) → view g id (caller_number g id key) ≡ view h id (caller_number h id key)
-        → is_closed (host_after g t (To id key ask)) id ≡ false → Replies g t (To id key ask) told → Replies h t (To id key ask) other → sent told ≡ sent other }
+    ensures from_view { (h : HostView) (t id : ℕ) (key : Option (List ℕ)) (ask : Ask)
+        (told : ContentView) → is_closed (host_after h t (To id key ask)) id ≡ false
+        → Replies h t (To id key ask) told
+        → status_and_text told ≡ sealed_told (view h id (caller_number h id key)) t id key ask }
+    ensures one_step { (g h : HostView) (t id : ℕ) (key : Option (List ℕ)) (ask : Ask)
+        (told other : ContentView)
+        → view g id (caller_number g id key) ≡ view h id (caller_number h id key)
+        → is_closed (host_after g t (To id key ask)) id ≡ false → Replies g t (To id key ask) told
+        → Replies h t (To id key ask) other → status_and_text told ≡ status_and_text other }
 {
     publication_law();
     sealing_law();

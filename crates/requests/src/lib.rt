@@ -16,8 +16,10 @@ mod said;
 mod settling;
 mod stepping;
 mod telling;
+mod tools;
 
 pub use commands::command_of;
 pub use laws::sent_sealing_law;
 pub use responding::respond;
 pub use said::{ReplyText, Said};
+pub use tools::Tools;

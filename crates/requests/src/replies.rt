@@ -1,9 +1,8 @@
 // What the reply of the host tells.
-ghost use Rattle.std.specs.Prelude.{◌≡◌, ℕ, ◌≤◌, IfOk, OnErr, false};
+ghost use Rattle.std.specs.Prelude.{◌≡◌, ℕ, IfOk, OnErr, false};
 ghost use Rattle.reply_texts.specs.Telling.{IsAnswered, is_publication};
-ghost use Rattle.search_workers.specs.declared.limits.TheConstants.{MOST_WORKERS};
 ghost use Rattle.sealed_core.specs.declared.commands.What.{What};
-ghost use Rattle.sealed_core.specs.Sealed.{applied};
+ghost use Rattle.sealed_core.specs.Sealed.{with_event};
 ghost use Rattle.sealed_core.specs.Step.{answer_view};
 ghost use Rattle.requests.specs.Keeping.{SaysShown};
 ghost use Rattle.requests.specs.Said.{said_view};
@@ -13,25 +12,22 @@ use host_results::{publication, publication_status_law};
 use reply_texts::{refusal_status_law, reply_bytes, reply_status};
 use sealed_core::{Answered, Host, Reply, instance_at, machine_law, publication_law};
 use split_base::{Gate, NoMemory};
-use split_solve::KeptSearches;
-use std::alloc::Global;
+use split_solve::Solver;
 use std::thread::Threads;
 
-/// What is said of the host's answer, with all of its text: over the host after the event, which isn't applied. `NoMemory` comes only where
-/// memory runs out, and only of a publication.
+// What is said of the host's answer, with all of its text: over the host after the event, which isn't applied. `NoMemory` comes only where
+// memory runs out, and only of a publication.
 pub(crate) fn content<R: Threads + Sync, G: Gate + Sync>(
-    alloc: Global,
-    rt: &R,
+    solver: &mut Solver<'_, R, G>,
     host: &Host,
     answered: &Answered,
-    searches: &mut KeptSearches,
-    workers: u8,
-    gate: &G,
 ) -> Result<Said, NoMemory>
     requires answered { IsAnswered host.now.content (answer_view answered.now) }
-    requires workers { (1 ≤ workers) × (workers ≤ MOST_WORKERS) }
-    ensures shown { IfOk result (λ said. SaysShown (applied host.now.content (answer_view answered.now).event) answered.now.reply (said_view said)) }
-    ensures memory { OnErr result ((id : ℕ) × (asked : What) × (answered.now.reply ≡ Reply.Publish id asked)) }
+    ensures shown { IfOk result (λ said.
+        SaysShown (with_event host.now.content (answer_view answered.now).event) answered.now.reply
+        (said_view said)) }
+    ensures memory { OnErr result
+        ((id : ℕ) × (asked : What) × (answered.now.reply ≡ Reply.Publish id asked)) }
 {
     machine_law();
     publication_law();
@@ -42,18 +38,19 @@ pub(crate) fn content<R: Threads + Sync, G: Gate + Sync>(
             let Some(instance) = instance_at(host, id) else {
                 unreachable!();
             };
-            let told = publication(alloc, rt, instance, what, searches, workers, gate)?;
+            let told = publication(solver, instance, what)?;
             Ok(Said::told(told))
         }
         _ => Ok(own_content(host, answered)),
     }
 }
 
-/// What is said in a reply that is no publication. It takes no memory.
+// What is said in a reply that is no publication. It takes no memory.
 fn own_content(host: &Host, answered: &Answered) -> Said
     requires answered { IsAnswered host.now.content (answer_view answered.now) }
     requires reply { is_publication answered.now.reply ≡ false }
-    ensures { SaysShown (applied host.now.content (answer_view answered.now).event) answered.now.reply (said_view result) }
+    ensures { SaysShown (with_event host.now.content (answer_view answered.now).event)
+        answered.now.reply (said_view result) }
 {
     refusal_status_law();
     let status = reply_status(&answered.reply);

@@ -1,8 +1,7 @@
 // A request that was read whole.
 ghost use Rattle.std.specs.Prelude.{◌≡◌, ◌≤◌, ◌↔◌};
-ghost use Rattle.host_journal.specs.Calls.{Leads};
+ghost use Rattle.host_journal.specs.Calls.{ReachesState};
 ghost use Rattle.host_journal.specs.States.{HasState, State};
-ghost use Rattle.search_workers.specs.declared.limits.TheConstants.{MOST_WORKERS};
 ghost use Rattle.requests.specs.Cases.{Responds};
 ghost use Rattle.sealed_core.specs.Step.{IsCheckedCommand, command_view};
 ghost use Rattle.split_http.specs.Places.{IsRouted};
@@ -13,69 +12,61 @@ use crate::commands::command_of;
 use crate::said::Said;
 use crate::settling::settle;
 use crate::stepping::step;
+use crate::tools::Tools;
 use host_journal::{Serving, passing_law};
 use reply_texts::ServiceRefusal;
 use sealed_core::Command;
 use split_base::{Disk, Gate, NoMemory};
 use split_http::{Head, Route, RouteFault, Routes};
-use split_solve::KeptSearches;
-use std::alloc::Global;
+use split_solve::Solver;
 use std::thread::Threads;
 
 /// What is said to a request that was read whole, at a moment.
 ///
 /// - A path that no route has and a method that the route does not have are refused, and nothing changes.
-/// - Then its body is read. That memory ran out may be said of a creation, a bid or a withdrawal, before the host is looked at.
-/// - Then a host that waits opens its file again. Where that fails the request ends with it, and the host waits on.
+/// - Then its body is read. For a creation, a bid or a withdrawal the reply may be that memory ran out, before the host is looked at.
+/// - Then a host that waits opens its file again. If that fails, the request ends with it, and the host waits on.
 /// - Then the command is answered: its reply is made, with all of its text; its event is kept; and then the reply is said. Only a publication
 ///   takes memory.
 ///
 /// A store fault is said only where a call of the disk failed in this request, which is counted once and not tried again. That the file is no
 /// journal is said with the place of its first fault, wherever the disk tells its bytes, and never on an honest disk. That memory ran out is said
 /// with no event of the request. On an honest disk a crash at any moment leaves the events kept before, with or without the
-/// one of the request. The kept searches do not change what is said.
-#[allow(clippy::too_many_arguments)]
+/// one of the request. Neither the workers nor the kept searches change what is said.
 pub fn respond<D: Disk, R: Threads + Sync, G: Gate + Sync>(
-    alloc: Global,
-    rt: &R,
+    tools: &mut Tools<'_, R, G>,
     serving: &mut Serving,
     disk: &mut D,
-    routes: &Routes,
     head: &Head,
     body: &[u8],
     moment: u64,
-    searches: &mut KeptSearches,
-    workers: u8,
-    gate: &G,
 ) -> Said
-    requires { (1 ≤ workers) × (workers ≤ MOST_WORKERS) }
     ensures responds { (s : State) → HasState D.Disk serving.old disk.old s
-        → Leads D.Disk serving.new disk.old disk.new s (λ new. Responds D.Disk disk.old disk.new head.now body.now moment s new (said_view result)) }
+        → ReachesState D.Disk serving.new disk.old disk.new s (λ new.
+        Responds D.Disk disk.old disk.new head.now body.now moment s new (said_view result)) }
 
     // Whatever state the serving is in.
     ensures count { D.faults disk.old ≤ D.faults disk.new }
     ensures honest { D.is_honest disk.old ↔ D.is_honest disk.new }
 {
     passing_law::<D>();
-    match route_of(routes, head) {
+    match route_of(tools.routes, head) {
         Err(fault) => unrouted(fault),
-        Ok(route) => match command_of(alloc, route, head.key, body) {
+        Ok(route) => match command_of(tools.solver.means.alloc, route, head.key, body) {
             Err(NoMemory) => Said::out_of_memory(),
-            Ok(command) => perform(
-                alloc, rt, serving, disk, moment, command, searches, workers, gate,
-            ),
+            Ok(command) => perform(&mut tools.solver, serving, disk, moment, command),
         },
     }
 }
 
-/// Where a request leads.
+// Where a request leads.
 fn route_of(routes: &Routes, head: &Head) -> Result<Route, RouteFault>
     ensures { IsRouted head.now.verb head.now.path result }
 {
     routes.find(head.verb, head.path.as_ref())
 }
 
-/// What is said where a request leads nowhere.
+// What is said where a request leads nowhere.
 fn unrouted(fault: RouteFault) -> Said
     ensures { said_view result ≡ unrouted_said fault }
 {
@@ -85,31 +76,24 @@ fn unrouted(fault: RouteFault) -> Said
     }
 }
 
-/// What is said to a command: where the host waits its file is opened first.
-#[allow(clippy::too_many_arguments)]
+// What is said to a command: where the host waits its file is opened first.
 fn perform<D: Disk, R: Threads + Sync, G: Gate + Sync>(
-    alloc: Global,
-    rt: &R,
+    solver: &mut Solver<'_, R, G>,
     serving: &mut Serving,
     disk: &mut D,
     moment: u64,
     command: Command,
-    searches: &mut KeptSearches,
-    workers: u8,
-    gate: &G,
 ) -> Said
     requires command { IsCheckedCommand (command_view command) }
-    requires workers { (1 ≤ workers) × (workers ≤ MOST_WORKERS) }
     ensures performed { (s : State) → HasState D.Disk serving.old disk.old s
-        → Leads D.Disk serving.new disk.old disk.new s (λ new. Performs D.Disk disk.old disk.new moment (command_view command) s new (said_view result)) }
+        → ReachesState D.Disk serving.new disk.old disk.new s (λ new.
+        Performs D.Disk disk.old disk.new moment (command_view command) s new (said_view result)) }
     ensures count { D.faults disk.old ≤ D.faults disk.new }
     ensures honest { D.is_honest disk.old ↔ D.is_honest disk.new }
 {
     passing_law::<D>();
     match settle(serving, disk) {
         Some(said) => said,
-        None => step(
-            alloc, rt, serving, disk, moment, command, searches, workers, gate,
-        ),
+        None => step(solver, serving, disk, moment, command),
     }
 }

@@ -1,6 +1,6 @@
 // A host that waits opens its file again.
 ghost use Rattle.std.specs.Prelude.{◌≡◌, ◌≤◌, ◌↔◌, None, IsSome, option_map};
-ghost use Rattle.host_journal.specs.Calls.{Leads};
+ghost use Rattle.host_journal.specs.Calls.{ReachesState};
 ghost use Rattle.host_journal.specs.States.{HasState, State};
 ghost use Rattle.requests.specs.Cases.{Settles};
 ghost use Rattle.requests.specs.Said.{said_view};
@@ -10,10 +10,11 @@ use crate::telling::failure;
 use host_journal::{Serving, passing_law, reopen};
 use split_base::Disk;
 
-/// Opens the file again where the host waits, in memory that was taken at the start. Where it answers `None` the request goes on, and the host is ready.
+// Opens the file again where the host waits, in memory that was taken at the start. Where it answers `None` the request goes on, and the host is ready.
 pub(crate) fn settle<D: Disk>(serving: &mut Serving, disk: &mut D) -> Option<Said>
     ensures settled { (s : State) → HasState D.Disk serving.old disk.old s
-        → Leads D.Disk serving.new disk.old disk.new s (λ new. Settles D.Disk disk.old disk.new s new (option_map said_view result)) }
+        → ReachesState D.Disk serving.new disk.old disk.new s (λ new.
+        Settles D.Disk disk.old disk.new s new (option_map said_view result)) }
     ensures ready { result ≡ None → serving.new.waiting ≡ None }
     ensures count { D.faults disk.old ≤ D.faults disk.new }
     ensures honest { D.is_honest disk.old ↔ D.is_honest disk.new }
@@ -25,11 +26,12 @@ pub(crate) fn settle<D: Disk>(serving: &mut Serving, disk: &mut D) -> Option<Sai
     }
 }
 
-/// Opens the file of a host that waits.
+// Opens the file of a host that waits.
 fn open_again<D: Disk>(serving: &mut Serving, disk: &mut D) -> Option<Said>
     requires { IsSome serving.old.waiting }
     ensures settled { (s : State) → HasState D.Disk serving.old disk.old s
-        → Leads D.Disk serving.new disk.old disk.new s (λ new. Settles D.Disk disk.old disk.new s new (option_map said_view result)) }
+        → ReachesState D.Disk serving.new disk.old disk.new s (λ new.
+        Settles D.Disk disk.old disk.new s new (option_map said_view result)) }
     ensures ready { result ≡ None → serving.new.waiting ≡ None }
     ensures count { D.faults disk.old ≤ D.faults disk.new }
     ensures honest { D.is_honest disk.old ↔ D.is_honest disk.new }

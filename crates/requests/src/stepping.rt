@@ -1,8 +1,7 @@
 // One step on a host that is ready: its reply is made, and then its event is kept.
 ghost use Rattle.std.specs.Prelude.{◌≡◌, ◌≤◌, ◌↔◌, None};
-ghost use Rattle.host_journal.specs.Calls.{Leads};
+ghost use Rattle.host_journal.specs.Calls.{ReachesState};
 ghost use Rattle.host_journal.specs.States.{HasState, State};
-ghost use Rattle.search_workers.specs.declared.limits.TheConstants.{MOST_WORKERS};
 ghost use Rattle.sealed_core.specs.Host.{CanApply, event_view};
 ghost use Rattle.sealed_core.specs.Step.{IsCheckedCommand, command_view};
 ghost use Rattle.requests.specs.Cases.{Steps};
@@ -15,35 +14,29 @@ use crate::telling::failure;
 use host_journal::{Serving, keep, passing_law};
 use sealed_core::{Command, Event, answer};
 use split_base::{Disk, Gate, NoMemory};
-use split_solve::KeptSearches;
-use std::alloc::Global;
+use split_solve::Solver;
 use std::thread::Threads;
 
-/// What is said to a command at a moment: the reply, made whole before its event is kept, or that the disk failed. Only a publication takes
-/// memory.
-#[allow(clippy::too_many_arguments)]
+// What is said to a command at a moment: the reply, made whole before its event is kept, or that the disk failed. Only a publication takes
+// memory.
 pub(crate) fn step<D: Disk, R: Threads + Sync, G: Gate + Sync>(
-    alloc: Global,
-    rt: &R,
+    solver: &mut Solver<'_, R, G>,
     serving: &mut Serving,
     disk: &mut D,
     moment: u64,
     command: Command,
-    searches: &mut KeptSearches,
-    workers: u8,
-    gate: &G,
 ) -> Said
     requires ready { serving.old.waiting ≡ None }
     requires command { IsCheckedCommand (command_view command) }
-    requires workers { (1 ≤ workers) × (workers ≤ MOST_WORKERS) }
     ensures stepped { (s : State) → HasState D.Disk serving.old disk.old s
-        → Leads D.Disk serving.new disk.old disk.new s (λ new. Steps D.Disk disk.old disk.new moment (command_view command) s new (said_view result)) }
+        → ReachesState D.Disk serving.new disk.old disk.new s (λ new.
+        Steps D.Disk disk.old disk.new moment (command_view command) s new (said_view result)) }
     ensures count { D.faults disk.old ≤ D.faults disk.new }
     ensures honest { D.is_honest disk.old ↔ D.is_honest disk.new }
 {
     passing_law::<D>();
     let answered = answer(&serving.host, moment, command);
-    match content(alloc, rt, &serving.host, &answered, searches, workers, gate) {
+    match content(solver, &serving.host, &answered) {
         Err(NoMemory) => Said::out_of_memory(),
         Ok(said) => {
             let event = answered.event;
@@ -55,12 +48,14 @@ pub(crate) fn step<D: Disk, R: Threads + Sync, G: Gate + Sync>(
     }
 }
 
-/// Keeps an event, and says this then. It takes no memory.
+// Keeps an event, and says this then. It takes no memory.
 fn keep_first<D: Disk>(serving: &mut Serving, disk: &mut D, event: Event, due: Said) -> Said
     requires ready { serving.old.waiting ≡ None }
     requires can { CanApply serving.old.host.content (event_view event) }
     ensures kept { (s : State) → HasState D.Disk serving.old disk.old s
-        → Leads D.Disk serving.new disk.old disk.new s (λ new. KeepsSaid D.Disk disk.old disk.new (event_view event) (said_view due) s new (said_view result)) }
+        → ReachesState D.Disk serving.new disk.old disk.new s (λ new.
+        KeepsSaid D.Disk disk.old disk.new (event_view event) (said_view due) s new
+        (said_view result)) }
     ensures count { D.faults disk.old ≤ D.faults disk.new }
     ensures honest { D.is_honest disk.old ↔ D.is_honest disk.new }
 {

@@ -42,10 +42,11 @@ impl Said {
         }
     }
 
-    /// A reply that is no publication. It takes no memory.
+    // A reply that is no publication. It takes no memory.
     pub(crate) fn own(status: u16, text: ReplyBytes) -> Said
         requires { IsTrue (is_host_status status) }
-        ensures { said_view result ≡ content_said (record { status = status; content_type = Json; text = text.items }) }
+        ensures { said_view result
+            ≡ content_said (record { status = status; content_type = Json; text = text.items }) }
     {
         Said {
             status,
@@ -101,7 +102,7 @@ impl Said {
     }
 }
 
-/// What is said where the journal has failed. It takes no memory.
+// What is said where the journal has failed. It takes no memory.
 pub(crate) fn failure(fault: LogFault) -> Said
     ensures { FaultSays fault (said_view result) }
 {
@@ -112,7 +113,7 @@ pub(crate) fn failure(fault: LogFault) -> Said
     }
 }
 
-/// What is said where the file is no journal at this place.
+// What is said where the file is no journal at this place.
 fn damage(place: u64) -> Said
     ensures { FaultSays (LogFault.NotALog place) (said_view result) }
 {

@@ -12,7 +12,7 @@ use arrayvec::ArrayVec;
 use bid_rules::RentCase;
 use bid_rules::limits::{MEMBER_ROOM, MOST_MEMBERS, MOST_RENT};
 
-/// The power of a small base.
+// The power of a small base.
 fn power(base: u8, exponent: usize) -> u64
     requires low { 1 ≤ base }
     requires high { base ≤ MOST_MEMBERS }
@@ -27,7 +27,7 @@ fn power(base: u8, exponent: usize) -> u64
     power
 }
 
-/// A value times a power.
+// A value times a power.
 fn lifted(value: i128, by: u64) -> i128
     requires low { pos 0 ≤ℤ value }
     requires high { value ≤ℤ pos MOST_RENT }
@@ -39,7 +39,7 @@ fn lifted(value: i128, by: u64) -> i128
     by as i128 * value
 }
 
-/// A room's place times a power.
+// A room's place times a power.
 fn digit(room: usize, by: u64) -> i128
     requires room { room < MOST_MEMBERS }
     requires by { by ≤ MOST_MEMBERS ^ MOST_MEMBERS }
@@ -49,7 +49,7 @@ fn digit(room: usize, by: u64) -> i128
     i128::from(room as u64 * by)
 }
 
-/// What a member would pay for a room, both by place from 0.
+// What a member would pay for a room, both by place from 0.
 fn value_of(case: &RentCase, member: usize, room: usize) -> i128
     requires case { IsValidRentCase case.now }
     requires member { member < room_count case.now }
@@ -77,7 +77,7 @@ pub fn key_at(case: &RentCase, member: u8, room: u8) -> i128
     key_of(case, member as usize - 1, room as usize - 1)
 }
 
-/// The key of a member and a room, both by place from 0.
+// The key of a member and a room, both by place from 0.
 fn key_of(case: &RentCase, member: usize, room: usize) -> i128
     requires case { IsValidRentCase case.now }
     requires member { member < room_count case.now }
@@ -91,11 +91,12 @@ fn key_of(case: &RentCase, member: usize, room: usize) -> i128
         - digit(room, power(count, count as usize - 1 - member))
 }
 
-/// The keys of one member.
+// The keys of one member.
 fn key_row(case: &RentCase, member: usize) -> ArrayVec<i128, MEMBER_ROOM>
     requires case { IsValidRentCase case.now }
     requires member { member < room_count case.now }
-    ensures { IsRowOf (room_count case.now) MOST_KEY (λ j. key case.now member (j + 1)) result.items }
+    ensures { IsRowOf (room_count case.now) MOST_KEY (λ j. key case.now member (j + 1))
+        result.items }
 {
     let mut row = ArrayVec::new();
     for room in 0..case.facts.members as usize {
@@ -104,7 +105,7 @@ fn key_row(case: &RentCase, member: usize) -> ArrayVec<i128, MEMBER_ROOM>
     row
 }
 
-/// The keys of all members and rooms.
+// The keys of all members and rooms.
 pub(crate) fn keys_of(case: &RentCase) -> Matrix
     requires { IsValidRentCase case.now }
     ensures { HasEntries (room_count case.now) MOST_KEY (λ i j. key case.now i (j + 1)) result }
@@ -116,11 +117,12 @@ pub(crate) fn keys_of(case: &RentCase) -> Matrix
     keys
 }
 
-/// The values of one member.
+// The values of one member.
 fn value_row(case: &RentCase, member: usize) -> ArrayVec<i128, MEMBER_ROOM>
     requires case { IsValidRentCase case.now }
     requires member { member < room_count case.now }
-    ensures { IsRowOf (room_count case.now) MOST_KEY (λ j. value case.now member (j + 1)) result.items }
+    ensures { IsRowOf (room_count case.now) MOST_KEY (λ j. value case.now member (j + 1))
+        result.items }
 {
     let mut row = ArrayVec::new();
     for room in 0..case.facts.members as usize {
@@ -129,7 +131,7 @@ fn value_row(case: &RentCase, member: usize) -> ArrayVec<i128, MEMBER_ROOM>
     row
 }
 
-/// The values of all members and rooms.
+// The values of all members and rooms.
 pub(crate) fn values_of(case: &RentCase) -> Matrix
     requires { IsValidRentCase case.now }
     ensures { HasEntries (room_count case.now) MOST_KEY (λ i j. value case.now i (j + 1)) result }
@@ -141,13 +143,16 @@ pub(crate) fn values_of(case: &RentCase) -> Matrix
     values
 }
 
-/// The weights of the steps from one member.
+// The weights of the steps from one member.
 fn step_row(weights: &Matrix, rooms: &[u8], from: usize) -> ArrayVec<i128, MEMBER_ROOM>
     requires weights { AreKeys weights.now }
     requires count { length rooms.now ≡ length weights.now.items }
     requires rooms { All (λ room. room < length weights.now.items) rooms.now }
     requires from { from < length weights.now.items }
-    ensures { IsRowOf (length weights.now.items) MOST_STEP (λ to. entry weights.now to (slice_index rooms.now from) -ℤ entry weights.now from (slice_index rooms.now from)) result.items }
+    ensures { IsRowOf (length weights.now.items) MOST_STEP
+        (λ to.
+        entry weights.now to (slice_index rooms.now from)
+        -ℤ entry weights.now from (slice_index rooms.now from)) result.items }
 {
     let room = usize::from(rooms[from]);
     let mut row = ArrayVec::new();
@@ -157,7 +162,7 @@ fn step_row(weights: &Matrix, rooms: &[u8], from: usize) -> ArrayVec<i128, MEMBE
     row
 }
 
-/// How much more one member's weight of a room is than another's.
+// How much more one member's weight of a room is than another's.
 fn one_step(weights: &Matrix, from: usize, to: usize, room: usize) -> i128
     requires weights { AreKeys weights.now }
     requires from { from < length weights.now.items }
@@ -169,12 +174,15 @@ fn one_step(weights: &Matrix, from: usize, to: usize, room: usize) -> i128
     step(weights, to, room) - step(weights, from, room)
 }
 
-/// The weights of the steps between members: how much more the other's weight of the first one's room is than the first one's own.
+// The weights of the steps between members: how much more the other's weight of the first one's room is than the first one's own.
 pub(crate) fn walk_matrix(weights: &Matrix, rooms: &[u8]) -> Matrix
     requires weights { AreKeys weights.now }
     requires count { length rooms.now ≡ length weights.now.items }
     requires rooms { All (λ room. room < length weights.now.items) rooms.now }
-    ensures { HasEntries (length weights.now.items) MOST_STEP (λ from to. entry weights.now to (slice_index rooms.now from) -ℤ entry weights.now from (slice_index rooms.now from)) result }
+    ensures { HasEntries (length weights.now.items) MOST_STEP
+        (λ from to.
+        entry weights.now to (slice_index rooms.now from)
+        -ℤ entry weights.now from (slice_index rooms.now from)) result }
 {
     let mut steps = ArrayVec::new();
     for from in 0..weights.len() {

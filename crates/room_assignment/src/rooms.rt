@@ -29,7 +29,7 @@ pub struct Rooms {
     pub right: ArrayVec<i128, MEMBER_ROOM>,
 }
 
-/// The rooms counted from 1.
+// The rooms counted from 1.
 fn numbered(rooms: &[u8]) -> ArrayVec<u8, MEMBER_ROOM>
     requires few { length rooms.now ≤ MEMBER_ROOM }
     requires small { All (λ room. room < MEMBER_ROOM) rooms.now }
@@ -42,7 +42,7 @@ fn numbered(rooms: &[u8]) -> ArrayVec<u8, MEMBER_ROOM>
     numbered
 }
 
-/// The dual number of a room.
+// The dual number of a room.
 fn right_of(keys: &Matrix, rooms: &[u8], left: &[i128], room: usize) -> i128
     requires keys { AreKeys keys.now }
     requires rooms { IsPermutation (range_with_len 0 (length keys.now.items)) rooms.now }
@@ -56,7 +56,7 @@ fn right_of(keys: &Matrix, rooms: &[u8], left: &[i128], room: usize) -> i128
     step(keys, member, room) - left[member]
 }
 
-/// The dual numbers of the rooms.
+// The dual numbers of the rooms.
 fn rights(keys: &Matrix, rooms: &[u8], left: &[i128]) -> ArrayVec<i128, MEMBER_ROOM>
     requires keys { AreKeys keys.now }
     requires rooms { IsPermutation (range_with_len 0 (length keys.now.items)) rooms.now }
@@ -64,7 +64,9 @@ fn rights(keys: &Matrix, rooms: &[u8], left: &[i128]) -> ArrayVec<i128, MEMBER_R
     requires lefts { length left.now ≡ length keys.now.items }
     requires small { All (λ weight. unsigned_abs weight ≤ MOST_MEMBERS * MOST_STEP) left.now }
     ensures count { length result.items ≡ length keys.now.items }
-    ensures each { (j : ℕ) → j < length keys.now.items → IsRight (length keys.now.items) (entry keys.now) rooms.now left.now j (numbers result.items j) }
+    ensures each { (j : ℕ) → j < length keys.now.items
+        → IsRight (length keys.now.items) (entry keys.now) rooms.now left.now j
+        (numbers result.items j) }
 {
     let mut rights = ArrayVec::new();
     for room in 0..keys.len() {
@@ -80,10 +82,12 @@ fn rights(keys: &Matrix, rooms: &[u8], left: &[i128]) -> ArrayVec<i128, MEMBER_R
 pub fn best_rooms(case: &RentCase) -> Rooms
     requires { IsValidRentCase case.now }
     ensures rooms { HasGreatestKeySum case.now result.rooms.items }
-    ensures only { (others : List ℕ) → HasGreatestKeySum case.now others → others ≡ result.rooms.items }
+    ensures only { (others : List ℕ) → HasGreatestKeySum case.now others
+        → others ≡ result.rooms.items }
     ensures welfare { HasGreatestWelfare case.now result.rooms.items }
     ensures first { IsFirstOfItsWelfare case.now result.rooms.items }
-    ensures left { AreGreatestWeights (room_count case.now) (key_step case.now result.rooms.items) result.left.items }
+    ensures left { AreGreatestWeights (room_count case.now) (key_step case.now result.rooms.items)
+        result.left.items }
     ensures dual { AreDualNumbers case.now result.rooms.items result.left.items result.right.items }
     ensures left_small { All (λ number. unsigned_abs number < DUAL_LIMIT) result.left.items }
     ensures right_small { All (λ number. unsigned_abs number < DUAL_LIMIT) result.right.items }
@@ -102,7 +106,7 @@ pub fn best_rooms(case: &RentCase) -> Rooms
     }
 }
 
-/// The rooms counted from 0.
+// The rooms counted from 0.
 fn unnumbered(rooms: &[u8]) -> ArrayVec<u8, MEMBER_ROOM>
     requires few { length rooms.now ≤ MEMBER_ROOM }
     requires low { All (λ room. 1 ≤ room) rooms.now }
@@ -122,9 +126,12 @@ fn unnumbered(rooms: &[u8]) -> ArrayVec<u8, MEMBER_ROOM>
 pub fn value_walks(case: &RentCase, rooms: &[u8]) -> Walks
     requires case { IsValidRentCase case.now }
     requires rooms { HasGreatestWelfare case.now rooms.now }
-    ensures weights { AreGreatestWeights (room_count case.now) (value_step case.now rooms.now) result.weights.items }
-    ensures ranks { AreRanks (room_count case.now) (value_step case.now rooms.now) result.weights.items result.ranks.items }
-    ensures small { All (λ weight. unsigned_abs weight ≤ MOST_STEP * room_count case.now) result.weights.items }
+    ensures weights { AreGreatestWeights (room_count case.now) (value_step case.now rooms.now)
+        result.weights.items }
+    ensures ranks { AreRanks (room_count case.now) (value_step case.now rooms.now)
+        result.weights.items result.ranks.items }
+    ensures small { All (λ weight. unsigned_abs weight ≤ MOST_STEP * room_count case.now)
+        result.weights.items }
     ensures below { All (λ rank. rank < room_count case.now) result.ranks.items }
 {
     value_cycle_law();

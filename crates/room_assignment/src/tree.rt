@@ -42,7 +42,7 @@ struct Choice {
     slack: i128,
 }
 
-/// The slack of a member and a room: the sum of their dual numbers, less the key.
+// The slack of a member and a room: the sum of their dual numbers, less the key.
 fn slack(keys: &Matrix, tree: &Tree, matched: usize, member: usize, room: usize) -> i128
     requires keys { AreKeys keys.now }
     requires tree { IsTreeOf matched keys.now tree.now }
@@ -53,15 +53,17 @@ fn slack(keys: &Matrix, tree: &Tree, matched: usize, member: usize, room: usize)
     tree.left[member] + tree.right[room] - step(keys, member, room)
 }
 
-/// The list with the numbers lowered where there is a mark.
+// The list with the numbers lowered where there is a mark.
 fn lowered(values: &[i128], marked: &[bool], by: i128) -> ArrayVec<i128, MEMBER_ROOM>
     requires few { length values.now ≤ MEMBER_ROOM }
     requires same { length marked.now ≡ length values.now }
     requires small { All (λ z. unsigned_abs z ≤ 4 * MOST_KEY) values.now }
     requires by { unsigned_abs by ≤ 4 * MOST_KEY }
     ensures count { length result.items ≡ length values.now }
-    ensures yes { (i : ℕ) → i < length values.now → marks marked.now i ≡ true → numbers result.items i ≡ numbers values.now i -ℤ by }
-    ensures no { (i : ℕ) → i < length values.now → marks marked.now i ≡ false → numbers result.items i ≡ numbers values.now i }
+    ensures yes { (i : ℕ) → i < length values.now → marks marked.now i ≡ true
+        → numbers result.items i ≡ numbers values.now i -ℤ by }
+    ensures no { (i : ℕ) → i < length values.now → marks marked.now i ≡ false
+        → numbers result.items i ≡ numbers values.now i }
 {
     let mut lowered = ArrayVec::new();
     for k in 0..values.len() {
@@ -70,7 +72,7 @@ fn lowered(values: &[i128], marked: &[bool], by: i128) -> ArrayVec<i128, MEMBER_
     lowered
 }
 
-/// The number, lowered where it is marked.
+// The number, lowered if it is marked.
 fn one_lowered(value: i128, marked: bool, by: i128) -> i128
     requires value { unsigned_abs value ≤ 4 * MOST_KEY }
     requires by { unsigned_abs by ≤ 4 * MOST_KEY }
@@ -83,7 +85,7 @@ fn one_lowered(value: i128, marked: bool, by: i128) -> i128
     value
 }
 
-/// The assignment with two rooms exchanged.
+// The assignment with two rooms exchanged.
 fn swapped(plan: &[u8], first: usize, second: usize) -> Order
     requires few { length plan.now ≤ MEMBER_ROOM }
     requires first { first < length plan.now }
@@ -99,7 +101,7 @@ fn swapped(plan: &[u8], first: usize, second: usize) -> Order
     swapped
 }
 
-/// The member who has the room in the assignment.
+// The member who has the room in the assignment.
 pub(crate) fn holder(plan: &[u8], room: usize) -> usize
     requires plan { IsPermutation (range_with_len 0 (length plan.now)) plan.now }
     requires room { room < length plan.now }
@@ -114,7 +116,7 @@ pub(crate) fn holder(plan: &[u8], room: usize) -> usize
     0
 }
 
-/// The choice of less slack.
+// The choice of less slack.
 fn better(first: Choice, second: Choice) -> Choice
     ensures one { (result ≡ first) ⊎ (result ≡ second) }
     ensures first { result.slack ≤ℤ first.slack }
@@ -126,7 +128,7 @@ fn better(first: Choice, second: Choice) -> Choice
     first
 }
 
-/// The choice so far, or the member with this room where that is not labelled and has less slack.
+// The choice so far, or the member with this room if that is not labelled and has less slack.
 fn with_room(
     keys: &Matrix,
     tree: &Tree,
@@ -143,7 +145,8 @@ fn with_room(
     requires least { IsChoice keys.now tree.now least }
     ensures choice { IsChoice keys.now tree.now result }
     ensures kept { result.slack ≤ℤ least.slack }
-    ensures room { marks tree.now.labelled.items room ≡ false → result.slack ≤ℤ slack_of keys.now tree.now member room }
+    ensures room { marks tree.now.labelled.items room ≡ false
+        → result.slack ≤ℤ slack_of keys.now tree.now member room }
 {
     if tree.labelled[room] {
         return least;
@@ -159,7 +162,7 @@ fn with_room(
     )
 }
 
-/// The choice so far, or the member with a room where that has less slack.
+// The choice so far, or the member with a room if that has less slack.
 fn with_rooms(keys: &Matrix, tree: &Tree, matched: usize, member: usize, least: Choice) -> Choice
     requires keys { AreKeys keys.now }
     requires tree { IsTreeOf matched keys.now tree.now }
@@ -168,7 +171,8 @@ fn with_rooms(keys: &Matrix, tree: &Tree, matched: usize, member: usize, least: 
     requires least { IsChoice keys.now tree.now least }
     ensures choice { IsChoice keys.now tree.now result }
     ensures kept { result.slack ≤ℤ least.slack }
-    ensures rooms { (r : ℕ) → r < length keys.now.items → marks tree.now.labelled.items r ≡ false → result.slack ≤ℤ slack_of keys.now tree.now member r }
+    ensures rooms { (r : ℕ) → r < length keys.now.items → marks tree.now.labelled.items r ≡ false
+        → result.slack ≤ℤ slack_of keys.now tree.now member r }
 {
     let mut best = least;
     for room in 0..keys.len() {
@@ -177,7 +181,7 @@ fn with_rooms(keys: &Matrix, tree: &Tree, matched: usize, member: usize, least: 
     best
 }
 
-/// The choice so far, or this member with a room, where it is in the tree and that has less slack.
+// The choice so far, or this member with a room, if it is in the tree and that has less slack.
 fn with_member(keys: &Matrix, tree: &Tree, matched: usize, member: usize, least: Choice) -> Choice
     requires keys { AreKeys keys.now }
     requires tree { IsTreeOf matched keys.now tree.now }
@@ -185,7 +189,9 @@ fn with_member(keys: &Matrix, tree: &Tree, matched: usize, member: usize, least:
     requires least { IsChoice keys.now tree.now least }
     ensures choice { IsChoice keys.now tree.now result }
     ensures kept { result.slack ≤ℤ least.slack }
-    ensures rooms { marks tree.now.in_tree.items member ≡ true → (r : ℕ) → r < length keys.now.items → marks tree.now.labelled.items r ≡ false → result.slack ≤ℤ slack_of keys.now tree.now member r }
+    ensures rooms { marks tree.now.in_tree.items member ≡ true → (r : ℕ) → r < length keys.now.items
+        → marks tree.now.labelled.items r ≡ false
+        → result.slack ≤ℤ slack_of keys.now tree.now member r }
 {
     if tree.in_tree[member] {
         return with_rooms(keys, tree, matched, member, least);
@@ -193,7 +199,7 @@ fn with_member(keys: &Matrix, tree: &Tree, matched: usize, member: usize, least:
     least
 }
 
-/// The choice of least slack.
+// The choice of least slack.
 fn least_choice(keys: &Matrix, tree: &Tree, matched: usize) -> Choice
     requires keys { AreKeys keys.now }
     requires tree { IsTreeOf matched keys.now tree.now }
@@ -212,14 +218,15 @@ fn least_choice(keys: &Matrix, tree: &Tree, matched: usize) -> Choice
     least
 }
 
-/// Adjusts the dual numbers by the least slack: down for the members of the tree, up for the rooms that it labels. The choice
-/// then has no slack.
+// Adjusts the dual numbers by the least slack: down for the members of the tree, up for the rooms that it labels. The choice
+// then has no slack.
 fn adjust(keys: &Matrix, tree: &mut Tree, matched: usize, choice: Choice)
     requires keys { AreKeys keys.now }
     requires tree { IsTreeOf matched keys.now tree.old }
     requires choice { IsLeastChoice keys.now tree.old choice }
     ensures tree { IsTreeOf matched keys.now tree.new }
-    ensures tight { numbers tree.new.left.items choice.member +ℤ numbers tree.new.right.items choice.room ≡ entry keys.now choice.member choice.room }
+    ensures tight { numbers tree.new.left.items choice.member
+        +ℤ numbers tree.new.right.items choice.room ≡ entry keys.now choice.member choice.room }
     ensures members { tree.new.in_tree.items ≡ tree.old.in_tree.items }
     ensures rooms { tree.new.labelled.items ≡ tree.old.labelled.items }
     ensures plans { tree.new.plans.items ≡ tree.old.plans.items }
@@ -234,7 +241,7 @@ fn adjust(keys: &Matrix, tree: &mut Tree, matched: usize, choice: Choice)
     tree.right = right;
 }
 
-/// Lets the tree grow by the member who holds the room, along a pair without slack.
+// Lets the tree grow by the member who holds the room, along a pair without slack.
 fn grow(keys: &Matrix, tree: &mut Tree, matched: usize, member: usize, room: usize, holder: usize)
     requires keys { AreKeys keys.now }
     requires tree { IsTreeOf matched keys.now tree.old }
@@ -245,7 +252,8 @@ fn grow(keys: &Matrix, tree: &mut Tree, matched: usize, member: usize, room: usi
     requires holder { slice_index (plan_of tree.old member) holder ≡ room }
     requires other { holder ≢ member }
     requires low { holder ≤ matched }
-    requires tight { numbers tree.old.left.items member +ℤ numbers tree.old.right.items room ≡ entry keys.now member room }
+    requires tight { numbers tree.old.left.items member +ℤ numbers tree.old.right.items room
+        ≡ entry keys.now member room }
     ensures tree { IsTreeOf matched keys.now tree.new }
     ensures fewer { missing tree.new.in_tree.items < missing tree.old.in_tree.items }
 {
@@ -255,14 +263,16 @@ fn grow(keys: &Matrix, tree: &mut Tree, matched: usize, member: usize, room: usi
     tree.labelled[room] = true;
 }
 
-/// The assignment that the tree augments: the member left free takes the room of a holder who is not matched.
+// The assignment that the tree augments: the member left free takes the room of a holder who is not matched.
 fn augmented(keys: &Matrix, tree: Tree, matched: usize, member: usize, holder: usize) -> Plan
     requires keys { AreKeys keys.now }
     requires tree { IsTreeOf matched keys.now tree }
     requires member { member < length keys.now.items }
     requires holder { holder < length keys.now.items }
     requires inside { marks tree.in_tree.items member ≡ true }
-    requires tight { numbers tree.left.items member +ℤ numbers tree.right.items (slice_index (plan_of tree member) holder) ≡ entry keys.now member (slice_index (plan_of tree member) holder) }
+    requires tight { numbers tree.left.items member
+        +ℤ numbers tree.right.items (slice_index (plan_of tree member) holder)
+        ≡ entry keys.now member (slice_index (plan_of tree member) holder) }
     requires end { (holder ≡ member) ⊎ (matched < holder) }
     ensures { IsMatchedPlan (matched + 1) keys.now result }
 {
@@ -274,7 +284,7 @@ fn augmented(keys: &Matrix, tree: Tree, matched: usize, member: usize, holder: u
     }
 }
 
-/// Marks for so many places, of which one is set.
+// Marks for so many places, of which one is set.
 fn one_mark(count: usize, place: usize) -> ArrayVec<bool, MEMBER_ROOM>
     requires { count ≤ MEMBER_ROOM }
     ensures count { length result.items ≡ count }
@@ -289,7 +299,7 @@ fn one_mark(count: usize, place: usize) -> ArrayVec<bool, MEMBER_ROOM>
     marked
 }
 
-/// The same list of rooms.
+// The same list of rooms.
 fn copied(rooms: &[u8]) -> Order
     requires { length rooms.now ≤ MEMBER_ROOM }
     ensures { result.items ≡ rooms.now }
@@ -301,12 +311,13 @@ fn copied(rooms: &[u8]) -> Order
     copied
 }
 
-/// The same list of rooms, so many times.
+// The same list of rooms, so many times.
 fn copies(rooms: &[u8], count: usize) -> ArrayVec<Order, MEMBER_ROOM>
     requires few { length rooms.now ≤ MEMBER_ROOM }
     requires count { count ≤ MEMBER_ROOM }
     ensures count { length result.items ≡ count }
-    ensures each { (k : ℕ) → k < count → (slice_index_or result.items k (record { items = [] })).items ≡ rooms.now }
+    ensures each { (k : ℕ) → k < count
+        → (slice_index_or result.items k (record { items = [] })).items ≡ rooms.now }
 {
     let mut copies = ArrayVec::new();
     for _k in 0..count {
@@ -315,7 +326,7 @@ fn copies(rooms: &[u8], count: usize) -> ArrayVec<Order, MEMBER_ROOM>
     copies
 }
 
-/// The alternating tree of its root alone, the next member.
+// The alternating tree of its root alone, the next member.
 fn rooted(keys: &Matrix, plan: Plan, matched: usize) -> Tree
     requires keys { AreKeys keys.now }
     requires plan { IsMatchedPlan matched keys.now plan }
@@ -334,7 +345,7 @@ fn rooted(keys: &Matrix, plan: Plan, matched: usize) -> Tree
     }
 }
 
-/// Matches the next member.
+// Matches the next member.
 fn match_next(keys: &Matrix, plan: Plan, matched: usize) -> Plan
     requires keys { AreKeys keys.now }
     requires plan { IsMatchedPlan matched keys.now plan }
@@ -356,7 +367,7 @@ fn match_next(keys: &Matrix, plan: Plan, matched: usize) -> Plan
     }
 }
 
-/// The greatest key of a member.
+// The greatest key of a member.
 fn most(keys: &Matrix, member: usize) -> i128
     requires keys { AreKeys keys.now }
     requires member { member < length keys.now.items }
@@ -369,7 +380,7 @@ fn most(keys: &Matrix, member: usize) -> i128
     most
 }
 
-/// The assignment in which nobody is matched yet: the greatest key of each member is its dual number, and that of each room is 0.
+// The assignment in which nobody is matched yet: the greatest key of each member is its dual number, and that of each room is 0.
 fn first_plan(keys: &Matrix) -> Plan
     requires { AreKeys keys.now }
     ensures { IsMatchedPlan 0 keys.now result }
@@ -385,7 +396,7 @@ fn first_plan(keys: &Matrix) -> Plan
     Plan { rooms, left, right }
 }
 
-/// The rooms of greatest sum of keys, with dual numbers that show it.
+// The rooms of greatest sum of keys, with dual numbers that show it.
 pub(crate) fn assign(keys: &Matrix) -> Plan
     requires { AreKeys keys.now }
     ensures { IsMatchedPlan (length keys.now.items) keys.now result }

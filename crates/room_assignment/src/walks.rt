@@ -27,7 +27,7 @@ struct Walk {
     steps: u8,
 }
 
-/// The weight of one step.
+// The weight of one step.
 pub(crate) fn step(matrix: &Matrix, from: usize, to: usize) -> i128
     requires square { IsSquare matrix.now }
     requires from { from < length matrix.now.items }
@@ -38,19 +38,20 @@ pub(crate) fn step(matrix: &Matrix, from: usize, to: usize) -> i128
     matrix[from][to]
 }
 
-/// The weight of a walk and one step more.
+// The weight of a walk and one step more.
 fn extended(matrix: &Matrix, weights: &[i128], from: usize, to: usize) -> i128
     requires square { IsSquare matrix.now }
     requires from { from < length matrix.now.items }
     requires to { to < length matrix.now.items }
     requires count { length weights.now ≡ length matrix.now.items }
-    requires small { All (λ weight. unsigned_abs weight ≤ (MOST_MEMBERS - 1) * MOST_STEP) weights.now }
+    requires small { All (λ weight. unsigned_abs weight ≤ (MOST_MEMBERS - 1) * MOST_STEP)
+        weights.now }
     ensures value { result ≡ slice_index_or weights.now from (pos 0) +ℤ entry matrix.now from to }
 {
     weights[from] + step(matrix, from, to)
 }
 
-/// The greater of two weights.
+// The greater of two weights.
 pub(crate) fn greater(first: i128, second: i128) -> i128
     ensures first { first ≤ℤ result }
     ensures second { second ≤ℤ result }
@@ -62,14 +63,17 @@ pub(crate) fn greater(first: i128, second: i128) -> i128
     first
 }
 
-/// The greatest weight of a walk and one step more to a vertex.
+// The greatest weight of a walk and one step more to a vertex.
 fn best_extended(matrix: &Matrix, weights: &[i128], to: usize) -> i128
     requires square { IsSquare matrix.now }
     requires to { to < length matrix.now.items }
     requires count { length weights.now ≡ length matrix.now.items }
-    requires small { All (λ weight. unsigned_abs weight ≤ (MOST_MEMBERS - 1) * MOST_STEP) weights.now }
-    ensures reached { (from : ℕ) × (from < length weights.now) × (result ≡ slice_index_or weights.now from (pos 0) +ℤ entry matrix.now from to) }
-    ensures greatest { (from : ℕ) → from < length weights.now → (slice_index_or weights.now from (pos 0) +ℤ entry matrix.now from to) ≤ℤ result }
+    requires small { All (λ weight. unsigned_abs weight ≤ (MOST_MEMBERS - 1) * MOST_STEP)
+        weights.now }
+    ensures reached { (from : ℕ) × (from < length weights.now)
+        × (result ≡ slice_index_or weights.now from (pos 0) +ℤ entry matrix.now from to) }
+    ensures greatest { (from : ℕ) → from < length weights.now
+        → (slice_index_or weights.now from (pos 0) +ℤ entry matrix.now from to) ≤ℤ result }
 {
     let mut best = extended(matrix, weights, 0, to);
     for from in 1..weights.len() {
@@ -78,13 +82,15 @@ fn best_extended(matrix: &Matrix, weights: &[i128], to: usize) -> i128
     best
 }
 
-/// A longest walk to one vertex where one more step is allowed.
+// A longest walk to one vertex when one more step is allowed.
 fn longer_walk(matrix: &Matrix, walks: &Walks, to: usize, limit: u8) -> Walk
     requires square { IsSquare matrix.now }
     requires to { to < length matrix.now.items }
     requires limit { limit < MOST_MEMBERS - 1 }
-    requires walks { AreLongestWithin limit (length matrix.now.items) (entry matrix.now) walks.now.weights.items walks.now.ranks.items }
-    ensures longest { IsLongestWithin (limit + 1) (length matrix.now.items) (entry matrix.now) to result.weight result.steps }
+    requires walks { AreLongestWithin limit (length matrix.now.items) (entry matrix.now)
+        walks.now.weights.items walks.now.ranks.items }
+    ensures longest { IsLongestWithin (limit + 1) (length matrix.now.items) (entry matrix.now) to
+        result.weight result.steps }
     ensures small { unsigned_abs result.weight ≤ MOST_STEP * (limit + 1) }
 {
     let best = best_extended(matrix, walks.weights.as_slice(), to);
@@ -101,12 +107,14 @@ fn longer_walk(matrix: &Matrix, walks: &Walks, to: usize, limit: u8) -> Walk
     }
 }
 
-/// The longest walks where one more step is allowed.
+// The longest walks when one more step is allowed.
 fn longer_walks(matrix: &Matrix, walks: &Walks, limit: u8) -> Walks
     requires square { IsSquare matrix.now }
     requires limit { limit < MOST_MEMBERS - 1 }
-    requires walks { AreLongestWithin limit (length matrix.now.items) (entry matrix.now) walks.now.weights.items walks.now.ranks.items }
-    ensures { AreLongestWithin (limit + 1) (length matrix.now.items) (entry matrix.now) result.weights.items result.ranks.items }
+    requires walks { AreLongestWithin limit (length matrix.now.items) (entry matrix.now)
+        walks.now.weights.items walks.now.ranks.items }
+    ensures { AreLongestWithin (limit + 1) (length matrix.now.items) (entry matrix.now)
+        result.weights.items result.ranks.items }
 {
     let mut weights = ArrayVec::new();
     let mut ranks = ArrayVec::new();
@@ -118,7 +126,7 @@ fn longer_walks(matrix: &Matrix, walks: &Walks, limit: u8) -> Walks
     Walks { weights, ranks }
 }
 
-/// The walks of no steps.
+// The walks of no steps.
 fn no_walks(count: usize) -> Walks
     requires { count ≤ MEMBER_ROOM }
     ensures weights { result.weights.items ≡ replicate count (pos 0) }
@@ -140,9 +148,12 @@ fn no_walks(count: usize) -> Walks
 pub fn longest_walks(matrix: &Matrix) -> Walks
     requires square { IsSquare matrix.now }
     requires cycles { HasNoPositiveCycle (length matrix.now.items) (entry matrix.now) }
-    ensures weights { AreGreatestWeights (length matrix.now.items) (entry matrix.now) result.weights.items }
-    ensures ranks { AreRanks (length matrix.now.items) (entry matrix.now) result.weights.items result.ranks.items }
-    ensures small { All (λ weight. unsigned_abs weight ≤ MOST_STEP * length matrix.now.items) result.weights.items }
+    ensures weights { AreGreatestWeights (length matrix.now.items) (entry matrix.now)
+        result.weights.items }
+    ensures ranks { AreRanks (length matrix.now.items) (entry matrix.now) result.weights.items
+        result.ranks.items }
+    ensures small { All (λ weight. unsigned_abs weight ≤ MOST_STEP * length matrix.now.items)
+        result.weights.items }
     ensures below { All (λ rank. rank < length matrix.now.items) result.ranks.items }
 {
     let mut walks = no_walks(matrix.len());

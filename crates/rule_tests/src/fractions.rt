@@ -6,7 +6,7 @@ use std::alloc::Global;
 use std::cmp::Ordering;
 use std::process::Abort;
 
-/// A fraction of small numbers.
+// A fraction of small numbers.
 fn small(num: i8, den: u8) -> Frac
     requires { 0 < den }
     ensures num { unsigned_abs result.num ≤ 128 }
@@ -16,7 +16,7 @@ fn small(num: i8, den: u8) -> Frac
     make(num as i128, den as u64)
 }
 
-/// The sum and the difference of two such fractions.
+// The sum and the difference of two such fractions.
 fn sum_and_difference(a: Frac, b: Frac) -> (Frac, Frac)
     requires a_num { unsigned_abs a.num ≤ 128 }
     requires a_den { a.den ≤ 255 }
@@ -27,11 +27,13 @@ fn sum_and_difference(a: Frac, b: Frac) -> (Frac, Frac)
     (add(a, b), sub(a, b))
 }
 
+// Fractions are compared as text, which has just one spelling for each value.
 fn assert_text(rt: &impl Abort, alloc: Global, frac: &Frac, expected: &str) {
     let printed = text(alloc, frac).expect(rt, "no memory");
     assert_eq!(rt; printed.as_str(), expected);
 }
 
+// Rows with signs, common factors and equal values, which are where rounding would show.
 #[test]
 fn fractions_are_exact(rt: HostRuntime) {
     let alloc = rt.alloc();

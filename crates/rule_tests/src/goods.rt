@@ -10,13 +10,13 @@ use nash_bounds::search_order;
 use nash_search::search_alone;
 use std::process::Abort;
 
-/// The next of some scattered numbers.
+// The next of some scattered numbers.
 fn scattered(seed: u64) -> u64 {
     seed.wrapping_mul(6_364_136_223_846_793_005)
         .wrapping_add(1_442_695_040_888_963_407)
 }
 
-/// Points for the goods that sum to 1000, many of them alike.
+// Points for the goods that sum to 1000, many of them alike.
 fn spread(rt: &impl Abort, seed: &mut u64, goods: usize) -> ArrayVec<u32, ITEM_ROOM> {
     let mut points = ArrayVec::new();
     let mut left: u32 = 1000;
@@ -31,7 +31,7 @@ fn spread(rt: &impl Abort, seed: &mut u64, goods: usize) -> ArrayVec<u32, ITEM_R
     points
 }
 
-/// The search and the plain program agree on the case.
+// The search and the plain program agree on the case.
 fn assert_plain(rt: &impl Abort, case: &GoodsCase)
     requires case { IsValidGoodsCase case.now }
 {
@@ -55,6 +55,7 @@ fn assert_plain(rt: &impl Abort, case: &GoodsCase)
     }
 }
 
+// The search must find what a list of all allocations gives, and count as the definition does.
 #[test]
 fn tiny_cases_as_by_a_list_of_all(rt: HostRuntime) {
     let mut seed = 7;

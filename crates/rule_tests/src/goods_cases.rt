@@ -6,7 +6,7 @@ use bid_rules::limits::{MOST_MEMBERS, MOST_STEPS};
 use bid_rules::{Goods, GoodsCase};
 use std::process::Abort;
 
-/// The case in which players 1, 2 and so on give these points.
+// The case in which players 1, 2 and so on give these points.
 pub(crate) fn case_of(rt: &impl Abort, rows: &[&[u32]]) -> GoodsCase
     ensures { IsValidGoodsCase result }
 {

@@ -45,7 +45,7 @@ impl Gate for Hold {
     }
 }
 
-/// Two workers come to the end of a block of 16 tasks, whose first is held until so many tasks are entered and so many left.
+// Two workers come to the end of a block of 16 tasks, whose first is held until so many tasks are entered and so many left.
 fn block_ends<R: Threads + Abort + Sync>(
     rt: &R,
     alloc: Global,
@@ -67,11 +67,13 @@ fn block_ends<R: Threads + Abort + Sync>(
     assert!(rt; !gate.gave_up.load(SeqCst));
 }
 
+// The first task is let go only once a second worker has entered another.
 #[test]
 fn two_workers_are_inside_at_once(rt: HostRuntime) {
     block_ends(&rt, rt.alloc(), 2, 0);
 }
 
+// One worker has to do all other tasks while the first is held, so no fixed share may keep any of them from it.
 #[test]
 fn tasks_are_drawn_and_not_dealt_out(rt: HostRuntime) {
     block_ends(&rt, rt.alloc(), 16, 15);

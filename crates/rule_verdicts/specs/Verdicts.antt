@@ -1,4 +1,4 @@
--- The verdict of rules that are asked in order: yes if all hold, else no with the first that does not.
+-- The verdict of rules that are asked in order: yes if all hold, otherwise no, with the first that does not.
 use Rattle.std.specs.Prelude.{ℕ, zero, suc, ◌+◌, ◌<◌, ◌≤◌, List, [], ◌∷◌, length}
 use Rattle.rule_verdicts.specs.declared.verdict.Verdict.{Verdict}
 use Rattle.rule_verdicts.specs.declared.verdict.Verdict.TheVariants.{Yes, No}

@@ -1,7 +1,7 @@
 //! The verdict of rules that are asked in order, and printed whole numbers read as small ones. The rules of all kinds of certificates
 //! share it, so it is a crate of its own, below them.
 //!
-//! Each reader of numbers answers all of them, or None where one is out of its range.
+//! Each reader of numbers answers all of them, or None if one is out of its range.
 #![tactic(auto)]
 
 mod members;

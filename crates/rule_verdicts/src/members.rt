@@ -13,8 +13,8 @@ pub fn members_between<const ROOM: usize>(
     most: u8,
 ) -> Option<ArrayVec<u8, ROOM>>
     requires room { length numbers.now ≤ ROOM }
-    ensures { MatchOption result (AreBetween least most numbers.now → ⊥)
-        (λ members. AreBetween least most numbers.now × (members.items ≡ map unsigned_abs numbers.now)) }
+    ensures { MatchOption result (AreBetween least most numbers.now → ⊥) (λ members.
+        AreBetween least most numbers.now × (members.items ≡ map unsigned_abs numbers.now)) }
 {
     let mut members = ArrayVec::new();
     for k in 0..numbers.len() {
@@ -27,7 +27,7 @@ pub fn members_between<const ROOM: usize>(
     Some(members)
 }
 
-/// Whether the number is among the numbers.
+// Whether the number is among the numbers.
 fn has_number(numbers: &[u8], number: u8) -> bool
     ensures { IsTrue result ↔ Contains numbers.now number }
 {
@@ -41,7 +41,8 @@ fn has_number(numbers: &[u8], number: u8) -> bool
 
 /// Whether each number from 1 to `count` is among the numbers.
 pub fn has_each(numbers: &[u8], count: u8) -> bool
-    ensures { IsTrue result ↔ ((number : ℕ) → 1 ≤ number → number ≤ count → Contains numbers.now number) }
+    ensures { IsTrue result
+        ↔ ((number : ℕ) → 1 ≤ number → number ≤ count → Contains numbers.now number) }
 {
     for number in 0..count {
         if !has_number(numbers, number + 1) {

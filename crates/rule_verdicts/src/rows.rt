@@ -33,8 +33,10 @@ pub fn rows_of_amounts<const PRINTED: usize, const ROOM: usize, const ROWS: usiz
     requires few { length rows.now ≤ ROWS }
     requires room { PRINTED ≤ ROOM }
     ensures { MatchOption result (All (AreBetween 0 most) (map (λ row. row.items) rows.now) → ⊥)
-        (λ read. All (AreBetween 0 most) (map (λ row. row.items) rows.now)
-        × (read.items ≡ map (λ row. record { items = map unsigned_abs row }) (map (λ row. row.items) rows.now))) }
+        (λ read.
+        All (AreBetween 0 most) (map (λ row. row.items) rows.now)
+        × (read.items
+        ≡ map (λ row. record { items = map unsigned_abs row }) (map (λ row. row.items) rows.now))) }
 {
     let mut read = ArrayVec::new();
     for k in 0..rows.len() {

@@ -6,17 +6,17 @@ use Rattle.bid_rules.specs.declared.bids.Bid.{Bid}
 use Rattle.sealed_core.specs.declared.limits.TheConstants.{MOST_TURNS}
 use Rattle.sealed_core.specs.declared.commands.Ask.{Ask}
 use Rattle.sealed_core.specs.declared.commands.Ask.TheVariants as asks
-use Rattle.case_fields.specs.declared.bodies.BidBody.{BidBody}
+use Rattle.body_fields.specs.declared.bodies.BidBody.{BidBody}
 use Rattle.sealed_core.specs.declared.commands.What.{What}
-use Rattle.case_fields.specs.declared.fields.BodyFault.{BodyFault}
-use Rattle.case_fields.specs.declared.fields.BodyFault.TheVariants.{Json, Field}
-use Rattle.case_fields.specs.declared.fields.FieldName.TheVariants as field
+use Rattle.body_fields.specs.declared.fields.BodyFault.{BodyFault}
+use Rattle.body_fields.specs.declared.fields.BodyFault.TheVariants.{Json, Field}
+use Rattle.body_fields.specs.declared.fields.FieldName.TheVariants as field
 use Rattle.sealed_core.specs.declared.replies.Refusal.{Refusal}
 use Rattle.sealed_core.specs.declared.replies.Refusal.TheVariants as refusal
 use Rattle.sealed_core.specs.declared.replies.Reply.TheVariants as reply
 use Rattle.sealed_core.specs.Host.{CreationView, InstanceView, HostView, BidKept, Closed, Withdrawn, instance_at}
 use Rattle.sealed_core.specs.Sameness.{is_kept}
-use Rattle.sealed_core.specs.Step.{Answer, CommandView, Create, To, Standing, standing_of, says, refused, broken, bid_turn, bid_form, bid_body, checked, form_field, form_of, withdrawal_turn, withdrawal_body, answer_close, answer_ask, answer_caller, is_over, may_ask, answer_to, caller_by, caller_in, holder, tagged_from, new_creation, step}
+use Rattle.sealed_core.specs.Step.{Answer, CommandView, Create, To, Standing, standing_of, says, refused, answer_to_fault, bid_turn, bid_form, bid_body, bid_by_rule, form_field, form_of, withdrawal_turn, withdrawal_body, answer_close, answer_ask, answer_caller, is_over, may_ask, answer_to, caller_by, caller_in, holder, tagged_from, new_creation, step}
 
 -- a bid that is kept
 abbrev pub kept_answer : ℕ → ℕ → ℕ → ℕ → Bid → Answer
@@ -40,7 +40,7 @@ pub record Cases (G : Answer → Type 0) (now id m : ℕ) (s : Standing) (ask : 
   pub status : ask ≡ asks.Status → G (says (reply.Status id m))
   pub own : ask ≡ asks.Own → G (says (reply.Own id m))
   pub turns : s.closed ≡ false → (turn : ℕ) → G (says (reply.Kept turn))
-  pub bids : s.closed ≡ false → (body : BidBody) (turn : ℕ) (given : Bid) → ask ≡ asks.Bid (Ok body) → body.turn ≡ Some turn → checked s.facts (form_of s.facts body) ≡ Some given → G (kept_answer now id m turn given)
+  pub bids : s.closed ≡ false → (body : BidBody) (turn : ℕ) (given : Bid) → ask ≡ asks.Bid (Ok body) → body.turn ≡ Some turn → bid_by_rule s.facts (form_of s.facts body) ≡ Some given → G (kept_answer now id m turn given)
   pub withdrawals : s.closed ≡ false → (body : BidBody) (turn : ℕ) → ask ≡ asks.Withdraw (Ok body) → body.turn ≡ Some turn → G (withdrawn_answer now id m turn)
   pub closes : s.closed ≡ false → ask ≡ asks.Close → G (closed_answer now id)
   pub publications : s.closed ≡ true → (what : What) → ask ≡ asks.Publish what → G (says (reply.Publish id what))
@@ -66,10 +66,10 @@ module _ (G : Answer → Type 0) (now id m : ℕ) (s : Standing) (refusals : (r 
 
   -- and body
   of_bid_body : (s.closed ≡ false → (turn : ℕ) → G (says (reply.Kept turn))) → (body : BidBody) (written : Option ℕ)
-      → (s.closed ≡ false → (turn : ℕ) (given : Bid) → written ≡ Some turn → checked s.facts (form_of s.facts body) ≡ Some given → G (kept_answer now id m turn given))
+      → (s.closed ≡ false → (turn : ℕ) (given : Bid) → written ≡ Some turn → bid_by_rule s.facts (form_of s.facts body) ≡ Some given → G (kept_answer now id m turn given))
       → G (bid_body now id m s body written)
   of_bid_body turns body None kept = refusals (refusal.BadField field.Turn)
-  of_bid_body turns body (Some turn) kept = of_bid_form turns turn (checked s.facts (form_of s.facts body)) (λ opened given is. kept opened turn given refl is)
+  of_bid_body turns body (Some turn) kept = of_bid_form turns turn (bid_by_rule s.facts (form_of s.facts body)) (λ opened given is. kept opened turn given refl is)
 
   -- of a withdrawal with a turn
   of_withdrawal_turn : (s.closed ≡ false → (turn : ℕ) → G (says (reply.Kept turn))) → (turn : ℕ) → (s.closed ≡ false → G (withdrawn_answer now id m turn)) → G (withdrawal_turn now id m s turn)
@@ -100,7 +100,7 @@ module _ (G : Answer → Type 0) (now id m : ℕ) (s : Standing) (refusals : (r 
       cond_both s.closed (refused refusal.Closed) second G (λ _. refusals refusal.Closed) (λ opened. cond_both all (closed_answer now id) (refused refusal.NotAll) G (λ _. shut opened) (λ _. refusals refusal.NotAll))
 
   -- of a body at fault
-  of_fault : (fault : BodyFault) → G (broken fault)
+  of_fault : (fault : BodyFault) → G (answer_to_fault fault)
   of_fault Json = refusals refusal.BadJson
   of_fault (Field name) = refusals (refusal.BadField name)
 

@@ -5,7 +5,7 @@ use Rattle.bid_rules.specs.declared.bids.Bid.{Bid}
 use Rattle.bid_rules.specs.declared.bids.Facts.{Facts}
 use Rattle.bid_rules.specs.Checks.{passes_bid}
 use Rattle.bid_rules.specs.Facts.{IsCheckedBid}
-use Rattle.case_fields.specs.Rules.{allowed_bid}
+use Rattle.body_fields.specs.Rules.{allowed_bid}
 use Rattle.split_lemmas.proofs.Checks.{bid_decided}
 
 -- what holds of a bid that is checked, and of none where it isn't, holds of what is allowed

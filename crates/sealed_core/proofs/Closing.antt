@@ -6,20 +6,20 @@ use Rattle.bid_rules.specs.declared.bids.Bid.{Bid}
 use Rattle.sealed_core.specs.declared.limits.TheConstants.{MOST_TURNS}
 use Rattle.sealed_core.specs.declared.commands.Ask.{Ask}
 use Rattle.sealed_core.specs.declared.commands.Ask.TheVariants as asks
-use Rattle.case_fields.specs.declared.bodies.BidBody.{BidBody}
-use Rattle.case_fields.specs.declared.fields.BodyFault.TheVariants.{Json, Field}
+use Rattle.body_fields.specs.declared.bodies.BidBody.{BidBody}
+use Rattle.body_fields.specs.declared.fields.BodyFault.TheVariants.{Json, Field}
 use Rattle.sealed_core.specs.declared.replies.Refusal.TheVariants as refusal
 use Rattle.sealed_core.specs.declared.replies.Reply.TheVariants as reply
-use Rattle.sealed_core.specs.Host.{InstanceView, HostView, EventView, BidKept, Closed, Withdrawn, instance_at, changed, with_turn}
+use Rattle.sealed_core.specs.Host.{InstanceView, HostView, EventView, BidKept, Closed, Withdrawn, instance_at, change_at, with_turn}
 use Rattle.sealed_core.specs.Sameness.{is_kept}
-use Rattle.sealed_core.specs.Step.{Answer, To, Standing, standing_of, says, refused, bid_turn, bid_form, bid_body, checked, form_of, withdrawal_turn, withdrawal_body, answer_ask, answer_caller, may_ask, answer_to, caller_by, caller_in, holder}
-use Rattle.sealed_core.specs.Sealed.{Caller, PublicFacts, View, public_of, view, caller_with, caller_number, is_shut, is_closed, applied, host_after}
+use Rattle.sealed_core.specs.Step.{Answer, To, Standing, standing_of, says, refused, bid_turn, bid_form, bid_body, bid_by_rule, form_of, withdrawal_turn, withdrawal_body, answer_ask, answer_caller, may_ask, answer_to, caller_by, caller_in, holder}
+use Rattle.sealed_core.specs.Sealed.{Caller, PublicFacts, View, public_of, view, caller_with, caller_number, is_shut, is_closed, with_event, host_after}
 use Rattle.sealed_core.proofs.Machine.{closed_for_good}
 use Rattle.sealed_core.proofs.Sealing.{closed_after}
 
 -- a change that leaves it open what was open, and closed what was closed
 shut_same : (f : InstanceView → InstanceView) → ((i : InstanceView) → (f i).closed ≡ i.closed) → (instances : List InstanceView) (p q : ℕ)
-    → is_shut (slice_get (changed f instances p) q) ≡ is_shut (slice_get instances q)
+    → is_shut (slice_get (change_at f instances p) q) ≡ is_shut (slice_get instances q)
 shut_same f same [] p q = refl
 shut_same f same (i ∷ instances) zero zero = same i
 shut_same f same (i ∷ instances) zero (suc q) = refl
@@ -34,10 +34,10 @@ shut_same_if false a b is = is
 module _ (h : HostView) (now id m : ℕ) where
   -- the event leaves the instance open or closed as it was
   abbrev Keeps : Answer → Type 0
-  Keeps a = is_closed (applied h a.event) id ≡ is_closed h id
+  Keeps a = is_closed (with_event h a.event) id ≡ is_closed h id
 
   -- a turn does
-  keeps_turn : (turn : ℕ) (bid : Option Bid) → is_shut (if id == 0 then None else slice_get (changed (with_turn m turn bid) h.instances (id - 1)) (id - 1)) ≡ is_closed h id
+  keeps_turn : (turn : ℕ) (bid : Option Bid) → is_shut (if id == 0 then None else slice_get (change_at (with_turn m turn bid) h.instances (id - 1)) (id - 1)) ≡ is_closed h id
   keeps_turn turn bid = shut_same_if (id == 0) _ _ (shut_same (with_turn m turn bid) (λ i. refl) h.instances (id - 1) (id - 1))
 
   -- so does a bid
@@ -60,7 +60,7 @@ module _ (h : HostView) (now id m : ℕ) where
   -- and body
   keeps_bid_body : (s : Standing) (body : BidBody) (turn : Option ℕ) → Keeps (bid_body now id m s body turn)
   keeps_bid_body s body None = refl
-  keeps_bid_body s body (Some turn) = keeps_bid_form s turn (checked s.facts (form_of s.facts body))
+  keeps_bid_body s body (Some turn) = keeps_bid_form s turn (bid_by_rule s.facts (form_of s.facts body))
 
   -- so does a withdrawal
   keeps_withdrawal_turn : (s : Standing) (turn : ℕ) → Keeps (withdrawal_turn now id m s turn)
@@ -108,12 +108,12 @@ module _ (h : HostView) (now id : ℕ) (i : InstanceView) (there : instance_at h
   as_found = ap is_shut there
 
   -- a closed instance stays closed
-  stays : (e : Option EventView) → i.closed ≡ true → is_closed (applied h e) id ≡ true
+  stays : (e : Option EventView) → i.closed ≡ true → is_closed (with_event h e) id ≡ true
   stays None shut = as_found ∙ shut
   stays (Some e) shut = closed_for_good h id e (as_found ∙ shut)
 
   -- before the deadline an open instance is closed exactly by an asked close with all bids
-  before_deadline : (m : ℕ) (ask : Ask) → i.closed ≡ false → is_closed (applied h (answer_ask now id m (standing_of i m i.closed) ask).event) id ≡ (is_close ask && list_all (λ (has : Bool). has) (map is_some i.bids))
+  before_deadline : (m : ℕ) (ask : Ask) → i.closed ≡ false → is_closed (with_event h (answer_ask now id m (standing_of i m i.closed) ask).event) id ≡ (is_close ask && list_all (λ (has : Bool). has) (map is_some i.bids))
   before_deadline m asks.Status open_ = as_found ∙ open_
   before_deadline m (asks.Bid (Err Json)) open_ = as_found ∙ open_
   before_deadline m (asks.Bid (Err (Field name))) open_ = as_found ∙ open_
@@ -123,9 +123,9 @@ module _ (h : HostView) (now id : ℕ) (i : InstanceView) (there : instance_at h
       let all : Bool = list_all (λ (has : Bool). has) (map is_some i.bids) in
       let shut : Answer = record { event = Some (Closed now id); reply = reply.Closed } in
       let second : Answer = if all then shut else refused refusal.NotAll in
-      cond_both i.closed (refused refusal.Closed) second (λ (a : Answer). i.closed ≡ false → is_closed (applied h a.event) id ≡ all) (λ closed open_. absurd (true≢false (sym closed ∙ open_))) (λ _ _.
-      cond_both all shut (refused refusal.NotAll) (λ (a : Answer). is_closed (applied h a.event) id ≡ all) (λ whole. closed_after h id now i there ∙ sym whole) (λ part. as_found ∙ open_ ∙ sym part)) open_
-  before_deadline m (asks.Publish what) open_ = cond_both i.closed (says (reply.Publish id what)) (refused refusal.NotClosed) (λ (a : Answer). is_closed (applied h a.event) id ≡ false) (λ _. as_found ∙ open_) (λ _. as_found ∙ open_)
+      cond_both i.closed (refused refusal.Closed) second (λ (a : Answer). i.closed ≡ false → is_closed (with_event h a.event) id ≡ all) (λ closed open_. absurd (true≢false (sym closed ∙ open_))) (λ _ _.
+      cond_both all shut (refused refusal.NotAll) (λ (a : Answer). is_closed (with_event h a.event) id ≡ all) (λ whole. closed_after h id now i there ∙ sym whole) (λ part. as_found ∙ open_ ∙ sym part)) open_
+  before_deadline m (asks.Publish what) open_ = cond_both i.closed (says (reply.Publish id what)) (refused refusal.NotClosed) (λ (a : Answer). is_closed (with_event h a.event) id ≡ false) (λ _. as_found ∙ open_) (λ _. as_found ∙ open_)
   before_deadline m (asks.Withdraw (Err Json)) open_ = as_found ∙ open_
   before_deadline m (asks.Withdraw (Err (Field name))) open_ = as_found ∙ open_
   before_deadline m (asks.Withdraw (Ok body)) open_ = keeps_withdrawal_body h now id m (standing_of i m i.closed) body.turn ∙ as_found ∙ open_
@@ -141,20 +141,20 @@ module _ (h : HostView) (now id : ℕ) (i : InstanceView) (there : instance_at h
   by_tests shut false true false last over before none after good rest = rest refl
 
   -- whether the instance is closed after what a caller asks
-  closes_is : (m : ℕ) (ask : Ask) → is_closed (applied h (answer_caller now id ask i m).event) id ≡ closes now (public_of i) m ask
+  closes_is : (m : ℕ) (ask : Ask) → is_closed (with_event h (answer_caller now id ask i m).event) id ≡ closes now (public_of i) m ask
   closes_is m ask =
-      by_tests (λ (e : Option EventView). is_closed (applied h e) id) i.closed (may_ask m ask) (nat_le i.creation.deadline now) (is_close ask && list_all (λ (has : Bool). has) (map is_some i.bids))
+      by_tests (λ (e : Option EventView). is_closed (with_event h e) id) i.closed (may_ask m ask) (nat_le i.creation.deadline now) (is_close ask && list_all (λ (has : Bool). has) (map is_some i.bids))
       (record { event = Some (Closed now id); reply = (answer_ask now id m (standing_of i m true) ask).reply }) (answer_ask now id m (standing_of i m i.closed) ask)
       as_found (closed_after h id now i there) stays (before_deadline m ask)
 
   -- the same of a caller who may be nobody
-  by_holder : (key : List ℕ) (ask : Ask) (who : Option ℕ) → is_closed (applied h (answer_to now id ask (caller_by i who)).event) id ≡ closes_on now (Some key) ask who (Some (public_of i))
+  by_holder : (key : List ℕ) (ask : Ask) (who : Option ℕ) → is_closed (with_event h (answer_to now id ask (caller_by i who)).event) id ≡ closes_on now (Some key) ask who (Some (public_of i))
   by_holder key ask None = as_found
   by_holder key ask (Some m) = closes_is m ask
 
 -- the same of a command on an instance
 by_instance : (h : HostView) (now id : ℕ) (ask : Ask) (found : Option InstanceView) → instance_at h id ≡ found → (key : Option (List ℕ))
-    → is_closed (applied h (answer_to now id ask (caller_in h.secret id found key)).event) id ≡ closes_on now key ask (caller_with h.secret id found key) (option_map public_of found)
+    → is_closed (with_event h (answer_to now id ask (caller_in h.secret id found key)).event) id ≡ closes_on now key ask (caller_with h.secret id found key) (option_map public_of found)
 by_instance h now id ask None is key = ap is_shut is
 by_instance h now id ask (Some i) is None = ap is_shut is
 by_instance h now id ask (Some i) is (Some key) = by_holder h now id i is key ask (holder h.secret id i key)

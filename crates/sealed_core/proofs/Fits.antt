@@ -8,15 +8,15 @@ use Rattle.bid_rules.specs.Facts.{IsCheckedBid}
 use Rattle.sealed_core.specs.declared.limits.TheConstants.{MOST_INSTANCES, MOST_TURNS}
 use Rattle.sealed_core.specs.declared.commands.Ask.{Ask}
 use Rattle.sealed_core.specs.declared.commands.Ask.TheVariants as asks
-use Rattle.case_fields.specs.declared.bodies.BidBody.{BidBody}
-use Rattle.case_fields.specs.declared.fields.BodyFault.TheVariants.{Json, Field}
+use Rattle.body_fields.specs.declared.bodies.BidBody.{BidBody}
+use Rattle.body_fields.specs.declared.fields.BodyFault.TheVariants.{Json, Field}
 use Rattle.sealed_core.specs.declared.replies.Refusal.TheVariants as refusal
 use Rattle.sealed_core.specs.declared.replies.Reply.TheVariants as reply
 use Rattle.sealed_core.specs.Host.{CreationView, InstanceView, HostView, EventView, Created, BidKept, Closed, Withdrawn, instance_at, kept_turn, kept_bid}
 use Rattle.sealed_core.specs.Keys.{first_holder, key_text}
 use Rattle.sealed_core.specs.Sameness.{is_kept, same_creation}
 use Rattle.sealed_core.specs.Sealed.{caller_with, caller_number}
-use Rattle.sealed_core.specs.Step.{Answer, CommandView, Create, To, standing_of, says, refused, bid_turn, bid_form, bid_body, checked, form_of, withdrawal_turn, withdrawal_body, answer_close, answer_ask, answer_caller, is_over, may_ask, answer_to, caller_by, caller_in, holder, tagged_from, new_creation, step}
+use Rattle.sealed_core.specs.Step.{Answer, CommandView, Create, To, standing_of, says, refused, bid_turn, bid_form, bid_body, bid_by_rule, form_of, withdrawal_turn, withdrawal_body, answer_close, answer_ask, answer_caller, is_over, may_ask, answer_to, caller_by, caller_in, holder, tagged_from, new_creation, step}
 use Rattle.sealed_core.proofs.BidRules.{by_rules}
 
 -- the command asks this instance, and this is its caller
@@ -84,7 +84,7 @@ module _ (h : HostView) (t : ℕ) (command : CommandView) (id : ℕ) (i : Instan
       )))))
 
   -- of a bid that is checked or not
-  fits_bid_form : is_over now i ≡ false → 1 ≤ m → (turn : ℕ) (given : Option Bid) → Fit (bid_form now id m (standing_of i m i.closed) turn (checked i.creation.facts given))
+  fits_bid_form : is_over now i ≡ false → 1 ≤ m → (turn : ℕ) (given : Option Bid) → Fit (bid_form now id m (standing_of i m i.closed) turn (bid_by_rule i.creation.facts given))
   fits_bid_form early least turn None = tt
   fits_bid_form early least turn (Some given) =
       by_rules i.creation.facts given (λ (chosen : Option Bid). Fit (bid_form now id m (standing_of i m i.closed) turn chosen)) (λ right. fits_bid_turn early least turn given right) (λ _. tt)

@@ -2,20 +2,20 @@
 use Rattle.std.proofs.Common.{◌≡◌, ℕ, zero, suc, ◌-◌, Bool, true, false, ◌==◌, List, [], ◌∷◌, ◌++◌, if◌then◌else◌, Option, None, Some, IfSome, IsSomeAnd, IsSome, All, ◌⊎◌, ◌≤◌, option_to_list, slice_get, unwrap_or, refl, ap, sym, ◌∙◌, subst, arith, true≢false, max, not, option_map, is_some, ◌+◌, ◌&&◌, Ok, nat_le}
 use Rattle.bid_rules.specs.Facts.{IsCheckedBid}
 use Rattle.sealed_core.specs.declared.limits.TheConstants.{MOST_TURNS}
-use Rattle.sealed_core.specs.Host.{InstanceView, HostView, EventView, Created, BidKept, Closed, Withdrawn, AreCheckedInstances, IsCheckedInstance, IsNextTurn, CanApply, IsAllowed, instance_at, kept_bid, fresh, with_turn, as_closed, changed, change, instances_after, apply, kept_turn}
-use Rattle.sealed_core.specs.Sealed.{Asked, applied, empty, is_closed, is_shut, next}
+use Rattle.sealed_core.specs.Host.{InstanceView, HostView, EventView, Created, BidKept, Closed, Withdrawn, AreCheckedInstances, IsCheckedInstance, IsNextTurn, CanApply, IsAllowed, instance_at, kept_bid, new_instance, with_turn, as_closed, change_at, change, instances_after, apply, kept_turn}
+use Rattle.sealed_core.specs.Sealed.{Asked, with_event, empty, is_closed, is_shut, next}
 use Rattle.sealed_core.specs.declared.commands.Ask.{Ask}
 use Rattle.sealed_core.specs.declared.replies.Refusal.TheVariants as refusal
 use Rattle.sealed_core.proofs.Sealing.{get_changed}
 use Rattle.sealed_core.specs.declared.commands.Ask.TheVariants as asks
-use Rattle.case_fields.specs.declared.bodies.BidBody.{BidBody}
+use Rattle.body_fields.specs.declared.bodies.BidBody.{BidBody}
 use Rattle.sealed_core.specs.declared.replies.Reply.TheVariants as reply
 use Rattle.sealed_core.specs.Sameness.{is_kept}
 use Rattle.std.proofs.lemmas.Bool.{and_left, and_right, eq-eqb, lt-leb, ne_eqb}
 use Rattle.bid_rules.specs.declared.bids.Facts.{Facts}
 use Rattle.sealed_core.proofs.BidRules.{allowed_is}
 use Rattle.bid_rules.specs.declared.bids.Bid.{Bid}
-use Rattle.sealed_core.specs.Step.{Answer, To, answer_to, caller_by, caller_in, caller_of, holder, is_over, may_ask, refused, answer_ask, answer_caller, standing_of, step, bid_body, bid_form, checked, form_of, says}
+use Rattle.sealed_core.specs.Step.{Answer, To, answer_to, caller_by, caller_in, caller_of, holder, is_over, may_ask, refused, answer_ask, answer_caller, standing_of, step, bid_body, bid_form, bid_by_rule, form_of, says}
 use Rattle.sealed_core.specs.Runs.{apply_all, CanApplyAll, kept, last, AreChecked}
 use Rattle.sealed_core.proofs.Applying.{event_applies, sound_found}
 use Rattle.sealed_core.proofs.Fits.{step_fits}
@@ -33,7 +33,7 @@ sound_change h id f P sound asked keeps =
 
 -- an event that is due leaves the instances sound
 sound_apply : (h : HostView) (e : EventView) → AreCheckedInstances h.instances → IsAllowed h e → AreCheckedInstances (instances_after h.instances e)
-sound_apply h (Created now c) sound due = sound_push h.instances (fresh c) sound (sound_fresh c due.1) due.0
+sound_apply h (Created now c) sound due = sound_push h.instances (new_instance c) sound (sound_fresh c due.1) due.0
 sound_apply h (BidKept now id m turn given) sound due =
     sound_change h id (with_turn m turn (Some given)) (λ i. IsNextTurn now i m turn × IsCheckedBid i.creation.facts given) sound due (λ i own right. sound_turn now m turn (Some given) i own right.0 right.1)
 sound_apply h (Closed now id) sound due =
@@ -42,17 +42,17 @@ sound_apply h (Withdrawn now id m turn) sound due =
     sound_change h id (with_turn m turn None) (λ i. IsNextTurn now i m turn × IsSome (kept_bid i m)) sound due (λ i own right. sound_turn now m turn None i own right.0 tt)
 
 -- so does the event of a step, if there is one
-sound_applied : (h : HostView) (o : Option EventView) → AreCheckedInstances h.instances → IfSome o (CanApply h) → AreCheckedInstances (applied h o).instances
+sound_applied : (h : HostView) (o : Option EventView) → AreCheckedInstances h.instances → IfSome o (CanApply h) → AreCheckedInstances (with_event h o).instances
 sound_applied h None sound can = sound
 sound_applied h (Some e) sound can = sound_apply h e sound can.1
 
 -- an event that may come, before others that may
-can_more : (h : HostView) (o : Option EventView) (events : List EventView) → IfSome o (CanApply h) → CanApplyAll (applied h o) events → CanApplyAll h (option_to_list o ++ events)
+can_more : (h : HostView) (o : Option EventView) (events : List EventView) → IfSome o (CanApply h) → CanApplyAll (with_event h o) events → CanApplyAll h (option_to_list o ++ events)
 can_more h None events can rest = rest
 can_more h (Some e) events can rest = (can, rest)
 
 -- the host after one event and then others
-last_more : (h : HostView) (o : Option EventView) (events : List EventView) → apply_all (applied h o) events ≡ apply_all h (option_to_list o ++ events)
+last_more : (h : HostView) (o : Option EventView) (events : List EventView) → apply_all (with_event h o) events ≡ apply_all h (option_to_list o ++ events)
 last_more h None events = refl
 last_more h (Some e) events = refl
 
@@ -82,7 +82,7 @@ nobody secret = record { each = λ k d there. absurd (omega (arith, there)); few
 
 -- a change that keeps the closed closed leaves a closed instance closed
 shut_changed : (f : InstanceView → InstanceView) → ((i : InstanceView) → i.closed ≡ true → (f i).closed ≡ true) → (instances : List InstanceView) (p q : ℕ)
-    → is_shut (slice_get instances q) ≡ true → is_shut (slice_get (changed f instances p) q) ≡ true
+    → is_shut (slice_get instances q) ≡ true → is_shut (slice_get (change_at f instances p) q) ≡ true
 shut_changed f keeps [] p q shut = shut
 shut_changed f keeps (i ∷ instances) zero zero shut = keeps i shut
 shut_changed f keeps (i ∷ instances) zero (suc q) shut = shut
@@ -97,7 +97,7 @@ shut_pushed (i ∷ instances) new (suc q) shut = shut_pushed instances new q shu
 
 -- so does every event
 shut_after : (instances : List InstanceView) (e : EventView) (q : ℕ) → is_shut (slice_get instances q) ≡ true → is_shut (slice_get (instances_after instances e) q) ≡ true
-shut_after instances (Created now c) q shut = shut_pushed instances (fresh c) q shut
+shut_after instances (Created now c) q shut = shut_pushed instances (new_instance c) q shut
 shut_after instances (BidKept now id m turn given) q shut = shut_changed (with_turn m turn (Some given)) (λ i closed. closed) instances (id - 1) q shut
 shut_after instances (Closed now id) q shut = shut_changed as_closed (λ i closed. refl) instances (id - 1) q shut
 shut_after instances (Withdrawn now id m turn) q shut = shut_changed (with_turn m turn None) (λ i closed. closed) instances (id - 1) q shut
@@ -115,7 +115,7 @@ closed_for_good h id e shut = shut_if (id == 0) (slice_get h.instances (id - 1))
 
 -- an instance that a Close names is closed after it
 closed_there : (none : Bool) (instances : List InstanceView) (p : ℕ) (i : InstanceView) → (if none then None else slice_get instances p) ≡ Some i
-    → (if none then None else slice_get (changed as_closed instances p) p) ≡ Some (as_closed i)
+    → (if none then None else slice_get (change_at as_closed instances p) p) ≡ Some (as_closed i)
 closed_there true instances p i is = absurd (true≢false (sym (ap is_some is)))
 closed_there false instances p i is = get_changed as_closed instances p ∙ ap (option_map as_closed) is
 
@@ -166,7 +166,7 @@ otherwise false a b is = refl
 -- a bid of a caller who may bid, with the next turn and a turn left, is kept
 pub right_bid : (h : HostView) (t id m turn : ℕ) (i : InstanceView) (key : List ℕ) (body : BidBody) (given : Bid)
     → instance_at h id ≡ Some i → holder h.secret id i key ≡ Some m → (m == 0) ≡ false → i.closed ≡ false → is_over (max t h.moment) i ≡ false
-    → body.turn ≡ Some turn → checked i.creation.facts (form_of i.creation.facts body) ≡ Some given
+    → body.turn ≡ Some turn → bid_by_rule i.creation.facts (form_of i.creation.facts body) ≡ Some given
     → (turn == kept_turn i m) ≡ false → (turn == (kept_turn i m + 1)) ≡ true → (kept_turn i m == MOST_TURNS) ≡ false
     → step h t (To id (Some key) (asks.Bid (Ok body))) ≡ record { event = Some (BidKept (max t h.moment) id m turn given); reply = reply.Kept turn }
 right_bid h t id m turn i key body given there held member opened early says_turn right new next left =
@@ -192,8 +192,8 @@ not_over : (closed late : Bool) → late ≡ false → (not closed && late) ≡ 
 not_over closed late is = and_right (not closed) late is
 
 -- a checked bid passes
-checked_some : (facts : Facts) (given : Bid) (o : Option Bid) → o ≡ Some given → IsCheckedBid facts given → checked facts o ≡ Some given
-checked_some facts given o is right = ap (checked facts) is ∙ (allowed_is facts given).1 right
+checked_some : (facts : Facts) (given : Bid) (o : Option Bid) → o ≡ Some given → IsCheckedBid facts given → bid_by_rule facts o ≡ Some given
+checked_some facts given o is right = ap (bid_by_rule facts) is ∙ (allowed_is facts given).1 right
 
 -- a bid whose event may be applied is kept
 pub kept_bid_of : (h : HostView) (t id m turn : ℕ) (i : InstanceView) (key : List ℕ) (body : BidBody) (given : Bid)

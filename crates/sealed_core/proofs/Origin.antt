@@ -9,9 +9,9 @@ use Rattle.sealed_core.specs.declared.replies.Refusal.TheVariants as refusal
 use Rattle.sealed_core.specs.declared.replies.Reply.TheVariants as reply
 use Rattle.sealed_core.specs.Host.{CreationView, InstanceView, HostView, Created, instance_at, moment_of}
 use Rattle.sealed_core.specs.Origins.{ComesOf, IsAskedBy}
-use Rattle.case_fields.specs.Rules.{allowed_bid}
+use Rattle.body_fields.specs.Rules.{allowed_bid}
 use Rattle.sealed_core.specs.Sameness.{same_creation}
-use Rattle.sealed_core.specs.Step.{Answer, CommandView, Create, To, checked, says, refused, holder, may_ask, standing_of, new_creation, tagged_from, step}
+use Rattle.sealed_core.specs.Step.{Answer, CommandView, Create, To, bid_by_rule, says, refused, holder, may_ask, standing_of, new_creation, tagged_from, step}
 use Rattle.sealed_core.proofs.AnswerCases.{Early, Late, of_ask, of_step}
 use Rattle.sealed_core.proofs.BidRules.{by_rules}
 
@@ -21,7 +21,7 @@ same_allowed facts bid given =
     by_rules facts bid (λ (allowed : Option Bid). allowed ≡ Some given → bid ≡ given) (λ _ is. ap (λ (o : Option Bid). unwrap_or o bid) is) (λ _ is. absurd (true≢false (sym (ap is_some is))))
 
 -- so is a bid of the form that was sent
-same_checked : (facts : Facts) (form : Option Bid) (given : Bid) → checked facts form ≡ Some given → form ≡ Some given
+same_checked : (facts : Facts) (form : Option Bid) (given : Bid) → bid_by_rule facts form ≡ Some given → form ≡ Some given
 same_checked facts None given is = is
 same_checked facts (Some bid) given is = ap Some (same_allowed facts bid given is)
 

@@ -10,7 +10,7 @@ use Rattle.sealed_core.specs.declared.replies.Reply.{Reply}
 use Rattle.sealed_core.specs.declared.replies.Reply.TheVariants as reply
 use Rattle.sealed_core.specs.Host.{CreationView, HostView, Closed, Created, instance_at}
 use Rattle.sealed_core.specs.Sameness.{same_creation}
-use Rattle.sealed_core.specs.Sealed.{IsLateClose, applied, is_closed, is_shut}
+use Rattle.sealed_core.specs.Sealed.{IsLateClose, with_event, is_closed, is_shut}
 use Rattle.sealed_core.specs.Step.{Answer, CommandView, Create, To, says, refused, standing_of, new_creation, tagged_from, step}
 use Rattle.sealed_core.proofs.AnswerCases.{Early, Late, late_answer, of_ask, of_step}
 use Rattle.sealed_core.proofs.Quiet.{late_close}
@@ -21,7 +21,7 @@ pub record IsOf (h : HostView) (t : ℕ) (command : CommandView) (a : Answer) (i
   pub asked : (key : List ℕ) × (command ≡ To id (Some key) (asks.Publish what))
   pub stands : IsSome (instance_at h id)
   pub event : IsLateClose h t command a.event
-  pub closed : is_closed (applied h a.event) id ≡ true
+  pub closed : is_closed (with_event h a.event) id ≡ true
 
 -- a publication is one that is known so
 abbrev Publishes : HostView → ℕ → CommandView → Answer → Type 0

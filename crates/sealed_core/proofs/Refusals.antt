@@ -7,10 +7,10 @@ use Rattle.bid_rules.specs.declared.bids.Bid.{Bid}
 use Rattle.bid_rules.specs.Facts.{IsCheckedBid}
 use Rattle.sealed_core.specs.declared.commands.Ask.{Ask}
 use Rattle.sealed_core.specs.declared.commands.Ask.TheVariants as asks
-use Rattle.case_fields.specs.declared.bodies.BidBody.{BidBody}
-use Rattle.case_fields.specs.declared.fields.BodyFault.{BodyFault}
-use Rattle.case_fields.specs.declared.fields.BodyFault.TheVariants.{Json, Field}
-use Rattle.case_fields.specs.declared.fields.FieldName.TheVariants as field
+use Rattle.body_fields.specs.declared.bodies.BidBody.{BidBody}
+use Rattle.body_fields.specs.declared.fields.BodyFault.{BodyFault}
+use Rattle.body_fields.specs.declared.fields.BodyFault.TheVariants.{Json, Field}
+use Rattle.body_fields.specs.declared.fields.FieldName.TheVariants as field
 use Rattle.sealed_core.specs.declared.limits.TheConstants.{MOST_INSTANCES, MOST_TURNS}
 use Rattle.sealed_core.specs.declared.replies.Refusal.{Refusal}
 use Rattle.sealed_core.specs.declared.replies.Refusal.TheVariants as refusal
@@ -19,8 +19,8 @@ use Rattle.sealed_core.specs.declared.replies.Reply.TheVariants as reply
 use Rattle.sealed_core.specs.Host.{CreationView, InstanceView, HostView, EventView, Created, BidKept, Closed, Withdrawn, instance_at}
 use Rattle.sealed_core.specs.Sameness.{is_kept, same_creation, same_text}
 use Rattle.sealed_core.specs.Sealed.{is_refused}
-use Rattle.sealed_core.specs.Step.{Answer, CommandView, Create, To, Standing, standing_of, says, refused, broken, bid_turn, bid_form, bid_body, checked, form_of, form_field, withdrawal_turn, withdrawal_body, answer_close, answer_ask, answer_caller, is_over, may_ask, answer_to, caller_by, caller_in, holder, tagged_from, new_creation, step}
-use Rattle.sealed_core.specs.Causes.{refusal_of, CauseOfCreation, CauseOfBid, CauseOfWithdrawal, CauseOfForm, CauseOfBidBody, CauseOfWithdrawalBody, CauseOfAsk, is_past, CauseOfCaller, CauseOfKey, CauseOn, Cause}
+use Rattle.sealed_core.specs.Step.{Answer, CommandView, Create, To, Standing, standing_of, says, refused, answer_to_fault, bid_turn, bid_form, bid_body, bid_by_rule, form_of, form_field, withdrawal_turn, withdrawal_body, answer_close, answer_ask, answer_caller, is_over, may_ask, answer_to, caller_by, caller_in, holder, tagged_from, new_creation, step}
+use Rattle.sealed_core.specs.Causes.{refusal_of_body, CauseOfCreation, CauseOfBid, CauseOfWithdrawal, CauseOfForm, CauseOfBidBody, CauseOfWithdrawalBody, CauseOfAsk, is_past, CauseOfCaller, CauseOfKey, CauseOn, Cause}
 use Rattle.sealed_core.proofs.Applying.{none_tagged}
 use Rattle.sealed_core.proofs.BidRules.{by_rules}
 use Rattle.sealed_core.proofs.Equality.{bids_decide, creations_decide, least_holder, none_found}
@@ -188,7 +188,7 @@ form_wrong s turn given r wrong (inl this) = this.1
 form_wrong s turn given r wrong (inr (other, is, right, cause)) = absurd (wrong (subst (λ (b : Bid). IsCheckedBid s.facts b) (sym (ap (λ (o : Option Bid). unwrap_or o given) is)) right))
 
 -- the same of a bid of whatever form
-form_cause : (now id m : ℕ) (s : Standing) (turn : ℕ) (form : Option Bid) (r : Refusal) → IsRefusedAs (bid_form now id m s turn (checked s.facts form)) r ↔ CauseOfForm s turn form r
+form_cause : (now id m : ℕ) (s : Standing) (turn : ℕ) (form : Option Bid) (r : Refusal) → IsRefusedAs (bid_form now id m s turn (bid_by_rule s.facts form)) r ↔ CauseOfForm s turn form r
 form_cause now id m s turn None r =
     let x = refusal.BadField (form_field s.facts) in
     (λ told. inl (λ given is right. none_given given is, (one x r).0 told), λ cause. (one x r).1 (form_none s turn r cause))
@@ -302,7 +302,7 @@ close_from s r (inl shut) = inl shut
 close_from s r (inr (opened, some, is)) = inr (opened, (false_from_ne_true (list_all (λ has. has) s.have_bid) (λ all. some (all_true s.have_bid all)), is))
 
 -- a body at fault is refused by its fault
-broken_cause : (fault : BodyFault) (r : Refusal) → IsRefusedAs (broken fault) r ↔ (r ≡ refusal_of fault)
+broken_cause : (fault : BodyFault) (r : Refusal) → IsRefusedAs (answer_to_fault fault) r ↔ (r ≡ refusal_of_body fault)
 broken_cause Json r = one refusal.BadJson r
 broken_cause (Field name) r = one (refusal.BadField name) r
 

@@ -7,8 +7,8 @@ use Rattle.sealed_core.specs.declared.commands.Ask.{Ask}
 use Rattle.sealed_core.specs.declared.replies.Reply.{Reply}
 use Rattle.sealed_core.specs.Host.{InstanceView, HostView, EventView, BidKept, instance_at, kept_turn, apply}
 use Rattle.sealed_core.specs.Step.{CommandView, Create, To, step}
-use Rattle.sealed_core.specs.Sealed.{Caller, View, public_of, view_of, view, own_turn, own_bid, caller_number, sealed_reply, is_shut, is_closed, applied, host_after, Asked, next, same_caller, heard_of, heard, views, KeepsBid, AreAlike, RunAlike}
-use Rattle.sealed_core.specs.Veil.{shown_in, veil, veiled}
+use Rattle.sealed_core.specs.Sealed.{Caller, View, public_of, view_of, view, own_turn, own_bid, caller_number, sealed_reply, is_shut, is_closed, with_event, host_after, Asked, next, same_caller, heard_of, heard, views, KeepsBid, AreAlike, RunAlike}
+use Rattle.sealed_core.specs.Veil.{shown_in, veil, as_seen_by}
 use Rattle.sealed_core.proofs.Veil.{is_own, bid_seen, event_seen, other_place, have_bid_veiled, own_bid_veiled, from_place, instance_veiled, shown_own, apply_veiled}
 use Rattle.sealed_core.proofs.SameEvents.{step_veiled, caller_veiled}
 use Rattle.sealed_core.proofs.Fits.{Fits, IsBy, step_fits}
@@ -17,7 +17,7 @@ use Rattle.sealed_core.proofs.Sealing.{sealed}
 -- ---- what the veil lets through of a host
 
 -- whether an instance is closed shows through the veil
-shut_veiled : (c : Caller) (found : Option InstanceView) → is_shut (option_map (veiled c) found) ≡ is_shut found
+shut_veiled : (c : Caller) (found : Option InstanceView) → is_shut (option_map (as_seen_by c) found) ≡ is_shut found
 shut_veiled c None = refl
 shut_veiled c (Some i) = refl
 
@@ -26,25 +26,25 @@ closed_veiled : (id : ℕ) (c : Caller) (h : HostView) (k : ℕ) → is_closed (
 closed_veiled id c h k = ap is_shut (instance_veiled id c h k) ∙ shut_veiled (shown_in id c k) (instance_at h k)
 
 -- so does the turn of every member
-turn_veiled : (c : Caller) (m : ℕ) (found : Option InstanceView) → own_turn (option_map (veiled c) found) (Some m) ≡ own_turn found (Some m)
+turn_veiled : (c : Caller) (m : ℕ) (found : Option InstanceView) → own_turn (option_map (as_seen_by c) found) (Some m) ≡ own_turn found (Some m)
 turn_veiled c m None = refl
 turn_veiled c m (Some i) = refl
 
 -- and the caller's own turn
-own_turn_veiled : (c d : Caller) (found : Option InstanceView) → own_turn (option_map (veiled c) found) d ≡ own_turn found d
+own_turn_veiled : (c d : Caller) (found : Option InstanceView) → own_turn (option_map (as_seen_by c) found) d ≡ own_turn found d
 own_turn_veiled c None None = refl
 own_turn_veiled c (Some m) None = refl
 own_turn_veiled c None (Some i) = refl
 own_turn_veiled c (Some m) (Some i) = refl
 
 -- and the caller's own bid
-own_bid_of : (c : Caller) (found : Option InstanceView) → own_bid (option_map (veiled c) found) c ≡ own_bid found c
+own_bid_of : (c : Caller) (found : Option InstanceView) → own_bid (option_map (as_seen_by c) found) c ≡ own_bid found c
 own_bid_of c None = refl
 own_bid_of None (Some i) = refl
 own_bid_of (Some m) (Some i) = own_bid_veiled m i
 
 -- and the public facts
-public_veiled : (c : Caller) (found : Option InstanceView) → option_map public_of (option_map (veiled c) found) ≡ option_map public_of found
+public_veiled : (c : Caller) (found : Option InstanceView) → option_map public_of (option_map (as_seen_by c) found) ≡ option_map public_of found
 public_veiled c None = refl
 public_veiled c (Some i) = λ j. Some (record {
   title = i.creation.title;
@@ -57,13 +57,13 @@ public_veiled c (Some i) = λ j. Some (record {
 })
 
 -- so all that the caller may know does
-view_of_veiled : (c : Caller) (moment : ℕ) (found : Option InstanceView) → view_of moment (option_map (veiled c) found) c ≡ view_of moment found c
+view_of_veiled : (c : Caller) (moment : ℕ) (found : Option InstanceView) → view_of moment (option_map (as_seen_by c) found) c ≡ view_of moment found c
 view_of_veiled c moment found = λ j. record { caller = c; public = public_veiled c found j; moment = moment; turn = own_turn_veiled c c found j; bid = own_bid_of c found j }
 
 -- the same of the caller's own instance, by its id
 view_veiled : (id : ℕ) (c : Caller) (h : HostView) → view (veil id c h) id c ≡ view h id c
 view_veiled id c h =
-    ap (λ (found : Option InstanceView). view_of h.moment found c) (instance_veiled id c h id ∙ ap (λ (d : Caller). option_map (veiled d) (instance_at h id)) (shown_own id c))
+    ap (λ (found : Option InstanceView). view_of h.moment found c) (instance_veiled id c h id ∙ ap (λ (d : Caller). option_map (as_seen_by d) (instance_at h id)) (shown_own id c))
     ∙ view_of_veiled c h.moment (instance_at h id)
 
 -- ---- two hosts that are one under the veil
@@ -104,13 +104,13 @@ module _ (id : ℕ) (c : Caller) (g h : HostView) (twins : veil id c g ≡ veil 
   twins_apply e f same = apply_veiled id c g e ∙ (λ i. apply (twins i) (same i)) ∙ sym (apply_veiled id c h f)
 
   -- one event keeps the hosts one
-  twins_applied : (e : Option EventView) → veil id c (applied g e) ≡ veil id c (applied h e)
+  twins_applied : (e : Option EventView) → veil id c (with_event g e) ≡ veil id c (with_event h e)
   twins_applied None = twins
   twins_applied (Some e) = twins_apply e e refl
 
   -- so does one command
   twins_step : (t : ℕ) (command : CommandView) → veil id c (host_after g t command) ≡ veil id c (host_after h t command)
-  twins_step t command = ap (λ (e : Option EventView). veil id c (applied g e)) (same_event t command) ∙ twins_applied (step h t command).event
+  twins_step t command = ap (λ (e : Option EventView). veil id c (with_event g e)) (same_event t command) ∙ twins_applied (step h t command).event
 
   -- a reply to the caller
   reply_if : (same mine : Bool) (r s : Reply) → (same ≡ true → mine ≡ true → r ≡ s) → (if same && mine then Some r else None) ≡ (if same && mine then Some s else None)
@@ -199,7 +199,7 @@ twins_bids id c g h twins k m a b same other (now, turn, given, is) (now', turn'
     not_shown ((1 + (k - 1)) == id) c m f.2.2.least (λ here. other (sym there ∙ eqb-true (1 + (k - 1)) id here)) in
     let bids : bid_seen (shown_in id c (1 + (k - 1))) (m - 1) given ≡ bid_seen (shown_in id c (1 + (k - 1))) (m - 1) given' = chosen c m given given' (is_own (shown_in id c (1 + (k - 1))) (m - 1)) hides in
     let seen : event_seen id c (BidKept now k m turn given) ≡ event_seen id c (BidKept now' k m turn' given') = λ i. BidKept (moments i) k m (turns i) (bids i) in (
-      ap (λ (e : Option EventView). veil id c (applied g e)) is ∙ twins_apply id c g h twins (BidKept now k m turn given) (BidKept now' k m turn' given') seen ∙ sym (ap (λ (e : Option EventView). veil id c (applied h e)) is'),
+      ap (λ (e : Option EventView). veil id c (with_event g e)) is ∙ twins_apply id c g h twins (BidKept now k m turn given) (BidKept now' k m turn' given') seen ∙ sym (ap (λ (e : Option EventView). veil id c (with_event h e)) is'),
       unheard c g id k m a.moment a.command f.1 other ∙ sym (unheard c h id k m b.moment b.command f'.1 other),
     )
 

@@ -6,9 +6,9 @@ use Rattle.bid_rules.specs.declared.bids.Facts.{Facts}
 use Rattle.sealed_core.specs.declared.limits.TheConstants.{MOST_TURNS}
 use Rattle.sealed_core.specs.declared.commands.Ask.{Ask}
 use Rattle.sealed_core.specs.declared.commands.Ask.TheVariants as asks
-use Rattle.case_fields.specs.declared.bodies.BidBody.{BidBody}
-use Rattle.case_fields.specs.declared.fields.BodyFault.{BodyFault}
-use Rattle.case_fields.specs.declared.fields.BodyFault.TheVariants.{Json, Field}
+use Rattle.body_fields.specs.declared.bodies.BidBody.{BidBody}
+use Rattle.body_fields.specs.declared.fields.BodyFault.{BodyFault}
+use Rattle.body_fields.specs.declared.fields.BodyFault.TheVariants.{Json, Field}
 use Rattle.sealed_core.specs.declared.replies.Refusal.{Refusal}
 use Rattle.sealed_core.specs.declared.replies.Refusal.TheVariants as refusal
 use Rattle.sealed_core.specs.declared.replies.Reply.{Reply}
@@ -16,8 +16,8 @@ use Rattle.sealed_core.specs.declared.replies.Reply.TheVariants as reply
 use Rattle.sealed_core.specs.Host.{CreationView, InstanceView, HostView, EventView, BidKept, Closed, instance_at, kept_turn, kept_bid}
 use Rattle.sealed_core.specs.Sameness.{is_kept, same_text}
 use Rattle.sealed_core.specs.Sealed.{Caller, caller_with, caller_number}
-use Rattle.sealed_core.specs.Step.{Answer, CommandView, Create, To, Standing, standing_of, says, refused, bid_turn, bid_form, bid_body, checked, form_of, withdrawal_turn, withdrawal_body, answer_ask, is_over, may_ask, answer_to, caller_by, caller_in, holder, tagged_from, new_creation, answer_creation, step}
-use Rattle.sealed_core.specs.Veil.{shown_in, veil, veiled, veiled_from}
+use Rattle.sealed_core.specs.Step.{Answer, CommandView, Create, To, Standing, standing_of, says, refused, bid_turn, bid_form, bid_body, bid_by_rule, form_of, withdrawal_turn, withdrawal_body, answer_ask, is_over, may_ask, answer_to, caller_by, caller_in, holder, tagged_from, new_creation, answer_creation, step}
+use Rattle.sealed_core.specs.Veil.{shown_in, veil, as_seen_by, veiled_from}
 use Rattle.sealed_core.proofs.Veil.{have_bid_veiled, has_bid_veiled, instance_veiled}
 
 -- the standing of a caller, field by field
@@ -54,7 +54,7 @@ bid_form_event now id m facts closed have kept a b turn (Some given) = bid_turn_
 bid_body_event : (now id m : ℕ) (facts : Facts) (closed : Bool) (have : List Bool) (kept : ℕ) (a b : Option Bid) (body : BidBody) (turn : Option ℕ)
     → (bid_body now id m (standing facts closed have kept a) body turn).event ≡ (bid_body now id m (standing facts closed have kept b) body turn).event
 bid_body_event now id m facts closed have kept a b body None = refl
-bid_body_event now id m facts closed have kept a b body (Some turn) = bid_form_event now id m facts closed have kept a b turn (checked facts (form_of facts body))
+bid_body_event now id m facts closed have kept a b body (Some turn) = bid_form_event now id m facts closed have kept a b turn (bid_by_rule facts (form_of facts body))
 
 -- the event of a withdrawal asks only whether there is a bid
 withdrawal_turn_event : (now id m : ℕ) (facts : Facts) (closed : Bool) (have : List Bool) (kept : ℕ) (a b : Option Bid) (turn : ℕ) → is_none a ≡ is_none b
@@ -82,14 +82,14 @@ ask_event now id m facts closed have kept a b is (asks.Withdraw (Err (Field name
 ask_event now id m facts closed have kept a b is (asks.Withdraw (Ok body)) = withdrawal_body_event now id m facts closed have kept a b body.turn is
 
 -- under the veil a caller has the standing that they have without it, except for the bid
-veiled_standing : (c : Caller) (i : InstanceView) (m : ℕ) → standing_of (veiled c i) m i.closed ≡ standing i.creation.facts i.closed (map is_some i.bids) (kept_turn i m) (kept_bid (veiled c i) m)
-veiled_standing c i m = λ j. record { facts = i.creation.facts; closed = i.closed; have_bid = have_bid_veiled c i.bids j; turn = kept_turn i m; bid = kept_bid (veiled c i) m }
+veiled_standing : (c : Caller) (i : InstanceView) (m : ℕ) → standing_of (as_seen_by c i) m i.closed ≡ standing i.creation.facts i.closed (map is_some i.bids) (kept_turn i m) (kept_bid (as_seen_by c i) m)
+veiled_standing c i m = λ j. record { facts = i.creation.facts; closed = i.closed; have_bid = have_bid_veiled c i.bids j; turn = kept_turn i m; bid = kept_bid (as_seen_by c i) m }
 
 -- so what they ask has one event
-standing_event : (c : Caller) (now id m : ℕ) (i : InstanceView) (ask : Ask) → (answer_ask now id m (standing_of (veiled c i) m i.closed) ask).event ≡ (answer_ask now id m (standing_of i m i.closed) ask).event
+standing_event : (c : Caller) (now id m : ℕ) (i : InstanceView) (ask : Ask) → (answer_ask now id m (standing_of (as_seen_by c i) m i.closed) ask).event ≡ (answer_ask now id m (standing_of i m i.closed) ask).event
 standing_event c now id m i ask =
     ap (λ (s : Standing). (answer_ask now id m s ask).event) (veiled_standing c i m)
-    ∙ ask_event now id m i.creation.facts i.closed (map is_some i.bids) (kept_turn i m) (kept_bid (veiled c i) m) (kept_bid i m) (has_bid_veiled c i m) ask
+    ∙ ask_event now id m i.creation.facts i.closed (map is_some i.bids) (kept_turn i m) (kept_bid (as_seen_by c i) m) (kept_bid i m) (has_bid_veiled c i m) ask
 
 -- past the deadline it is the close in both
 over_event : (role over : Bool) (e : Option EventView) (r s : Reply) (a b : Answer) → a.event ≡ b.event
@@ -100,13 +100,13 @@ over_event true false e r s a b is = is
 
 -- the same of whatever a caller asks
 by_caller : (c : Caller) (now id : ℕ) (ask : Ask) (i : InstanceView) (who : Option ℕ)
-    → (answer_to now id ask (caller_by (veiled c i) who)).event ≡ (answer_to now id ask (caller_by i who)).event
+    → (answer_to now id ask (caller_by (as_seen_by c i) who)).event ≡ (answer_to now id ask (caller_by i who)).event
 by_caller c now id ask i None = refl
-by_caller c now id ask i (Some m) = over_event (may_ask m ask) (is_over now i) (Some (Closed now id)) _ _ (answer_ask now id m (standing_of (veiled c i) m i.closed) ask) (answer_ask now id m (standing_of i m i.closed) ask) (standing_event c now id m i ask)
+by_caller c now id ask i (Some m) = over_event (may_ask m ask) (is_over now i) (Some (Closed now id)) _ _ (answer_ask now id m (standing_of (as_seen_by c i) m i.closed) ask) (answer_ask now id m (standing_of i m i.closed) ask) (standing_event c now id m i ask)
 
 -- the same of a command on an instance
 by_instance : (c : Caller) (secret : List ℕ) (now id : ℕ) (ask : Ask) (key : Option (List ℕ)) (found : Option InstanceView)
-    → (answer_to now id ask (caller_in secret id (option_map (veiled c) found) key)).event ≡ (answer_to now id ask (caller_in secret id found key)).event
+    → (answer_to now id ask (caller_in secret id (option_map (as_seen_by c) found) key)).event ≡ (answer_to now id ask (caller_in secret id found key)).event
 by_instance c secret now id ask key None = refl
 by_instance c secret now id ask None (Some i) = refl
 by_instance c secret now id ask (Some key) (Some i) = by_caller c now id ask i (holder secret id i key)
@@ -141,7 +141,7 @@ step_veiled id c h t (To k key ask) =
     ∙ by_instance (shown_in id c k) h.secret (max t h.moment) k ask key (instance_at h k)
 
 -- a key has one holder under the veil
-number_in : (c : Caller) (secret : List ℕ) (id : ℕ) (key : Option (List ℕ)) (found : Option InstanceView) → caller_with secret id (option_map (veiled c) found) key ≡ caller_with secret id found key
+number_in : (c : Caller) (secret : List ℕ) (id : ℕ) (key : Option (List ℕ)) (found : Option InstanceView) → caller_with secret id (option_map (as_seen_by c) found) key ≡ caller_with secret id found key
 number_in c secret id key None = refl
 number_in c secret id None (Some i) = refl
 number_in c secret id (Some key) (Some i) = refl

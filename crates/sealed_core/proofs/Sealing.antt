@@ -4,19 +4,19 @@ use Rattle.sealed_core.specs.declared.commands.Ask.{Ask}
 use Rattle.sealed_core.specs.declared.replies.Refusal.TheVariants as refusal
 use Rattle.sealed_core.specs.declared.replies.Reply.{Reply}
 use Rattle.sealed_core.specs.declared.replies.Reply.TheVariants as reply
-use Rattle.sealed_core.specs.Host.{InstanceView, HostView, EventView, Closed, instance_at, as_closed, changed, apply}
+use Rattle.sealed_core.specs.Host.{InstanceView, HostView, EventView, Closed, instance_at, as_closed, change_at, apply}
 use Rattle.sealed_core.specs.Step.{Answer, CommandView, Create, To, standing_of, refused, holder, may_ask, is_over, answer_ask, caller_by, caller_in, answer_to, step}
-use Rattle.sealed_core.specs.Sealed.{view_of, view, caller_with, caller_number, sealed_reply, is_shut, is_closed, applied, host_after, IsSealed}
+use Rattle.sealed_core.specs.Sealed.{view_of, view, caller_with, caller_number, sealed_reply, is_shut, is_closed, with_event, host_after, IsSealed}
 
 -- the instance at the changed place is the changed one
-pub get_changed : (f : InstanceView → InstanceView) (instances : List InstanceView) (p : ℕ) → slice_get (changed f instances p) p ≡ option_map f (slice_get instances p)
+pub get_changed : (f : InstanceView → InstanceView) (instances : List InstanceView) (p : ℕ) → slice_get (change_at f instances p) p ≡ option_map f (slice_get instances p)
 get_changed f [] p = refl
 get_changed f (i ∷ instances) zero = refl
 get_changed f (i ∷ instances) (suc p) = get_changed f instances p
 
 -- an instance that is closed at its place is closed
 closed_if : (none : Bool) (instances : List InstanceView) (p : ℕ) (i : InstanceView) → (if none then None else slice_get instances p) ≡ Some i
-    → is_shut (if none then None else slice_get (changed as_closed instances p) p) ≡ true
+    → is_shut (if none then None else slice_get (change_at as_closed instances p) p) ≡ true
 closed_if true instances p i is = absurd (true≢false (sym (ap is_some is)))
 closed_if false instances p i is = ap is_shut (get_changed as_closed instances p ∙ ap (option_map as_closed) is)
 
@@ -34,16 +34,16 @@ by_tests true false e r a shut closes stays = refl
 
 -- of a command under a key
 by_holder : (h : HostView) (t id : ℕ) (ask : Ask) (i : InstanceView) → instance_at h id ≡ Some i → (key : List ℕ) (who : Option ℕ)
-    → is_closed (applied h (answer_to (max t h.moment) id ask (caller_by i who)).event) id ≡ false
+    → is_closed (with_event h (answer_to (max t h.moment) id ask (caller_by i who)).event) id ≡ false
     → (answer_to (max t h.moment) id ask (caller_by i who)).reply ≡ sealed_reply (view_of h.moment (Some i) who) t id (Some key) ask
 by_holder h t id ask i is key None stays = refl
 by_holder h t id ask i is key (Some m) stays =
     by_tests (may_ask m ask) (is_over (max t h.moment) i) (Closed (max t h.moment) id) (answer_ask (max t h.moment) id m (standing_of i m true) ask).reply (answer_ask (max t h.moment) id m (standing_of i m i.closed) ask)
-    (λ (e : Option EventView). is_closed (applied h e) id) (closed_after h id (max t h.moment) i is) stays
+    (λ (e : Option EventView). is_closed (with_event h e) id) (closed_after h id (max t h.moment) i is) stays
 
 -- of a command on an instance
 by_instance : (h : HostView) (t id : ℕ) (ask : Ask) (found : Option InstanceView) → instance_at h id ≡ found → (key : Option (List ℕ))
-    → is_closed (applied h (answer_to (max t h.moment) id ask (caller_in h.secret id found key)).event) id ≡ false
+    → is_closed (with_event h (answer_to (max t h.moment) id ask (caller_in h.secret id found key)).event) id ≡ false
     → (answer_to (max t h.moment) id ask (caller_in h.secret id found key)).reply ≡ sealed_reply (view_of h.moment found (caller_with h.secret id found key)) t id key ask
 by_instance h t id ask None is key stays = refl
 by_instance h t id ask (Some i) is None stays = refl

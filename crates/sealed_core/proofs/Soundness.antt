@@ -8,10 +8,10 @@ use Rattle.bid_rules.specs.Facts.{IsCheckedBid}
 use Rattle.sealed_core.specs.declared.limits.TheConstants.{MOST_INSTANCES, MOST_TURNS}
 use Rattle.sealed_core.specs.declared.host.Instance.{Instance}
 use Rattle.sealed_core.proofs.Wholes.{sound_at}
-use Rattle.sealed_core.specs.Host.{CreationView, InstanceView, HostView, AreCheckedInstances, IsCheckedInstance, IsCheckedCreation, IsNextTurn, instance_view, instance_at, fresh, with_turn, as_closed, change, changed}
+use Rattle.sealed_core.specs.Host.{CreationView, InstanceView, HostView, AreCheckedInstances, IsCheckedInstance, IsCheckedCreation, IsNextTurn, instance_view, instance_at, new_instance, with_turn, as_closed, change, change_at}
 
 -- a new instance of a checked creation is sound
-pub sound_fresh : (c : CreationView) → IsCheckedCreation c → IsCheckedInstance (fresh c)
+pub sound_fresh : (c : CreationView) → IsCheckedCreation c → IsCheckedInstance (new_instance c)
 sound_fresh c right = record {
   creation = right;
   turns = length-replicate (length c.members) 0;
@@ -39,13 +39,13 @@ pub sound_push : (instances : List InstanceView) (i : InstanceView) → AreCheck
 sound_push instances i sound own few = let size = length_push instances i in record { each = All-push IsCheckedInstance instances i sound.each own; few = omega (arith, size, few) }
 
 -- a change at a place leaves the length
-pub length-changed : (f : InstanceView → InstanceView) (instances : List InstanceView) (p : ℕ) → length (changed f instances p) ≡ length instances
+pub length-changed : (f : InstanceView → InstanceView) (instances : List InstanceView) (p : ℕ) → length (change_at f instances p) ≡ length instances
 length-changed f [] p = refl
 length-changed f (i ∷ instances) zero = refl
 length-changed f (i ∷ instances) (suc p) = ap suc (length-changed f instances p)
 
 -- a change that keeps the instance sound leaves all sound
-each_changed : (f : InstanceView → InstanceView) (instances : List InstanceView) (p : ℕ) → All IsCheckedInstance instances → ((i : InstanceView) → slice_get instances p ≡ Some i → IsCheckedInstance (f i)) → All IsCheckedInstance (changed f instances p)
+each_changed : (f : InstanceView → InstanceView) (instances : List InstanceView) (p : ℕ) → All IsCheckedInstance instances → ((i : InstanceView) → slice_get instances p ≡ Some i → IsCheckedInstance (f i)) → All IsCheckedInstance (change_at f instances p)
 each_changed f [] p each new k d there = absurd (omega arith)
 each_changed f (i ∷ instances) zero each new zero d there = new i refl
 each_changed f (i ∷ instances) zero each new (suc k) d there = each (suc k) d (omega (arith, there))
@@ -53,12 +53,12 @@ each_changed f (i ∷ instances) (suc p) each new zero d there = each zero d (om
 each_changed f (i ∷ instances) (suc p) each new (suc k) d there = each_changed f instances p (λ j e below. each (suc j) e (omega (arith, below))) new k d (omega (arith, there))
 
 -- so the list stays sound
-pub sound_changed : (f : InstanceView → InstanceView) (instances : List InstanceView) (p : ℕ) → AreCheckedInstances instances → ((i : InstanceView) → slice_get instances p ≡ Some i → IsCheckedInstance (f i)) → AreCheckedInstances (changed f instances p)
+pub sound_changed : (f : InstanceView → InstanceView) (instances : List InstanceView) (p : ℕ) → AreCheckedInstances instances → ((i : InstanceView) → slice_get instances p ≡ Some i → IsCheckedInstance (f i)) → AreCheckedInstances (change_at f instances p)
 sound_changed f instances p sound new = let size = length-changed f instances p in let few = sound.few in record { each = each_changed f instances p sound.each new; few = omega (arith, size, few) }
 
 -- a write to the instance at a place changes the view at that place
 pub set_changed : (f : InstanceView → InstanceView) (xs : List Instance) (p : ℕ) (old new : Instance) → old ≡ get_or xs p old → p < length xs → instance_view new ≡ f (instance_view old)
-    → map instance_view (set xs p new) ≡ changed f (map instance_view xs) p
+    → map instance_view (set xs p new) ≡ change_at f (map instance_view xs) p
 set_changed f [] p old new is there made = absurd (omega arith)
 set_changed f (x ∷ xs) zero old new is there made = λ j. (made ∙ ap (λ (y : Instance). f (instance_view y)) is) j ∷ map instance_view xs
 set_changed f (x ∷ xs) (suc p) old new is there made = λ j. instance_view x ∷ set_changed f xs p old new is (omega (arith, there)) made j

@@ -3,8 +3,8 @@ use Rattle.std.specs.Prelude.{◌≡◌, ◌≢◌, ℕ, zero, suc, ◌+◌, ◌
 use Rattle.bid_rules.specs.declared.bids.Bid.{Bid}
 use Rattle.bid_rules.specs.Facts.{IsCheckedBid}
 use Rattle.sealed_core.specs.declared.limits.TheConstants.{MOST_INSTANCES, MOST_TURNS}
-pub use Rattle.case_fields.specs.Creations.{CreationView, IsCheckedCreation, creation_view, item_count, text}
-pub use Rattle.case_fields.specs.Rules.{IsName, IsTag}
+pub use Rattle.body_fields.specs.Creations.{CreationView, IsCheckedCreation, creation_view, item_count, text}
+pub use Rattle.body_fields.specs.Rules.{IsName, IsTag}
 use Rattle.sealed_core.specs.declared.host.Instance.{Instance}
 use Rattle.sealed_core.specs.declared.events.Event.{Event}
 use Rattle.sealed_core.specs.declared.events.Event.TheVariants as event
@@ -102,8 +102,8 @@ abbrev pub CanApply : HostView → EventView → Type 0
 CanApply h e = (h.moment ≤ moment_of e) × IsAllowed h e
 
 -- a new instance: nobody has bid
-abbrev pub fresh : CreationView → InstanceView
-fresh c = record { creation = c; turns = replicate (length c.members) 0; bids = replicate (length c.members) None; closed = false }
+abbrev pub new_instance : CreationView → InstanceView
+new_instance c = record { creation = c; turns = replicate (length c.members) 0; bids = replicate (length c.members) None; closed = false }
 
 -- the member's kept turn and bid are these
 abbrev pub with_turn : ℕ → ℕ → Option Bid → InstanceView → InstanceView
@@ -114,18 +114,18 @@ abbrev pub as_closed : InstanceView → InstanceView
 as_closed i = record { creation = i.creation; turns = i.turns; bids = i.bids; closed = true }
 
 -- the element at a place, from 0, is changed
-abbrev pub changed : {A : Type 0} → (A → A) → List A → ℕ → List A
-changed f [] place = []
-changed f (x ∷ xs) zero = f x ∷ xs
-changed f (x ∷ xs) (suc place) = x ∷ changed f xs place
+abbrev pub change_at : {A : Type 0} → (A → A) → List A → ℕ → List A
+change_at f [] place = []
+change_at f (x ∷ xs) zero = f x ∷ xs
+change_at f (x ∷ xs) (suc place) = x ∷ change_at f xs place
 
 -- the instance with this id is changed
 abbrev pub change : (InstanceView → InstanceView) → List InstanceView → ℕ → List InstanceView
-change f instances id = changed f instances (id - 1)
+change f instances id = change_at f instances (id - 1)
 
 -- the instances after an event
 abbrev pub instances_after : List InstanceView → EventView → List InstanceView
-instances_after instances (Created now c) = instances ++ fresh c ∷ []
+instances_after instances (Created now c) = instances ++ new_instance c ∷ []
 instances_after instances (BidKept now id m turn bid) = change (with_turn m turn (Some bid)) instances id
 instances_after instances (Closed now id) = change as_closed instances id
 instances_after instances (Withdrawn now id m turn) = change (with_turn m turn None) instances id

@@ -27,7 +27,7 @@ same_facts (Goods a) (Fares b) = false
 same_facts (Fares a) (Rent b) = false
 same_facts (Fares a) (Goods b) = false
 
--- two creations are equal where all fields are
+-- two creations are equal if all fields are
 abbrev pub same_creation : CreationView → CreationView → Bool
 same_creation a b = same_text a.title b.title && same_texts a.members b.members && same_texts a.items b.items && same_facts a.facts b.facts && (a.deadline == b.deadline) && same_text a.tag b.tag
 

@@ -1,4 +1,4 @@
--- What a caller may learn of an instance before it is closed, the reply that follows from that alone, and the law over runs.
+-- What a caller may learn of an instance before it is closed, the reply that follows only from that, and the law over runs.
 use Rattle.std.specs.Prelude.{◌≡◌, ◌≢◌, ℕ, max, Bool, true, false, not, List, [], ◌∷◌, map, if◌then◌else◌, is_some, Option, None, Some, IsSomeAnd, ◌⊎◌, ◌&&◌, ◌==◌}
 use Rattle.std.specs.Option.{option_map}
 use Rattle.bid_rules.specs.declared.bids.Bid.{Bid}
@@ -32,7 +32,7 @@ public_of i = record {
   have_bid = map is_some i.bids;
 }
 
--- a caller of an instance: a member, 0 for the organiser, or none where the command has no key or nobody's
+-- a caller of an instance: a member, 0 for the organiser, or none if the command has no key or the key of nobody
 abbrev pub Caller : Type 0
 Caller = Option ℕ
 
@@ -46,8 +46,8 @@ caller_with secret id (Some i) (Some key) = holder secret id i key
 abbrev pub caller_number : HostView → ℕ → Option (List ℕ) → Caller
 caller_number h id key = caller_with h.secret id (instance_at h id) key
 
--- what a caller may know: who they are, the public facts where the instance is there, the greatest moment of a kept event,
--- and their own kept turn and bid
+-- what a caller may know: who they are, the public facts if the instance is there, the greatest moment of a kept event, and their own kept turn and
+-- bid
 pub record View : Type 0 where
   pub caller : Caller
   pub public : Option PublicFacts
@@ -55,7 +55,7 @@ pub record View : Type 0 where
   pub turn : ℕ
   pub bid : Option Bid
 
--- the caller's own kept turn, 0 where there is none
+-- the caller's own kept turn, or 0 if there is none
 abbrev pub own_turn : Option InstanceView → Caller → ℕ
 own_turn None caller = 0
 own_turn (Some i) None = 0
@@ -85,7 +85,7 @@ view h id caller = view_of h.moment (instance_at h id) caller
 abbrev pub standing_in : PublicFacts → View → Standing
 standing_in public v = record { facts = public.facts; closed = public.closed; have_bid = public.have_bid; turn = v.turn; bid = v.bid }
 
--- the reply on an instance that isn't closed after the step, written from the view alone
+-- the reply on an instance that isn't closed after the step, written only from the view
 abbrev pub reply_in : ℕ → ℕ → Ask → View → PublicFacts → ℕ → Reply
 reply_in now id ask v public m = if not (may_ask m ask) then reply.Refused refusal.Role else (answer_ask now id m (standing_in public v) ask).reply
 
@@ -104,7 +104,7 @@ abbrev pub reply_on : ℕ → ℕ → Ask → View → Option (List ℕ) → Opt
 reply_on now id ask v key None = reply.Refused refusal.NoInstance
 reply_on now id ask v key (Some public) = reply_under now id ask v public key
 
--- the reply that follows from the view, the command and its moment alone
+-- the reply that follows only from the view, the command and its moment
 abbrev pub sealed_reply : View → ℕ → ℕ → Option (List ℕ) → Ask → Reply
 sealed_reply v t id key ask = reply_on (max t v.moment) id ask v key v.public
 
@@ -118,18 +118,18 @@ abbrev pub is_closed : HostView → ℕ → Bool
 is_closed h id = is_shut (instance_at h id)
 
 -- the host after the event of an answer, if there is one
-abbrev pub applied : HostView → Option EventView → HostView
-applied h None = h
-applied h (Some e) = apply h e
+abbrev pub with_event : HostView → Option EventView → HostView
+with_event h None = h
+with_event h (Some e) = apply h e
 
 -- the host after a command
 abbrev pub host_after : HostView → ℕ → CommandView → HostView
-host_after h t command = applied h (step h t command).event
+host_after h t command = with_event h (step h t command).event
 
--- where the instance that a command asks isn't closed after the step, the reply is the one that follows from the caller's view
+-- if the instance that a command asks about isn't closed after the step, the reply is the one that follows from the caller's view
 abbrev pub IsSealed : HostView → ℕ → CommandView → Answer → Type 0
 IsSealed h t (Create body) a = Unit {0}
-IsSealed h t (To id key ask) a = is_closed (applied h a.event) id ≡ false → a.reply ≡ sealed_reply (view h id (caller_number h id key)) t id key ask
+IsSealed h t (To id key ask) a = is_closed (with_event h a.event) id ≡ false → a.reply ≡ sealed_reply (view h id (caller_number h id key)) t id key ask
 
 -- the reply is a refusal
 abbrev pub is_refused : Reply → Bool
@@ -141,7 +141,7 @@ is_refused reply.Closed = false
 is_refused (reply.Publish id what) = false
 is_refused (reply.Refused r) = true
 
--- the event is none, or the close, at the moment of the step, of the instance that is asked, which is open past its deadline
+-- there is no event; or it is the close, at the moment of the step, of the instance that is asked about, which is open past its deadline
 abbrev pub IsLateClose : HostView → ℕ → CommandView → Option EventView → Type 0
 IsLateClose h t (Create body) e = e ≡ None
 IsLateClose h t (To id key ask) e = (e ≡ None) ⊎ ((e ≡ Some (Closed (max t h.moment) id)) × IsSomeAnd (instance_at h id) (λ i. is_over (max t h.moment) i ≡ true))
@@ -159,7 +159,7 @@ pub record Asked : Type 0 where
 abbrev pub next : HostView → Asked → HostView
 next h a = host_after h a.moment a.command
 
--- the reply where the command is on this instance and its caller is this one
+-- the reply, if the command is on this instance and its caller is this one
 abbrev pub same_caller : Caller → Caller → Bool
 same_caller None None = true
 same_caller None (Some m) = false
@@ -171,7 +171,7 @@ abbrev pub heard_of : HostView → ℕ → Caller → ℕ → CommandView → Op
 heard_of h id caller t (Create body) = None
 heard_of h id caller t (To other key ask) = if (other == id) && same_caller (caller_number h other key) caller then Some (step h t (To other key ask)).reply else None
 
--- what a caller hears of an instance, step by step, up to and without the step at which it is closed: the reply to their own command on it, else none
+-- what a caller hears of an instance, step by step, before the step that closes it: the reply to their own command on it, otherwise nothing
 abbrev pub heard : HostView → ℕ → Caller → List Asked → List (Option Reply)
 heard h id caller [] = []
 heard h id caller (a ∷ run) = if is_closed (next h a) id then [] else heard_of h id caller a.moment a.command ∷ heard (next h a) id caller run

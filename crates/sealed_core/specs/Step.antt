@@ -10,22 +10,22 @@ use Rattle.sealed_core.specs.declared.limits.TheConstants.{MOST_INSTANCES, MOST_
 use Rattle.sealed_core.specs.declared.replies.Answered.{Answered}
 use Rattle.sealed_core.specs.declared.commands.Ask.{Ask}
 use Rattle.sealed_core.specs.declared.commands.Ask.TheVariants as asks
-use Rattle.case_fields.specs.declared.bodies.BidBody.{BidBody}
-use Rattle.case_fields.specs.declared.fields.BodyFault.{BodyFault}
-use Rattle.case_fields.specs.declared.fields.BodyFault.TheVariants.{Json, Field}
+use Rattle.body_fields.specs.declared.bodies.BidBody.{BidBody}
+use Rattle.body_fields.specs.declared.fields.BodyFault.{BodyFault}
+use Rattle.body_fields.specs.declared.fields.BodyFault.TheVariants.{Json, Field}
 use Rattle.sealed_core.specs.declared.commands.Command.{Command}
 use Rattle.sealed_core.specs.declared.commands.Command.TheVariants as command
-use Rattle.case_fields.specs.declared.fields.FieldName.{FieldName}
-use Rattle.case_fields.specs.declared.fields.FieldName.TheVariants as field
+use Rattle.body_fields.specs.declared.fields.FieldName.{FieldName}
+use Rattle.body_fields.specs.declared.fields.FieldName.TheVariants as field
 use Rattle.sealed_core.specs.declared.replies.Refusal.{Refusal}
 use Rattle.sealed_core.specs.declared.replies.Refusal.TheVariants as refusal
 use Rattle.sealed_core.specs.declared.replies.Reply.{Reply}
 use Rattle.sealed_core.specs.declared.replies.Reply.TheVariants as reply
-use Rattle.case_fields.specs.declared.creations.Creation.{Creation}
+use Rattle.body_fields.specs.declared.creations.Creation.{Creation}
 use Rattle.sealed_core.specs.Host.{IsCheckedCreation, CreationView, InstanceView, HostView, EventView, Created, BidKept, Closed, Withdrawn, creation_view, event_view, instance_at, kept_turn, kept_bid}
 use Rattle.sealed_core.specs.Keys.{first_holder}
 use Rattle.sealed_core.specs.Sameness.{same_creation, same_text, is_kept}
-use Rattle.case_fields.specs.Rules.{allowed_bid}
+use Rattle.body_fields.specs.Rules.{allowed_bid}
 
 -- a command creates an instance, or asks one with this id, under a key or none
 pub data CommandView : Type 0 where
@@ -65,9 +65,9 @@ abbrev pub refused : Refusal → Answer
 refused r = says (reply.Refused r)
 
 -- the refusal of a body with this fault
-abbrev pub broken : BodyFault → Answer
-broken Json = refused refusal.BadJson
-broken (Field name) = refused (refusal.BadField name)
+abbrev pub answer_to_fault : BodyFault → Answer
+answer_to_fault Json = refused refusal.BadJson
+answer_to_fault (Field name) = refused (refusal.BadField name)
 
 -- the first instance with a tag, and its id; the ids of the list begin with the given one
 abbrev pub tagged_from : ℕ → List InstanceView → List ℕ → Option (ℕ × CreationView)
@@ -81,7 +81,7 @@ new_creation now count c (Some found) = if same_creation found.1 c then says (re
 
 -- the answer to a creation that was read
 abbrev pub answer_creation : ℕ → List InstanceView → Result CreationView BodyFault → Answer
-answer_creation now instances (Err fault) = broken fault
+answer_creation now instances (Err fault) = answer_to_fault fault
 answer_creation now instances (Ok c) = new_creation now (length instances) c (tagged_from 1 instances c.tag)
 
 -- the instance that a command asks and the caller's number in it, or the first refusal
@@ -133,7 +133,7 @@ bid_turn now id m standing turn given =
     else if standing.turn == MOST_TURNS then refused refusal.TurnsUsed
     else record { event = Some (BidKept now id m turn given); reply = reply.Kept turn }
 
--- the bid of a body, of the kind that the facts ask for, where it is checked
+-- the bid of a body, of the kind that the facts ask for, if it is checked
 abbrev pub form_of : Facts → BidBody → Option Bid
 form_of (Rent facts) body = option_map bid.Values body.values
 form_of (Goods facts) body = option_map bid.Values body.values
@@ -145,9 +145,9 @@ form_field (Rent facts) = field.Values
 form_field (Goods facts) = field.Values
 form_field (Fares facts) = field.Place
 
--- the bid, where the rule of these facts allows it
-abbrev pub checked : Facts → Option Bid → Option Bid
-checked facts given = option_and_then (allowed_bid facts) given
+-- the bid, if the rule of these facts allows it
+abbrev pub bid_by_rule : Facts → Option Bid → Option Bid
+bid_by_rule facts given = option_and_then (allowed_bid facts) given
 
 -- the answer to a bid by its form
 abbrev pub bid_form : ℕ → ℕ → ℕ → Standing → ℕ → Option Bid → Answer
@@ -157,11 +157,11 @@ bid_form now id m standing turn (Some given) = bid_turn now id m standing turn g
 -- the answer to a bid by its turn and its form
 abbrev pub bid_body : ℕ → ℕ → ℕ → Standing → BidBody → Option ℕ → Answer
 bid_body now id m standing body None = refused (refusal.BadField field.Turn)
-bid_body now id m standing body (Some turn) = bid_form now id m standing turn (checked standing.facts (form_of standing.facts body))
+bid_body now id m standing body (Some turn) = bid_form now id m standing turn (bid_by_rule standing.facts (form_of standing.facts body))
 
 -- the answer to a bid that was read
 abbrev pub answer_bid : ℕ → ℕ → ℕ → Standing → Result BidBody BodyFault → Answer
-answer_bid now id m standing (Err fault) = broken fault
+answer_bid now id m standing (Err fault) = answer_to_fault fault
 answer_bid now id m standing (Ok body) = bid_body now id m standing body body.turn
 
 -- the answer to a withdrawal with a right body
@@ -181,7 +181,7 @@ withdrawal_body now id m standing (Some turn) = withdrawal_turn now id m standin
 
 -- the answer to a withdrawal that was read
 abbrev pub answer_withdrawal : ℕ → ℕ → ℕ → Standing → Result BidBody BodyFault → Answer
-answer_withdrawal now id m standing (Err fault) = broken fault
+answer_withdrawal now id m standing (Err fault) = answer_to_fault fault
 answer_withdrawal now id m standing (Ok body) = withdrawal_body now id m standing body.turn
 
 -- the answer to a close that is asked for
@@ -204,7 +204,7 @@ answer_ask now id m standing (asks.Withdraw body) = answer_withdrawal now id m s
 abbrev pub is_over : ℕ → InstanceView → Bool
 is_over now i = not i.closed && nat_le i.creation.deadline now
 
--- where the deadline has passed the event is the Close, and the reply is that of the closed instance
+-- if the deadline has passed, the event is the Close, and the reply is that of the closed instance
 abbrev pub answer_caller : ℕ → ℕ → Ask → InstanceView → ℕ → Answer
 answer_caller now id ask i m =
     if not (may_ask m ask) then refused refusal.Role

@@ -6,25 +6,25 @@ use Rattle.sealed_core.specs.Host.{HostView, InstanceView}
 use Rattle.sealed_core.specs.Sealed.{Caller}
 
 -- a bid that shows only that it is there: one and the same bid in place of all
-abbrev pub hidden : Option Bid → Option Bid
-hidden None = None
-hidden (Some given) = Some (Place 0)
+abbrev pub hidden_bid : Option Bid → Option Bid
+hidden_bid None = None
+hidden_bid (Some given) = Some (Place 0)
 
 -- these bids, each hidden but the one at this place
 abbrev pub but_one : ℕ → List (Option Bid) → List (Option Bid)
 but_one k [] = []
-but_one zero (bid ∷ bids) = bid ∷ map hidden bids
-but_one (suc k) (bid ∷ bids) = hidden bid ∷ but_one k bids
+but_one zero (bid ∷ bids) = bid ∷ map hidden_bid bids
+but_one (suc k) (bid ∷ bids) = hidden_bid bid ∷ but_one k bids
 
 -- the bids of an instance, each hidden but the caller's own
 abbrev pub veiled_bids : Caller → List (Option Bid) → List (Option Bid)
-veiled_bids None bids = map hidden bids
-veiled_bids (Some zero) bids = map hidden bids
+veiled_bids None bids = map hidden_bid bids
+veiled_bids (Some zero) bids = map hidden_bid bids
 veiled_bids (Some (suc k)) bids = but_one k bids
 
 -- an instance as its caller may see it
-abbrev pub veiled : Caller → InstanceView → InstanceView
-veiled c i = record { creation = i.creation; turns = i.turns; bids = veiled_bids c i.bids; closed = i.closed }
+abbrev pub as_seen_by : Caller → InstanceView → InstanceView
+as_seen_by c i = record { creation = i.creation; turns = i.turns; bids = veiled_bids c i.bids; closed = i.closed }
 
 -- whose bid the caller of this instance sees on another one: their own if it is the same instance, otherwise nobody's, whatever their number is
 -- there
@@ -34,7 +34,7 @@ shown_in id caller other = if other == id then caller else None
 -- these instances, with ids from `first` on, as the caller of the instance with this id may see them
 abbrev pub veiled_from : ℕ → ℕ → Caller → List InstanceView → List InstanceView
 veiled_from first id caller [] = []
-veiled_from first id caller (i ∷ instances) = veiled (shown_in id caller first) i ∷ veiled_from (first + 1) id caller instances
+veiled_from first id caller (i ∷ instances) = as_seen_by (shown_in id caller first) i ∷ veiled_from (first + 1) id caller instances
 
 -- a host as the caller of the instance with this id may see it
 abbrev pub veil : ℕ → Caller → HostView → HostView

@@ -5,7 +5,7 @@ ghost use Rattle.sealed_core.specs.Causes.{Cause};
 ghost use Rattle.sealed_core.specs.declared.limits.TheConstants.{MOST_INSTANCES};
 ghost use Rattle.sealed_core.specs.Host.{AreCheckedInstances, CanApply, IsCheckedInstance, event_view, instance_view};
 ghost use Rattle.sealed_core.specs.Sealed.{IsQuiet, IsSealed};
-ghost use Rattle.sealed_core.specs.Step.{IsCheckedCommand, answer_view, answer_to, answer_bid, bid_turn, broken, caller_of, checked, answer_close, command_view, answer_creation, creation_seen, form_field, form_of, may_ask, refused, answer_ask, answer_caller, says, standing_of, step, answer_withdrawal, withdrawal_turn};
+ghost use Rattle.sealed_core.specs.Step.{IsCheckedCommand, answer_view, answer_to, answer_bid, bid_turn, answer_to_fault, caller_of, bid_by_rule, answer_close, command_view, answer_creation, creation_seen, form_field, form_of, may_ask, refused, answer_ask, answer_caller, says, standing_of, step, answer_withdrawal, withdrawal_turn};
 
 use crate::commands::Ask;
 use crate::equals::{is_kept, same_creation};
@@ -13,22 +13,25 @@ use crate::limits::{MOST_INSTANCES, MOST_TURNS};
 use crate::lookups::{all_bid, bid_of, caller, is_over, tagged, turn_of};
 use crate::{Answered, Command, Event, Host, Instance, Key, Refusal, Reply};
 use bid_rules::{Bid, Facts};
-use case_fields::{BidBody, BodyFault, Creation, FieldName, allowed_bid};
+use body_fields::{BidBody, BodyFault, Creation, FieldName, allowed_bid};
 
+// Most replies change nothing, so no event goes with them.
 fn says(reply: Reply) -> Answered
     ensures { answer_view result ≡ says reply }
 {
     Answered { event: None, reply }
 }
 
+// A refusal changes nothing.
 fn refused(refusal: Refusal) -> Answered
     ensures { answer_view result ≡ refused refusal }
 {
     says(Reply::Refused(refusal))
 }
 
+// Says what is wrong with a body: it isn't JSON, or a field is missing or breaks its rule.
 fn broken(fault: BodyFault) -> Answered
-    ensures { answer_view result ≡ broken fault }
+    ensures { answer_view result ≡ answer_to_fault fault }
 {
     match fault {
         BodyFault::Json => refused(Refusal::BadJson),
@@ -36,10 +39,11 @@ fn broken(fault: BodyFault) -> Answered
     }
 }
 
-/// A creation. One that is equal to the creation that is kept under its tag is answered as that one was.
+// A creation. One that is equal to the creation that is kept under its tag is answered as that one was.
 fn answer_creation(now: u64, instances: &[Instance], body: Result<Creation, BodyFault>) -> Answered
     requires { length instances.now ≤ MOST_INSTANCES }
-    ensures { answer_view result ≡ answer_creation now (map instance_view instances.now) (creation_seen body) }
+    ensures { answer_view result
+        ≡ answer_creation now (map instance_view instances.now) (creation_seen body) }
 {
     let creation = match body {
         Ok(creation) => creation,
@@ -65,7 +69,7 @@ fn answer_creation(now: u64, instances: &[Instance], body: Result<Creation, Body
     }
 }
 
-/// Whether the organiser, or a member, may ask this.
+// Whether the organiser, or a member, may ask this.
 fn may_ask(member: u8, ask: &Ask) -> bool
     ensures { result ≡ may_ask member ask.now }
 {
@@ -76,10 +80,10 @@ fn may_ask(member: u8, ask: &Ask) -> bool
     }
 }
 
-/// The bid of a body, of the kind that the facts ask for, where it is checked.
+// The bid of a body, of the kind that the facts ask for, if it is checked.
 fn checked_bid(facts: &Facts, body: BidBody) -> Option<Bid>
     requires { IsCheckedFacts facts.now }
-    ensures { result ≡ checked facts.now (form_of facts.now body) }
+    ensures { result ≡ bid_by_rule facts.now (form_of facts.now body) }
 {
     let bid = match facts {
         Facts::Rent(_) | Facts::Goods(_) => Bid::Values(body.values?),
@@ -88,6 +92,7 @@ fn checked_bid(facts: &Facts, body: BidBody) -> Option<Bid>
     allowed_bid(facts, bid)
 }
 
+// The field that a bid of this kind has to hold, which is named when it is missing.
 fn form_field(facts: &Facts) -> FieldName
     ensures { result ≡ form_field facts.now }
 {
@@ -97,7 +102,7 @@ fn form_field(facts: &Facts) -> FieldName
     }
 }
 
-/// A bid whose body is right.
+// A bid whose body is right.
 fn bid_turn(
     now: u64,
     id: u32,
@@ -110,7 +115,8 @@ fn bid_turn(
     requires least { 1 ≤ member }
     requires most { member ≤ length instance.now.creation.members.items }
     requires sound { IsCheckedInstance (instance_view instance.now) }
-    ensures { answer_view result ≡ bid_turn now id member (standing_of (instance_view instance.now) member closed) turn bid }
+    ensures { answer_view result
+        ≡ bid_turn now id member (standing_of (instance_view instance.now) member closed) turn bid }
 {
     let kept = turn_of(instance, member);
     if closed {
@@ -137,6 +143,7 @@ fn bid_turn(
     }
 }
 
+// A body that breaks a rule is refused as such, even if the instance is closed.
 fn answer_bid(
     now: u64,
     id: u32,
@@ -148,7 +155,8 @@ fn answer_bid(
     requires least { 1 ≤ member }
     requires most { member ≤ length instance.now.creation.members.items }
     requires sound { IsCheckedInstance (instance_view instance.now) }
-    ensures { answer_view result ≡ answer_bid now id member (standing_of (instance_view instance.now) member closed) body }
+    ensures { answer_view result
+        ≡ answer_bid now id member (standing_of (instance_view instance.now) member closed) body }
 {
     let body = match body {
         Ok(body) => body,
@@ -167,7 +175,7 @@ fn answer_bid(
     bid_turn(now, id, member, instance, closed, turn, bid)
 }
 
-/// A withdrawal whose body is right.
+// A withdrawal whose body is right.
 fn withdrawal_turn(
     now: u64,
     id: u32,
@@ -179,7 +187,9 @@ fn withdrawal_turn(
     requires least { 1 ≤ member }
     requires most { member ≤ length instance.now.creation.members.items }
     requires sound { IsCheckedInstance (instance_view instance.now) }
-    ensures { answer_view result ≡ withdrawal_turn now id member (standing_of (instance_view instance.now) member closed) turn }
+    ensures { answer_view result
+        ≡ withdrawal_turn now id member (standing_of (instance_view instance.now) member closed)
+        turn }
 {
     let kept = turn_of(instance, member);
     let has_none = bid_of(instance, member).is_none();
@@ -209,6 +219,7 @@ fn withdrawal_turn(
     }
 }
 
+// As with a bid, the body is tested before the state of the instance.
 fn answer_withdrawal(
     now: u64,
     id: u32,
@@ -220,7 +231,9 @@ fn answer_withdrawal(
     requires least { 1 ≤ member }
     requires most { member ≤ length instance.now.creation.members.items }
     requires sound { IsCheckedInstance (instance_view instance.now) }
-    ensures { answer_view result ≡ answer_withdrawal now id member (standing_of (instance_view instance.now) member closed) body }
+    ensures { answer_view result
+        ≡ answer_withdrawal now id member (standing_of (instance_view instance.now) member closed)
+        body }
 {
     let body = match body {
         Ok(body) => body,
@@ -234,9 +247,10 @@ fn answer_withdrawal(
     withdrawal_turn(now, id, member, instance, closed, turn)
 }
 
-/// A close that the organiser asks for.
+// A close that the organiser asks for.
 fn answer_close(now: u64, id: u32, member: u8, instance: &Instance, closed: bool) -> Answered
-    ensures { answer_view result ≡ answer_close now id (standing_of (instance_view instance.now) member closed) }
+    ensures { answer_view result
+        ≡ answer_close now id (standing_of (instance_view instance.now) member closed) }
 {
     if closed {
         return refused(Refusal::Closed);
@@ -250,7 +264,7 @@ fn answer_close(now: u64, id: u32, member: u8, instance: &Instance, closed: bool
     }
 }
 
-/// What a caller who may ask it is answered, the instance being closed or not.
+// What a caller who may ask it is answered, the instance being closed or not.
 fn answer_ask(
     now: u64,
     id: u32,
@@ -262,7 +276,8 @@ fn answer_ask(
     requires may { may_ask member ask ≡ true }
     requires most { member ≤ length instance.now.creation.members.items }
     requires sound { IsCheckedInstance (instance_view instance.now) }
-    ensures { answer_view result ≡ answer_ask now id member (standing_of (instance_view instance.now) member closed) ask }
+    ensures { answer_view result
+        ≡ answer_ask now id member (standing_of (instance_view instance.now) member closed) ask }
 {
     match ask {
         Ask::Status => says(Reply::Status { id, you: member }),
@@ -275,8 +290,8 @@ fn answer_ask(
     }
 }
 
-/// What is answered to a caller. Where the deadline has passed the event is the instance's Close, and the answer is that of the
-/// closed instance.
+// What is answered to a caller. If the deadline has passed the event is the instance's Close, and the answer is that of the
+// closed instance.
 fn answer_caller(now: u64, id: u32, ask: Ask, instance: &Instance, member: u8) -> Answered
     requires most { member ≤ length instance.now.creation.members.items }
     requires sound { IsCheckedInstance (instance_view instance.now) }
@@ -294,6 +309,7 @@ fn answer_caller(now: u64, id: u32, ask: Ask, instance: &Instance, member: u8) -
     answer_ask(now, id, member, instance, instance.closed, ask)
 }
 
+// Who asks is settled before what they ask, so that a wrong key learns nothing about the instance.
 fn answer_to(host: &Host, now: u64, id: u32, key: Option<Key>, ask: Ask) -> Answered
     ensures { answer_view result ≡ answer_to now id ask (caller_of host.now.content id key) }
 {
@@ -303,7 +319,7 @@ fn answer_to(host: &Host, now: u64, id: u32, key: Option<Key>, ask: Ask) -> Answ
     }
 }
 
-/// The same answer; only the step is said of it.
+// The same answer; only the step is said of it.
 fn step(host: &Host, moment: u64, command: Command) -> Answered
     ensures step { answer_view result ≡ step host.now.content moment (command_view command) }
     ensures sound { AreCheckedInstances host.now.content.instances }
@@ -323,22 +339,23 @@ fn step(host: &Host, moment: u64, command: Command) -> Answered
 
 /// What a host answers to a command at a moment, in seconds since 1970: at most one event, which may be applied, and one reply.
 ///
-/// The moment is taken as the greatest one of a kept event where it is below that. A new creation, bid or withdrawal and the
+/// The moment is taken as the greatest one of a kept event if it is below that. A new creation, bid or withdrawal and the
 /// organiser's close have their event. What a caller may ask of an instance at or past its deadline, which isn't closed, has the close
 /// as its event, and is answered as on the closed instance. A creation equal to the one that is kept under its tag has no event and
-/// that one's reply; nor has a bid equal to the kept one with the kept turn, or a withdrawal with the turn of the last withdrawal where
+/// that one's reply; nor has a bid equal to the kept one with the kept turn, or a withdrawal with the turn of the last withdrawal if
 /// the member hasn't bid since: they get the kept turn.
 ///
 /// A creation in the command keeps the rules that `Creation::is_checked` tests; every other command may come as it is.
 ///
-/// Each refusal comes exactly where it has its cause, and with no event but the close, at the moment, of the instance that is asked, which
-/// is open past its deadline. Where the instance that is asked isn't closed after the step, the reply follows from what the caller may
+/// Each refusal comes exactly if it has its cause, and with no event but the close, at the moment, of the instance that is asked, which
+/// is open past its deadline. If the instance that is asked isn't closed after the step, the reply follows from what the caller may
 /// know of it.
 pub fn answer(host: &Host, moment: u64, command: Command) -> Answered
     requires { IsCheckedCommand (command_view command) }
     ensures step { answer_view result ≡ step host.now.content moment (command_view command) }
     ensures applicable { IfSome result.event (λ e. CanApply host.now.content (event_view e)) }
-    ensures refused { (r : Refusal) → (result.reply ≡ Reply.Refused r) ↔ Cause host.now.content moment (command_view command) r }
+    ensures refused { (r : Refusal) → (result.reply ≡ Reply.Refused r)
+        ↔ Cause host.now.content moment (command_view command) r }
     ensures quiet { IsQuiet host.now.content moment (command_view command) (answer_view result) }
     ensures sealed { IsSealed host.now.content moment (command_view command) (answer_view result) }
 {

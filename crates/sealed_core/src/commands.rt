@@ -1,6 +1,6 @@
 // What can be asked of a host, by whom.
 use crate::Key;
-use case_fields::{BidBody, BodyFault, Creation};
+use body_fields::{BidBody, BodyFault, Creation};
 
 /// What is published once an instance is closed.
 #[derive(Clone, Copy, Debug, PartialEq, Eq)]
@@ -17,7 +17,7 @@ pub enum What {
     Winner,
 }
 
-/// What a caller asks of a host. The key is the one that they show, or `None` where they show none.
+/// What a caller asks of a host. The key is the one that they show, or `None` if they show none.
 #[derive(Debug, Drop, PartialEq, Eq)]
 pub enum Command {
     /// A new instance.

@@ -4,14 +4,16 @@ ghost use Rattle.sealed_core.specs.Host.{creation_view, text};
 ghost use Rattle.sealed_core.specs.Sameness.{is_kept, same_bid, same_creation, same_facts, same_texts};
 
 use bid_rules::{Bid, Facts, Fares};
-use case_fields::{Creation, Name};
+use body_fields::{Creation, Name};
 
+// Fares have a table of costs, which has to agree in every entry.
 fn same_fares(a: &Fares, b: &Fares) -> bool
     ensures { result ≡ same_facts (Facts.Fares a.now) (Facts.Fares b.now) }
 {
     a.members == b.members && a.places == b.places && a.flag == b.flag && a.legs == b.legs
 }
 
+// A creation that is sent again counts as the same one only if every fact agrees.
 fn same_facts(a: &Facts, b: &Facts) -> bool
     ensures { result ≡ same_facts a.now b.now }
 {
@@ -25,6 +27,7 @@ fn same_facts(a: &Facts, b: &Facts) -> bool
     }
 }
 
+// Names are compared byte by byte, as they were sent.
 #[tactic(auto, using(crate::proofs::Texts::texts_equal))]
 fn same_texts(a: &[Name], b: &[Name]) -> bool
     ensures { result ≡ same_texts (map text a.now) (map text b.now) }
@@ -32,7 +35,7 @@ fn same_texts(a: &[Name], b: &[Name]) -> bool
     a == b
 }
 
-/// Whether two creations are equal: all their fields are.
+// Whether two creations are equal: all their fields are.
 pub(crate) fn same_creation(a: &Creation, b: &Creation) -> bool
     ensures { result ≡ same_creation (creation_view a.now) (creation_view b.now) }
 {
@@ -42,6 +45,7 @@ pub(crate) fn same_creation(a: &Creation, b: &Creation) -> bool
     a.title == b.title && members && items && facts && a.deadline == b.deadline && a.tag == b.tag
 }
 
+// A bid that is sent again with its turn is answered as before only if it is the same.
 fn same_bid(a: &Bid, b: &Bid) -> bool
     ensures { result ≡ same_bid a.now b.now }
 {
@@ -52,7 +56,7 @@ fn same_bid(a: &Bid, b: &Bid) -> bool
     }
 }
 
-/// Whether a bid is kept and is this one.
+// Whether a bid is kept and is this one.
 pub(crate) fn is_kept(kept: &Option<Bid>, bid: &Bid) -> bool
     ensures { result ≡ is_kept kept.now bid.now }
 {

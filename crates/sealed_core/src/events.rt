@@ -7,7 +7,7 @@ use crate::limits::{MOST_INSTANCES, MOST_TURNS};
 use crate::lookups::{bid_of, instance_at, turn_of};
 use crate::{Host, Instance};
 use bid_rules::{Bid, check_bid};
-use case_fields::{Creation, Tag};
+use body_fields::{Creation, Tag};
 
 /// What changes a host. Moments are seconds since 1970; members count from 1.
 #[derive(Debug, Drop, PartialEq, Eq)]
@@ -39,26 +39,30 @@ pub enum Event {
     },
 }
 
+// A tag belongs to one instance.
 fn differs(instance: &Instance, tag: &Tag) -> bool
     ensures { IsTrue result ↔ ((instance_view instance.now).creation.tag ≢ text tag.now) }
 {
     instance.creation.tag.as_str() != tag.as_str()
 }
 
+// A new instance needs a tag that no other has.
 fn all_differ(instances: &[Instance], tag: &Tag) -> bool
-    ensures { IsTrue result ↔ All (λ i. (instance_view i).creation.tag ≢ text tag.now) instances.now }
+    ensures { IsTrue result
+        ↔ All (λ i. (instance_view i).creation.tag ≢ text tag.now) instances.now }
 {
     instances.iter().all(|instance| differs(instance, tag))
 }
 
-/// Whether no instance has the tag.
+// Whether no instance has the tag.
 fn is_free(instances: &[Instance], tag: &Tag) -> bool
-    ensures { IsTrue result ↔ All (λ i. i.creation.tag ≢ text tag.now) (map instance_view instances.now) }
+    ensures { IsTrue result
+        ↔ All (λ i. i.creation.tag ≢ text tag.now) (map instance_view instances.now) }
 {
     all_differ(instances, tag)
 }
 
-/// Whether the instance is open, before its deadline, and this is the member's next turn.
+// Whether the instance is open, before its deadline, and this is the member's next turn.
 fn is_next_turn(now: u64, instance: &Instance, member: u8, turn: u8) -> bool
     requires { IsCheckedInstance (instance_view instance.now) }
     ensures { IsTrue result ↔ IsNextTurn now (instance_view instance.now) member turn }
@@ -72,22 +76,32 @@ fn is_next_turn(now: u64, instance: &Instance, member: u8, turn: u8) -> bool
     turn == turn_of(instance, member) + 1
 }
 
+// An event from a journal is tested just as one that a request makes.
 fn can_bid(now: u64, instance: &Instance, member: u8, turn: u8, bid: &Bid) -> bool
     requires { IsCheckedInstance (instance_view instance.now) }
-    ensures { IsTrue result ↔ IsNextTurn now (instance_view instance.now) member turn × IsCheckedBid (instance_view instance.now).creation.facts bid.now }
+    ensures { IsTrue result
+        ↔ IsNextTurn now (instance_view instance.now) member turn
+        × IsCheckedBid (instance_view instance.now).creation.facts bid.now }
 {
     is_next_turn(now, instance, member, turn) && check_bid(&instance.creation.facts, bid).is_ok()
 }
 
+// Only a bid that is there can be withdrawn.
 fn can_withdraw(now: u64, instance: &Instance, member: u8, turn: u8) -> bool
     requires { IsCheckedInstance (instance_view instance.now) }
-    ensures { IsTrue result ↔ IsNextTurn now (instance_view instance.now) member turn × IsSome (kept_bid (instance_view instance.now) member) }
+    ensures { IsTrue result
+        ↔ IsNextTurn now (instance_view instance.now) member turn
+        × IsSome (kept_bid (instance_view instance.now) member) }
 {
     is_next_turn(now, instance, member, turn) && bid_of(instance, member).is_some()
 }
 
+// The deadline closes an instance, or its organiser does once every bid is there.
 fn can_close(now: u64, instance: &Instance) -> bool
-    ensures { IsTrue result ↔ ((instance_view instance.now).closed ≡ false) × (((instance_view instance.now).creation.deadline ≤ now) ⊎ All (λ bid. IsSome bid) (instance_view instance.now).bids) }
+    ensures { IsTrue result
+        ↔ ((instance_view instance.now).closed ≡ false)
+        × (((instance_view instance.now).creation.deadline ≤ now)
+        ⊎ All (λ bid. IsSome bid) (instance_view instance.now).bids) }
 {
     if instance.closed {
         return false;

@@ -4,14 +4,14 @@ ghost use Rattle.std.specs.Prelude.{◌+◌, ◌-◌, IfSome, IsSome, IsSomeAnd,
 ghost use Rattle.bid_rules.specs.Facts.{IsCheckedBid};
 ghost use Rattle.sealed_core.specs.declared.limits.TheConstants.{MOST_INSTANCES};
 ghost use Rattle.bid_rules.specs.declared.limits.TheConstants.{MEMBER_ROOM};
-ghost use Rattle.sealed_core.specs.Host.{CanApply, Created, HasRoom, IsCheckedCreation, IsNextTurn, IsCheckedInstance, apply, as_closed, change, creation_view, event_view, fresh, instance_at, instance_view, with_turn};
+ghost use Rattle.sealed_core.specs.Host.{CanApply, Created, HasRoom, IsCheckedCreation, IsNextTurn, IsCheckedInstance, apply, as_closed, change, creation_view, event_view, new_instance, instance_at, instance_view, with_turn};
 
 use crate::Event;
 use crate::limits::MOST_INSTANCES;
 use arrayvec::ArrayVec;
 use bid_rules::Bid;
 use bid_rules::limits::MEMBER_ROOM;
-use case_fields::Creation;
+use body_fields::Creation;
 use split_base::NoMemory;
 use std::alloc::Global;
 use std::marker::Model;
@@ -87,7 +87,8 @@ impl Host {
 
     /// Makes it the empty host with this secret, in the memory that it has.
     pub fn clear(&mut self, secret: [u8; 32])
-        ensures content { self.new.content ≡ record { secret = secret; moment = 0; instances = [] } }
+        ensures content { self.new.content
+            ≡ record { secret = secret; moment = 0; instances = [] } }
         ensures spare { self.new.spare ≡ self.old.spare + length self.old.content.instances }
         ensures room { HasRoom self.old → HasRoom self.new }
     {
@@ -96,6 +97,7 @@ impl Host {
         self.instances.clear();
     }
 
+    // A host that has room for every instance from the start never lacks memory when it keeps an event.
     fn reserve_all(&mut self) -> Result<(), NoMemory>
         ensures content { self.new.content ≡ self.old.content }
         ensures room { OnOk result (HasRoom self.new) }
@@ -106,6 +108,7 @@ impl Host {
         }
     }
 
+    // A host without room for all instances asks for that of the next one before it answers.
     fn reserve_one(&mut self) -> Result<(), NoMemory>
         ensures content { self.new.content ≡ self.old.content }
         ensures room { OnOk result (1 ≤ self.new.spare) }
@@ -118,22 +121,30 @@ impl Host {
         }
     }
 
-    /// Adds an instance in which nobody has bid.
+    // Adds an instance in which nobody has bid.
     fn create(&mut self, moment: u64, creation: Creation)
         requires few { length self.old.content.instances < MOST_INSTANCES }
         requires creation { IsCheckedCreation (creation_view creation) }
         requires room { 1 ≤ self.old.spare }
-        ensures content { self.new.content ≡ apply self.old.content (Created moment (creation_view creation)) }
+        ensures content { self.new.content
+            ≡ apply self.old.content (Created moment (creation_view creation)) }
         ensures spare { self.new.spare + 1 ≡ self.old.spare }
     {
         self.moment = moment;
         self.instances.push_reserved(fresh(creation));
     }
 
-    /// Keeps a member's turn, and the bid that they now have or none.
+    // Keeps a member's turn, and the bid that they now have or none.
     fn keep_turn(&mut self, moment: u64, id: u32, member: u8, turn: u8, bid: Option<Bid>)
-        requires { IsSomeAnd (instance_at self.old.content id) (λ i. IsNextTurn moment i member turn × IfSome bid (IsCheckedBid i.creation.facts)) }
-        ensures content { self.new.content ≡ record { secret = self.old.content.secret; moment = moment; instances = change (with_turn member turn bid) self.old.content.instances id } }
+        requires { IsSomeAnd (instance_at self.old.content id) (λ i.
+            IsNextTurn moment i member turn × IfSome bid (IsCheckedBid i.creation.facts)) }
+        ensures content { self.new.content
+            ≡ record {
+              secret = self.old.content.secret;
+              moment = moment;
+              instances = change
+                  (with_turn member turn bid) self.old.content.instances id;
+            } }
         ensures spare { self.new.spare ≡ self.old.spare }
     {
         self.moment = moment;
@@ -141,10 +152,16 @@ impl Host {
         set_turn(instance, member, turn, bid);
     }
 
-    /// Closes an instance.
+    // Closes an instance.
     fn close(&mut self, moment: u64, id: u32)
         requires { IsSome (instance_at self.old.content id) }
-        ensures content { self.new.content ≡ record { secret = self.old.content.secret; moment = moment; instances = change as_closed self.old.content.instances id } }
+        ensures content { self.new.content
+            ≡ record {
+              secret = self.old.content.secret;
+              moment = moment;
+              instances = change
+                  as_closed self.old.content.instances id;
+            } }
         ensures spare { self.new.spare ≡ self.old.spare }
     {
         self.moment = moment;
@@ -152,6 +169,7 @@ impl Host {
     }
 }
 
+// Nobody has bid yet, so the next turn of each member is the first.
 fn no_turns(members: usize) -> ArrayVec<u8, MEMBER_ROOM>
     requires { members ≤ MEMBER_ROOM }
     ensures { result.items ≡ replicate members 0 }
@@ -163,6 +181,7 @@ fn no_turns(members: usize) -> ArrayVec<u8, MEMBER_ROOM>
     turns
 }
 
+// An instance begins without bids.
 fn no_bids(members: usize) -> ArrayVec<Option<Bid>, MEMBER_ROOM>
     requires { members ≤ MEMBER_ROOM }
     ensures { result.items ≡ replicate members None }
@@ -174,9 +193,9 @@ fn no_bids(members: usize) -> ArrayVec<Option<Bid>, MEMBER_ROOM>
     bids
 }
 
-/// An instance in which nobody has bid.
+// An instance in which nobody has bid.
 fn fresh(creation: Creation) -> Instance
-    ensures { instance_view result ≡ fresh (creation_view creation) }
+    ensures { instance_view result ≡ new_instance (creation_view creation) }
 {
     let turns = no_turns(creation.members.len());
     let bids = no_bids(creation.members.len());
@@ -188,7 +207,7 @@ fn fresh(creation: Creation) -> Instance
     }
 }
 
-/// Sets a member's turn and bid.
+// Sets a member's turn and bid.
 fn set_turn(instance: &mut Instance, member: u8, turn: u8, bid: Option<Bid>)
     requires least { 1 ≤ member }
     requires turns { member ≤ length instance.old.turns.items }
@@ -224,7 +243,8 @@ pub fn apply(host: &mut Host, event: Event)
     requires can { CanApply host.old.content (event_view event) }
     requires room { 1 ≤ host.old.spare }
     ensures content { host.new.content ≡ apply host.old.content (event_view event) }
-    ensures spare { host.new.spare + length host.new.content.instances ≡ host.old.spare + length host.old.content.instances }
+    ensures spare { host.new.spare + length host.new.content.instances
+        ≡ host.old.spare + length host.old.content.instances }
     ensures room { HasRoom host.old → HasRoom host.new }
 {
     match event {

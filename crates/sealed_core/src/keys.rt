@@ -27,7 +27,7 @@ pub fn key_of(secret: &[u8; 32], id: u32, member: u8) -> Key
     key
 }
 
-/// The least number, from 0 to the count, whose key this is.
+// The least number, from 0 to the count, whose key this is.
 #[tactic(auto, using(crate::proofs::Holders::first_here, crate::proofs::Holders::first_later))]
 pub(crate) fn holder_of(secret: &[u8; 32], id: u32, key: &Key, count: u8) -> Option<u8>
     requires { count ≤ MEMBER_ROOM }

@@ -4,7 +4,7 @@
 //! Until an instance is closed, what a caller hears of it follows from the public facts, their own bid and kept turn, and the greatest
 //! moment of a kept event alone.
 //!
-//! Each refusal comes exactly where it has its cause. `machine_law` says of each kept event which
+//! Each refusal comes exactly if it has its cause. `machine_law` says of each kept event which
 //! command it comes from, `publication_law` what is published, `key_law` what a key is, and
 //! `sameness_law` which creations and bids pass for equal. That a key is hard to guess is not
 //! proved.
@@ -22,7 +22,7 @@ mod lookups;
 mod replies;
 
 pub use answers::answer;
-pub use case_fields::{
+pub use body_fields::{
     BidBody, BodyFault, Creation, FieldName, Name, Tag, allowed_bid, is_name, is_tag, member_count,
 };
 pub use commands::{Ask, Command, What};

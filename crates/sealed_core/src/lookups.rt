@@ -8,11 +8,12 @@ ghost use Rattle.sealed_core.specs.Step.{caller_of, is_over, tagged_from};
 use crate::keys::holder_of;
 use crate::{Host, Instance, Key, Refusal};
 use bid_rules::Bid;
-use case_fields::{Creation, Tag};
+use body_fields::{Creation, Tag};
 
 /// The instance with this id, from 1, in the order of creation.
 pub fn instance_at<'a>(host: &'a Host, id: u32) -> Option<&'a Instance>
-    ensures found { MatchOption result (instance_at host.now.content id ≡ None) (λ i. instance_at host.now.content id ≡ Some (instance_view i.now)) }
+    ensures found { MatchOption result (instance_at host.now.content id ≡ None)
+        (λ i. instance_at host.now.content id ≡ Some (instance_view i.now)) }
     ensures sound { IfSome result (λ i. IsCheckedInstance (instance_view i.now)) }
 {
     if id == 0 {
@@ -22,13 +23,14 @@ pub fn instance_at<'a>(host: &'a Host, id: u32) -> Option<&'a Instance>
     Some(instance)
 }
 
-/// The instance that is asked and the caller's number in it: 0 for the organiser, else a member.
+// The instance that is asked and the caller's number in it: 0 for the organiser, otherwise a member.
 pub(crate) fn caller<'a>(
     host: &'a Host,
     id: u32,
     key: Option<Key>,
 ) -> Result<(&'a Instance, u8), Refusal>
-    ensures found { MatchResult result (λ p. caller_of host.now.content id key ≡ Ok (instance_view p.0.now, p.1))
+    ensures found { MatchResult result
+        (λ p. caller_of host.now.content id key ≡ Ok (instance_view p.0.now, p.1))
         (λ r. caller_of host.now.content id key ≡ Err r) }
     ensures sound { IfOk result (λ p. IsCheckedInstance (instance_view p.0.now)) }
     ensures member { IfOk result (λ p. p.1 ≤ length p.0.now.creation.members.items) }
@@ -46,20 +48,21 @@ pub(crate) fn caller<'a>(
     }
 }
 
-/// Whether the deadline has passed and the instance isn't closed.
+// Whether the deadline has passed and the instance isn't closed.
 pub(crate) fn is_over(now: u64, instance: &Instance) -> bool
     ensures { result ≡ is_over now (instance_view instance.now) }
 {
     !instance.closed && instance.creation.deadline <= now
 }
 
+// An instance with every bid can be closed before its deadline.
 fn has_all(bids: &[Option<Bid>]) -> bool
     ensures { result ≡ list_all is_some bids.now }
 {
     bids.iter().all(|bid| bid.is_some())
 }
 
-/// Whether every member has a bid.
+// Whether every member has a bid.
 pub(crate) fn all_bid(instance: &Instance) -> bool
     ensures { result ≡ list_all (λ has. has) (map is_some (instance_view instance.now).bids) }
 {
@@ -87,11 +90,14 @@ pub fn bid_of(instance: &Instance, member: u8) -> &Option<Bid>
     &instance.bids[usize::from(member) - 1]
 }
 
-/// The first instance with this tag, and its id.
+// The first instance with this tag, and its id.
 pub(crate) fn tagged<'a>(instances: &'a [Instance], tag: &Tag) -> Option<(u32, &'a Creation)>
     requires { length instances.now ≤ MOST_INSTANCES }
-    ensures { MatchOption result (tagged_from 1 (map instance_view instances.now) (text tag.now) ≡ None)
-        (λ p. tagged_from 1 (map instance_view instances.now) (text tag.now) ≡ Some (p.0, creation_view p.1.now)) }
+    ensures { MatchOption result
+        (tagged_from 1 (map instance_view instances.now) (text tag.now) ≡ None)
+        (λ p.
+        tagged_from 1 (map instance_view instances.now) (text tag.now)
+        ≡ Some (p.0, creation_view p.1.now)) }
 {
     for place in 0..instances.len() {
         let instance = &instances[place];

@@ -1,6 +1,6 @@
 // What the host replies, and why it refuses.
 use crate::{Event, What};
-use case_fields::FieldName;
+use body_fields::FieldName;
 
 /// Why a command is refused. The first of several causes is told, in the order `NoInstance` to `TurnsUsed`, `NoBid`, `NotAll`,
 /// `NotClosed`.

@@ -14,7 +14,7 @@ use Rattle.search_workers.specs.declared.limits.TheConstants.{LONGEST_PIECE, MOS
 use Rattle.search_workers.specs.declared.view.DeskView.{DeskView}
 use Rattle.search_workers.specs.Desks.{DeskState, IsDesk, IsViewOf, all_allots, all_reported, all_stops, all_tickets, node_word, ticket_word}
 use Rattle.search_workers.specs.Steps.{after_draw, after_join, after_report, after_split}
-use Rattle.search_workers.specs.Views.{drawn, fewer, fresh, joined, spent, stop_of, told}
+use Rattle.search_workers.specs.Views.{with_ticket, fewer, idle_worker, sum_of_views, no_worker, stop_of, with_report}
 use Rattle.search_workers.specs.Plays.{Draws, Reports, SeatState}
 use Rattle.search_workers.proofs.Sums.{below_count, below_more, below_not, entry_le, only, only_same, place_le, sum_last, sum_le, sum_length, sum_same, sum_set}
 
@@ -80,7 +80,7 @@ sum_allots views j v w at = sum_set (λ (u : DeskView). u.allot) views j v w at
 -- what a draw does to the sums
 pub draw_tickets : (s : DeskState) (j : ℕ) (v : DeskView) (weight : ℕ → ℕ) → get_elem? s.views j ≡ some v → all_tickets weight (after_draw s j v).views ≡ all_tickets weight s.views + weight (ticket_word s)
 draw_tickets s j v weight at =
-    let a = sum_tickets weight s.views j v (drawn v (ticket_word s)) at in
+    let a = sum_tickets weight s.views j v (with_ticket v (ticket_word s)) at in
     let b : sum_by weight (v.tickets ++ ticket_word s ∷ []) ≡ sum_by weight v.tickets + weight (ticket_word s) = sum_last weight v.tickets (ticket_word s) in
     omega (arith, a, b)
 
@@ -88,7 +88,7 @@ draw_tickets s j v weight at =
 pub draw_others : (s : DeskState) (j : ℕ) (v : DeskView) → get_elem? s.views j ≡ some v
     → (all_reported (after_draw s j v).views ≡ all_reported s.views) × (all_stops (after_draw s j v).views ≡ all_stops s.views) × (all_allots (after_draw s j v).views ≡ all_allots s.views)
 draw_others s j v at =
-    let w = drawn v (ticket_word s) in
+    let w = with_ticket v (ticket_word s) in
     let a = sum_reported s.views j v w at in
     let b = sum_stops s.views j v w at in
     let c = sum_allots s.views j v w at in
@@ -128,7 +128,7 @@ draw_keeps left workers j s v r at room =
             few_tickets = let l = length-append v.tickets (n ∷ []) in omega (arith, l, room);
             few_stops = fits.few_stops;
           })
-          (λ t. r.views i u t.1) (at_set s.views j i (drawn v n) u e);
+          (λ t. r.views i u t.1) (at_set s.views j i (with_ticket v n) u e);
     }
 
 -- so a seat with room for a ticket may draw
@@ -138,10 +138,10 @@ draws left workers slots id me room s r homes at small =
     let n = ticket_word s in
     let few = few_tickets left workers s r in
     let next : (n + 1) % 2 ^ 64 ≡ n + 1 = mod-eq_of_lt (omega (arith, few)) in (
-      drawn me.0 n,
+      with_ticket me.0 n,
       keeps,
       tt,
-      subst (λ m. IsDesk left workers record { words = set s.words 0 m; homes = s.homes; views = set s.views id (drawn me.0 n) }) (sym next) (draw_keeps left workers id s me.0 r at room),
+      subst (λ m. IsDesk left workers record { words = set s.words 0 m; homes = s.homes; views = set s.views id (with_ticket me.0 n) }) (sym next) (draw_keeps left workers id s me.0 r at room),
       (refl, tickets_below left workers s id me.0 r at),
     )
 
@@ -159,17 +159,17 @@ stop_most left n = dite (dec_le n left) (λ h. let e = stop_no left n h in omega
 
 -- what a report does to what is reported
 pub report_reported : (s : DeskState) (j count : ℕ) (v : DeskView) → get_elem? s.views j ≡ some v → all_reported (after_report s j v count).views ≡ all_reported s.views + count
-report_reported s j count v at = let a = sum_reported s.views j v (told v count (node_word s)) at in omega (arith, a)
+report_reported s j count v at = let a = sum_reported s.views j v (with_report v count (node_word s)) at in omega (arith, a)
 
 -- to the stops
 pub report_stops : (s : DeskState) (j count : ℕ) (v : DeskView) → get_elem? s.views j ≡ some v → all_stops (after_report s j v count).views ≡ all_stops s.views + stop_of v.left (node_word s + count)
-report_stops s j count v at = let a = sum_stops s.views j v (told v count (node_word s)) at in omega (arith, a)
+report_stops s j count v at = let a = sum_stops s.views j v (with_report v count (node_word s)) at in omega (arith, a)
 
 -- nothing else changes
 pub report_others : (s : DeskState) (j count : ℕ) (v : DeskView) (weight : ℕ → ℕ) → get_elem? s.views j ≡ some v
     → (all_tickets weight (after_report s j v count).views ≡ all_tickets weight s.views) × (all_allots (after_report s j v count).views ≡ all_allots s.views)
 report_others s j count v weight at =
-    let w = told v count (node_word s) in
+    let w = with_report v count (node_word s) in
     let a = sum_tickets weight s.views j v w at in
     let b = sum_allots s.views j v w at in
     (omega (arith, a), omega (arith, b))
@@ -207,7 +207,7 @@ report_keeps left workers j count s v r at some_count few_count room =
             few_tickets = fits.few_tickets;
             few_stops = let one = stop_most v.left (n + count) in omega (arith, one, room);
           })
-          (λ t. r.views i u t.1) (at_set s.views j i (told v count n) u e);
+          (λ t. r.views i u t.1) (at_set s.views j i (with_report v count n) u e);
     }
 
 -- so a seat with fewer stops than workers may report a piece
@@ -230,10 +230,10 @@ reports left workers slots id count me some_count few_count room s r homes at sm
     let mine : v.reported ≤ all_reported s.views = entry_le (λ (u : DeskView). u.reported) s.views id v at in
     let nodes = r.nodes in
     let more : get_or (set s.words 1 (n + count)) 1 0 ≡ n + count = get_or-set_same s.words 1 (n + count) 0 (let two = r.two_words in omega (arith, two)) in (
-      told v count n,
+      with_report v count n,
       keeps,
       tt,
-      subst (λ m. IsDesk left workers record { words = set s.words 1 m; homes = s.homes; views = set s.views id (told v count n) }) (sym next) after,
+      subst (λ m. IsDesk left workers record { words = set s.words 1 m; homes = s.homes; views = set s.views id (with_report v count n) }) (sym next) after,
       (
         record {
           told = refl;
@@ -254,13 +254,13 @@ split_same s j v weight at some_worker =
     let w = fewer v in
     let views = set s.views j w in
     let a = sum_tickets weight s.views j v w at in
-    let a' : all_tickets weight (views ++ fresh v ∷ []) ≡ all_tickets weight views + 0 = sum_last (λ (u : DeskView). sum_by weight u.tickets) views (fresh v) in
+    let a' : all_tickets weight (views ++ idle_worker v ∷ []) ≡ all_tickets weight views + 0 = sum_last (λ (u : DeskView). sum_by weight u.tickets) views (idle_worker v) in
     let b = sum_reported s.views j v w at in
-    let b' : all_reported (views ++ fresh v ∷ []) ≡ all_reported views + 0 = sum_last (λ (u : DeskView). u.reported) views (fresh v) in
+    let b' : all_reported (views ++ idle_worker v ∷ []) ≡ all_reported views + 0 = sum_last (λ (u : DeskView). u.reported) views (idle_worker v) in
     let c = sum_stops s.views j v w at in
-    let c' : all_stops (views ++ fresh v ∷ []) ≡ all_stops views + 0 = sum_last (λ (u : DeskView). u.stops) views (fresh v) in
+    let c' : all_stops (views ++ idle_worker v ∷ []) ≡ all_stops views + 0 = sum_last (λ (u : DeskView). u.stops) views (idle_worker v) in
     let d = sum_allots s.views j v w at in
-    let d' : all_allots (views ++ fresh v ∷ []) ≡ all_allots views + 1 = sum_last (λ (u : DeskView). u.allot) views (fresh v) in
+    let d' : all_allots (views ++ idle_worker v ∷ []) ≡ all_allots views + 1 = sum_last (λ (u : DeskView). u.allot) views (idle_worker v) in
     (omega (arith, a, a'), omega (arith, b, b'), omega (arith, c, c'), omega (arith, d, d', some_worker))
 
 -- a split keeps the rule
@@ -285,34 +285,34 @@ split_keeps left workers j s v r at two room few =
           (λ t. subst (IsViewOf left workers) t.1 record { stands = inr (omega (arith, two), numbers.0, numbers.1); few_tickets = room; few_stops = few })
           (λ t. r.views i u t.1) (at_set s.views j i (fewer v) u there))
           (λ new. subst (IsViewOf left workers) new record { stands = inr (omega arith, numbers.0, numbers.1); few_tickets = omega arith; few_stops = omega arith })
-          (at_snoc (set s.views j (fewer v)) (fresh v) u i e);
+          (at_snoc (set s.views j (fewer v)) (idle_worker v) u i e);
     }
 
 -- nothing changes in sum by a join
-pub join_same : (s : DeskState) (j from : ℕ) (v other : DeskView) (weight : ℕ → ℕ) → get_elem? s.views j ≡ some v → get_elem? (set s.views j (joined v other)) from ≡ some other
+pub join_same : (s : DeskState) (j from : ℕ) (v other : DeskView) (weight : ℕ → ℕ) → get_elem? s.views j ≡ some v → get_elem? (set s.views j (sum_of_views v other)) from ≡ some other
     → (all_tickets weight (after_join s j v from other).views ≡ all_tickets weight s.views) × (all_reported (after_join s j v from other).views ≡ all_reported s.views)
     × (all_stops (after_join s j v from other).views ≡ all_stops s.views) × (all_allots (after_join s j v from other).views ≡ all_allots s.views)
 join_same s j from v other weight at there =
-    let w = joined v other in
+    let w = sum_of_views v other in
     let views = set s.views j w in
     let a = sum_tickets weight s.views j v w at in
-    let a' : all_tickets weight (set views from spent) + sum_by weight other.tickets ≡ all_tickets weight views + 0 = sum_tickets weight views from other spent there in
+    let a' : all_tickets weight (set views from no_worker) + sum_by weight other.tickets ≡ all_tickets weight views + 0 = sum_tickets weight views from other no_worker there in
     let a'' : sum_by weight (v.tickets ++ other.tickets) ≡ sum_by weight v.tickets + sum_by weight other.tickets = sum_by-append weight v.tickets other.tickets in
     let b = sum_reported s.views j v w at in
-    let b' = sum_reported views from other spent there in
+    let b' = sum_reported views from other no_worker there in
     let c = sum_stops s.views j v w at in
-    let c' = sum_stops views from other spent there in
+    let c' = sum_stops views from other no_worker there in
     let d = sum_allots s.views j v w at in
-    let d' = sum_allots views from other spent there in
+    let d' = sum_allots views from other no_worker there in
     (omega (arith, a, a', a''), omega (arith, b, b'), omega (arith, c, c'), omega (arith, d, d'))
 
 -- a join keeps the rule
-pub join_keeps : (left workers j from : ℕ) (s : DeskState) (v other : DeskView) → IsDesk left workers s → get_elem? s.views j ≡ some v → from ≢ j → get_elem? (set s.views j (joined v other)) from ≡ some other → 1 ≤ v.allot
+pub join_keeps : (left workers j from : ℕ) (s : DeskState) (v other : DeskView) → IsDesk left workers s → get_elem? s.views j ≡ some v → from ≢ j → get_elem? (set s.views j (sum_of_views v other)) from ≡ some other → 1 ≤ v.allot
     → IsDesk left workers (after_join s j v from other)
 join_keeps left workers j from s v other r at apart there stands =
     let fits = r.views j v at in
     let numbers = not_spent left workers v fits (omega (arith, stands)) in
-    let w = joined v other in
+    let w = sum_of_views v other in
     let fits' : IsViewOf left workers other = ⊎_elim (λ t. absurd (apart t.0)) (λ t. r.views from other t.1) (at_set s.views j from w other there) in
     let few = fits.few_stops in
     let few' = fits'.few_stops in
@@ -340,5 +340,5 @@ join_keeps left workers j from s v other r at apart there stands =
           })
           (λ q. r.views i u q.1)
           (at_set s.views j i w u t.1))
-          (at_set (set s.views j w) from i spent u e);
+          (at_set (set s.views j w) from i no_worker u e);
     }

@@ -11,17 +11,17 @@ use Rattle.atomic_table.specs.Table.{step, keeps, Allows}
 use Rattle.atomic_table.proofs.Lists.{set_again}
 use Rattle.search_workers.specs.declared.view.DeskView.{DeskView}
 use Rattle.search_workers.specs.Desks.{DeskState, IsDesk, IsViewOf, all_allots, all_stops, node_word, ticket_word}
-use Rattle.search_workers.specs.Views.{spent}
+use Rattle.search_workers.specs.Views.{no_worker}
 use Rattle.search_workers.specs.Plays.{HasAll, Learns, SeatState}
 use Rattle.search_workers.proofs.DeskSteps.{not_spent}
 use Rattle.search_workers.proofs.Sums.{entry_le, two_le}
 
 -- a view that accounts for no worker is the spent one
-idle_spent : (left workers : ℕ) (v : DeskView) → IsViewOf left workers v → v.allot ≡ 0 → v ≡ spent
+idle_spent : (left workers : ℕ) (v : DeskView) → IsViewOf left workers v → v.allot ≡ 0 → v ≡ no_worker
 idle_spent left workers v fits none_left = ⊎_elim (λ e. e) (λ t. absurd (omega (arith, t.0, none_left))) fits.stands
 
 -- views that account for no worker have nothing
-all_idle : (left workers : ℕ) (g : DeskView → ℕ) (l : List DeskView) → g spent ≡ 0 → ((i : ℕ) (v : DeskView) → get_elem? l i ≡ some v → IsViewOf left workers v) → all_allots l ≡ 0 → sum_by g l ≡ 0
+all_idle : (left workers : ℕ) (g : DeskView → ℕ) (l : List DeskView) → g no_worker ≡ 0 → ((i : ℕ) (v : DeskView) → get_elem? l i ≡ some v → IsViewOf left workers v) → all_allots l ≡ 0 → sum_by g l ≡ 0
 all_idle left workers g [] nothing fits none_left = refl
 all_idle left workers g (x ∷ xs) nothing fits none_left =
     let a : sum_by g (x ∷ xs) ≡ g x + sum_by g xs = sum_by-cons g x xs in
@@ -31,7 +31,7 @@ all_idle left workers g (x ∷ xs) nothing fits none_left =
     omega (arith, a, here, rest, nothing)
 
 -- where one view accounts for all workers, sums over all views are its own
-alone : (left workers : ℕ) (g : DeskView → ℕ) (l : List DeskView) (j : ℕ) (v : DeskView) → g spent ≡ 0
+alone : (left workers : ℕ) (g : DeskView → ℕ) (l : List DeskView) (j : ℕ) (v : DeskView) → g no_worker ≡ 0
     → ((i : ℕ) (u : DeskView) → get_elem? l i ≡ some u → IsViewOf left workers u) → get_elem? l j ≡ some v → all_allots l ≡ v.allot → sum_by g l ≡ g v
 alone left workers g [] j v nothing fits at all = absurd (some-ne-none v (sym at))
 alone left workers g (x ∷ xs) zero v nothing fits at all =
@@ -51,11 +51,11 @@ alone left workers g (x ∷ xs) (suc j) v nothing fits at all =
     omega (arith, a, here, rest, nothing)
 
 -- the same by the rule of the desk
-pub sums_alone : (left workers : ℕ) (g : DeskView → ℕ) (s : DeskState) (j : ℕ) (v : DeskView) → g spent ≡ 0 → IsDesk left workers s → get_elem? s.views j ≡ some v → v.allot ≡ workers → sum_by g s.views ≡ g v
+pub sums_alone : (left workers : ℕ) (g : DeskView → ℕ) (s : DeskState) (j : ℕ) (v : DeskView) → g no_worker ≡ 0 → IsDesk left workers s → get_elem? s.views j ≡ some v → v.allot ≡ workers → sum_by g s.views ≡ g v
 sums_alone left workers g s j v nothing r at all = let allots = r.allots in alone left workers g s.views j v nothing r.views at (omega (arith, allots, all))
 
 -- all others are spent
-pub others_spent : (left workers : ℕ) (s : DeskState) (j i : ℕ) (v u : DeskView) → IsDesk left workers s → get_elem? s.views j ≡ some v → v.allot ≡ workers → i ≢ j → get_elem? s.views i ≡ some u → u ≡ spent
+pub others_spent : (left workers : ℕ) (s : DeskState) (j i : ℕ) (v u : DeskView) → IsDesk left workers s → get_elem? s.views j ≡ some v → v.allot ≡ workers → i ≢ j → get_elem? s.views i ≡ some u → u ≡ no_worker
 others_spent left workers s j i v u r at all apart there =
     let both : u.allot + v.allot ≤ all_allots s.views = two_le (λ (w : DeskView). w.allot) s.views i j u v apart there at in
     let allots = r.allots in

@@ -5,4 +5,5 @@ pub mod TicketTasks
 pub mod FromRule
 pub mod DrawnTickets
 pub mod ReportedPieces
-pub mod WorkersEnd
+pub mod PartSums
+pub mod KeptEnds

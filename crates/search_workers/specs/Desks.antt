@@ -9,7 +9,7 @@ use Rattle.bid_rules.specs.declared.limits.TheConstants.{MOST_STEPS}
 use Rattle.search_workers.specs.declared.limits.TheConstants.{LONGEST_PIECE, MOST_TICKETS, MOST_WORKERS}
 use Rattle.search_workers.specs.declared.view.DeskView.{DeskView}
 use Rattle.search_workers.specs.declared.view.DeskSize.{DeskSize}
-use Rattle.search_workers.specs.Views.{spent}
+use Rattle.search_workers.specs.Views.{no_worker}
 
 -- the two words of a desk, and the views of all its seats, also of those that were given back
 abbrev pub DeskState : Type 0
@@ -45,7 +45,7 @@ all_allots views = sum_by (λ (view : DeskView). view.allot) views
 
 -- a view accounts for no worker, or for some at this desk, with few tickets and few stops for each of them
 pub record IsViewOf (left workers : ℕ) (view : DeskView) : Type 0 where
-  pub stands : (view ≡ spent) ⊎ ((0 < view.allot) × (view.left ≡ left) × (view.workers ≡ workers))
+  pub stands : (view ≡ no_worker) ⊎ ((0 < view.allot) × (view.left ≡ left) × (view.workers ≡ workers))
   pub few_tickets : length view.tickets ≤ MOST_TICKETS * view.allot
   pub few_stops : view.stops ≤ view.allot
 

@@ -5,3 +5,4 @@ pub mod Plays
 pub mod Works
 pub mod BlockEnds
 pub mod Crews
+pub mod Parts

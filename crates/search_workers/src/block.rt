@@ -1,13 +1,15 @@
+// The search of one block, by the calling thread alone or by several workers.
 ghost use Rattle.std.specs.Prelude.{◌≡◌, ◌+◌, ◌*◌, ◌<◌, ◌≤◌, IfOk};
 ghost use Rattle.bid_rules.specs.Goods.{IsValidGoodsCase};
 ghost use Rattle.nash_bounds.specs.Tasks.{tasks_of};
 ghost use Rattle.nash_search.specs.Tables.{AreTables};
 ghost use Rattle.search_workers.specs.BlockEnds.{EndsBlock, crew_of};
 
-use crate::crew::{gather, run_workers, seat_workers};
-use crate::desk::open_desk;
+use crate::board::Board;
+use crate::crew::{hire, run_workers};
 use crate::limits::MOST_WORKERS;
-use crate::view::DeskSize;
+use crate::parts::parts_of;
+use crate::settle::{gather, no_ends, settle};
 use crate::worker::BlockRule;
 use bid_rules::GoodsCase;
 use bid_rules::limits::MOST_STEPS;
@@ -27,7 +29,7 @@ pub enum BlockEnd {
     Over { nodes: u32 },
 }
 
-/// A block by the calling thread alone.
+// A block by the calling thread alone.
 fn walk_alone<G: Gate>(
     case: &GoodsCase,
     tables: &Tables,
@@ -40,7 +42,8 @@ fn walk_alone<G: Gate>(
     requires block { BLOCK_TASKS * rule.now.block < tasks_of case.now }
     requires left { rule.now.left ≤ MOST_STEPS }
     requires workers { 1 ≤ workers }
-    ensures { EndsBlock case.now rule.now.floor rule.now.above rule.now.block rule.now.left workers result }
+    ensures { EndsBlock case.now rule.now.floor rule.now.above rule.now.block rule.now.left workers
+        result }
 {
     tasks_in_row_law();
     let tasks = tasks_in_block(case, rule.block);
@@ -62,7 +65,7 @@ fn walk_alone<G: Gate>(
     }
 }
 
-/// A block by workers who draw its tasks at a desk, or no memory for the desk or its seats.
+// A block by workers who draw its parts, or no memory for the parts or the workers.
 fn share<R: Threads + Sync, G: Gate + Sync>(
     alloc: Global,
     rt: &R,
@@ -76,21 +79,37 @@ fn share<R: Threads + Sync, G: Gate + Sync>(
     requires tables { AreTables case.now tables.now }
     requires block { BLOCK_TASKS * rule.now.block < tasks_of case.now }
     requires left { rule.now.left ≤ MOST_STEPS }
-    requires workers { (1 ≤ workers) × (workers ≤ MOST_WORKERS) }
-    ensures { IfOk result (EndsBlock case.now rule.now.floor rule.now.above rule.now.block rule.now.left workers) }
+    requires workers { 1 ≤ workers }
+    ensures { IfOk result
+        (EndsBlock case.now rule.now.floor rule.now.above rule.now.block rule.now.left workers) }
 {
-    let size = DeskSize {
-        left: rule.left,
+    let (parts, shorter) = parts_of(alloc, case, tables, rule)?;
+    if shorter > rule.left as usize {
+        return Ok(BlockEnd::Over {
+            nodes: rule.left + 1,
+        });
+    }
+    let shorter = shorter as u32;
+    let parts = parts.as_slice();
+    let mut ends = no_ends(alloc, parts)?;
+    let mut crew = hire(alloc, workers)?;
+    let board = Board::new(alloc, rule, parts, rule.left - shorter)?;
+    run_workers(
+        rt,
+        crew.as_mut_slice(),
+        case,
+        tables,
+        rule,
+        parts,
         workers,
-    };
-    let (desk, seat) = open_desk(alloc, &size)?;
-    let mut crew = seat_workers(alloc, &desk, seat, workers, rule.left)?;
-    let seats = crew.as_mut_slice();
-    run_workers(rt, seats, case, tables, rule, workers, &desk, gate);
-    Ok(gather(&desk, crew, case, rule, workers))
+        &board,
+        gate,
+    );
+    gather(ends.as_mut_slice(), crew, case, rule, parts);
+    Ok(settle(case, tables, rule, parts, ends.as_slice(), shorter))
 }
 
-/// How many workers a block takes: those asked for, but no more than it has tasks.
+// How many workers a block takes: those asked for, but no more than it has tasks.
 fn crew_size(case: &GoodsCase, block: u32, workers: u8) -> u8
     requires case { IsValidGoodsCase case.now }
     requires block { BLOCK_TASKS * block < tasks_of case.now }
@@ -103,7 +122,7 @@ fn crew_size(case: &GoodsCase, block: u32, workers: u8) -> u8
     workers.min(tasks as u8)
 }
 
-/// What `run_block` does, by the case's tables.
+// What `run_block` does, by the case's tables.
 pub(crate) fn run_by<R: Threads + Sync, G: Gate + Sync>(
     alloc: Global,
     rt: &R,
@@ -118,8 +137,10 @@ pub(crate) fn run_by<R: Threads + Sync, G: Gate + Sync>(
     requires block { BLOCK_TASKS * rule.now.block < tasks_of case.now }
     requires left { rule.now.left ≤ MOST_STEPS }
     requires workers { (1 ≤ workers) × (workers ≤ MOST_WORKERS) }
-    ensures asked { EndsBlock case.now rule.now.floor rule.now.above rule.now.block rule.now.left workers result }
-    ensures crew { EndsBlock case.now rule.now.floor rule.now.above rule.now.block rule.now.left (crew_of case.now rule.now.block workers) result }
+    ensures asked { EndsBlock case.now rule.now.floor rule.now.above rule.now.block rule.now.left
+        workers result }
+    ensures crew { EndsBlock case.now rule.now.floor rule.now.above rule.now.block rule.now.left
+        (crew_of case.now rule.now.block workers) result }
 {
     let crew = crew_size(case, rule.block, workers);
     if crew == 1 {
@@ -131,14 +152,15 @@ pub(crate) fn run_by<R: Threads + Sync, G: Gate + Sync>(
     }
 }
 
-/// Searches a block by several workers, who draw its tasks and share the budget `left`, at most `MOST_STEPS`.
+/// Searches a block by several workers, who draw parts of its tasks and share the budget `left`, at most `MOST_STEPS`.
 ///
 /// Those prefixes of the tasks are counted whose bound is at least `floor` and, if there is an `above`, greater than it. `Over` comes exactly
-/// where they are more than `left`. The end is the same for every number of workers, no matter which of them walks which task, except for
+/// where they are more than `left`. The end is the same for every number of workers, no matter which of them walks which part, except for
 /// the number that `Over` gives.
 ///
-/// It takes no more workers than the block has tasks, the calling thread among them. Where it takes one, or no memory is found for the desk or
-/// its seats, the calling thread walks the block alone.
+/// It takes no more workers than the block has tasks, the calling thread among them. Where it takes one, or no memory is found for the parts, the
+/// calling thread walks the block's tasks one after another. With several workers, `enter` of the gate is called for a task when its first part is
+/// drawn, and `leave` when its last part has ended.
 pub fn run_block<R: Threads + Sync, G: Gate + Sync>(
     alloc: Global,
     rt: &R,
@@ -155,7 +177,8 @@ pub fn run_block<R: Threads + Sync, G: Gate + Sync>(
     requires left { left ≤ MOST_STEPS }
     requires workers { (1 ≤ workers) × (workers ≤ MOST_WORKERS) }
     ensures asked { EndsBlock case.now floor above block left workers result }
-    ensures crew { EndsBlock case.now floor above block left (crew_of case.now block workers) result }
+    ensures crew { EndsBlock case.now floor above block left (crew_of case.now block workers)
+        result }
 {
     let tables = Tables::of(case);
     let rule = BlockRule {

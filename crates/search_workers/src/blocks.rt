@@ -1,3 +1,4 @@
+// The search of a whole case, block by block, by several workers.
 ghost use Rattle.std.specs.Prelude.{◌≡◌, ℕ, ◌<◌, ◌≤◌, ◌↔◌, IsOk, IsErr, IfOk, IfErr};
 ghost use Rattle.bid_rules.specs.Goods.{IsValidGoodsCase};
 ghost use Rattle.nash_bounds.specs.Steps.{HasSteps};
@@ -16,7 +17,7 @@ use std::thread::Threads;
 /// count, or the limit of the case exactly if the step count is above it.
 ///
 /// Neither the number of workers nor their order takes part in the answer. A block takes no more workers than it has tasks, and the calling
-/// thread walks a block of one task alone. It never fails for memory: if there is none for a block's desk, the calling thread walks that block
+/// thread walks a block of one task alone. It never fails for memory: if there is none for a block's parts, the calling thread walks that block
 /// alone.
 pub fn search<R: Threads + Sync, G: Gate + Sync>(
     alloc: Global,
@@ -29,8 +30,10 @@ pub fn search<R: Threads + Sync, G: Gate + Sync>(
     requires workers { (1 ≤ workers) × (workers ≤ MOST_WORKERS) }
     ensures division { IfOk result (IsGoodsDivision case.now) }
     ensures over { IfErr result (IsOverLimit case.now) }
-    ensures answered { (steps : ℕ) → HasSteps case.now steps → (IsOk result ↔ (steps ≤ case.now.facts.limit)) }
-    ensures refused { (steps : ℕ) → HasSteps case.now steps → (IsErr result ↔ (case.now.facts.limit < steps)) }
+    ensures answered { (steps : ℕ) → HasSteps case.now steps
+        → (IsOk result ↔ (steps ≤ case.now.facts.limit)) }
+    ensures refused { (steps : ℕ) → HasSteps case.now steps
+        → (IsErr result ↔ (case.now.facts.limit < steps)) }
 {
     limit_law();
     let tables = Tables::of(case);

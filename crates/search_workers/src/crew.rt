@@ -1,203 +1,165 @@
-ghost use Rattle.std.specs.Prelude.{◌≡◌, ℕ, ◌+◌, ◌*◌, ◌<◌, ◌≤◌, ◌^◌, ◌++◌, ◌||◌, List, [], All, length, IfOk};
+// The workers of a block, each in a thread, who draw its parts and walk them.
+ghost use Rattle.std.specs.Prelude.{◌≡◌, ◌<◌, ◌≤◌, [], All, IfOk, length};
 ghost use Rattle.bid_rules.specs.Goods.{IsValidGoodsCase};
-ghost use Rattle.bid_rules.specs.declared.goods.GoodsCase.{GoodsCase};
-ghost use Rattle.nash_bounds.specs.Tasks.{tasks_of};
-ghost use Rattle.nash_search.specs.Best.{IsFoundBest};
 ghost use Rattle.nash_search.specs.Tables.{AreTables};
-ghost use Rattle.search_workers.specs.BlockEnds.{EndsBlock};
 ghost use Rattle.search_workers.specs.Crews.{HasEnded, IsReady};
-ghost use Rattle.search_workers.specs.Desks.{IsAt};
-ghost use Rattle.search_workers.specs.Views.{whole};
+ghost use Rattle.search_workers.specs.Parts.{IsEndOf, IsEnded, IsPart};
 
-use crate::block::BlockEnd;
-use crate::desk::{Desk, DeskSeat, join_desk, learn, split_desk};
-use crate::limits::MOST_WORKERS;
-use crate::worker::{BlockRule, Walked, work_by};
+use crate::board::Board;
+use crate::ended::Ended;
+use crate::limits::LONGEST_PIECE;
+use crate::parts::Part;
+use crate::worker::BlockRule;
 use bid_rules::GoodsCase;
-use nash_bounds::limits::BLOCK_TASKS;
-use nash_bounds::tasks_in_row_law;
-use nash_search::{Tables, better};
+use bid_rules::limits::MOST_STEPS;
+use nash_search::{Tables, walk_part};
 use split_base::Gate;
 use std::alloc::{AllocError, Global};
 use std::thread;
 use std::thread::Threads;
 
-/// A worker's seat, and what it counted and found.
+/// A worker, with what was counted and found in the parts that it drew.
 #[derive(Drop)]
 pub(crate) struct Worker {
-    pub(crate) seat: DeskSeat,
-    pub(crate) walked: Walked,
+    pub(crate) ended: Vec<Ended>,
 }
 
-/// A worker who has done nothing.
-fn ready(seat: DeskSeat) -> Worker
-    ensures { result.seat ≡ seat }
+// So many workers, who have drawn nothing yet.
+pub(crate) fn hire(alloc: Global, workers: u8) -> Result<Vec<Worker>, AllocError>
+    ensures { IfOk result (λ crew. All IsReady crew.items) }
 {
-    Worker {
-        seat,
-        walked: Walked {
-            nodes: 0,
-            best: None,
-            stopped: false,
-        },
+    let mut crew = Vec::with_capacity(alloc, usize::from(workers))?;
+    'crew: for _ in 0..workers {
+        crew.push(Worker {
+            ended: Vec::new(alloc),
+        })?;
+    }
+    Ok(crew)
+}
+
+// Counts the prefixes of a part in pieces, until all are counted, or all workers together have counted more than were left.
+fn walk_pieces(
+    case: &GoodsCase,
+    tables: &Tables,
+    rule: &BlockRule,
+    part: &Part,
+    place: usize,
+    board: &Board,
+) -> Ended
+    requires case { IsValidGoodsCase case.now }
+    requires tables { AreTables case.now tables.now }
+    requires part { IsPart case.now part.now }
+    requires left { rule.now.left ≤ MOST_STEPS }
+    ensures place { result.place ≡ place }
+    ensures end { IsEndOf case.now rule.now part.now result }
+{
+    let mut walk = walk_part(case, tables, &part.prefix, rule.floor, rule.above);
+    let mut over = board.report(0);
+    'pieces: while !over && walk.nodes() <= rule.left {
+        let before = walk.nodes();
+        let whole = walk.advance(case, u32::from(LONGEST_PIECE));
+        let nodes = walk.nodes();
+        over = board.report(nodes - before);
+        if whole {
+            return Ended {
+                place,
+                nodes,
+                best: walk.best(),
+                whole: true,
+            };
+        }
+    }
+    Ended {
+        place,
+        nodes: walk.nodes(),
+        best: None,
+        whole: false,
     }
 }
 
-/// One worker's part.
-fn run_worker<G: Gate>(
+// Walks the part that was drawn, between the calls of the gate.
+fn walk_drawn<G: Gate>(
+    case: &GoodsCase,
+    tables: &Tables,
+    rule: &BlockRule,
+    parts: &[Part],
+    place: usize,
+    board: &Board,
+    gate: &G,
+) -> Ended
+    requires case { IsValidGoodsCase case.now }
+    requires tables { AreTables case.now tables.now }
+    requires parts { All (IsPart case.now) parts.now }
+    requires left { rule.now.left ≤ MOST_STEPS }
+    requires inside { place < length parts.now }
+    ensures { IsEnded case.now rule.now parts.now result }
+{
+    board.enter(parts, place, gate);
+    let ended = walk_pieces(case, tables, rule, &parts[place], place, board);
+    board.leave(parts, place, gate);
+    ended
+}
+
+// Keeps what was counted of a part. If there is no memory for it, the calling thread will walk the part.
+fn keep(worker: &mut Worker, ended: Ended, case: &GoodsCase, rule: &BlockRule, parts: &[Part])
+    requires worker { HasEnded case.now rule.now parts.now worker.old }
+    requires ended { IsEnded case.now rule.now parts.now ended }
+    ensures { HasEnded case.now rule.now parts.now worker.new }
+{
+    let _ = worker.ended.push(ended);
+}
+
+// One worker: draws parts and walks them, until none is left to draw.
+fn work_parts<G: Gate>(
     worker: &mut Worker,
     case: &GoodsCase,
     tables: &Tables,
     rule: &BlockRule,
-    desk: &Desk,
+    parts: &[Part],
+    board: &Board,
     gate: &G,
 )
     requires case { IsValidGoodsCase case.now }
     requires tables { AreTables case.now tables.now }
-    requires block { BLOCK_TASKS * rule.now.block < tasks_of case.now }
-    requires of { desk.now.shared.table_id.words ≡ 2 }
-    requires ready { IsReady desk.now.shared.table_id rule.now.left desk.now.shared.key.workers worker.old }
-    ensures { HasEnded case.now rule.now desk.now.shared.table_id desk.now.shared.key.workers 1 worker.new }
+    requires parts { All (IsPart case.now) parts.now }
+    requires left { rule.now.left ≤ MOST_STEPS }
+    requires ready { IsReady worker.old }
+    ensures { HasEnded case.now rule.now parts.now worker.new }
 {
-    worker.walked = work_by(case, tables, rule, desk, &mut worker.seat, gate);
+    'draws: for _ in 0..parts.len() {
+        let place = board.draw();
+        if place >= parts.len() as u64 {
+            return;
+        }
+        let ended = walk_drawn(case, tables, rule, parts, place as usize, board, gate);
+        keep(worker, ended, case, rule, parts);
+    }
 }
 
-/// All workers, each in a thread. Where no thread can be had they work one after another.
+// All workers, each in a thread. Where no thread can be had they work one after another.
 pub(crate) fn run_workers<R: Threads + Sync, G: Gate + Sync>(
     rt: &R,
     crew: &mut [Worker],
     case: &GoodsCase,
     tables: &Tables,
     rule: &BlockRule,
+    parts: &[Part],
     workers: u8,
-    desk: &Desk,
+    board: &Board,
     gate: &G,
 )
     requires case { IsValidGoodsCase case.now }
     requires tables { AreTables case.now tables.now }
-    requires block { BLOCK_TASKS * rule.now.block < tasks_of case.now }
+    requires parts { All (IsPart case.now) parts.now }
+    requires left { rule.now.left ≤ MOST_STEPS }
     requires workers { 1 ≤ workers }
-    requires of { desk.now.shared.table_id.words ≡ 2 }
-    requires ready { All (IsReady desk.now.shared.table_id rule.now.left desk.now.shared.key.workers) crew.old }
-    ensures ended { All (HasEnded case.now rule.now desk.now.shared.table_id desk.now.shared.key.workers 1) crew.new }
-    ensures same { length crew.new ≡ length crew.old }
+    requires ready { All IsReady crew.old }
+    ensures { All (HasEnded case.now rule.now parts.now) crew.new }
 {
     thread::for_each_mut(
         rt,
         crew,
         usize::from(workers),
-        &|_, worker| { run_worker(worker, case, tables, rule, desk, gate) },
+        &|_, worker| { work_parts(worker, case, tables, rule, parts, board, gate) },
     );
-}
-
-/// A seat for each worker.
-pub(crate) fn seat_workers(
-    alloc: Global,
-    desk: &Desk,
-    mut seat: DeskSeat,
-    workers: u8,
-    left: u32,
-) -> Result<Vec<Worker>, AllocError>
-    requires of { IsAt seat.table_id desk.now.shared.table_id }
-    requires workers { (1 ≤ workers) × (workers ≤ MOST_WORKERS) × (workers ≡ desk.now.shared.key.workers) }
-    requires seat { seat.me ≡ (whole left workers, []) }
-    ensures ready { IfOk result (λ crew. All (IsReady desk.now.shared.table_id left workers) crew.items) }
-    ensures count { IfOk result (λ crew. length crew.items ≡ workers) }
-{
-    let mut crew = Vec::with_capacity(alloc, usize::from(workers))?;
-    'seats: for _ in 0..workers - 1 {
-        crew.push(ready(split_desk(desk, &mut seat)))?;
-    }
-    crew.push(ready(seat))?;
-    Ok(crew)
-}
-
-/// What two workers counted and found.
-fn join_walked(one: Walked, other: Walked) -> Walked
-    requires { one.nodes + other.nodes < 2 ^ 32 }
-    ensures nodes { result.nodes ≡ one.nodes + other.nodes }
-    ensures best { (case : GoodsCase) (xs ys : List (List ℕ)) → IsFoundBest case xs one.best → IsFoundBest case ys other.best → IsFoundBest case (xs ++ ys) result.best }
-    ensures stopped { result.stopped ≡ one.stopped || other.stopped }
-{
-    Walked {
-        nodes: one.nodes + other.nodes,
-        best: better(one.best, other.best),
-        stopped: one.stopped | other.stopped,
-    }
-}
-
-/// Two workers as one.
-fn join_workers(
-    desk: &Desk,
-    one: Worker,
-    other: Worker,
-    case: &GoodsCase,
-    rule: &BlockRule,
-    workers: u8,
-    stands: u8,
-) -> Worker
-    requires of { desk.now.shared.table_id.words ≡ 2 }
-    requires one { HasEnded case.now rule.now desk.now.shared.table_id workers stands one }
-    requires other { HasEnded case.now rule.now desk.now.shared.table_id workers 1 other }
-    requires stands { (1 ≤ stands) × (stands ≤ MOST_WORKERS) }
-    ensures { HasEnded case.now rule.now desk.now.shared.table_id workers (stands + 1) result }
-{
-    let Worker {
-        mut seat,
-        walked: first,
-    } = one;
-    let Worker {
-        seat: given,
-        walked: second,
-    } = other;
-    join_desk(desk, &mut seat, given);
-    Worker {
-        seat,
-        walked: join_walked(first, second),
-    }
-}
-
-/// The end of a block whose workers have ended.
-pub(crate) fn gather(
-    desk: &Desk,
-    mut crew: Vec<Worker>,
-    case: &GoodsCase,
-    rule: &BlockRule,
-    workers: u8,
-) -> BlockEnd
-    requires of { desk.now.shared.table_id.words ≡ 2 }
-    requires ended { All (HasEnded case.now rule.now desk.now.shared.table_id workers 1) crew.items }
-    requires workers { (1 ≤ workers) × (workers ≤ MOST_WORKERS) × (length crew.items ≡ workers) }
-    ensures { EndsBlock case.now rule.now.floor rule.now.above rule.now.block rule.now.left workers result }
-{
-    let Some(mut all) = crew.pop() else {
-        unreachable!()
-    };
-    let mut stands = 1;
-    'joins: while let Some(other) = crew.pop() {
-        all = join_workers(desk, all, other, case, rule, workers, stands);
-        stands += 1;
-    }
-    settle(desk, all, case, rule, workers)
-}
-
-/// The end of a block, from the seat that accounts for all workers.
-fn settle(desk: &Desk, all: Worker, case: &GoodsCase, rule: &BlockRule, workers: u8) -> BlockEnd
-    requires of { desk.now.shared.table_id.words ≡ 2 }
-    requires ended { HasEnded case.now rule.now desk.now.shared.table_id workers workers all }
-    requires workers { 1 ≤ workers }
-    ensures { EndsBlock case.now rule.now.floor rule.now.above rule.now.block rule.now.left workers result }
-{
-    tasks_in_row_law();
-    let Worker { mut seat, walked } = all;
-    learn(desk, &mut seat);
-    if walked.stopped {
-        return BlockEnd::Over {
-            nodes: walked.nodes,
-        };
-    }
-    BlockEnd::Done {
-        nodes: walked.nodes,
-        best: walked.best,
-    }
 }

@@ -1,7 +1,8 @@
+// The desk at which workers draw whole tasks and report what they counted, by single steps of an atomic table.
 ghost use Rattle.std.specs.Prelude.{◌≡◌, ℕ, ◌+◌, ◌-◌, ◌<◌, ◌≤◌, ◌*◌, length, All, [], IfOk, false, nat_lt};
 ghost use Rattle.search_workers.specs.Desks.{IsAt};
 ghost use Rattle.search_workers.specs.Plays.{HasAll, IsReported};
-ghost use Rattle.search_workers.specs.Views.{drawn, fewer, fresh, joined, whole};
+ghost use Rattle.search_workers.specs.Views.{with_ticket, fewer, idle_worker, sum_of_views, whole};
 
 use crate::limits::{LONGEST_PIECE, MOST_TICKETS, MOST_WORKERS};
 use crate::plays::{Both, Cut, DeskRule, Draw, Learn, Tell};
@@ -16,8 +17,10 @@ pub type Desk = Table<(), DeskView, DeskSize, DeskRule, Global>;
 /// A worker's seat at a desk.
 pub type DeskSeat = Seat<(), DeskView>;
 
+// The place of the ticket word.
 const TICKETS: usize = 0;
 
+// The place of the node word.
 const NODES: usize = 1;
 
 /// A desk with both words 0, and a seat that accounts for all workers.
@@ -25,7 +28,8 @@ pub fn open_desk(alloc: Global, size: &DeskSize) -> Result<(Desk, DeskSeat), All
     requires left { size.now.left ≤ MOST_STEPS }
     requires workers { (1 ≤ size.now.workers) × (size.now.workers ≤ MOST_WORKERS) }
     ensures of { IfOk result (λ opened. IsAt opened.1.table_id opened.0.shared.table_id) }
-    ensures view { IfOk result (λ opened. opened.1.me ≡ (whole size.now.left size.now.workers, [])) }
+    ensures view { IfOk result (λ opened.
+        opened.1.me ≡ (whole size.now.left size.now.workers, [])) }
     ensures key { IfOk result (λ opened. opened.0.shared.key ≡ size.now) }
 {
     Desk::of_words(alloc, &[0, 0], size)
@@ -36,7 +40,7 @@ pub fn draw(desk: &Desk, seat: &mut DeskSeat) -> u64
     requires of { IsAt seat.old.table_id desk.now.shared.table_id }
     requires room { length seat.old.me.0.tickets < MOST_TICKETS * seat.old.me.0.allot }
     ensures seat { (seat.new.table_id ≡ seat.old.table_id) × (seat.new.id ≡ seat.old.id) }
-    ensures view { seat.new.me ≡ (drawn seat.old.me.0 result, seat.old.me.1) }
+    ensures view { seat.new.me ≡ (with_ticket seat.old.me.0 result, seat.old.me.1) }
     ensures above { All (λ ticket. ticket < result) seat.old.me.0.tickets }
 {
     desk.shared.fetch_add::<Draw>(seat, TICKETS, 1)
@@ -50,8 +54,10 @@ pub fn report(desk: &Desk, seat: &mut DeskSeat, count: u16, left: u32) -> bool
     requires count { (1 ≤ count) × (count ≤ LONGEST_PIECE) }
     requires room { seat.old.me.0.stops < seat.old.me.0.allot }
     requires left { left ≡ seat.old.me.0.left }
-    ensures seat { (seat.new.table_id ≡ seat.old.table_id) × (seat.new.id ≡ seat.old.id) × (seat.new.me.1 ≡ seat.old.me.1) }
-    ensures view { (found : ℕ) × IsReported seat.old.me.0 count found seat.new.me.0 × (result ≡ nat_lt left (found + count)) }
+    ensures seat { (seat.new.table_id ≡ seat.old.table_id) × (seat.new.id ≡ seat.old.id)
+        × (seat.new.me.1 ≡ seat.old.me.1) }
+    ensures view { (found : ℕ) × IsReported seat.old.me.0 count found seat.new.me.0
+        × (result ≡ nat_lt left (found + count)) }
     ensures within { result ≡ false → seat.new.me.0.reported ≤ left }
     ensures most { seat.new.me.0.reported ≤ left + LONGEST_PIECE * seat.new.me.0.workers }
 {
@@ -66,8 +72,10 @@ pub fn split_desk(desk: &Desk, seat: &mut DeskSeat) -> DeskSeat
     requires allot { 2 ≤ seat.old.me.0.allot }
     requires tickets { length seat.old.me.0.tickets ≤ MOST_TICKETS * (seat.old.me.0.allot - 1) }
     requires stops { seat.old.me.0.stops ≤ seat.old.me.0.allot - 1 }
-    ensures seat { (seat.new.table_id ≡ seat.old.table_id) × (seat.new.id ≡ seat.old.id) × (seat.new.me ≡ (fewer seat.old.me.0, seat.old.me.1)) }
-    ensures new { (result.table_id ≡ seat.old.table_id) × (result.me ≡ (fresh seat.old.me.0, [])) }
+    ensures seat { (seat.new.table_id ≡ seat.old.table_id) × (seat.new.id ≡ seat.old.id)
+        × (seat.new.me ≡ (fewer seat.old.me.0, seat.old.me.1)) }
+    ensures new { (result.table_id ≡ seat.old.table_id)
+        × (result.me ≡ (idle_worker seat.old.me.0, [])) }
 {
     desk.shared.split_seat::<Cut>(seat)
 }
@@ -78,7 +86,7 @@ pub fn join_desk(desk: &Desk, seat: &mut DeskSeat, other: DeskSeat)
     requires other { (other.table_id ≡ desk.now.shared.table_id) × (other.me.1 ≡ []) }
     requires stands { 1 ≤ seat.old.me.0.allot }
     ensures seat { (seat.new.table_id ≡ seat.old.table_id) × (seat.new.id ≡ seat.old.id) }
-    ensures view { seat.new.me ≡ (joined seat.old.me.0 other.me.0, seat.old.me.1) }
+    ensures view { seat.new.me ≡ (sum_of_views seat.old.me.0 other.me.0, seat.old.me.1) }
 {
     desk.shared.join_seat::<Both>(seat, other);
 }
@@ -87,7 +95,8 @@ pub fn join_desk(desk: &Desk, seat: &mut DeskSeat, other: DeskSeat)
 pub fn learn(desk: &Desk, seat: &mut DeskSeat) -> u64
     requires of { IsAt seat.old.table_id desk.now.shared.table_id }
     requires all { (1 ≤ seat.old.me.0.allot) × (seat.old.me.0.allot ≡ seat.old.me.0.workers) }
-    ensures seat { (seat.new.table_id ≡ seat.old.table_id) × (seat.new.id ≡ seat.old.id) × (seat.new.me ≡ seat.old.me) }
+    ensures seat { (seat.new.table_id ≡ seat.old.table_id) × (seat.new.id ≡ seat.old.id)
+        × (seat.new.me ≡ seat.old.me) }
     ensures all { HasAll seat.old.me.0 result }
 {
     desk.shared.load::<Learn>(seat, TICKETS)

@@ -1,22 +1,31 @@
 //! The search for the allocation with the greatest Nash welfare, by several workers: it gives what one thread gives.
 //!
-//! The workers of a block draw tasks at a desk and share one budget of counted prefixes.
+//! The workers of a block draw parts of its tasks and share one budget of counted prefixes.
 //!
 //! `search` has the four clauses of `search_alone`, in which neither the number of workers nor
-//! their order occurs. Each task of a block is drawn once and walked whole (`drawn_tickets_law`,
-//! `walked_block_law`). Where there is no memory for a desk, one thread goes on without it.
+//! their order occurs. What a worker brings back is proved of the part that it walked (`IsEndOf`),
+//! and the end of a block takes each part once (`settle`). Where there is no memory for the parts,
+//! one thread walks the tasks one after another.
+//!
+//! `work` is a worker of a plainer kind, who draws whole tasks at a desk: each task is drawn once
+//! and walked whole (`drawn_tickets_law`, `walked_block_law`).
 #![tactic(auto)]
 
 mod block;
 mod blocks;
+mod board;
 mod crew;
 mod desk;
 mod desk_laws;
+mod ended;
 pub mod limits;
+mod parts;
 mod plays;
 mod rule_laws;
+mod settle;
 mod view;
 mod worker;
+mod workers;
 
 pub use block::{BlockEnd, run_block};
 pub use blocks::search;
@@ -28,3 +37,4 @@ pub use rule_laws::{
 };
 pub use view::{DeskSize, DeskView};
 pub use worker::{Walked, work};
+pub use workers::{Means, Workers};

@@ -12,3 +12,7 @@ pub const LONGEST_PIECE: u16 = 256;
 pub const MOST_REPORTED: u32 = MOST_STEPS + LONGEST_PIECE as u32 * MOST_WORKERS as u32;
 /// The most that a desk's ticket word shows: each worker may draw `MOST_TICKETS`.
 pub const MOST_DRAWN: u32 = MOST_TICKETS * MOST_WORKERS as u32;
+/// How often the tasks of a block are cut by the owners of one more good, at most.
+pub const MOST_CUTS: usize = 4;
+/// With so many parts a block is not cut further.
+pub const ENOUGH_PARTS: usize = 256;

@@ -1,7 +1,7 @@
 // The rule of a desk, and what each step on it tells.
 ghost use Rattle.search_workers.specs.Desks.{Kept};
 ghost use Rattle.search_workers.specs.Plays.{Draws, Learns, Reports};
-ghost use Rattle.search_workers.specs.Views.{fewer, fresh, joined, spent, whole};
+ghost use Rattle.search_workers.specs.Views.{fewer, idle_worker, sum_of_views, no_worker, whole};
 
 use crate::view::{DeskSize, DeskView};
 use atomic_table::{Join, Play, Split, TableRule};
@@ -43,14 +43,14 @@ pub(crate) struct Cut;
 impl Split<DeskView> for Cut {
     ghost left = { fewer };
 
-    ghost right = { fresh };
+    ghost right = { idle_worker };
 }
 
 /// Two views become one.
 pub(crate) struct Both;
 
 impl Join<DeskView> for Both {
-    ghost both = { joined };
+    ghost both = { sum_of_views };
 
-    ghost spent = { spent };
+    ghost spent = { no_worker };
 }

@@ -1,8 +1,9 @@
+// What a worker's seat at a desk knows, and the numbers for which a desk is made.
 ghost use Rattle.std.specs.Prelude.{ℕ, List};
 
 use std::marker::Model;
 
-/// What a worker's seat knows. It is plain data that contracts alone see: no value of it is made.
+/// What a worker's seat knows. It is plain data that only contracts see: no value of it is made.
 pub struct DeskView {
     /// The tickets that it drew, the last one last.
     pub ghost tickets: { List ℕ },

@@ -1,3 +1,4 @@
+// One worker at a desk, who draws whole tasks, walks them in pieces and reports each piece.
 ghost use Rattle.std.specs.Prelude.{◌≡◌, ◌+◌, ◌*◌, ◌<◌, ◌≤◌, [], true, false};
 ghost use Rattle.bid_rules.specs.Goods.{IsValidGoodsCase};
 ghost use Rattle.nash_bounds.specs.Counted.{count_task, counted_leaves};
@@ -40,13 +41,15 @@ pub(crate) struct BlockRule {
     pub(crate) left: u32,
 }
 
-/// Reports a piece that is not empty.
+// Reports a piece that is not empty.
 fn report_piece(desk: &Desk, seat: &mut DeskSeat, piece: u32, left: u32) -> bool
     requires of { IsAt seat.old.table_id desk.now.shared.table_id }
     requires piece { piece ≤ LONGEST_PIECE }
-    requires going { (seat.old.me.0.stops ≡ 0) × (seat.old.me.0.allot ≡ 1) × (seat.old.me.0.left ≡ left) }
+    requires going { (seat.old.me.0.stops ≡ 0) × (seat.old.me.0.allot ≡ 1)
+        × (seat.old.me.0.left ≡ left) }
     requires small { seat.old.me.0.reported ≤ MOST_REPORTED }
-    ensures seat { (seat.new.table_id ≡ seat.old.table_id) × (seat.new.id ≡ seat.old.id) × (seat.new.me.1 ≡ seat.old.me.1) }
+    ensures seat { (seat.new.table_id ≡ seat.old.table_id) × (seat.new.id ≡ seat.old.id)
+        × (seat.new.me.1 ≡ seat.old.me.1) }
     ensures view { seat.new.me.0 ≡ walked_on seat.old.me.0 piece result }
     ensures small { seat.new.me.0.reported ≤ MOST_REPORTED }
 {
@@ -56,7 +59,7 @@ fn report_piece(desk: &Desk, seat: &mut DeskSeat, piece: u32, left: u32) -> bool
     report(desk, seat, piece as u16, left)
 }
 
-/// Walks a task in pieces, and reports each piece.
+// Walks a task in pieces, and reports each piece.
 fn walk_task(
     case: &GoodsCase,
     tables: &Tables,
@@ -69,14 +72,18 @@ fn walk_task(
     requires tables { AreTables case.now tables.now }
     requires task { task < tasks_of case.now }
     requires of { IsAt seat.old.table_id desk.now.shared.table_id }
-    requires going { (seat.old.me.0.stops ≡ 0) × (seat.old.me.0.allot ≡ 1) × (seat.old.me.0.left ≡ rule.now.left) }
+    requires going { (seat.old.me.0.stops ≡ 0) × (seat.old.me.0.allot ≡ 1)
+        × (seat.old.me.0.left ≡ rule.now.left) }
     requires small { seat.old.me.0.reported ≤ MOST_REPORTED }
-    ensures seat { (seat.new.table_id ≡ seat.old.table_id) × (seat.new.id ≡ seat.old.id) × (seat.new.me.1 ≡ seat.old.me.1) }
+    ensures seat { (seat.new.table_id ≡ seat.old.table_id) × (seat.new.id ≡ seat.old.id)
+        × (seat.new.me.1 ≡ seat.old.me.1) }
     ensures view { seat.new.me.0 ≡ walked_on seat.old.me.0 result.nodes result.stopped }
     ensures small { seat.new.me.0.reported ≤ MOST_REPORTED }
     ensures part { result.nodes ≤ count_task case.now task rule.now.floor rule.now.above }
-    ensures whole { result.stopped ≡ false → (result.nodes ≡ count_task case.now task rule.now.floor rule.now.above)
-        × IsFoundBest case.now (counted_leaves case.now task rule.now.floor rule.now.above) result.best }
+    ensures whole { result.stopped ≡ false
+        → (result.nodes ≡ count_task case.now task rule.now.floor rule.now.above)
+        × IsFoundBest case.now (counted_leaves case.now task rule.now.floor rule.now.above)
+        result.best }
 {
     let mut walk = walk_by(case, tables, task, rule.floor, rule.above);
     'pieces: loop {
@@ -100,7 +107,7 @@ fn walk_task(
     }
 }
 
-/// The same between the two calls of the gate.
+// The same between the two calls of the gate.
 fn walk_gated<G: Gate>(
     case: &GoodsCase,
     tables: &Tables,
@@ -114,14 +121,18 @@ fn walk_gated<G: Gate>(
     requires tables { AreTables case.now tables.now }
     requires task { task < tasks_of case.now }
     requires of { IsAt seat.old.table_id desk.now.shared.table_id }
-    requires going { (seat.old.me.0.stops ≡ 0) × (seat.old.me.0.allot ≡ 1) × (seat.old.me.0.left ≡ rule.now.left) }
+    requires going { (seat.old.me.0.stops ≡ 0) × (seat.old.me.0.allot ≡ 1)
+        × (seat.old.me.0.left ≡ rule.now.left) }
     requires small { seat.old.me.0.reported ≤ MOST_REPORTED }
-    ensures seat { (seat.new.table_id ≡ seat.old.table_id) × (seat.new.id ≡ seat.old.id) × (seat.new.me.1 ≡ seat.old.me.1) }
+    ensures seat { (seat.new.table_id ≡ seat.old.table_id) × (seat.new.id ≡ seat.old.id)
+        × (seat.new.me.1 ≡ seat.old.me.1) }
     ensures view { seat.new.me.0 ≡ walked_on seat.old.me.0 result.nodes result.stopped }
     ensures small { seat.new.me.0.reported ≤ MOST_REPORTED }
     ensures part { result.nodes ≤ count_task case.now task rule.now.floor rule.now.above }
-    ensures whole { result.stopped ≡ false → (result.nodes ≡ count_task case.now task rule.now.floor rule.now.above)
-        × IsFoundBest case.now (counted_leaves case.now task rule.now.floor rule.now.above) result.best }
+    ensures whole { result.stopped ≡ false
+        → (result.nodes ≡ count_task case.now task rule.now.floor rule.now.above)
+        × IsFoundBest case.now (counted_leaves case.now task rule.now.floor rule.now.above)
+        result.best }
 {
     gate.enter(task);
     let walked = walk_task(case, tables, rule, task, desk, seat);
@@ -129,7 +140,7 @@ fn walk_gated<G: Gate>(
     walked
 }
 
-/// What `work` does, by the case's tables.
+// What `work` does, by the case's tables.
 pub(crate) fn work_by<G: Gate>(
     case: &GoodsCase,
     tables: &Tables,
@@ -143,11 +154,18 @@ pub(crate) fn work_by<G: Gate>(
     requires block { BLOCK_TASKS * rule.now.block < tasks_of case.now }
     requires of { IsAt seat.old.table_id desk.now.shared.table_id }
     requires fresh { seat.old.me.0 ≡ desk_view [] 0 1 0 rule.now.left seat.old.me.0.workers }
-    ensures seat { (seat.new.table_id ≡ seat.old.table_id) × (seat.new.id ≡ seat.old.id) × (seat.new.me.1 ≡ seat.old.me.1) }
-    ensures view { seat.new.me.0 ≡ desk_view seat.new.me.0.tickets result.nodes 1 (stop_count result.stopped) rule.now.left seat.old.me.0.workers }
+    ensures seat { (seat.new.table_id ≡ seat.old.table_id) × (seat.new.id ≡ seat.old.id)
+        × (seat.new.me.1 ≡ seat.old.me.1) }
+    ensures view { seat.new.me.0
+        ≡ desk_view seat.new.me.0.tickets result.nodes 1 (stop_count result.stopped) rule.now.left
+        seat.old.me.0.workers }
     ensures small { result.nodes ≤ MOST_REPORTED }
-    ensures whole { result.stopped ≡ false → HasWhole case.now rule.now.floor rule.now.above rule.now.block seat.new.me.0.tickets result.nodes result.best }
-    ensures part { result.nodes ≤ count_of_tickets case.now rule.now.floor rule.now.above rule.now.block seat.new.me.0.tickets }
+    ensures whole { result.stopped ≡ false
+        → HasWhole case.now rule.now.floor rule.now.above rule.now.block seat.new.me.0.tickets
+        result.nodes result.best }
+    ensures part { result.nodes
+        ≤ count_of_tickets case.now rule.now.floor rule.now.above rule.now.block
+        seat.new.me.0.tickets }
 {
     let tasks = tasks_in_block(case, rule.block);
     let mut nodes = 0;
@@ -196,11 +214,16 @@ pub fn work<G: Gate + Sync>(
     requires block { BLOCK_TASKS * block < tasks_of case.now }
     requires of { IsAt seat.old.table_id desk.now.shared.table_id }
     requires fresh { seat.old.me.0 ≡ desk_view [] 0 1 0 left seat.old.me.0.workers }
-    ensures seat { (seat.new.table_id ≡ seat.old.table_id) × (seat.new.id ≡ seat.old.id) × (seat.new.me.1 ≡ seat.old.me.1) }
-    ensures view { seat.new.me.0 ≡ desk_view seat.new.me.0.tickets result.nodes 1 (stop_count result.stopped) left seat.old.me.0.workers }
+    ensures seat { (seat.new.table_id ≡ seat.old.table_id) × (seat.new.id ≡ seat.old.id)
+        × (seat.new.me.1 ≡ seat.old.me.1) }
+    ensures view { seat.new.me.0
+        ≡ desk_view seat.new.me.0.tickets result.nodes 1 (stop_count result.stopped) left
+        seat.old.me.0.workers }
     ensures small { result.nodes ≤ MOST_REPORTED }
-    ensures whole { result.stopped ≡ false → HasWhole case.now floor above block seat.new.me.0.tickets result.nodes result.best }
-    ensures part { result.nodes ≤ count_of_tickets case.now floor above block seat.new.me.0.tickets }
+    ensures whole { result.stopped ≡ false
+        → HasWhole case.now floor above block seat.new.me.0.tickets result.nodes result.best }
+    ensures part { result.nodes
+        ≤ count_of_tickets case.now floor above block seat.new.me.0.tickets }
 {
     let tables = Tables::of(case);
     let rule = BlockRule {

@@ -8,7 +8,7 @@ use Rattle.serving.specs.declared.ends.LinkEnd.{LinkEnd}
 use Rattle.serving.specs.declared.ends.LinkEnd.TheVariants as ends
 use Rattle.serving.specs.Dues.{DueView, SaysDue}
 use Rattle.serving.specs.Ends.{Ending}
-use Rattle.serving.specs.Served.{CountsEnd, EndsBehind, FinishSays, LinkView, CountsStay, carried}
+use Rattle.serving.specs.Served.{CountsEnd, EndsBehind, FinishSays, LinkView, CountsStay, with_carry}
 
 never_open : (a b : Bool) → b ≡ true → (a || b) ≡ false → ⊥
 never_open true b closed open_still = absurd (cc)
@@ -26,7 +26,7 @@ module _ (link now : LinkView) (due : DueView) (reply : HttpReply) (tells : Says
   torn (bytes, is, (part, rest, whole, missing, wrote)) counts = inr (((bytes, part, (reply, tells, is), (rest, whole, missing), wrote), counts), refl)
 
 -- bytes that are held play no role in it
-pub finish_held : (held : List ℕ) (link now : LinkView) (due : DueView) (result : Option LinkEnd) → FinishSays link now due result → FinishSays (carried held link) now due result
+pub finish_held : (held : List ℕ) (link now : LinkView) (due : DueView) (result : Option LinkEnd) → FinishSays link now due result → FinishSays (with_carry held link) now due result
 finish_held held link now due None says = says
 finish_held held link now due (Some end) says = says
 

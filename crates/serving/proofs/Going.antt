@@ -9,7 +9,7 @@ use Rattle.serving.specs.Dues.{DueView}
 use Rattle.serving.specs.Ends.{Ending}
 use Rattle.serving.proofs.Hearing.{came_behind, counts_joined, none_joined, some_told}
 use Rattle.serving.specs.Runs.{After, Heads, LastHead, LinkRun, Never, Run, Service, end_of}
-use Rattle.serving.specs.Served.{CountsEnd, CountsServed, FinishSays, Going, HaveCome, HeadServed, HeardQuiet, LinkView, CountsStay, RanTo, Replied, WentOn, carried}
+use Rattle.serving.specs.Served.{CountsEnd, CountsServed, FinishSays, Going, HaveCome, HeadServed, HeardQuiet, LinkView, CountsStay, RanTo, Replied, WentOn, with_carry}
 
 -- calls of a clock, one row of them after the other
 pub clock_trans : {C : Type 0} (gives : C → Option ℕ → C → Type 0) (faults : C → ℕ) (a b c : C) (xs ys : List (Option ℕ))
@@ -155,7 +155,7 @@ last_run service n all answers w out new end (inr h) = inr (record {
 })
 
 pub going_start : {W C : Type 0} (service : Service W) (most : ℕ) (gives : C → Option ℕ → C → Type 0) (faults : C → ℕ) (clock : C) (link : LinkView) (stands : W → Type 0) (w : W)
-    → stands w → Going service most link (carried [] link) (ClockRun gives faults clock clock) stands most w
+    → stands w → Going service most link (with_carry [] link) (ClockRun gives faults clock clock) stands most w
 going_start service most gives faults clock link stands w st = record {
   answers = [];
   out = [];

@@ -7,7 +7,7 @@ use Rattle.split_http.specs.declared.head.Verb.{Verb}
 use Rattle.split_http.specs.declared.bodies.BodyTurn.TheVariants as bodies
 use Rattle.split_http.specs.Heads.{IsHead, IsHeadOf, text_of}
 use Rattle.httparse.specs.Grammar.{RequestHead, print_request}
-use Rattle.split_http.specs.Turns.{BodyCounts, HasHeadOf, IsBad, IsOpen, IsToldAs, interim_of}
+use Rattle.split_http.specs.Turns.{BodyCounts, HasHeadOf, IsBad, MayBecomeHead, IsToldAs, interim_of}
 use Rattle.serving.specs.declared.ends.LinkEnd.{LinkEnd}
 use Rattle.serving.specs.declared.ends.LinkEnd.TheVariants as ends
 use Rattle.serving.specs.declared.refusals.HeadRefusal.{HeadRefusal}
@@ -84,7 +84,7 @@ module _ (link now : LinkView) (asked : List (Option ℕ) → Type 0) (same : no
   }
 
   -- a read failed, and the bytes that were read are held
-  pub heard_fault : (held : List ℕ) → Keeps link.ahead (prepend_known held now.ahead) → IsOpen held → CountsEnd link now Ending.read_fault → asked []
+  pub heard_fault : (held : List ℕ) → Keeps link.ahead (prepend_known held now.ahead) → MayBecomeHead held → CountsEnd link now Ending.read_fault → asked []
       → HeardQuiet link now asked ends.LinkFault
   heard_fault held kept open_still counts clock = record {
     all = held;

@@ -20,7 +20,7 @@ end_as Ending.read_fault = ends.LinkFault
 end_as Ending.write_fault = ends.LinkFault
 end_as Ending.memory = ends.Memory
 
--- the count of failed reads afterwards: one more where a read failed, and else the same
+-- the count of failed reads afterwards: one more if a read failed, otherwise the same
 abbrev pub reads_after : ℕ → Ending → ℕ
 reads_after reads Ending.ended = reads
 reads_after reads Ending.cut = reads
@@ -28,7 +28,7 @@ reads_after reads Ending.read_fault = counted reads
 reads_after reads Ending.write_fault = reads
 reads_after reads Ending.memory = reads
 
--- the count of failed writes afterwards: one more where a write failed, and else the same
+-- the count of failed writes afterwards: one more if a write failed, otherwise the same
 abbrev pub writes_after : ℕ → Ending → ℕ
 writes_after writes Ending.ended = writes
 writes_after writes Ending.cut = writes

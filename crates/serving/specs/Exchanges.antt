@@ -70,8 +70,8 @@ refused_due service refusal answer bodiless = record { said = service.refuses re
 abbrev pub EndsWith : DueView → List ℕ → List ℕ → Ending → Type 0
 EndsWith due bytes out end = ((out ≡ bytes) × (end ≡ end_of due)) ⊎ (IsPartOf bytes out × (end ≡ Ending.write_fault))
 
--- How a link ends after requests whose replies were written and closed nothing. The last may be one more request; else nothing is
--- replied to what is left, or its head is refused.
+-- How a link ends after requests whose replies were written and closed nothing. The last may be one more request; otherwise what is left gets no
+-- reply, or its head is refused.
 pub data EndsLink {W : Type 0} (service : Service W) (w : W) (rest : List ℕ) (answers : List (Option ℕ)) (out : List ℕ) (new : W) (end : Ending) : Type 0 where
   replied : (left : List ℕ) (e : Exchange W) → rest ≡ (e.text ++ e.body) ++ left → answers ≡ Some e.moment ∷ [] → e.before ≡ w → IsExchange service e → new ≡ e.after → out ≡ e.got
       → (IsWhole e × (closes e.due ≡ true) × (end ≡ end_of e.due)) ⊎ (IsTorn e × (end ≡ Ending.write_fault)) → EndsLink service w rest answers out new end

@@ -28,7 +28,7 @@ pub record LinkServed {L W : Type 0} (service : Service W) (tells : LinkTells L)
   pub counts : CountsEnd (link_view tells begun) (link_view tells ended) ending
   pub run : LinkRun service MAX_REQUESTS input answers w out new ending
 
--- a link was served and given back, or dropped where there was no place for it
+-- a link was served and given back, or dropped if there was no place for it
 pub record LinkGone {L W : Type 0} (service : Service W) (tells : LinkTells L) (begun : L) (back back_now : Option (List L)) (places : ℕ)
     (asked : List (Option ℕ) → Type 0) (stands : W → Type 0) (w : W) : Type 0 where
   pub ended : L

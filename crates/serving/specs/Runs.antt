@@ -4,7 +4,7 @@ use Rattle.httparse.specs.Grammar.{RequestHead, print_request}
 use Rattle.split_http.specs.declared.head.Head.{Head}
 use Rattle.split_http.specs.declared.head.Verb.{Verb}
 use Rattle.split_http.specs.Heads.{IsHead, IsHeadOf, text_of}
-use Rattle.split_http.specs.Turns.{HasHeadOf, IsBad, IsOpen, interim_of}
+use Rattle.split_http.specs.Turns.{HasHeadOf, IsBad, MayBecomeHead, interim_of}
 use Rattle.serving.specs.declared.refusals.HeadRefusal.{HeadRefusal}
 use Rattle.serving.specs.declared.refusals.HeadRefusal.TheVariants as refusals
 use Rattle.serving.specs.Dues.{AreBytes, DueView, IsPartOf, closes, closing, is_head, manner_of}
@@ -45,7 +45,7 @@ pub record Asks (all rest : List ℕ) (head : Head) (body : List ℕ) : Type 0 w
   pub accepted : head.refused ≡ None
   pub size : length body ≡ head.length
 
--- A reply, and the world after it: to a head that is refused, which changes nothing; or to a request, after the interim line where it is due.
+-- A reply, and the world after it: to a head that is refused, which changes nothing; or to a request, after the interim line if that is due.
 pub data Replies {W : Type 0} (service : Service W) (last : Bool) (all rest : List ℕ) (answer : Option ℕ) (w : W) (interim : List ℕ) (new : W) (due : DueView) : Type 0 where
   refused : (refusal : HeadRefusal) (bodiless : Bool) → Refuses all rest answer refusal bodiless → interim ≡ [] → new ≡ w
       → due ≡ record { said = service.refuses refusal; manner = closing answer bodiless } → Replies service last all rest answer w interim new due
@@ -63,7 +63,7 @@ pub data BodyStops (head : Head) (all out : List ℕ) (end : Ending) : Type 0 wh
 -- after a head.
 pub data Stops (all : List ℕ) (answers : List (Option ℕ)) (out : List ℕ) (end : Ending) : Type 0 where
   nothing : all ≡ [] → answers ≡ [] → out ≡ [] → end ≡ Ending.ended → Stops all answers out end
-  head_fault : IsOpen all → answers ≡ [] → out ≡ [] → end ≡ Ending.read_fault → Stops all answers out end
+  head_fault : MayBecomeHead all → answers ≡ [] → out ≡ [] → end ≡ Ending.read_fault → Stops all answers out end
   behind_head : (text rest : List ℕ) (head : Head) (moment : ℕ) → all ≡ text ++ rest → SaysHead text head → head.refused ≡ None
       → answers ≡ Some moment ∷ [] → BodyStops head rest out end → Stops all answers out end
 
@@ -71,7 +71,8 @@ pub data Stops (all : List ℕ) (answers : List (Option ℕ)) (out : List ℕ) (
 abbrev pub end_of : DueView → Ending
 end_of due = if due.said.memory then Ending.memory else Ending.ended
 
--- A reply that is due, and what comes after it: a first part of it where a write failed, or all of it, and then the end or the run of the rest.
+-- A reply that is due, and what comes after it: if a write failed, a first part of the reply; otherwise all of it, and then the end or the run of the
+-- rest.
 pub data After {W : Type 0} (more : Run W) (rest : List ℕ) (answers : List (Option ℕ)) (w : W) (due : DueView) (out : List ℕ) (new : W) (end : Ending) : Type 0 where
   torn : (bytes : List ℕ) → answers ≡ [] → AreBytes due bytes → IsPartOf bytes out → new ≡ w → end ≡ Ending.write_fault → After more rest answers w due out new end
   over : closes due ≡ true → answers ≡ [] → AreBytes due out → new ≡ w → end ≡ end_of due → After more rest answers w due out new end

@@ -1,4 +1,4 @@
--- What the calls over a link say, where its bytes are told.
+-- What the calls over a link say, if its bytes are told.
 use Rattle.std.specs.Prelude.{◌≡◌, ◌⊎◌, ℕ, Bool, true, false, List, [], ◌∷◌, ◌++◌, Option, Some, None}
 use Rattle.std.specs.Io.KnownBytes.{Appends, Consumes, prepend_known}
 use Rattle.split_base.specs.declared.streams.Sink.{Ghosts as SinkSide}
@@ -39,8 +39,8 @@ abbrev pub link_view : {L : Type 0} → LinkTells L → L → LinkView
 link_view tells link = record { ahead = tells.left link; written = tells.written link; reads = tells.reads link; writes = tells.writes link; empties = tells.empties link }
 
 -- with bytes that were read past the last message
-abbrev pub carried : List ℕ → LinkView → LinkView
-carried carry link = record { ahead = prepend_known carry link.ahead; written = link.written; reads = link.reads; writes = link.writes; empties = link.empties }
+abbrev pub with_carry : List ℕ → LinkView → LinkView
+with_carry carry link = record { ahead = prepend_known carry link.ahead; written = link.written; reads = link.reads; writes = link.writes; empties = link.empties }
 
 -- the counts of a link stay: no call failed, and no write was empty
 abbrev pub CountsStay : LinkView → LinkView → Type 0
@@ -50,7 +50,7 @@ CountsStay link now = (now.reads ≡ link.reads) × (now.writes ≡ link.writes)
 abbrev pub CountsEnd : LinkView → LinkView → Ending → Type 0
 CountsEnd link now end = (now.reads ≡ reads_after link.reads end) × (now.writes ≡ writes_after link.writes end) × (now.empties ≡ link.empties)
 
--- the bytes that came of a link with these to come, of which these are left: where a read failed, those that were read before it, and else all
+-- the bytes that came on a link with these to come, of which these are left: all of them, or, if a read failed, those that were read before it
 abbrev pub HaveCome : Ending → (ahead left : Option (List ℕ)) → List ℕ → Type 0
 HaveCome Ending.ended ahead left come = IsToldAs ahead come
 HaveCome Ending.cut ahead left come = IsToldAs ahead come
@@ -58,7 +58,7 @@ HaveCome Ending.read_fault ahead left come = Consumes ahead left come
 HaveCome Ending.write_fault ahead left come = IsToldAs ahead come
 HaveCome Ending.memory ahead left come = IsToldAs ahead come
 
--- A run over the bytes that came of a link; asked: the answers that the clock gave; stands: the worlds that may be the state of what serves.
+-- A run over the bytes that came on a link. `asked` says what answers the clock gave, and `stands` which worlds may be the state of what serves.
 pub record RanTo {W : Type 0} (run : Run W) (link now : LinkView) (asked : List (Option ℕ) → Type 0) (stands : W → Type 0) (w : W) (end : LinkEnd) : Type 0 where
   pub all : List ℕ
   pub answers : List (Option ℕ)
@@ -93,7 +93,7 @@ pub record HeardRefused (link now : LinkView) (asked : List (Option ℕ) → Typ
   pub counts : CountsStay link now
   pub refuses : (rest : List ℕ) → IsToldAs now.ahead rest → (all : List ℕ) × IsToldAs link.ahead all × Refuses all rest answer refusal bodiless
 
--- a request was read whole and taken off the bytes, and the interim line written where it was due
+-- a request was read whole and taken off the bytes, and the interim line written if it was due
 pub record HeardRequest (link now : LinkView) (asked : List (Option ℕ) → Type 0) (head : Head) (body : List ℕ) (moment : ℕ) : Type 0 where
   pub clock : asked (Some moment ∷ [])
   pub wrote : Appends link.written now.written (interim_of head.expects)
@@ -102,7 +102,7 @@ pub record HeardRequest (link now : LinkView) (asked : List (Option ℕ) → Typ
   pub took : Consumes link.ahead now.ahead taken
   pub asks : (rest : List ℕ) → Asks (taken ++ rest) rest head body
 
--- a reply is due; where it does not close the link, the bytes that it answers were taken off
+-- a reply is due; if it doesn't close the link, the bytes that it answers have been taken off the link
 pub record Replied {W : Type 0} (service : Service W) (link now : LinkView) (asked : List (Option ℕ) → Type 0) (stands : W → Type 0) (last : Bool) (w : W) (due : DueView) : Type 0 where
   pub answer : Option ℕ
   pub interim : List ℕ
@@ -122,17 +122,17 @@ HasWritten link now due = ((bytes : List ℕ) × AreBytes due bytes × Appends l
 abbrev pub HasTorn : LinkView → LinkView → DueView → Type 0
 HasTorn link now due = ((bytes part : List ℕ) × AreBytes due bytes × IsPartOf bytes part × Appends link.written now.written part) × CountsEnd link now Ending.write_fault
 
--- the end of a link after a reply, or none where the link goes on
+-- the end of a link after a reply, or none if the link goes on
 abbrev pub EndsBehind : DueView → Option LinkEnd → Type 0
 EndsBehind due None = closes due ≡ false
 EndsBehind due (Some end) = (closes due ≡ true) × (end ≡ end_as (end_of due))
 
--- after a reply that was due: the end, or nothing where the link goes on
+-- after a reply that was due: the end, or nothing if the link goes on
 abbrev pub FinishSays : LinkView → LinkView → DueView → Option LinkEnd → Type 0
 FinishSays link now due None = EndsBehind due None × HasWritten link now due
 FinishSays link now due (Some end) = (EndsBehind due (Some end) × HasWritten link now due) ⊎ (HasTorn link now due × (end ≡ ends.LinkFault))
 
--- the counts of a link: no call failed where it goes on, and else the one that its end tells
+-- the counts of a link: no call failed if it goes on, otherwise the one that its end tells
 abbrev pub CountsServed : LinkView → LinkView → Option LinkEnd → Type 0
 CountsServed link now None = CountsStay link now
 CountsServed link now (Some end) = (ending : Ending) × (end ≡ end_as ending) × CountsEnd link now ending
@@ -156,7 +156,7 @@ pub record WentOn {W : Type 0} (service : Service W) (link now : LinkView) (aske
 
 -- a head was served: the link goes on, with these bytes that were read past it, or it has ended
 abbrev pub HeadServed : {W : Type 0} → Service W → (link : LinkView) (held : List ℕ) (now : LinkView) (asked : List (Option ℕ) → Type 0) (stands : W → Type 0) (last : Bool) (w : W) → Option LinkEnd → Type 0
-HeadServed service link held now asked stands last w None = WentOn service link (carried held now) asked stands last w
+HeadServed service link held now asked stands last w None = WentOn service link (with_carry held now) asked stands last w
 HeadServed service link held now asked stands last w (Some end) = RanTo (LastHead service last) link now asked stands w end
 
 -- Some heads of at most so many were taken off the bytes and went through, and n more may come: whatever run the rest has completes the run of

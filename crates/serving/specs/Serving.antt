@@ -42,6 +42,6 @@ host_service {D} d = record {
 abbrev pub StandsAt : {D : Type 0} → Ghosts D → Serving → D → D × State → Type 0
 StandsAt d serving disk w = (w.0 ≡ disk) × HasState d serving disk w.1
 
--- what is due where this is said, in this manner
+-- what is due when this is said, in this manner
 abbrev pub due_of : Said → Option ℕ → Bool → Bool → DueView
 due_of said moment bodiless closes = record { said = said_view said; manner = record { moment = moment; bodiless = bodiless; closes = closes } }

@@ -14,10 +14,15 @@ use split_base::{Disk, Port};
 /// before and after it, and the bytes that the link got of it. After them the link ends, by a last reply or none. Requests that were answered
 /// after others are one list with them.
 pub fn link_law<D: Disk>()
-    ensures exchanges { (n : ℕ) (all : List ℕ) (answers : List (Option ℕ)) (w : D × State) (out : List ℕ) (new : D × State) (end : Ending)
-        → LinkRun (host_service D.Disk) n all answers w out new end → LinkExchanges (host_service D.Disk) all answers w out new end }
-    ensures joined { (w : D × State) (first : List (Exchange (D × State))) (between : D × State) (second : List (Exchange (D × State))) (new : D × State)
-        → Answered (host_service D.Disk) w first between → Answered (host_service D.Disk) between second new → Answered (host_service D.Disk) w (first ++ second) new }
+    ensures exchanges { (n : ℕ) (all : List ℕ) (answers : List (Option ℕ)) (w : D × State)
+        (out : List ℕ) (new : D × State) (end : Ending)
+        → LinkRun (host_service D.Disk) n all answers w out new end
+        → LinkExchanges (host_service D.Disk) all answers w out new end }
+    ensures joined { (w : D × State) (first : List (Exchange (D × State))) (between : D × State)
+        (second : List (Exchange (D × State))) (new : D × State)
+        → Answered (host_service D.Disk) w first between
+        → Answered (host_service D.Disk) between second new
+        → Answered (host_service D.Disk) w (first ++ second) new }
 {}
 
 /// The run of a port is such a list over all of its links, in order, each request at the state and the disk that the one before it left.

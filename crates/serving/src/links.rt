@@ -5,49 +5,47 @@ ghost use Rattle.search_workers.specs.declared.limits.TheConstants.{MOST_WORKERS
 ghost use Rattle.split_base.specs.Clocks.{ClockRun};
 ghost use Rattle.serving.specs.declared.limits.TheConstants.{MAX_REQUESTS};
 ghost use Rattle.serving.specs.Runs.{LinkRun};
-ghost use Rattle.serving.specs.Served.{CountsServed, HeadServed, RanTo, carried, link_view, tells_of};
+ghost use Rattle.serving.specs.Served.{CountsServed, HeadServed, RanTo, with_carry, link_view, tells_of};
 ghost use Rattle.serving.specs.Serving.{StandsAt, host_service};
 
 use crate::replies::{refusal_said, write_said};
 use crate::turns::is_head;
 use crate::{Heard, LinkEnd, MAX_REQUESTS, hear};
 use host_journal::Serving;
-use requests::respond;
+use requests::{Tools, respond};
+use search_workers::{Means, Workers};
 use split_base::{Clock, Disk, Gate, Link};
 use split_http::{Carry, Head, Routes};
-use split_solve::KeptSearches;
+use split_solve::{KeptSearches, Solver};
 use std::alloc::Global;
 use std::thread::Threads;
 
 // Serves the next head. None where the link goes on, which it does not after the last one.
-#[allow(clippy::too_many_arguments)]
 fn serve_head<D: Disk, L: Link, C: Clock, R: Threads + Sync, G: Gate + Sync>(
-    alloc: Global,
-    rt: &R,
+    tools: &mut Tools<'_, R, G>,
     serving: &mut Serving,
     disk: &mut D,
     link: &mut L,
     clock: &mut C,
-    routes: &Routes,
     carry: &mut Carry,
     last: bool,
-    searches: &mut KeptSearches,
-    workers: u8,
-    gate: &G,
 ) -> Option<LinkEnd>
-    requires { (1 ≤ workers) × (workers ≤ MOST_WORKERS) }
-    ensures says { (w : D × State) → StandsAt D.Disk serving.old disk.old w → HeadServed (host_service D.Disk)
-        (carried carry.old (link_view (tells_of L.Source L.Sink) link.old)) carry.new (link_view (tells_of L.Source L.Sink) link.new)
-        (ClockRun C.gives C.faults clock.old clock.new) (StandsAt D.Disk serving.new disk.new) last w result }
+    ensures says { (w : D × State) → StandsAt D.Disk serving.old disk.old w
+        → HeadServed (host_service D.Disk)
+        (with_carry carry.old (link_view (tells_of L.Source L.Sink) link.old)) carry.new
+        (link_view (tells_of L.Source L.Sink) link.new)
+        (ClockRun C.gives C.faults clock.old clock.new) (StandsAt D.Disk serving.new disk.new) last
+        w result }
     ensures ends { last ≡ true → IsSome result }
-    ensures counts { CountsServed (link_view (tells_of L.Source L.Sink) link.old) (link_view (tells_of L.Source L.Sink) link.new) result }
+    ensures counts { CountsServed (link_view (tells_of L.Source L.Sink) link.old)
+        (link_view (tells_of L.Source L.Sink) link.new) result }
     ensures reads { L.Source.faults link.old ≤ L.Source.faults link.new }
     ensures writes { L.Sink.faults link.old ≤ L.Sink.faults link.new }
     ensures clock { C.faults clock.old ≤ C.faults clock.new }
     ensures disk { D.faults disk.old ≤ D.faults disk.new }
     ensures honest { D.is_honest disk.old ↔ D.is_honest disk.new }
 {
-    match hear(alloc, link, clock, carry) {
+    match hear(tools.solver.means.alloc, link, clock, carry) {
         Heard::Quiet(end) => Some(end),
         Heard::Refused {
             refusal,
@@ -55,9 +53,7 @@ fn serve_head<D: Disk, L: Link, C: Clock, R: Threads + Sync, G: Gate + Sync>(
             bodiless,
         } => write_said(link, &refusal_said(refusal), answer, bodiless, true),
         Heard::Request { head, body, moment } => {
-            let said = respond(
-                alloc, rt, serving, disk, routes, &head, &body, moment, searches, workers, gate,
-            );
+            let said = respond(tools, serving, disk, &head, &body, moment);
             let bodiless = is_head(head.verb);
             write_said(link, &said, Some(moment), bodiless, closes(&head, last))
         }
@@ -84,25 +80,29 @@ fn closes(head: &Head, last: bool) -> bool
 /// Goods are searched by 1 to `MOST_WORKERS` workers, unless a kept search is of the same case. Neither they nor the kept searches change
 /// what is written.
 #[allow(clippy::too_many_arguments)]
-pub fn serve_one<D: Disk, L: Link, C: Clock, R: Threads + Sync, G: Gate + Sync>(
+pub fn serve_one<'a, D: Disk, L: Link, C: Clock, R: Threads + Sync, G: Gate + Sync>(
     alloc: Global,
-    rt: &R,
+    rt: &'a R,
     serving: &mut Serving,
     disk: &mut D,
     link: &mut L,
     clock: &mut C,
-    routes: &Routes,
-    searches: &mut KeptSearches,
+    routes: &'a Routes,
+    searches: &'a mut KeptSearches,
     workers: u8,
-    gate: &G,
+    gate: &'a G,
 ) -> LinkEnd
     requires { (1 ≤ workers) × (workers ≤ MOST_WORKERS) }
-    ensures run { (w : D × State) → StandsAt D.Disk serving.old disk.old w → RanTo (LinkRun (host_service D.Disk) MAX_REQUESTS)
-        (link_view (tells_of L.Source L.Sink) link.old) (link_view (tells_of L.Source L.Sink) link.new)
-        (ClockRun C.gives C.faults clock.old clock.new) (StandsAt D.Disk serving.new disk.new) w result }
+    ensures run { (w : D × State) → StandsAt D.Disk serving.old disk.old w
+        → RanTo (LinkRun (host_service D.Disk) MAX_REQUESTS)
+        (link_view (tells_of L.Source L.Sink) link.old)
+        (link_view (tells_of L.Source L.Sink) link.new)
+        (ClockRun C.gives C.faults clock.old clock.new) (StandsAt D.Disk serving.new disk.new) w
+        result }
 
     // Whatever state the serving has.
-    ensures counts { CountsServed (link_view (tells_of L.Source L.Sink) link.old) (link_view (tells_of L.Source L.Sink) link.new) (Some result) }
+    ensures counts { CountsServed (link_view (tells_of L.Source L.Sink) link.old)
+        (link_view (tells_of L.Source L.Sink) link.new) (Some result) }
     ensures reads { L.Source.faults link.old ≤ L.Source.faults link.new }
     ensures writes { L.Sink.faults link.old ≤ L.Sink.faults link.new }
     ensures empty { L.Sink.empty_writes link.new ≡ L.Sink.empty_writes link.old }
@@ -110,24 +110,19 @@ pub fn serve_one<D: Disk, L: Link, C: Clock, R: Threads + Sync, G: Gate + Sync>(
     ensures disk { D.faults disk.old ≤ D.faults disk.new }
     ensures honest { D.is_honest disk.old ↔ D.is_honest disk.new }
 {
+    let means = Means { alloc, rt, gate };
+    let solver = Solver {
+        means: &means,
+        workers: Workers::new(workers),
+        searches,
+    };
+    let mut tools = Tools { solver, routes };
     let mut carry = Carry::new();
     let mut left = MAX_REQUESTS;
     loop {
         left -= 1;
-        match serve_head(
-            alloc,
-            rt,
-            serving,
-            disk,
-            link,
-            clock,
-            routes,
-            &mut carry,
-            left == 0,
-            searches,
-            workers,
-            gate,
-        ) {
+        let last = left == 0;
+        match serve_head(&mut tools, serving, disk, link, clock, &mut carry, last) {
             Some(end) => return end,
             None => {}
         }

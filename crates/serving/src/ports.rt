@@ -3,38 +3,29 @@ ghost use Rattle.std.specs.Prelude.{◌≡◌, ◌<◌, ◌≤◌, ◌-◌, ◌�
 ghost use Rattle.host_journal.specs.States.{State};
 ghost use Rattle.split_base.specs.Clocks.{ClockRun};
 ghost use Rattle.split_base.specs.Faults.{HasCause, IsCounted};
-ghost use Rattle.search_workers.specs.declared.limits.TheConstants.{MOST_WORKERS};
 ghost use Rattle.serving.specs.Ports.{LinkGone, PortServed};
 ghost use Rattle.serving.specs.Served.{tells_of};
 ghost use Rattle.serving.specs.Serving.{StandsAt, host_service};
 
 use crate::serve_one;
 use host_journal::Serving;
+use requests::Tools;
 use split_base::{Clock, Disk, Failed, Gate, Port};
-use split_http::Routes;
-use split_solve::KeptSearches;
-use std::alloc::Global;
 use std::thread::Threads;
 
 // Serves a link and gives it back, whatever its end.
-#[allow(clippy::too_many_arguments)]
 fn serve_link<D: Disk, P: Port, C: Clock, R: Threads + Sync, G: Gate + Sync>(
-    alloc: Global,
-    rt: &R,
+    tools: &mut Tools<'_, R, G>,
     serving: &mut Serving,
     disk: &mut D,
     port: &mut P,
     clock: &mut C,
-    routes: &Routes,
     mut link: P::Link,
-    searches: &mut KeptSearches,
-    workers: u8,
-    gate: &G,
 )
-    requires { (1 ≤ workers) × (workers ≤ MOST_WORKERS) }
     ensures served { (w : D × State) → StandsAt D.Disk serving.old disk.old w
         → LinkGone (host_service D.Disk) (tells_of P.Link.Source P.Link.Sink) link
-        (P.given_back port.old) (P.given_back port.new) (P.places port.old) (ClockRun C.gives C.faults clock.old clock.new) (StandsAt D.Disk serving.new disk.new) w }
+        (P.given_back port.old) (P.given_back port.new) (P.places port.old)
+        (ClockRun C.gives C.faults clock.old clock.new) (StandsAt D.Disk serving.new disk.new) w }
     ensures come { P.to_come port.new ≡ P.to_come port.old }
     ensures out { P.out port.new ≡ P.out port.old - 1 }
     ensures stays { P.has_ended port.old ↔ P.has_ended port.new }
@@ -46,8 +37,19 @@ fn serve_link<D: Disk, P: Port, C: Clock, R: Threads + Sync, G: Gate + Sync>(
     ensures disk { D.faults disk.old ≤ D.faults disk.new }
     ensures honest { D.is_honest disk.old ↔ D.is_honest disk.new }
 {
+    let means = tools.solver.means;
+    let workers = tools.solver.workers.count();
     let _end = serve_one(
-        alloc, rt, serving, disk, &mut link, clock, routes, searches, workers, gate,
+        means.alloc,
+        means.rt,
+        serving,
+        disk,
+        &mut link,
+        clock,
+        tools.routes,
+        tools.solver.searches,
+        workers,
+        means.gate,
     );
     port.done(link);
 }
@@ -58,27 +60,22 @@ fn serve_link<D: Disk, P: Port, C: Clock, R: Threads + Sync, G: Gate + Sync>(
 ///
 /// `Failed` comes only where the port's count of faults has risen, by one, and before `count` links were served; no link is asked for again then.
 /// `Ok` leaves the count as it is.
-#[allow(clippy::too_many_arguments)]
 pub fn serve<D: Disk, P: Port, C: Clock, R: Threads + Sync, G: Gate + Sync>(
-    alloc: Global,
-    rt: &R,
+    tools: &mut Tools<'_, R, G>,
     serving: &mut Serving,
     disk: &mut D,
     port: &mut P,
     clock: &mut C,
-    routes: &Routes,
     count: u64,
-    searches: &mut KeptSearches,
-    workers: u8,
-    gate: &G,
 ) -> Result<u64, Failed>
-    requires workers { (1 ≤ workers) × (workers ≤ MOST_WORKERS) }
     requires none_out { P.out port.old ≡ 0 }
     requires goes_on { P.is_over port.old → ⊥ }
-    ensures run { (w : D × State) → StandsAt D.Disk serving.old disk.old w → (number : ℕ) × (number ≤ count) × (result ≡ Ok number ⊎ (IsErr result × (number < count)))
-        × PortServed (host_service D.Disk) (tells_of P.Link.Source P.Link.Sink)
-        (P.to_come port.old) (P.to_come port.new) (P.given_back port.old) (P.given_back port.new) (P.places port.old)
-        (ClockRun C.gives C.faults clock.old clock.new) (StandsAt D.Disk serving.new disk.new) w number }
+    ensures run { (w : D × State) → StandsAt D.Disk serving.old disk.old w
+        → (number : ℕ) × (number ≤ count) × (result ≡ Ok number ⊎ (IsErr result × (number < count)))
+        × PortServed (host_service D.Disk) (tells_of P.Link.Source P.Link.Sink) (P.to_come port.old)
+        (P.to_come port.new) (P.given_back port.old) (P.given_back port.new) (P.places port.old)
+        (ClockRun C.gives C.faults clock.old clock.new) (StandsAt D.Disk serving.new disk.new) w
+        number }
     ensures few { IfOk result (λ number. number < count → P.has_ended port.new) }
     ensures most { IfOk result (λ number. number ≤ count) }
     ensures out { P.out port.new ≡ 0 }
@@ -95,9 +92,7 @@ pub fn serve<D: Disk, P: Port, C: Clock, R: Threads + Sync, G: Gate + Sync>(
         match port.accept() {
             Err(Failed) => return Err(Failed),
             Ok(None) => return Ok(served),
-            Ok(Some(link)) => serve_link(
-                alloc, rt, serving, disk, port, clock, routes, link, searches, workers, gate,
-            ),
+            Ok(Some(link)) => serve_link(tools, serving, disk, port, clock, link),
         }
     }
     Ok(count)

@@ -13,7 +13,7 @@ use requests::Said;
 use split_base::Link;
 use split_http::{BAD_HOST, BAD_LENGTH, FRAMING, HttpReply, LENGTH_MISSING, phrase_law};
 
-/// What is said to a head that is refused. It takes no memory.
+// What is said to a head that is refused. It takes no memory.
 pub(crate) fn refusal_said(refusal: HeadRefusal) -> Said
     ensures { said_view result ≡ said_of refusal }
 {
@@ -42,7 +42,7 @@ fn stated_said(row: u8) -> Said
     }
 }
 
-/// Writes what is said, and answers the end of the link after it, or none where the link goes on.
+// Writes what is said, and answers the end of the link after it, or none where the link goes on.
 pub(crate) fn write_said<L: Link>(
     link: &mut L,
     said: &Said,
@@ -51,8 +51,9 @@ pub(crate) fn write_said<L: Link>(
     closes: bool,
 ) -> Option<LinkEnd>
     requires { IfSome moment (λ t. t ≤ LAST_MOMENT) }
-    ensures says { FinishSays (link_view (tells_of L.Source L.Sink) link.old) (link_view (tells_of L.Source L.Sink) link.new)
-        (due_of said.now moment bodiless closes) result }
+    ensures says { FinishSays (link_view (tells_of L.Source L.Sink) link.old)
+        (link_view (tells_of L.Source L.Sink) link.new) (due_of said.now moment bodiless closes)
+        result }
     ensures closed { closes ≡ true → IsSome result }
     ensures left { L.Source.left link.new ≡ L.Source.left link.old }
     ensures reads { L.Source.faults link.new ≡ L.Source.faults link.old }

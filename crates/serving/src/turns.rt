@@ -2,9 +2,9 @@
 ghost use Rattle.std.specs.Prelude.{◌≡◌, ◌≤◌};
 ghost use Rattle.std.specs.Io.KnownBytes.{prepend_known};
 ghost use Rattle.split_base.specs.Clocks.{ClockRun};
-ghost use Rattle.split_http.specs.Turns.{HeadSays, IsOpen, faults_of};
+ghost use Rattle.split_http.specs.Turns.{HeadSays, MayBecomeHead, faults_of};
 ghost use Rattle.serving.specs.Dues.{is_head};
-ghost use Rattle.serving.specs.Served.{carried, link_view, tells_of};
+ghost use Rattle.serving.specs.Served.{with_carry, link_view, tells_of};
 ghost use Rattle.serving.specs.Hears.{HearSays, IsTimed};
 
 use crate::{HeadRefusal, LinkEnd};
@@ -37,7 +37,7 @@ pub enum Heard {
     },
 }
 
-/// Whether the method is HEAD, so that the reply has no body.
+// Whether the method is HEAD, so that the reply has no body.
 pub(crate) fn is_head(verb: Verb) -> bool
     ensures { result ≡ is_head verb }
 {
@@ -64,7 +64,8 @@ pub fn hear<L: Link, C: Clock>(
     clock: &mut C,
     carry: &mut Carry,
 ) -> Heard
-    ensures says { HearSays (carried carry.old (link_view (tells_of L.Source L.Sink) link.old)) carry.new (link_view (tells_of L.Source L.Sink) link.new)
+    ensures says { HearSays (with_carry carry.old (link_view (tells_of L.Source L.Sink) link.old))
+        carry.new (link_view (tells_of L.Source L.Sink) link.new)
         (ClockRun C.gives C.faults clock.old clock.new) result }
     ensures timed { IsTimed result }
     ensures reads { L.Source.faults link.old ≤ L.Source.faults link.new }
@@ -95,6 +96,7 @@ pub fn hear<L: Link, C: Clock>(
     }
 }
 
+// A head that is refused, with the moment that the clock told.
 fn refused(refusal: HeadRefusal, answer: Option<u64>, bodiless: bool) -> Heard
     ensures { result ≡ Heard.Refused refusal answer bodiless }
 {
@@ -107,8 +109,9 @@ fn refused(refusal: HeadRefusal, answer: Option<u64>, bodiless: bool) -> Heard
 
 // The next head of a link, which leaves what was written as it is.
 fn turn<L: Link>(alloc: Global, link: &mut L, carry: &mut Carry) -> HeadTurn
-    ensures says { HeadSays (prepend_known carry.old (L.Source.left link.old)) (prepend_known carry.new (L.Source.left link.new)) result }
-    ensures held { result ≡ HeadTurn.LinkFault → IsOpen carry.new }
+    ensures says { HeadSays (prepend_known carry.old (L.Source.left link.old))
+        (prepend_known carry.new (L.Source.left link.new)) result }
+    ensures held { result ≡ HeadTurn.LinkFault → MayBecomeHead carry.new }
     ensures written { L.Sink.written link.new ≡ L.Sink.written link.old }
     ensures writes { L.Sink.faults link.new ≡ L.Sink.faults link.old }
     ensures empty { L.Sink.empty_writes link.new ≡ L.Sink.empty_writes link.old }

@@ -20,7 +20,8 @@ pub fn finish<L: Link>(link: &mut L, reply: &HttpReply<'_>, memory: bool) -> Opt
     requires status { IsSome (reason_phrase reply.now.status) }
     requires moment { IfSome reply.now.moment (λ t. t ≤ LAST_MOMENT) }
     ensures says { (due : DueView) → SaysDue due reply.now → due.said.memory ≡ memory
-        → FinishSays (link_view (tells_of L.Source L.Sink) link.old) (link_view (tells_of L.Source L.Sink) link.new) due result }
+        → FinishSays (link_view (tells_of L.Source L.Sink) link.old)
+        (link_view (tells_of L.Source L.Sink) link.new) due result }
     ensures left { L.Source.left link.new ≡ L.Source.left link.old }
     ensures reads { L.Source.faults link.new ≡ L.Source.faults link.old }
     ensures writes { L.Sink.faults link.old ≤ L.Sink.faults link.new }
@@ -35,7 +36,8 @@ pub fn finish<L: Link>(link: &mut L, reply: &HttpReply<'_>, memory: bool) -> Opt
 
 // The end of a link after a reply, or none where the link goes on.
 fn end_behind(close: bool, memory: bool) -> Option<LinkEnd>
-    ensures { (due : DueView) → closes due ≡ close → due.said.memory ≡ memory → EndsBehind due result }
+    ensures { (due : DueView) → closes due ≡ close → due.said.memory ≡ memory
+        → EndsBehind due result }
 {
     if memory {
         Some(LinkEnd::Memory)

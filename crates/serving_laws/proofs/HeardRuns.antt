@@ -11,11 +11,11 @@ use Rattle.requests.specs.Cases.{Responds, Settles, Steps}
 use Rattle.requests.specs.Commands.{command_of}
 use Rattle.requests.specs.Replies.{Replies}
 use Rattle.requests.specs.Said.{SaidView, content_said, memory_said}
-use Rattle.requests.specs.Sent.{sent}
+use Rattle.requests.specs.Sent.{status_and_text}
 use Rattle.sealed_core.specs.declared.commands.Ask.{Ask}
 use Rattle.sealed_core.specs.Host.{EventView, HostView, apply}
 use Rattle.sealed_core.specs.Runs.{host_of}
-use Rattle.sealed_core.specs.Sealed.{Asked, Caller, applied, caller_number, host_after, is_closed, next, same_caller}
+use Rattle.sealed_core.specs.Sealed.{Asked, Caller, with_event, caller_number, host_after, is_closed, next, same_caller}
 use Rattle.sealed_core.specs.Step.{CommandView, Create, To, step}
 use Rattle.serving.specs.Serving.{host_service}
 use Rattle.split_http.specs.declared.routes.Route.{Route}
@@ -32,14 +32,14 @@ OneMore = (secret : List ℕ) (events : List EventView) (e : EventView) → host
 -- what is sent of a reply on an instance that isn't closed after the step is what is told
 abbrev pub SendsTold : Type 0
 SendsTold = (h : HostView) (t id : ℕ) (key : Option (List ℕ)) (ask : Ask) (content : ContentView) → is_closed (host_after h t (To id key ask)) id ≡ false → Replies h t (To id key ask) content
-    → sent content ≡ told h t (To id key ask)
+    → status_and_text content ≡ told h t (To id key ask)
 
 where_both : {A : Type 0} (s t : Bool) (x y : A) → (s ≡ true → x ≡ y) → (if s && t then Some x else None) ≡ (if s && t then Some y else None)
 where_both true true x y same = ap Some (same refl)
 where_both true false x y same = refl
 where_both false t x y same = refl
 
-pub applied_is : OneMore → (secret : List ℕ) (kept : List EventView) (o : Option EventView) → host_of secret (kept ++ option_to_list o) ≡ applied (host_of secret kept) o
+pub applied_is : OneMore → (secret : List ℕ) (kept : List EventView) (o : Option EventView) → host_of secret (kept ++ option_to_list o) ≡ with_event (host_of secret kept) o
 applied_is one_more secret kept None = ap (λ (l : List EventView). host_of secret l) (append-nil kept)
 applied_is one_more secret kept (Some e) = one_more secret kept e
 
@@ -63,7 +63,7 @@ module _ (one_more : OneMore) where
       subst (λ (l : List Taken). AreTold h (l ++ tail)) (sym none) (subst (λ (g : HostView). AreTold g tail) (host_is settled s.secret s.kept keeps ∙ same) rest)
   found_told h s settled found tail same (Finds.found a e waits event keeps one) rest =
       let goes : host_in settled ≡ next h a =
-      host_is settled s.secret (s.kept ++ e ∷ []) keeps ∙ one_more s.secret s.kept e ∙ ap (applied (host_in s)) (sym event) ∙ ap (λ (g : HostView). next g a) same in
+      host_is settled s.secret (s.kept ++ e ∷ []) keeps ∙ one_more s.secret s.kept e ∙ ap (with_event (host_in s)) (sym event) ∙ ap (λ (g : HostView). next g a) same in
       subst (λ (l : List Taken). AreTold h (l ++ tail)) (sym one) (tt, subst (λ (g : HostView). AreTold g tail) goes rest)
 
   no_steps_told : (settled new : State) (own tail : List Taken) → HasKept new settled.secret settled.kept → own ≡ [] → AreTold (host_in new) tail → AreTold (host_in settled) (own ++ tail)

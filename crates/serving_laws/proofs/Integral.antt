@@ -1,7 +1,7 @@
 -- Each bid and each withdrawal was sent under its member's key.
 use Rattle.std.proofs.Common.{◌≡◌, ◌⊎◌, ◌↔◌, ℕ, ◌+◌, List, [], ◌∷◌, ◌++◌, length, max, Option, None, Some, IfSome, Ok, Contains, refl, sym, ap, ◌∙◌, subst, inl, inr, ⊎_elim, append_assoc, append-nil}
 use Rattle.std.proofs.lemmas.List.Elements.{Contains-push_cases}
-use Rattle.case_fields.specs.declared.bodies.BidBody.{BidBody}
+use Rattle.body_fields.specs.declared.bodies.BidBody.{BidBody}
 use Rattle.host_journal.specs.States.{State}
 use Rattle.serving.specs.Exchanges.{Exchange}
 use Rattle.requests.specs.Commands.{command_of}

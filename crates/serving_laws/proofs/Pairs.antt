@@ -9,7 +9,7 @@ use Rattle.reply_texts.specs.declared.refusals.ServiceRefusal.TheVariants as ser
 use Rattle.requests.specs.Commands.{command_of}
 use Rattle.requests.specs.Said.{SaidView, memory_said, method_said, refused_said}
 use Rattle.sealed_core.specs.Host.{EventView, HostView}
-use Rattle.sealed_core.specs.Sealed.{AreAlike, Asked, Caller, KeepsBid, RunAlike, applied, next}
+use Rattle.sealed_core.specs.Sealed.{AreAlike, Asked, Caller, KeepsBid, RunAlike, with_event, next}
 use Rattle.sealed_core.specs.Step.{step}
 use Rattle.split_http.specs.declared.head.Head.{Head}
 use Rattle.split_http.specs.declared.routes.Route.{Route}
@@ -104,7 +104,7 @@ module _ (id : ℕ) (caller : Caller) where
 
   module _ (one_more : OneMore) where
     goes_to : (b s : State) (a : Asked) (e : EventView) → (step (host_in b) a.moment a.command).event ≡ Some e → s ≡ ready_with b.secret (b.kept ++ e ∷ []) → host_in s ≡ next (host_in b) a
-    goes_to b s a e event is = ap host_in is ∙ one_more b.secret b.kept e ∙ ap (applied (host_in b)) (sym event)
+    goes_to b s a e event is = ap host_in is ∙ one_more b.secret b.kept e ∙ ap (with_event (host_in b)) (sym event)
 
     found_one : (b c s t : State) (e f : EventView) → WaitAlike b c → b.waiting ≡ Some e → c.waiting ≡ Some f
         → s ≡ ready_with b.secret (b.kept ++ e ∷ []) → t ≡ ready_with c.secret (c.kept ++ f ∷ []) → Found b c s t

@@ -3,9 +3,9 @@ use Rattle.std.proofs.Common.{◌≡◌, ℕ, ◌+◌, ◌==◌, ◌&&◌, max, 
 use Rattle.std.specs.List.{list_all}
 use Rattle.std.proofs.lemmas.Bool.{cond_both}
 use Rattle.bid_rules.specs.declared.bids.Bid.{Bid}
-use Rattle.case_fields.specs.declared.bodies.BidBody.{BidBody}
-use Rattle.case_fields.specs.declared.fields.BodyFault.{BodyFault}
-use Rattle.case_fields.specs.declared.fields.BodyFault.TheVariants.{Json, Field}
+use Rattle.body_fields.specs.declared.bodies.BidBody.{BidBody}
+use Rattle.body_fields.specs.declared.fields.BodyFault.{BodyFault}
+use Rattle.body_fields.specs.declared.fields.BodyFault.TheVariants.{Json, Field}
 use Rattle.sealed_core.specs.declared.commands.Ask.{Ask}
 use Rattle.sealed_core.specs.declared.commands.Ask.TheVariants as asks
 use Rattle.sealed_core.specs.declared.limits.TheConstants.{MOST_INSTANCES, MOST_TURNS}
@@ -14,7 +14,7 @@ use Rattle.sealed_core.specs.declared.replies.Reply.TheVariants as reply
 use Rattle.sealed_core.specs.Host.{CreationView, InstanceView, HostView, Created, BidKept, Closed, Withdrawn, instance_at}
 use Rattle.sealed_core.specs.Sameness.{is_kept, same_creation}
 use Rattle.sealed_core.specs.Sealed.{IsQuiet, is_refused}
-use Rattle.sealed_core.specs.Step.{Answer, CommandView, Create, To, Standing, answer_ask, answer_caller, answer_close, answer_to, bid_body, bid_form, bid_turn, broken, caller_by, caller_in, checked, form_of, holder, is_over, may_ask, new_creation, refused, says, standing_of, step, tagged_from, withdrawal_body, withdrawal_turn}
+use Rattle.sealed_core.specs.Step.{Answer, CommandView, Create, To, Standing, answer_ask, answer_caller, answer_close, answer_to, bid_body, bid_form, bid_turn, answer_to_fault, caller_by, caller_in, bid_by_rule, form_of, holder, is_over, may_ask, new_creation, refused, says, standing_of, step, tagged_from, withdrawal_body, withdrawal_turn}
 
 -- a refusal has no event
 abbrev Silent : Answer → Type 0
@@ -42,7 +42,7 @@ module _ (now id m : ℕ) (s : Standing) where
 
   silent_body : (body : BidBody) (turn : Option ℕ) → Silent (bid_body now id m s body turn)
   silent_body body None is = refl
-  silent_body body (Some turn) is = silent_form turn (checked s.facts (form_of s.facts body)) is
+  silent_body body (Some turn) is = silent_form turn (bid_by_rule s.facts (form_of s.facts body)) is
 
   silent_withdrawal : (turn : ℕ) → Silent (withdrawal_turn now id m s turn)
   silent_withdrawal turn =
@@ -69,7 +69,7 @@ module _ (now id m : ℕ) (s : Standing) where
       let second : Answer = if all then shut else refused refusal.NotAll in
       cond_both s.closed (refused refusal.Closed) second Silent (λ _ _. refl) (λ _. cond_both all shut (refused refusal.NotAll) Silent (λ _. accepted) (λ _ _. refl))
 
-  silent_fault : (fault : BodyFault) → Silent (broken fault)
+  silent_fault : (fault : BodyFault) → Silent (answer_to_fault fault)
   silent_fault Json is = refl
   silent_fault (Field name) is = refl
 

@@ -10,7 +10,7 @@ use Rattle.requests.specs.Cases.{Settles, Steps}
 use Rattle.requests.specs.Commands.{command_of}
 use Rattle.requests.specs.Replies.{Replies}
 use Rattle.requests.specs.Said.{SaidView, content_said, refused_said}
-use Rattle.requests.specs.Sent.{sent}
+use Rattle.requests.specs.Sent.{status_and_text}
 use Rattle.sealed_core.specs.declared.commands.Ask.{Ask}
 use Rattle.sealed_core.specs.Host.{HostView}
 use Rattle.sealed_core.specs.Sealed.{caller_number, host_after, is_closed, view}
@@ -20,7 +20,7 @@ use Rattle.split_http.specs.Places.{IsRouted}
 use Rattle.serving_laws.specs.Sealing.{IsSealedReply, IsSealedTold, TellsNoStep, got}
 use Rattle.serving_laws.proofs.Answered.{PublishesClosed, due_result}
 
-pub same_sent : (said other : SaidView) (a b : ContentView) → said ≡ content_said a → other ≡ content_said b → sent a ≡ sent b → (said.status ≡ other.status) × (said.text ≡ other.text)
+pub same_sent : (said other : SaidView) (a b : ContentView) → said ≡ content_said a → other ≡ content_said b → status_and_text a ≡ status_and_text b → (said.status ≡ other.status) × (said.text ≡ other.text)
 same_sent said other a b is_a is_b same = (
   ap (λ (s : SaidView). s.status) is_a ∙ ap (λ (t : Told). t.status) same ∙ sym (ap (λ (s : SaidView). s.status) is_b),
   ap (λ (s : SaidView). s.text) is_a ∙ ap (λ (t : Told). unwrap_or t.text []) same ∙ sym (ap (λ (s : SaidView). s.text) is_b),
@@ -29,7 +29,7 @@ same_sent said other a b is_a is_b same = (
 -- what is sent of a reply on an instance that isn't closed after the step follows from the caller's view
 abbrev pub SendsSealed : Type 0
 SendsSealed = (h : HostView) (t id : ℕ) (key : Option (List ℕ)) (ask : Ask) (content : ContentView) → is_closed (host_after h t (To id key ask)) id ≡ false → Replies h t (To id key ask) content
-    → sent content ≡ sealed_told (view h id (caller_number h id key)) t id key ask
+    → status_and_text content ≡ sealed_told (view h id (caller_number h id key)) t id key ask
 
 some_same : (said other : SaidView) → Some said ≡ Some other → said ≡ other
 some_same said other is = cc

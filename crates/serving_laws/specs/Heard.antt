@@ -37,7 +37,7 @@ IsStep x a = IsStepAt x x.before.1 a
 abbrev pub IsUnrouted : {D : Type 0} → Exchange (D × State) → Type 0
 IsUnrouted x = (x.after.1 ≡ x.before.1) × ((x.due.said ≡ refused_said service.NoRoute) ⊎ ((allow : Allow) × (x.due.said ≡ method_said allow)))
 
--- a step that the machine took in a run, and what was said in reply to it: nothing where its append failed, which was told, and its event was in the
+-- a step that the machine took in a run, and what was said in reply to it: nothing if its append failed, which was told, and its event was in the
 -- file when that was opened again
 pub record Taken : Type 0 where
   pub asked : Asked
@@ -85,8 +85,7 @@ abbrev pub is_own : HostView → ℕ → Caller → CommandView → Bool
 is_own h id caller (Create body) = false
 is_own h id caller (To other key ask) = (other == id) && same_caller (caller_number h other key) caller
 
--- what the caller gets, step by step, up to and without the step at which the instance is closed: the reply to their own command on it, else
--- nothing
+-- what the caller gets, step by step, before the step that closes the instance: the reply to their own command on it, otherwise nothing
 abbrev pub got_all : HostView → ℕ → Caller → List Taken → List (Option Told)
 got_all h id caller [] = []
 got_all h id caller (s ∷ steps) =

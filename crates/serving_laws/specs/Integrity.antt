@@ -1,6 +1,6 @@
 -- Who sent the bids and the withdrawals that are kept.
 use Rattle.std.specs.Prelude.{◌≡◌, ◌⊎◌, ℕ, List, [], ◌∷◌, ◌++◌, Some, Ok, Contains}
-use Rattle.case_fields.specs.declared.bodies.BidBody.{BidBody}
+use Rattle.body_fields.specs.declared.bodies.BidBody.{BidBody}
 use Rattle.host_journal.specs.States.{State}
 use Rattle.serving.specs.Exchanges.{Exchange}
 use Rattle.requests.specs.Commands.{command_of}

@@ -1,7 +1,7 @@
 -- What came last on a link, and how that ends the link.
 use Rattle.std.specs.Prelude.{◌≡◌, ℕ, ◌<◌, Bool, true, false, List, [], ◌∷◌, ◌++◌, length, Option, Some, None}
 use Rattle.split_http.specs.declared.head.Head.{Head}
-use Rattle.split_http.specs.Turns.{IsOpen, interim_of}
+use Rattle.split_http.specs.Turns.{MayBecomeHead, interim_of}
 use Rattle.serving.specs.declared.ends.LinkEnd.{LinkEnd}
 use Rattle.serving.specs.declared.refusals.HeadRefusal.{HeadRefusal}
 use Rattle.serving.specs.Dues.{AreBytes, DueView, IsPartOf, closes}
@@ -76,7 +76,7 @@ pub data IsWritten {W : Type 0} (service : Service W) (due : DueView) (w : W) (a
 
 -- the read that failed: while the parser asked for more of the bytes that had come, or before the whole body of a head had come
 pub data FailsReading (all : List ℕ) (answers : List (Option ℕ)) (out : List ℕ) : Type 0 where
-  in_head : IsOpen all → answers ≡ [] → out ≡ [] → FailsReading all answers out
+  in_head : MayBecomeHead all → answers ≡ [] → out ≡ [] → FailsReading all answers out
   in_body : (head : Head) (come : List ℕ) → BeginsBody all answers head come → length come < head.length → out ≡ interim_of head.expects → FailsReading all answers out
 
 -- the write that failed, of which a first part was written: that of an interim line, of the reply to a request, or of one to a refused head

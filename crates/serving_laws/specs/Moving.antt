@@ -9,7 +9,7 @@ use Rattle.requests.specs.Said.{refused_said}
 use Rattle.sealed_core.specs.Host.{EventView}
 use Rattle.serving_laws.specs.Accepting.{Makes}
 
--- The state is as it was; or it waited, and its file was opened as this one, whose secret and events are just those that a read gave, where the disk
+-- The state is as it was; or it waited, and its file was opened as this one, whose secret and events are just those that a read gave, if the disk
 -- tells its bytes.
 abbrev pub IsReopened : {D : Type 0} → Ghosts D → D → State → State → Type 0
 IsReopened d disk s settled =
@@ -23,8 +23,8 @@ IsReadyFor s settled =
     (settled ≡ s)
     ⊎ ((event : EventView) × (s.waiting ≡ Some event) × ((settled ≡ ready_with s.secret s.kept) ⊎ (settled ≡ ready_with s.secret (s.kept ++ event ∷ []))))
 
--- A request is answered at this state: the one before it; or where that one waits the one that its file was opened as, which on an honest disk
--- has the events kept before, with the one that waited or without it.
+-- A request is answered at this state: the one before it; or, if that one waits, the one that its file was opened as, which on an honest disk has the
+-- events kept before, with the one that waited or without it.
 abbrev pub IsAnsweredAt : {D : Type 0} → Ghosts D → Exchange (D × State) → State → Type 0
 IsAnsweredAt d x settled = IsReopened d x.before.0 x.before.1 settled × (d.is_honest x.before.0 → IsReadyFor x.before.1 settled)
 

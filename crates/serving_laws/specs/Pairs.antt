@@ -1,4 +1,4 @@
--- Two runs of requests that differ in nothing but what others than the caller of an instance have bid.
+-- Two runs of requests that differ only in what people other than the caller of an instance have bid.
 use Rattle.std.specs.Prelude.{◌≡◌, ◌≢◌, ◌⊎◌, ◌↔◌, ℕ, List, [], ◌∷◌, Some, None}
 use Rattle.bid_rules.specs.declared.bids.Bid.{Bid}
 use Rattle.host_journal.specs.States.{State}
@@ -30,7 +30,7 @@ pub record StoresAlike {D : Type 0} (x y : Exchange (D × State)) (s t : State) 
   pub found : (s.kept ≡ x.before.1.kept) ↔ (t.kept ≡ y.before.1.kept)
   pub kept : (x.after.1.waiting ≡ None) ↔ (y.after.1.waiting ≡ None)
 
--- where memory may run out at all, it ran out in both requests or in neither
+-- if memory may run out at all, it ran out in both requests or in neither
 abbrev pub LackAlike : {W : Type 0} → (x y : Exchange W) → (s t : State) → Type 0
 LackAlike x y s t = MayLackMemory x s ⊎ MayLackMemory y t → x.due.said.memory ≡ y.due.said.memory
 
@@ -62,8 +62,8 @@ RepliesAlike (x ∷ run) (y ∷ others) [] twins = ⊥
 RepliesAlike (x ∷ run) (y ∷ others) (s ∷ states) [] = ⊥
 RepliesAlike (x ∷ run) (y ∷ others) (s ∷ states) (t ∷ twins) = ReplyAlike x y s t × RepliesAlike run others states twins
 
--- The machine takes steps in both runs that are alike pair by pair, of which the same ones have a reply; and the caller gets the same status and text in
--- reply to each of their own commands on the instance, up to the step at which it is closed. A reply that is that of no step is the same in both runs,
+-- In both runs the machine takes steps, which are alike pair by pair, and the same ones of them have a reply. The caller gets the same status and text in
+-- reply to each of their own commands on the instance, up to the step at which it is closed. A reply that belongs to no step is the same in both runs,
 -- whoever gets it.
 pub record GetsSame {D : Type 0} (id : ℕ) (caller : Caller) (g h : HostView) (run others : List (Exchange (D × State))) (states twins : List State) : Type 0 where
   pub steps : List Taken

@@ -12,7 +12,7 @@ use Rattle.split_http.specs.declared.routes.Route.{Route}
 use Rattle.split_http.specs.Places.{IsRouted}
 use Rattle.serving_laws.specs.Accepting.{Makes}
 
--- the HTTP status of a success: 200, or 201 where an instance was made (RFC 9110, section 15.3)
+-- the HTTP status of a success: 200, or 201 if an instance was made (RFC 9110, section 15.3)
 abbrev pub IsSuccess : ℕ → Type 0
 IsSuccess status = (status ≡ 200) ⊎ (status ≡ 201)
 
@@ -32,6 +32,6 @@ StaysBut x settled =
     × ((MakesLateClose x settled event × (x.after.1 ≡ ready_with settled.secret (settled.kept ++ event ∷ [])))
     ⊎ (Makes x settled.secret settled.kept event × (x.after.1 ≡ waits_with settled event) × (x.due.said ≡ refused_said service.StoreFault))))
 
--- a request that is refused, or in which something failed, changes nothing but so
+-- a request that is refused, or in which something failed, changes nothing else
 abbrev pub RefusesQuietly : {D : Type 0} → Exchange (D × State) → State → Type 0
 RefusesQuietly x settled = (IsSuccess x.due.said.status → ⊥) → StaysBut x settled

@@ -73,7 +73,7 @@ pub record TellsDamage {D : Type 0} (d : Ghosts D) (x : Exchange (D × State)) :
   pub never : d.is_honest x.before.0 → ⊥
   pub said : x.due.said ≡ refused_said (service.StoreDamaged place)
 
--- where the command asks something of an instance that isn't closed after it, the caller gets the status and the text that follow from what they may
+-- if the command asks something of an instance that isn't closed after it, the caller gets the status and the text that follow from what they may
 -- know of it, the command and the moment
 abbrev pub IsSealedTold : HostView → ℕ → CommandView → Told → Type 0
 IsSealedTold h t (Create body) told = Unit {0}

@@ -16,7 +16,7 @@ use Rattle.requests.specs.Said.{SaidView}
 abbrev pub Answering : Type 0 → Type 0
 Answering D = Head → List ℕ → ℕ → D × State → (D × State) × SaidView
 
--- the host that answers each request so
+-- the host that answers each request in this way
 abbrev pub answering_so : {D : Type 0} → Ghosts D → Answering D → Service (D × State)
 answering_so {D} d answer = record {
   refuses = refusal_said;
@@ -41,7 +41,7 @@ pub record IsUnfailing {D : Type 0} (d : Ghosts D) (head : Head) (body : List �
 abbrev pub OneState : {D : Type 0} → D × State → D × State → Type 0
 OneState w v = (w.1 ≡ v.1) × (w.1.waiting ≡ None) × CanApplyAll (empty w.1.secret) w.1.kept
 
--- hosts of one state say the same to a request, and come to one state, where no call of their disks fails in it and memory suffices
+-- hosts of one state say the same to a request, and come to one state, if no call of their disks fails in it and there is enough memory
 abbrev pub AnswerAlike : {D : Type 0} → Ghosts D → Type 0
 AnswerAlike {D} d = (head : Head) (body : List ℕ) (moment : ℕ) (w v new other : D × State) (said told : SaidView) → OneState w v
     → IsUnfailing d head body moment w new said → IsUnfailing d head body moment v other told → OneState new other × (said ≡ told)

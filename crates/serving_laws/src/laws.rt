@@ -34,22 +34,30 @@ use serving::link_law;
 use split_base::Disk;
 use split_http::{cut_law, reply_law};
 
-/// The run of a link ends by what came last on it, after its requests. It is `Ended` exactly where no byte was left where a head would begin, or where the last
-/// thing was a reply that was written, closed the connection and wasn't the memory reply; `Cut` exactly where the input ended within the body
-/// of a head that isn't refused; `Memory` exactly where the memory reply was the last thing and was written; and `LinkFault` exactly where a
-/// call of the link failed, so only where a count of the link has risen.
+/// The run of a link ends by what came last on it, after its requests. It is `Ended` exactly if no byte was left where a head would begin, or where the last
+/// thing was a reply that was written, closed the connection and wasn't the memory reply; `Cut` exactly if the input ended within the body
+/// of a head that isn't refused; `Memory` exactly if the memory reply was the last thing and was written; and `LinkFault` exactly if a
+/// call of the link failed, so only if a count of the link has risen.
 pub fn ends_law<D: Disk>()
-    ensures last { (n : ℕ) (all : List ℕ) (answers : List (Option ℕ)) (w : D × State) (out : List ℕ) (new : D × State) (end : Ending)
-        → LinkRun (host_service D.Disk) n all answers w out new end → LinkEnds (host_service D.Disk) all answers w out new end }
-    ensures behind { (all : List ℕ) (answers : List (Option ℕ)) (w : D × State) (out : List ℕ) (new : D × State) (end : Ending)
-        (link : LinkExchanges (host_service D.Disk) all answers w out new end) → EndsAfter link.exchanges (host_service D.Disk) all answers w out new end }
-    ensures ended { (last : Last) → (end_by last ≡ ends.Ended) ↔ ((last ≡ Last.nothing_left) ⊎ IsPlainReply last) }
+    ensures last { (n : ℕ) (all : List ℕ) (answers : List (Option ℕ)) (w : D × State) (out : List ℕ)
+        (new : D × State) (end : Ending) → LinkRun (host_service D.Disk) n all answers w out new end
+        → LinkEnds (host_service D.Disk) all answers w out new end }
+    ensures behind { (all : List ℕ) (answers : List (Option ℕ)) (w : D × State) (out : List ℕ)
+        (new : D × State) (end : Ending)
+        (link : LinkExchanges (host_service D.Disk) all answers w out new end)
+        → EndsAfter link.exchanges (host_service D.Disk) all answers w out new end }
+    ensures ended { (last : Last) → (end_by last ≡ ends.Ended)
+        ↔ ((last ≡ Last.nothing_left) ⊎ IsPlainReply last) }
     ensures cut { (last : Last) → (end_by last ≡ ends.Cut) ↔ (last ≡ Last.body_cut) }
     ensures memory { (last : Last) → (end_by last ≡ ends.Memory) ↔ IsMemoryReply last }
-    ensures fault { (last : Last) → (end_by last ≡ ends.LinkFault) ↔ ((last ≡ Last.read_failed) ⊎ (last ≡ Last.write_failed)) }
-    ensures said { (due : DueView) (w : D × State) (all : List ℕ) (answers : List (Option ℕ)) (out : List ℕ) (new : D × State)
-        → IsWritten (host_service D.Disk) due w all answers out new → due.said.memory ≡ true → due.said ≡ memory_said }
-    ensures counted { (link now : LinkView) (ending : Ending) → end_as ending ≡ ends.LinkFault → CountsEnd link now ending → HasRisen link.reads now.reads ⊎ HasRisen link.writes now.writes }
+    ensures fault { (last : Last) → (end_by last ≡ ends.LinkFault)
+        ↔ ((last ≡ Last.read_failed) ⊎ (last ≡ Last.write_failed)) }
+    ensures said { (due : DueView) (w : D × State) (all : List ℕ) (answers : List (Option ℕ))
+        (out : List ℕ) (new : D × State) → IsWritten (host_service D.Disk) due w all answers out new
+        → due.said.memory ≡ true → due.said ≡ memory_said }
+    ensures counted { (link now : LinkView) (ending : Ending) → end_as ending ≡ ends.LinkFault
+        → CountsEnd link now ending
+        → HasRisen link.reads now.reads ⊎ HasRisen link.writes now.writes }
 {
     link_law::<D>();
 }
@@ -57,24 +65,26 @@ pub fn ends_law<D: Disk>()
 /// On an honest disk a crash at any moment since a request was answered leaves a file of the state that it left or of one that came later,
 /// with or without the event that is being appended.
 pub fn crash_law<D: Disk>()
-    ensures { (w : D × State) (run : List (Exchange (D × State))) (new : D × State) → Answered (host_service D.Disk) w run new → D.is_honest w.0 → Each (D.images w.0) (IsFile w.1)
-        → Since D.Disk new.0 w run }
+    ensures { (w : D × State) (run : List (Exchange (D × State))) (new : D × State)
+        → Answered (host_service D.Disk) w run new → D.is_honest w.0
+        → Each (D.images w.0) (IsFile w.1) → Since D.Disk new.0 w run }
 {}
 
 /// On an honest disk each event that a run keeps was made by a command of this run, or it waited before.
 pub fn accepted_law<D: Disk>()
-    ensures { (w : D × State) (run : List (Exchange (D × State))) (new : D × State) → Answered (host_service D.Disk) w run new → D.is_honest w.0
-        → Accepts run w.1 new.1 }
+    ensures { (w : D × State) (run : List (Exchange (D × State))) (new : D × State)
+        → Answered (host_service D.Disk) w run new → D.is_honest w.0 → Accepts run w.1 new.1 }
 {}
 
 /// On an honest disk each event that was kept when a request was answered is in whatever a crash may leave since then, at its place: each
 /// image begins with all of them.
 pub fn acknowledged_law<D: Disk>()
-    ensures { (w : D × State) (run : List (Exchange (D × State))) (new : D × State) → Answered (host_service D.Disk) w run new → D.is_honest w.0 → Each (D.images w.0) (IsFile w.1)
-        → Acknowledges D.Disk new.0 w run }
+    ensures { (w : D × State) (run : List (Exchange (D × State))) (new : D × State)
+        → Answered (host_service D.Disk) w run new → D.is_honest w.0
+        → Each (D.images w.0) (IsFile w.1) → Acknowledges D.Disk new.0 w run }
 {}
 
-/// A request is handled at one state, whatever the disk: the state as it was, or as its file was opened where it waited. Where the disk tells its bytes,
+/// A request is handled at one state, whatever the disk: the state as it was, or as its file was opened if it waited. If the disk tells its bytes,
 /// that file held just the events of that state; on an honest disk they are those kept before, with the one that waited or without it. All of this holds of
 /// that one state.
 ///
@@ -83,18 +93,21 @@ pub fn acknowledged_law<D: Disk>()
 ///   memory ran out, for a body that is read or for what is published of a closed instance, and for nothing else. Or a call of the disk failed in it, and
 ///   this is told. Or the file of a host that waited is no journal: then the place of its first fault is told, wherever the disk tells its bytes, and it is
 ///   never so on an honest disk.
-/// - Without success it changes nothing but, where the deadline of the instance that it asks has passed, by the Close of that; or its own event waits.
+/// - Without success it changes nothing but, if the deadline of the instance that it asks has passed, by the Close of that; or its own event waits.
 /// - Its reply tells of an instance that isn't closed after it no more than what the caller may know; or it is that of no step. So of a status, an own bid
 ///   and a close it tells what the caller may know, or a fault of the store.
 /// - A bid or a withdrawal that it makes was sent under its member's key.
 ///
-/// So it is of each request of a run; and on an honest disk the run goes by steps of the machine from those same states: a request takes one, or none where
-/// its reply is that of no step, as where its path or method is refused, the store failed or memory ran out; and before it the step of an event
-/// that waited is taken, where the file that is opened again has it.
+/// So it is of each request of a run; and on an honest disk the run goes by steps of the machine from those same states: a request takes one, or none if
+/// its reply is that of no step, as when its path or method is refused, the store failed or memory ran out; and before it the step of an event
+/// that waited is taken, if the file that is opened again has it.
 pub fn handled_law<D: Disk>()
-    ensures one { (x : Exchange (D × State)) → IsExchange (host_service D.Disk) x → (settled : State) × IsHandled D.Disk x settled }
-    ensures run { (w : D × State) (run : List (Exchange (D × State))) (new : D × State) → Answered (host_service D.Disk) w run new
-        → (states : List State) × AreHandled D.Disk run states × (D.is_honest w.0 → WaitsByStep w.1 → (steps : List Taken) × TakesSteps run states steps) }
+    ensures one { (x : Exchange (D × State)) → IsExchange (host_service D.Disk) x
+        → (settled : State) × IsHandled D.Disk x settled }
+    ensures run { (w : D × State) (run : List (Exchange (D × State))) (new : D × State)
+        → Answered (host_service D.Disk) w run new
+        → (states : List State) × AreHandled D.Disk run states
+        × (D.is_honest w.0 → WaitsByStep w.1 → (steps : List Taken) × TakesSteps run states steps) }
 {
     machine_law();
     publication_law();
@@ -105,14 +118,15 @@ pub fn handled_law<D: Disk>()
 /// On an honest disk each bid and each withdrawal that is kept after a run, which began with a host that was ready, was kept before it, or was sent by a
 /// request of the run under the key of its member, as it is kept.
 pub fn integrity_law<D: Disk>()
-    ensures { (w : D × State) (run : List (Exchange (D × State))) (new : D × State) → Answered (host_service D.Disk) w run new → D.is_honest w.0 → w.1.waiting ≡ None
+    ensures { (w : D × State) (run : List (Exchange (D × State))) (new : D × State)
+        → Answered (host_service D.Disk) w run new → D.is_honest w.0 → w.1.waiting ≡ None
         → KeepsIntegrity run w.1 new.1 }
 {
     machine_law();
     sameness_law();
 }
 
-/// Over the same bytes and answers of the clock, where the machine with its disk and its memory answers each request in one way, a link on which
+/// Over the same bytes and answers of the clock, if the machine with its disk and its memory answers each request in one way, a link on which
 /// no call fails gets the same bytes and ends alike. So neither the pieces in which its bytes come nor the number of workers plays a role in
 /// what it gets.
 ///
@@ -120,24 +134,32 @@ pub fn integrity_law<D: Disk>()
 /// on which no call fails, while no call of the disk fails and memory suffices, gets the same bytes and ends alike; the hosts come to one
 /// state, and have taken as many answers.
 pub fn writing_law<D: Disk>()
-    ensures one { (answer : Answering D) (all : List ℕ) (answers : List (Option ℕ)) (w : D × State) (out told : List ℕ) (new after : D × State) (end stop : Ending) → IsDone end → IsDone stop
-        → LinkRun (answering_so D.Disk answer) MAX_REQUESTS all answers w out new end → LinkRun (answering_so D.Disk answer) MAX_REQUESTS all answers w told after stop
+    ensures one { (answer : Answering D) (all : List ℕ) (answers : List (Option ℕ)) (w : D × State)
+        (out told : List ℕ) (new after : D × State) (end stop : Ending) → IsDone end → IsDone stop
+        → LinkRun (answering_so D.Disk answer) MAX_REQUESTS all answers w out new end
+        → LinkRun (answering_so D.Disk answer) MAX_REQUESTS all answers w told after stop
         → (out ≡ told) × (new ≡ after) × (end ≡ stop) }
-    ensures alike { AnswerAlike D.Disk → (all : List ℕ) (answers others more besides : List (Option ℕ)) (w v : D × State) (out told : List ℕ) (new after : D × State)
-        (end stop : Ending) → OneState w v → answers ++ more ≡ others ++ besides → IsDone end → IsDone stop
-        → (HasRisen (D.faults w.0) (D.faults new.0) → ⊥) → (HasRisen (D.faults v.0) (D.faults after.0) → ⊥)
-        → LinkRun (host_service D.Disk) MAX_REQUESTS all answers w out new end → LinkRun (host_service D.Disk) MAX_REQUESTS all others v told after stop
+    ensures alike { AnswerAlike D.Disk
+        → (all : List ℕ) (answers others more besides : List (Option ℕ)) (w v : D × State)
+        (out told : List ℕ) (new after : D × State) (end stop : Ending) → OneState w v
+        → answers ++ more ≡ others ++ besides → IsDone end → IsDone stop
+        → (HasRisen (D.faults w.0) (D.faults new.0) → ⊥)
+        → (HasRisen (D.faults v.0) (D.faults after.0) → ⊥)
+        → LinkRun (host_service D.Disk) MAX_REQUESTS all answers w out new end
+        → LinkRun (host_service D.Disk) MAX_REQUESTS all others v told after stop
         → (out ≡ told) × OneState new after × (end ≡ stop) × (answers ≡ others) }
 {
     cut_law();
     reply_law();
 }
 
-/// Bids are sealed in what a link gets. Where an instance isn't closed after a command on it, two requests of this command at one moment, at hosts of
+/// Bids are sealed in what a link gets. If an instance isn't closed after a command on it, two requests of this command at one moment, at hosts of
 /// which the caller may know the same, have replies of one status and one text. What one reply tells is in `handled_law`.
 pub fn sealed_law<D: Disk>()
-    ensures { (x y : Exchange (D × State)) (id : ℕ) (key : Option (List ℕ)) (ask : Ask) (g h : HostView) → AsksOf x id key ask g → AsksOf y id key ask h → x.moment ≡ y.moment
-        → view g id (caller_number g id key) ≡ view h id (caller_number h id key) → is_closed (host_after g x.moment (To id key ask)) id ≡ false
+    ensures { (x y : Exchange (D × State)) (id : ℕ) (key : Option (List ℕ)) (ask : Ask)
+        (g h : HostView) → AsksOf x id key ask g → AsksOf y id key ask h → x.moment ≡ y.moment
+        → view g id (caller_number g id key) ≡ view h id (caller_number h id key)
+        → is_closed (host_after g x.moment (To id key ask)) id ≡ false
         → (x.due.said.status ≡ y.due.said.status) × (x.due.said.text ≡ y.due.said.text) }
 {
     sent_sealing_law();
@@ -150,23 +172,31 @@ pub fn sealed_law<D: Disk>()
 /// the same member on the same instance at the same moment, each of them kept; and let steps of a pair both have replies or both none. Then the
 /// caller gets the same status and text in reply to each of their own commands on the instance in both, up to the step at which it is closed (`got`).
 ///
-/// So it is where requests are compared, and not steps (`same`). Take two such runs on honest disks, from hosts at which no event waits. Let their requests
+/// So it is when requests are compared, and not steps (`same`). Take two such runs on honest disks, from hosts at which no event waits. Let their requests
 /// be equal pair by pair, but that some may be two such bids. Let the store do the same in both requests of a pair: the file of a host that waits is opened
-/// in both or in neither, with the event that waited in both or in neither, and an event waits after both or after neither. And where a body is read, or a
+/// in both or in neither, with the event that waited in both or in neither, and an event waits after both or after neither. And if a body is read, or a
 /// result of a closed instance is due, let memory run out in both or in neither. Then the steps are alike, the caller gets the same, and each reply that is
 /// that of no step is the same in both, whoever gets it. Of any other request nothing is asked about memory, since it can't run out there.
 ///
-/// A request at a host that is ready goes by a step, or its path or method is refused, where no call of the disk failed in it and memory didn't run out.
+/// A request at a host that is ready goes by a step, or its path or method is refused, if no call of the disk failed in it and memory didn't run out.
 pub fn sealed_runs_law<D: Disk>()
-    ensures got { (id : ℕ) (caller : Caller) (run others : List (Exchange (D × State))) (states twins : List State) (steps besides : List Taken) (w v new after : D × State)
-        → Answered (host_service D.Disk) w run new → Answered (host_service D.Disk) v others after → LookAlike id caller (host_in w.1) (host_in v.1)
-        → TakesSteps run states steps → TakesSteps others twins besides → RunAlike (host_in w.1) (host_in v.1) id caller (asked_of steps) (asked_of besides) → replied_of steps ≡ replied_of besides
+    ensures got { (id : ℕ) (caller : Caller) (run others : List (Exchange (D × State)))
+        (states twins : List State) (steps besides : List Taken) (w v new after : D × State)
+        → Answered (host_service D.Disk) w run new → Answered (host_service D.Disk) v others after
+        → LookAlike id caller (host_in w.1) (host_in v.1) → TakesSteps run states steps
+        → TakesSteps others twins besides
+        → RunAlike (host_in w.1) (host_in v.1) id caller (asked_of steps) (asked_of besides)
+        → replied_of steps ≡ replied_of besides
         → got_all (host_in w.1) id caller steps ≡ got_all (host_in v.1) id caller besides }
-    ensures same { (id : ℕ) (caller : Caller) (run others : List (Exchange (D × State))) (states twins : List State) (w v new after : D × State)
-        → Answered (host_service D.Disk) w run new → Answered (host_service D.Disk) v others after → D.is_honest w.0 → D.is_honest v.0 → w.1.waiting ≡ None → v.1.waiting ≡ None
-        → LookAlike id caller (host_in w.1) (host_in v.1) → AreHandled D.Disk run states → AreHandled D.Disk others twins → ArePairs id caller run others states twins
+    ensures same { (id : ℕ) (caller : Caller) (run others : List (Exchange (D × State)))
+        (states twins : List State) (w v new after : D × State)
+        → Answered (host_service D.Disk) w run new → Answered (host_service D.Disk) v others after
+        → D.is_honest w.0 → D.is_honest v.0 → w.1.waiting ≡ None → v.1.waiting ≡ None
+        → LookAlike id caller (host_in w.1) (host_in v.1) → AreHandled D.Disk run states
+        → AreHandled D.Disk others twins → ArePairs id caller run others states twins
         → GetsSame id caller (host_in w.1) (host_in v.1) run others states twins }
-    ensures step { (x : Exchange (D × State)) → IsExchange (host_service D.Disk) x → x.before.1.waiting ≡ None → (HasRisen (D.faults x.before.0) (D.faults x.after.0) → ⊥)
+    ensures step { (x : Exchange (D × State)) → IsExchange (host_service D.Disk) x
+        → x.before.1.waiting ≡ None → (HasRisen (D.faults x.before.0) (D.faults x.after.0) → ⊥)
         → x.due.said.memory ≡ false → IsUnrouted x ⊎ ((a : Asked) × IsStep x a) }
 {
     machine_law();

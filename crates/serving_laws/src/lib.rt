@@ -1,6 +1,6 @@
 //! What holds of whole runs of the host, over a link and over a port.
 //!
-//! They hold over a disk of any kind, but where they speak of crashes or of files, over an honest
+//! They hold over a disk of any kind, but when they speak of crashes or of files, over an honest
 //! one.
 #![tactic(auto)]
 

@@ -1,4 +1,5 @@
 pub mod FirstRiders
+pub mod LastRiders
 pub mod LeastRoutes
 pub mod SetBits
 pub mod SetSums

@@ -1,6 +1,6 @@
 -- Sums over the riders of a set, and their sizes.
-use Rattle.std.proofs.Common.{◌≡◌, ◌≢◌, ℕ, zero, suc, ℤ, pos, ◌+◌, ◌-◌, ◌*◌, ◌^◌, ◌<◌, ◌≤◌, ◌+ℤ◌, ◌-ℤ◌, ◌*ℤ◌, List, [], ◌∷◌, ◌++◌, length, take, get_or, Contains, arith, ap, ◌∙◌, subst, sym, ⊎_elim, unsigned_abs, to_z, of_z}
-use Rattle.std.specs.Int.{w128}
+use Rattle.std.proofs.Common.{◌≡◌, ◌≢◌, ℕ, zero, suc, ℤ, pos, ◌+◌, ◌-◌, ◌*◌, ◌^◌, ◌<◌, ◌≤◌, ◌+ℤ◌, ◌-ℤ◌, ◌*ℤ◌, List, [], ◌∷◌, ◌++◌, length, get_or, Contains, arith, ap, ◌∙◌, subst, sym, ⊎_elim, unsigned_abs, to_z, of_z, FitsSigned}
+use Rattle.std.specs.Int.{w64}
 use Rattle.std.specs.List.{range_with_len}
 use Rattle.std.proofs.lemmas.Bool.{cases_lt}
 use Rattle.std.proofs.lemmas.List.{get_or_append_left, get_or-append-add, length-append}
@@ -8,24 +8,21 @@ use Rattle.std.proofs.lemmas.List.FromFn.{length-range_with_len, get_or-range_wi
 use Rattle.bid_rules.specs.declared.cases.FareCase.{FareCase}
 use Rattle.bid_rules.specs.declared.limits.TheConstants.{MOST_FARE_CENTS, MOST_RIDERS}
 use Rattle.bid_rules.specs.Coalitions.{riders_in}
-use Rattle.bid_rules.specs.FareLimits.{most_cost, most_orders, most_sum}
-use Rattle.bid_rules.specs.Sums.{total}
+use Rattle.bid_rules.specs.FareLimits.{most_cost, most_sum}
 use Rattle.best_laws.specs.MarginalSums.{marginal_sum}
 use Rattle.set_costs.specs.Sums.{ListsSums}
 use Rattle.std.proofs.Math.Nat.{mul-le-mul, mul-le-mul_right}
 use Rattle.std.proofs.lemmas.Int.{ints, unsigned_abs-mul}
 use Rattle.bid_rules.specs.Orders.{factorial}
 use Rattle.split_lemmas.proofs.Factorials.{factorial_rises}
-use Rattle.split_lemmas.proofs.WideNumbers.{kept_whole}
 
 -- the most that a part of a sum comes to: a cost, once for each order of all riders but one
 abbrev pub most_part : ℕ
 most_part = most_cost * factorial (MOST_RIDERS - 1)
 
--- a number up to a cost, once for each order of the others
-pub times_small : (z : ℤ) (others : ℕ) → unsigned_abs z ≤ most_cost → others < MOST_RIDERS → unsigned_abs (z *ℤ pos (factorial others)) ≤ most_part
-times_small z others small few =
-    subst (λ n. n ≤ most_part) (sym (unsigned_abs-mul z (pos (factorial others)))) (mul-le-mul small (factorial_rises others (MOST_RIDERS - 1) (omega (arith, few))))
+-- a number up to a cost, once for each order of all riders but one or fewer
+times_small : (z : ℤ) (orders : ℕ) → unsigned_abs z ≤ most_cost → orders ≤ factorial (MOST_RIDERS - 1) → unsigned_abs (z *ℤ pos orders) ≤ most_part
+times_small z orders small few = subst (λ n. n ≤ most_part) (sym (unsigned_abs-mul z (pos orders))) (mul-le-mul small few)
 
 -- a sum over the orders of n riders, and over those of the others
 pub sum_of_riders : (z : ℤ) (n : ℕ) → unsigned_abs z ≤ MOST_FARE_CENTS * (n + 1) * factorial n → n ≤ MOST_RIDERS → unsigned_abs z ≤ most_cost * factorial n
@@ -44,46 +41,44 @@ pub sum_small : (z : ℤ) (n : ℕ) → unsigned_abs z ≤ most_cost * factorial
 sum_small z n small few = let most = factorial_rises n MOST_RIDERS few in omega (arith, small, most)
 
 -- a number as the code keeps it
-abbrev kept : ℤ → ℤ
-kept z = to_z w128 (of_z w128 z)
+abbrev pub kept : ℤ → ℤ
+kept z = to_z w64 (of_z w64 z)
 
--- the difference of two costs, once for each order of the others, as the code makes it
-pub added_is : (x y k : ℤ) (a b others : ℕ) → x ≡ pos a → y ≡ pos b → k ≡ pos (factorial others) → a ≤ most_cost → b ≤ most_cost → others < MOST_RIDERS
-    → (kept (kept (kept x -ℤ kept y) *ℤ kept k) ≡ (pos a -ℤ pos b) *ℤ pos (factorial others)) × (unsigned_abs (kept (kept (kept x -ℤ kept y) *ℤ kept k)) ≤ most_part)
-added_is x y k a b others e f g high low few =
-    let most : factorial others ≤ most_orders = factorial_rises others MOST_RIDERS (omega (arith, few)) in
+-- a number of at most 63 bits is kept whole, and so is one without a sign
+pub kept_whole : (z : ℤ) → unsigned_abs z < 2 ^ 63 → kept z ≡ z
+kept_whole z small = omega (arith, ints)
+
+pub fits_whole : (z : ℤ) → unsigned_abs z < 2 ^ 63 → FitsSigned w64 z
+fits_whole z small = omega (arith, ints)
+
+cast_whole : (n : ℕ) → n < 2 ^ 63 → to_z w64 n ≡ pos n
+cast_whole n small = omega (arith, ints)
+
+-- the difference of two costs, once for each of some orders, as the code makes it
+pub added_is : (x y : ℤ) (a b orders : ℕ) → x ≡ pos a → y ≡ pos b → a ≤ most_cost → b ≤ most_cost → orders ≤ factorial (MOST_RIDERS - 1)
+    → (kept (kept x -ℤ kept y) *ℤ to_z w64 orders ≡ (pos a -ℤ pos b) *ℤ pos orders) × (unsigned_abs (kept (kept x -ℤ kept y) *ℤ to_z w64 orders) ≤ most_part)
+added_is x y a b orders e f high low few =
     let inner : kept (pos a -ℤ pos b) ≡ pos a -ℤ pos b = kept_whole (pos a -ℤ pos b) (omega (arith, ints, high, low)) in
-    let sized : unsigned_abs ((pos a -ℤ pos b) *ℤ pos (factorial others)) ≤ most_part = times_small (pos a -ℤ pos b) others (omega (arith, ints, high, low)) few in
     let first : kept x ≡ pos a = ap kept e ∙ kept_whole (pos a) (omega (arith, ints, high)) in
     let second : kept y ≡ pos b = ap kept f ∙ kept_whole (pos b) (omega (arith, ints, low)) in
-    let third : kept k ≡ pos (factorial others) = ap kept g ∙ kept_whole (pos (factorial others)) (omega (arith, ints, most)) in
-    let whole : kept (kept (kept x -ℤ kept y) *ℤ kept k) ≡ (pos a -ℤ pos b) *ℤ pos (factorial others) =
-    ap (λ z. kept (kept (z -ℤ kept y) *ℤ kept k)) first ∙ ap (λ z. kept (kept (pos a -ℤ z) *ℤ kept k)) second ∙ ap (λ z. kept (kept (pos a -ℤ pos b) *ℤ z)) third
-    ∙ ap (λ z. kept (z *ℤ pos (factorial others))) inner ∙ kept_whole ((pos a -ℤ pos b) *ℤ pos (factorial others)) (omega (arith, sized)) in
-    (whole, subst (λ z. unsigned_abs z ≤ most_part) (sym whole) sized)
+    let third : to_z w64 orders ≡ pos orders = cast_whole orders (omega (arith, few)) in
+    let whole : kept (kept x -ℤ kept y) *ℤ to_z w64 orders ≡ (pos a -ℤ pos b) *ℤ pos orders =
+    ap (λ z. kept (z -ℤ kept y) *ℤ to_z w64 orders) first ∙ ap (λ z. kept (pos a -ℤ z) *ℤ to_z w64 orders) second ∙ ap (λ z. kept (pos a -ℤ pos b) *ℤ z) third
+    ∙ ap (λ z. z *ℤ pos orders) inner in
+    (whole, subst (λ z. unsigned_abs z ≤ most_part) (sym whole) (times_small (pos a -ℤ pos b) orders (omega (arith, ints, high, low)) few))
 
 -- what is in a list and is not its first element comes after it
 pub behind_other : (x y : ℕ) (xs : List ℕ) → x ≢ y → Contains (x ∷ xs) y → Contains xs y
 behind_other x y xs apart (zero, l, e) = absurd (apart e)
 behind_other x y xs apart (suc k, l, e) = (k, omega arith, e)
 
--- a sum over one more element
-pub total_more : {X : Type 0} (f : X → ℤ) (xs : List X) (k : ℕ) (d : X) → k < length xs → total f (take (suc k) xs) ≡ total f (take k xs) +ℤ f (get_or xs k d)
-total_more f [] k d l = absurd (omega arith)
-total_more f (x ∷ xs) zero d l = omega (arith, ints)
-total_more f (x ∷ xs) (suc k) d l = let rest = total_more f xs k d (omega (arith, l)) in omega (arith, ints, rest)
-
--- the sum so far with one more element, as the code makes it
-pub next_total : (f : ℕ → ℤ) (xs : List ℕ) (k : ℕ) (s z : ℤ) → k < length xs → length xs ≤ MOST_RIDERS → unsigned_abs s ≤ most_part * k → unsigned_abs z ≤ most_part → z ≡ f (get_or xs k 0)
-    → s ≡ total f (take k xs)
-    → (to_z w128 (of_z w128 (s +ℤ to_z w128 (of_z w128 z))) ≡ total f (take (k + 1) xs)) × (unsigned_abs (to_z w128 (of_z w128 (s +ℤ to_z w128 (of_z w128 z)))) ≤ most_part * (k + 1))
-next_total f xs k s z l few small part value whole =
-    let next : k + 1 ≡ suc k = omega arith in
-    let plain : to_z w128 (of_z w128 (s +ℤ to_z w128 (of_z w128 z))) ≡ s +ℤ z = omega (arith, ints) in
-    let sized : unsigned_abs (s +ℤ z) ≤ most_part * (k + 1) = omega (arith, ints) in (
-      plain ∙ ap (λ a. a +ℤ z) whole ∙ ap (λ b. total f (take k xs) +ℤ b) value ∙ sym (total_more f xs k 0 l) ∙ ap (λ n. total f (take n xs)) (sym next),
-      subst (λ a. unsigned_abs a ≤ most_part * (k + 1)) (sym plain) sized,
-    )
+-- a sum so far with one more part, as the code makes it
+pub next_sum : (s z : ℤ) (k : ℕ) → k < MOST_RIDERS → unsigned_abs s ≤ most_part * k → unsigned_abs z ≤ most_part
+    → FitsSigned w64 (s +ℤ kept z) × (kept (s +ℤ kept z) ≡ s +ℤ z) × (unsigned_abs (kept (s +ℤ kept z)) ≤ most_part * (k + 1))
+next_sum s z k few small part =
+    let plain : kept (s +ℤ kept z) ≡ s +ℤ z = omega (arith, ints) in
+    let sized : unsigned_abs (s +ℤ z) ≤ most_part * (k + 1) = omega (arith, ints) in
+    (omega (arith, ints), plain, subst (λ a. unsigned_abs a ≤ most_part * (k + 1)) (sym plain) sized)
 
 -- one more set has its sum
 pub lists_more : (case : FareCase) (rider : ℕ) (old new : List ℤ) (z : ℤ) → new ≡ old ++ z ∷ [] → (Contains (riders_in (length old)) rider → z ≡ marginal_sum case rider (riders_in (length old)))

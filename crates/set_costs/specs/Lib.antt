@@ -1,2 +1,3 @@
+pub mod FirstStops
 pub mod Table
 pub mod Sums

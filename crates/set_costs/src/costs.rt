@@ -99,9 +99,11 @@ impl SetCosts<'_> {
         requires low { 1 ≤ rider }
         requires high { rider ≤ length self.now.at.items }
         ensures value { result ≡ sum_of_marginal_costs self.now rider }
-        ensures small { unsigned_abs result ≤ MOST_FARE_CENTS * (MOST_RIDERS + 1) * factorial (length self.now.at.items) }
-        ensures fits { unsigned_abs result ≤ MOST_FARE_CENTS * (MOST_RIDERS + 1) * factorial MOST_RIDERS }
+        ensures small { unsigned_abs result
+            ≤ MOST_FARE_CENTS * (MOST_RIDERS + 1) * factorial (length self.now.at.items) }
+        ensures fits { unsigned_abs result
+            ≤ MOST_FARE_CENTS * (MOST_RIDERS + 1) * factorial MOST_RIDERS }
     {
-        sum_over_orders(self, rider, self.case.at.len() as u8)
+        i128::from(sum_over_orders(self, rider, self.case.at.len() as u8))
     }
 }

@@ -9,10 +9,11 @@ mod laws;
 mod recurrence;
 mod riders;
 mod rows;
+mod stops;
 mod sums;
 
 pub use costs::SetCosts;
-pub use laws::rows_law;
+pub use laws::{rows_law, sum_limits_law};
 pub use riders::{riders_of_set, without};
 pub use rows::{Row, next_row};
 pub use sums::{SET_ROOM, all_riders, factorial};

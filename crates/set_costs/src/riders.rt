@@ -1,5 +1,5 @@
 // Sets of riders as numbers: the sum of 2^(i-1) over the riders i of the set.
-ghost use Rattle.std.specs.Prelude.{◌≡◌, ◌<◌, ◌≤◌, ◌^◌, Contains};
+ghost use Rattle.std.specs.Prelude.{◌≡◌, ◌<◌, ◌≤◌, ◌^◌, ℕ, Contains};
 ghost use Rattle.bid_rules.specs.Coalitions.{riders_in};
 ghost use Rattle.best_laws.specs.Entries.{without as set_without};
 
@@ -31,4 +31,14 @@ pub fn without(set: u16, rider: u8) -> u16
     coalition_law();
     without_rider_law();
     set - (1 << (rider - 1))
+}
+
+// The lowest rider of a set.
+pub(crate) fn lowest(set: u16) -> u8
+    requires { 0 < set }
+    ensures rider { Contains (riders_in set) result }
+    ensures lowest { (other : ℕ) → Contains (riders_in set) other → result ≤ other }
+{
+    coalition_law();
+    set.trailing_zeros() as u8 + 1
 }

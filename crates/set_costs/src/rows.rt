@@ -3,9 +3,9 @@ ghost use Rattle.std.specs.Prelude.{◌≡◌, ◌<◌, ◌^◌, length, map};
 ghost use Rattle.bid_rules.specs.Coalitions.{riders_in};
 ghost use Rattle.set_costs.specs.Table.{ListsCosts, route_costs};
 
-use crate::recurrence::{cheapest, start};
+use crate::recurrence::{cheapest, first_stops, start};
 use arrayvec::ArrayVec;
-use best_laws::coalition_law;
+use best_laws::{coalition_law, route_set_law};
 use bid_rules::FareCase;
 use bid_rules::limits::RIDER_ROOM;
 
@@ -22,10 +22,11 @@ pub fn next_row(case: &FareCase, rows: &[Row]) -> Row
     ensures { result.items ≡ route_costs case.now (riders_in (length rows.now)) }
 {
     coalition_law();
-    let set = rows.len() as u16;
+    route_set_law();
+    let stops = first_stops(case, rows, rows.len() as u16);
     let mut row = Row::new();
     for at in 0..=case.at.len() as u8 {
-        row.push(cheapest(case, rows, start(case, at), set));
+        row.push(cheapest(case, start(case, at), stops.as_slice()));
     }
     row
 }

@@ -5,11 +5,11 @@ ghost use Rattle.bid_rules.specs.Facts.{IsValidFareCase};
 ghost use Rattle.bid_rules.specs.Fares.{coalition_cost, sum_of_marginal_costs};
 ghost use Rattle.bid_rules.specs.Orders.{factorial as orders_of};
 ghost use Rattle.best_laws.specs.Entries.{without as set_without};
-ghost use Rattle.best_laws.specs.MarginalSums.{marginal_sum, part_by_last};
+ghost use Rattle.best_laws.specs.MarginalSums.{marginal_sum};
 ghost use Rattle.set_costs.specs.Sums.{ListsSums};
 
 use crate::costs::SetCosts;
-use crate::riders::{riders_of_set, without};
+use crate::riders::{lowest, without};
 use arrayvec::ArrayVec;
 use best_laws::{coalition_law, marginal_set_law, without_rider_law};
 use bid_rules::limits::{MOST_FARE_CENTS, MOST_RIDERS, RIDER_ROOM};
@@ -18,7 +18,7 @@ use bid_rules::limits::{MOST_FARE_CENTS, MOST_RIDERS, RIDER_ROOM};
 pub const SET_ROOM: usize = 1 << RIDER_ROOM;
 
 /// By set of riders, in the order of their numbers, a rider's sum in cents. It is kept on the stack, one rider at a time.
-type SetSums = ArrayVec<i128, SET_ROOM>;
+type SetSums = ArrayVec<i64, SET_ROOM>;
 
 /// n!, the number of orders of so many riders.
 pub fn factorial(count: u8) -> u64
@@ -41,89 +41,73 @@ pub fn all_riders(count: u8) -> u16
     (1 << count) - 1
 }
 
-/// What a rider who comes last adds to the cost of the others of a set, once for each of their orders.
-fn added_last(costs: &SetCosts, set: u16, rider: u8, others: u8) -> i128
+// What a rider who comes last adds to the cost of the others of a set, once for each of their orders.
+fn added_last(costs: &SetCosts, set: u16, rider: u8, orders: u64) -> i64
     requires valid { IsValidFareCase costs.now }
     requires set { set < 2 ^ length costs.now.at.items }
     requires rider { Contains (riders_in set) rider }
-    requires others { others ≡ length (riders_in (set_without set rider)) }
-    requires few { others < MOST_RIDERS }
-    ensures value { result ≡ (pos (coalition_cost costs.now (riders_in set)) -ℤ pos (coalition_cost costs.now (riders_in (set_without set rider)))) *ℤ pos (orders_of others) }
-    ensures small { unsigned_abs result ≤ MOST_FARE_CENTS * (MOST_RIDERS + 1) * orders_of (MOST_RIDERS - 1) }
+    requires few { orders ≤ orders_of (MOST_RIDERS - 1) }
+    ensures value { result
+        ≡ (pos (coalition_cost costs.now (riders_in set))
+        -ℤ pos (coalition_cost costs.now (riders_in (set_without set rider)))) *ℤ pos orders }
+    ensures small { unsigned_abs result
+        ≤ MOST_FARE_CENTS * (MOST_RIDERS + 1) * orders_of (MOST_RIDERS - 1) }
 {
     coalition_law();
-    without_rider_law();
-    let added = i128::from(costs.cost_of(set)) - i128::from(costs.cost_of(without(set, rider)));
-    added * i128::from(factorial(others))
+    let added = i64::from(costs.cost_of(set)) - i64::from(costs.cost_of(without(set, rider)));
+    added * orders as i64
 }
 
-/// What the orders of a set in which the last one comes last give of a rider's sum, where the sums of the sets below are given.
-fn part_of_sum(costs: &SetCosts, sums: &[i128], rider: u8, set: u16, last: u8, others: u8) -> i128
+// The sum of a rider's marginal costs over all orders of a set, where those of the sets below are given.
+fn sum_of_set(costs: &SetCosts, sums: &[i64], rider: u8, set: u16) -> i64
     requires valid { IsValidFareCase costs.now }
     requires set { set < 2 ^ length costs.now.at.items }
-    requires below { set ≤ length sums.now }
-    requires sums { ListsSums costs.now rider sums.now }
-    requires rider { Contains (riders_in set) rider }
-    requires last { Contains (riders_in set) last }
-    requires others { others ≡ length (riders_in (set_without set last)) }
-    requires few { others < MOST_RIDERS }
-    ensures value { result ≡ part_by_last costs.now rider set last }
-    ensures small { unsigned_abs result ≤ MOST_FARE_CENTS * (MOST_RIDERS + 1) * orders_of (MOST_RIDERS - 1) }
-{
-    coalition_law();
-    without_rider_law();
-    marginal_set_law();
-    if last == rider {
-        added_last(costs, set, rider, others)
-    } else {
-        sums[usize::from(without(set, last))]
-    }
-}
-
-/// The sum of a rider's marginal costs over all orders of a set, where those of the sets below are given.
-fn sum_of_set(costs: &SetCosts, sums: &[i128], rider: u8, set: u16, count: u8) -> i128
-    requires valid { IsValidFareCase costs.now }
-    requires count { count ≡ length costs.now.at.items }
-    requires set { set < 2 ^ count }
     requires below { set ≤ length sums.now }
     requires sums { ListsSums costs.now rider sums.now }
     requires rider { Contains (riders_in set) rider }
     ensures value { result ≡ marginal_sum costs.now rider (riders_in set) }
-    ensures small { unsigned_abs result ≤ MOST_FARE_CENTS * (MOST_RIDERS + 1) * orders_of (length (riders_in set)) }
+    ensures small { unsigned_abs result
+        ≤ MOST_FARE_CENTS * (MOST_RIDERS + 1) * orders_of (length (riders_in set)) }
 {
     coalition_law();
     without_rider_law();
     marginal_set_law();
-    let riders = riders_of_set(count, set);
-    let others = riders.len() as u8 - 1;
+    let mut left = without(set, rider);
+    let mut others = 0;
+    let mut orders = 1;
     let mut sum = 0;
-    for last in riders.as_slice() {
-        sum += part_of_sum(costs, sums, rider, set, *last, others);
+    while left != 0 {
+        let last = lowest(left);
+        sum += sums[usize::from(without(set, last))];
+        others += 1;
+        orders *= others;
+        left = without(left, last);
     }
-    sum
+    sum + added_last(costs, set, rider, orders)
 }
 
-/// The sum for the next set: 0 where the rider is not in it.
-fn next_sum(costs: &SetCosts, sums: &[i128], rider: u8, count: u8) -> i128
+// The sum for the next set: 0 where the rider is not in it.
+fn next_sum(costs: &SetCosts, sums: &[i64], rider: u8, count: u8) -> i64
     requires valid { IsValidFareCase costs.now }
     requires count { count ≡ length costs.now.at.items }
     requires more { length sums.now < 2 ^ count }
     requires sums { ListsSums costs.now rider sums.now }
     requires low { 1 ≤ rider }
     requires high { rider ≤ count }
-    ensures { Contains (riders_in (length sums.now)) rider → result ≡ marginal_sum costs.now rider (riders_in (length sums.now)) }
+    ensures { Contains (riders_in (length sums.now)) rider
+        → result ≡ marginal_sum costs.now rider (riders_in (length sums.now)) }
 {
     coalition_law();
     let set = sums.len() as u16;
     if (set >> (rider - 1)) % 2 == 1 {
-        sum_of_set(costs, sums, rider, set, count)
+        sum_of_set(costs, sums, rider, set)
     } else {
         0
     }
 }
 
-/// The sum of a rider's marginal costs over all orders of all riders.
-pub(crate) fn sum_over_orders(costs: &SetCosts, rider: u8, count: u8) -> i128
+// The sum of a rider's marginal costs over all orders of all riders.
+pub(crate) fn sum_over_orders(costs: &SetCosts, rider: u8, count: u8) -> i64
     requires valid { IsValidFareCase costs.now }
     requires count { count ≡ length costs.now.at.items }
     requires low { 1 ≤ rider }
@@ -139,5 +123,5 @@ pub(crate) fn sum_over_orders(costs: &SetCosts, rider: u8, count: u8) -> i128
         let sum = next_sum(costs, sums.as_slice(), rider, count);
         sums.push(sum);
     }
-    sum_of_set(costs, sums.as_slice(), rider, all, count)
+    sum_of_set(costs, sums.as_slice(), rider, all)
 }

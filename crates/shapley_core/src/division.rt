@@ -34,7 +34,7 @@ pub struct FareDivision {
     pub costs: Costs,
 }
 
-/// The mean over all orders of so many riders of what has this sum.
+// The mean over all orders of so many riders of what has this sum.
 fn mean(sum: i128, count: u8) -> Frac
     requires count { count ≤ MOST_RIDERS }
     requires small { unsigned_abs sum ≤ MOST_FARE_CENTS * (MOST_RIDERS + 1) * orders_of count }
@@ -52,7 +52,9 @@ fn mean(sum: i128, count: u8) -> Frac
 pub fn fares_of(costs: &SetCosts<'_>, count: u8) -> FareList
     requires valid { IsValidFareCase costs.now }
     requires count { count ≡ length costs.now.at.items }
-    ensures means { AllZip (λ rider fare. IsQuotient fare (sum_of_marginal_costs costs.now rider) (orders_of count)) (riders_of costs.now) (map fraction_of result.items) }
+    ensures means { AllZip
+        (λ rider fare. IsQuotient fare (sum_of_marginal_costs costs.now rider) (orders_of count))
+        (riders_of costs.now) (map fraction_of result.items) }
     ensures ranges { All (IsFareInRange count) result.items }
 {
     coalition_law();

@@ -16,9 +16,11 @@ use split_frac::value_law;
 /// A case has at most one best division: two of them have the same fares, as fractions in lowest terms, and the same route.
 pub fn division_law()
     ensures fares { (case : FareCase) (fares others : List Frac) (route other : List ℕ)
-        → FareBest case (map fraction_of fares) route → FareBest case (map fraction_of others) other → fares ≡ others }
+        → FareBest case (map fraction_of fares) route → FareBest case (map fraction_of others) other
+        → fares ≡ others }
     ensures route { (case : FareCase) (fares others : List Frac) (route other : List ℕ)
-        → FareBest case (map fraction_of fares) route → FareBest case (map fraction_of others) other → route ≡ other }
+        → FareBest case (map fraction_of fares) route → FareBest case (map fraction_of others) other
+        → route ≡ other }
 {
     best_fares_law();
     value_law();
@@ -26,11 +28,17 @@ pub fn division_law()
 
 /// The number of members never changes what routes and coalitions cost, a rider's marginal costs, and so the best fares and the route.
 pub fn members_law()
-    ensures routes { (case : FareCase) (members from : ℕ) (riders : List ℕ) → route_cost (with_members case members) from riders ≡ route_cost case from riders }
-    ensures costs { (case : FareCase) (members : ℕ) (riders : List ℕ) → coalition_cost (with_members case members) riders ≡ coalition_cost case riders }
-    ensures sums { (case : FareCase) (members rider : ℕ) → sum_of_marginal_costs (with_members case members) rider ≡ sum_of_marginal_costs case rider }
-    ensures least_route { (case : FareCase) (members : ℕ) (route : List ℕ) → IsLeastRoute (with_members case members) route ↔ IsLeastRoute case route }
-    ensures best { (case : FareCase) (members : ℕ) (fares : List Fraction) (route : List ℕ) → FareBest (with_members case members) fares route ↔ FareBest case fares route }
+    ensures routes { (case : FareCase) (members from : ℕ) (riders : List ℕ)
+        → route_cost (with_members case members) from riders ≡ route_cost case from riders }
+    ensures costs { (case : FareCase) (members : ℕ) (riders : List ℕ)
+        → coalition_cost (with_members case members) riders ≡ coalition_cost case riders }
+    ensures sums { (case : FareCase) (members rider : ℕ)
+        → sum_of_marginal_costs (with_members case members) rider
+        ≡ sum_of_marginal_costs case rider }
+    ensures least_route { (case : FareCase) (members : ℕ) (route : List ℕ)
+        → IsLeastRoute (with_members case members) route ↔ IsLeastRoute case route }
+    ensures best { (case : FareCase) (members : ℕ) (fares : List Fraction) (route : List ℕ)
+        → FareBest (with_members case members) fares route ↔ FareBest case fares route }
 {}
 
 /// Fares and excesses are within the limits of fractions: a denominator for all orders, and a numerator for what all riders pay over them, less a

@@ -5,7 +5,7 @@ use Rattle.std.proofs.Math.Seq.{take-append-add}
 use Rattle.split_base.specs.declared.memory.disk.Call.{Call}
 use Rattle.split_base.specs.declared.memory.disk.Call.TheVariants as call
 use Rattle.split_base.specs.Disk.{AddsNone, Only, IsWritten, Rests, MayTear}
-use Rattle.split_base.specs.Past.{Act, Wrote, Synced, State, DiskState, written, after, after_all, fresh, images_of, state_of, seen_of, images_at, moment_of, left_of, after_call, after_act}
+use Rattle.split_base.specs.Past.{Act, Wrote, Synced, State, DiskState, after_write, after, after_all, stable_file, images_of, state_of, seen_of, images_at, moment_of, left_of, after_call, after_act}
 use Rattle.split_base.specs.PastLaws.{over, le_or_lt, seen_image}
 use Rattle.split_base.proofs.Images.{after_push, elapses_push, elapses_same}
 use Rattle.split_base.specs.Replay.{acts_of, bytes_of}
@@ -46,13 +46,13 @@ state_push first calls new bytes whole more call act size bytes_is calls_is act_
     ∙ ap (λ (l : List Act). acts_of calls bytes ++ l) act_is
 
 -- the state after one act more
-pub state_after : (first : List ℕ) (acts new : List Act) (act : Act) → new ≡ acts ++ act ∷ [] → after_all (fresh first) new ≡ after (after_all (fresh first) acts) act
-state_after first acts new act is = ap (λ (l : List Act). after_all (fresh first) l) is ∙ after_push (fresh first) acts act
+pub state_after : (first : List ℕ) (acts new : List Act) (act : Act) → new ≡ acts ++ act ∷ [] → after_all (stable_file first) new ≡ after (after_all (stable_file first) acts) act
+state_after first acts new act is = ap (λ (l : List Act). after_all (stable_file first) l) is ∙ after_push (stable_file first) acts act
 
 -- a sync
 pub sync_rests : (d : DiskState) (taken : ℕ) → Rests seen_of images_at moment_of left_of d (after_act (after_call d) Synced taken)
 sync_rests d taken =
-    let s : state_of (after_act (after_call d) Synced taken) ≡ after (state_of d) Synced = after_push (fresh d.first) d.acts Synced in
+    let s : state_of (after_act (after_call d) Synced taken) ≡ after (state_of d) Synced = after_push (stable_file d.first) d.acts Synced in
     let adds_none : AddsNone (images_at d) (images_at (after_act (after_call d) Synced taken)) =
     λ c image. (let is : c ≡ seen_of d = subst (λ (s : State). images_of s c) s image in subst (images_at d) (sym is) (seen_image d)) in
     let time = elapses_push d.first d.acts Synced in
@@ -68,23 +68,23 @@ sync_rests d taken =
 
 -- after a sync there is one image, what a read gives
 pub sync_durable : (d : DiskState) (taken : ℕ) → Only (seen_of d) (images_at (after_act (after_call d) Synced taken))
-sync_durable d taken c image = subst (λ (s : State). images_of s c) (after_push (fresh d.first) d.acts Synced) image
+sync_durable d taken c image = subst (λ (s : State). images_of s c) (after_push (stable_file d.first) d.acts Synced) image
 
 -- a write
-pub written_is : (old bytes : List ℕ) (place : ℕ) → IsWritten old place bytes (written old place bytes)
+pub written_is : (old bytes : List ℕ) (place : ℕ) → IsWritten old place bytes (after_write old place bytes)
 written_is old [] place = refl
 written_is old (b ∷ bytes) place = record { gap = replicate (place - length old) 0; gap_size = length-replicate {A = ℕ} (place - length old) 0; is = refl }
 
 -- the file after a write holds its bytes
 pub write_written : (d : DiskState) (place : ℕ) (bytes : List ℕ) (taken : ℕ) → IsWritten (seen_of d) place bytes (seen_of (after_act (after_call d) (Wrote place bytes) taken))
 write_written d place bytes taken =
-    let s : state_of (after_act (after_call d) (Wrote place bytes) taken) ≡ after (state_of d) (Wrote place bytes) = after_push (fresh d.first) d.acts (Wrote place bytes) in
+    let s : state_of (after_act (after_call d) (Wrote place bytes) taken) ≡ after (state_of d) (Wrote place bytes) = after_push (stable_file d.first) d.acts (Wrote place bytes) in
     subst (IsWritten (seen_of d) place bytes) (sym (ap (λ (s : State). s.seen) s)) (written_is (seen_of d) bytes place)
 
 -- what a crash may leave after a write is what it might have left before, torn by it or not
 pub write_tears : (d : DiskState) (place : ℕ) (bytes : List ℕ) (taken : ℕ) → MayTear images_at moment_of left_of place (length bytes) d (after_act (after_call d) (Wrote place bytes) taken)
 write_tears d place bytes taken = record {
-  crash = λ c image. subst (λ (s : State). images_of s c) (after_push (fresh d.first) d.acts (Wrote place bytes)) image;
+  crash = λ c image. subst (λ (s : State). images_of s c) (after_push (stable_file d.first) d.acts (Wrote place bytes)) image;
   time = elapses_push d.first d.acts (Wrote place bytes);
 }
 
@@ -127,6 +127,6 @@ over_grown old bytes place end is =
         ∙ ap (λ (l : List ℕ). drop (place + length bytes) l) (append-nil old)
 
 -- a write of some bytes is a write over the file
-pub over_is_written : (old bytes : List ℕ) (place : ℕ) → 1 ≤ length bytes → over old place bytes ≡ written old place bytes
+pub over_is_written : (old bytes : List ℕ) (place : ℕ) → 1 ≤ length bytes → over old place bytes ≡ after_write old place bytes
 over_is_written old [] place some = absurd (omega (arith, some))
 over_is_written old (b ∷ bytes) place some = refl

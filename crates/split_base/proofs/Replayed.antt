@@ -3,10 +3,10 @@ use Rattle.std.proofs.Common.{◌≡◌, ◌⊎◌, inl, inr, ℕ, ◌+◌, ◌-
 use Rattle.std.proofs.lemmas.List.{take_all}
 use Rattle.split_base.specs.declared.memory.disk.Call.{Call}
 use Rattle.split_base.specs.declared.memory.disk.Call.TheVariants as call
-use Rattle.split_base.specs.Past.{Act, Wrote, Synced, State, Write, written, after, after_all, fresh, total, on_top}
+use Rattle.split_base.specs.Past.{Act, Wrote, Synced, State, Write, after_write, after, after_all, stable_file, total, on_top}
 use Rattle.split_base.specs.PastLaws.{le_or_lt, length_over}
 use Rattle.split_base.proofs.Images.{written_fits, written_no_shorter}
-use Rattle.split_base.specs.Replay.{acts_of, bytes_of, played}
+use Rattle.split_base.specs.Replay.{acts_of, bytes_of, after_bytes}
 
 -- how many bytes these calls have written
 size_of : List Act → ℕ
@@ -49,59 +49,59 @@ total_synced s (Synced ∷ acts) one = behind (total_synced (after s Synced) act
 
 -- without a sync, the bytes that are left go on top of the stable file
 plain : (s : State) (acts : List Act) (keep left : ℕ) → syncs acts ≡ false → left ≡ keep - total s.later
-    → played (on_top s.stable s.later keep) acts left ≡ on_top (after_all s acts).stable (after_all s acts).later keep
+    → after_bytes (on_top s.stable s.later keep) acts left ≡ on_top (after_all s acts).stable (after_all s acts).later keep
 plain s [] keep left none is = refl
 plain s (Wrote place bytes ∷ acts) keep left none is =
     let below = on_top s.stable s.later keep in
-    ap (λ (n : ℕ). played (written below place (take n bytes)) acts (left - length bytes)) is
+    ap (λ (n : ℕ). after_bytes (after_write below place (take n bytes)) acts (left - length bytes)) is
     ∙ plain (after s (Wrote place bytes)) acts keep (left - length bytes) none (omega (arith, is))
 plain s (Synced ∷ acts) keep left none is = absurd (cc none)
 
 -- with a sync among the acts, what comes before the last one is played whole
 synced : (s : State) (acts : List Act) (keep left : ℕ) → syncs acts ≡ true → left + total (after_all s acts).later ≡ size_of acts + keep
-    → played s.seen acts left ≡ on_top (after_all s acts).stable (after_all s acts).later keep
+    → after_bytes s.seen acts left ≡ on_top (after_all s acts).stable (after_all s acts).later keep
 unfolding size_of
 synced s [] keep left one is = absurd (cc one)
 synced s (Wrote place bytes ∷ acts) keep left one is =
     let enough : length bytes ≤ left = omega (arith, is, total_synced (after s (Wrote place bytes)) acts one) in
-    ap (λ (l : List ℕ). played (written s.seen place l) acts (left - length bytes)) (take_all left bytes enough)
+    ap (λ (l : List ℕ). after_bytes (after_write s.seen place l) acts (left - length bytes)) (take_all left bytes enough)
     ∙ synced (after s (Wrote place bytes)) acts keep (left - length bytes) one (omega (arith, is, enough))
 synced s (Synced ∷ acts) keep left one is = behind (λ later. synced (after s Synced) acts keep left later is) (syncs acts) refl
   where
-    behind : (syncs acts ≡ true → played s.seen acts left ≡ on_top (after_all (after s Synced) acts).stable (after_all (after s Synced) acts).later keep)
-        → (b : Bool) → syncs acts ≡ b → played s.seen acts left ≡ on_top (after_all (after s Synced) acts).stable (after_all (after s Synced) acts).later keep
+    behind : (syncs acts ≡ true → after_bytes s.seen acts left ≡ on_top (after_all (after s Synced) acts).stable (after_all (after s Synced) acts).later keep)
+        → (b : Bool) → syncs acts ≡ b → after_bytes s.seen acts left ≡ on_top (after_all (after s Synced) acts).stable (after_all (after s Synced) acts).later keep
     behind later true is_true = later is_true
     behind later false is_false = plain (after s Synced) acts keep left is_false (omega (arith, is, total_plain (after s Synced) acts is_false))
 
 -- the stable bytes with the first `keep` bytes of the later writes on top
 pub replay_crashed : (first : List ℕ) (calls : List Call) (bytes : List ℕ) (keep left : ℕ) → bytes_of calls ≡ length bytes
-    → left + total (after_all (fresh first) (acts_of calls bytes)).later ≡ length bytes + keep
-    → played first (acts_of calls bytes) left ≡ on_top (after_all (fresh first) (acts_of calls bytes)).stable (after_all (fresh first) (acts_of calls bytes)).later keep
+    → left + total (after_all (stable_file first) (acts_of calls bytes)).later ≡ length bytes + keep
+    → after_bytes first (acts_of calls bytes) left ≡ on_top (after_all (stable_file first) (acts_of calls bytes)).stable (after_all (stable_file first) (acts_of calls bytes)).later keep
 replay_crashed first calls bytes keep left size is = by_cases (syncs (acts_of calls bytes)) refl
   where
     acts : List Act
     acts = acts_of calls bytes
 
-    by_cases : (b : Bool) → syncs acts ≡ b → played first acts left ≡ on_top (after_all (fresh first) acts).stable (after_all (fresh first) acts).later keep
-    by_cases true one = synced (fresh first) acts keep left one (omega (arith, is, size_of_acts calls bytes size))
-    by_cases false none = plain (fresh first) acts keep left none (omega (arith, is, size_of_acts calls bytes size, total_plain (fresh first) acts none))
+    by_cases : (b : Bool) → syncs acts ≡ b → after_bytes first acts left ≡ on_top (after_all (stable_file first) acts).stable (after_all (stable_file first) acts).later keep
+    by_cases true one = synced (stable_file first) acts keep left one (omega (arith, is, size_of_acts calls bytes size))
+    by_cases false none = plain (stable_file first) acts keep left none (omega (arith, is, size_of_acts calls bytes size, total_plain (stable_file first) acts none))
 
 -- bytes past the last write don't count
 pub on_top_all : (stable : List ℕ) (later : List Write) (keep most : ℕ) → total later ≤ keep → total later ≤ most → on_top stable later keep ≡ on_top stable later most
 on_top_all stable [] keep most enough too = refl
 on_top_all stable (w ∷ earlier) keep most enough too =
-    ap (λ (l : List ℕ). written l w.place (take (keep - total earlier) w.bytes)) (on_top_all stable earlier keep most (omega (arith, enough)) (omega (arith, too)))
-    ∙ ap (λ (l : List ℕ). written (on_top stable earlier most) w.place l)
+    ap (λ (l : List ℕ). after_write l w.place (take (keep - total earlier) w.bytes)) (on_top_all stable earlier keep most (omega (arith, enough)) (omega (arith, too)))
+    ∙ ap (λ (l : List ℕ). after_write (on_top stable earlier most) w.place l)
     (take_all (keep - total earlier) w.bytes (omega (arith, enough)) ∙ sym (take_all (most - total earlier) w.bytes (omega (arith, too))))
 
 -- no part of the later writes makes the file longer than all of them
-part_no_longer : (below seen bytes : List ℕ) (place j : ℕ) → length below ≤ length seen → length (written below place (take j bytes)) ≤ length (written seen place bytes)
-part_no_longer below seen [] place j le = omega (arith, le, ap (λ (l : List ℕ). length (written below place l)) (take_none j))
+part_no_longer : (below seen bytes : List ℕ) (place j : ℕ) → length below ≤ length seen → length (after_write below place (take j bytes)) ≤ length (after_write seen place bytes)
+part_no_longer below seen [] place j le = omega (arith, le, ap (λ (l : List ℕ). length (after_write below place l)) (take_none j))
   where
     take_none : (n : ℕ) → take {A = ℕ} n [] ≡ []
     take_none n = take_all {A = ℕ} n [] (omega arith)
 part_no_longer below seen (b ∷ bytes) place j le =
-    written_fits below (take j (b ∷ bytes)) place (length (written seen place (b ∷ bytes))) (omega (arith, le, written_no_shorter seen (b ∷ bytes) place))
+    written_fits below (take j (b ∷ bytes)) place (length (after_write seen place (b ∷ bytes))) (omega (arith, le, written_no_shorter seen (b ∷ bytes) place))
     (omega (arith, length-take j (b ∷ bytes), length_over seen (b ∷ bytes) place))
 
 -- what a crash leaves is no longer than what a read gives
@@ -114,13 +114,13 @@ on_top_no_longer s (Synced ∷ acts) keep le = on_top_no_longer (after s Synced)
 
 -- the stable bytes with the first `keep` bytes of the later writes on top, or all of them
 pub replay_kept : (first : List ℕ) (calls : List Call) (bytes : List ℕ) (stable keep left : ℕ) → bytes_of calls ≡ length bytes
-    → stable + total (after_all (fresh first) (acts_of calls bytes)).later ≡ length bytes → left ≡ stable + min keep (length bytes - stable)
-    → played first (acts_of calls bytes) left ≡ on_top (after_all (fresh first) (acts_of calls bytes)).stable (after_all (fresh first) (acts_of calls bytes)).later keep
+    → stable + total (after_all (stable_file first) (acts_of calls bytes)).later ≡ length bytes → left ≡ stable + min keep (length bytes - stable)
+    → after_bytes first (acts_of calls bytes) left ≡ on_top (after_all (stable_file first) (acts_of calls bytes)).stable (after_all (stable_file first) (acts_of calls bytes)).later keep
 replay_kept first calls bytes stable keep left size held is =
     replay_crashed first calls bytes (min keep (length bytes - stable)) left size (omega (arith, held, is)) ∙ same (le_or_lt keep (total s.later))
   where
     s : State
-    s = after_all (fresh first) (acts_of calls bytes)
+    s = after_all (stable_file first) (acts_of calls bytes)
 
     most : ℕ
     most = min keep (length bytes - stable)

@@ -2,7 +2,7 @@
 use Rattle.std.proofs.Common.{◌≡◌, ◌⊎◌, inl, inr, ℕ, ◌+◌, ◌-◌, ◌≤◌, ◌<◌, List, length, take, drop, sym, ◌∙◌, ap, subst, arith, refl, length-take}
 use Rattle.std.proofs.lemmas.List.{take_all, take-take, drop-take, drop_all}
 use Rattle.split_base.specs.Disk.{IsSameOutside, IsStableTo, IsTorn}
-use Rattle.split_base.specs.Past.{State, DiskState, Wrote, written, after, state_of, seen_of, images_at, fresh, after_call, after_act}
+use Rattle.split_base.specs.Past.{State, DiskState, Wrote, after_write, after, state_of, seen_of, images_at, stable_file, after_call, after_act}
 use Rattle.split_base.specs.PastLaws.{le_or_lt, seen_image, written_is_torn}
 use Rattle.split_base.proofs.Images.{after_push}
 
@@ -49,6 +49,6 @@ rests_stays d e place n end first acts stable =
 pub write_stays : (d : DiskState) (place : ℕ) (bytes : List ℕ) (taken end : ℕ) → IsStableTo (images_at d) end
     → IsSameOutside place (length bytes) end (seen_of d) (seen_of (after_act (after_call d) (Wrote place bytes) taken))
 write_stays d place bytes taken end stable =
-    let s : state_of (after_act (after_call d) (Wrote place bytes) taken) ≡ after (state_of d) (Wrote place bytes) = after_push (fresh d.first) d.acts (Wrote place bytes) in
+    let s : state_of (after_act (after_call d) (Wrote place bytes) taken) ≡ after (state_of d) (Wrote place bytes) = after_push (stable_file d.first) d.acts (Wrote place bytes) in
     subst (λ (l : List ℕ). IsSameOutside place (length bytes) end (seen_of d) l) (sym (ap (λ (s : State). s.seen) s))
-    (torn_same place (length bytes) end (seen_of d) (written (seen_of d) place bytes) (stable (seen_of d) (seen_image d)) (written_is_torn (seen_of d) bytes place))
+    (torn_same place (length bytes) end (seen_of d) (after_write (seen_of d) place bytes) (stable (seen_of d) (seen_image d)) (written_is_torn (seen_of d) bytes place))

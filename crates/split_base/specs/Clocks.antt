@@ -2,12 +2,12 @@
 use Rattle.std.specs.Prelude.{◌≡◌, ℕ, ◌≤◌, List, [], ◌∷◌, Option, None, Some, Result, Ok, Err}
 use Rattle.split_base.specs.Faults.{counted}
 
--- a clock's answer: the moment, or none where the call failed
+-- a clock's answer: the moment, or none if the call failed
 abbrev pub answer_of : {E : Type 0} → Result ℕ E → Option ℕ
 answer_of (Ok moment) = Some moment
 answer_of (Err e) = None
 
--- the count of faults after an answer: one more where the call failed, and only there
+-- the count of faults after an answer: one more if the call failed, otherwise the same
 abbrev pub faults_with : ℕ → Option ℕ → ℕ
 faults_with before (Some moment) = before
 faults_with before None = counted before

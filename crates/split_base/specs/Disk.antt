@@ -1,18 +1,18 @@
 -- What the calls of a disk do to its file, and what a crash between two syncs may do to it.
 use Rattle.std.specs.Prelude.{◌≡◌, ◌⊎◌, ℕ, ◌+◌, ◌-◌, ◌≤◌, List, [], ◌∷◌, ◌++◌, length, take, drop}
 
--- new holds these bytes at this place and is old elsewhere; what lies between old's end and the place isn't told
+-- the new file has these bytes at this place, and elsewhere it is the old one; a gap between the old end and the place may hold anything
 pub record IsOver (old : List ℕ) (place : ℕ) (bytes new : List ℕ) : Type 0 where
   pub gap : List ℕ
   pub gap_size : length gap ≡ place - length old
   pub is : new ≡ take place old ++ gap ++ bytes ++ drop (place + length bytes) old
 
--- after a whole write; one of no bytes changes nothing
+-- the file after a whole write; a write of no bytes changes nothing
 abbrev pub IsWritten : (old : List ℕ) (place : ℕ) (bytes new : List ℕ) → Type 0
 IsWritten old place [] new = new ≡ old
 IsWritten old place (b ∷ bytes) new = IsOver old place (b ∷ bytes) new
 
--- after a write of n bytes that a crash cuts short: any bytes in the range and past the old end, the same elsewhere
+-- the file if a crash cuts a write of n bytes short: any bytes in the range and past the old end, and elsewhere the old ones
 pub record IsTorn (place n : ℕ) (old new : List ℕ) : Type 0 where
   pub no_shorter : length old ≤ length new
   pub before : take place (take (length old) new) ≡ take place old
@@ -24,7 +24,7 @@ pub record IsSameOutside (place n end : ℕ) (old new : List ℕ) : Type 0 where
   pub before : take place (take end new) ≡ take place (take end old)
   pub after : drop (place + n) (take end new) ≡ drop (place + n) (take end old)
 
--- each image after is one of before
+-- each image of the new disk was one of the old
 abbrev pub AddsNone : (List ℕ → Type 0) → (List ℕ → Type 0) → Type 0
 AddsNone old new = (c : List ℕ) → new c → old c
 
@@ -40,7 +40,7 @@ Each images P = (c : List ℕ) → images c → P c
 abbrev pub IsStableTo : (List ℕ → Type 0) → ℕ → Type 0
 IsStableTo images end = Each images (λ c. end ≤ length c)
 
--- an image of before, torn by a write of n bytes at the place or not
+-- an image from before, perhaps torn by a write of n bytes at the place
 abbrev pub Tears : (List ℕ → Type 0) → ℕ → ℕ → List ℕ → Type 0
 Tears old place n c = (d : List ℕ) × old d × IsTorn place n d c
 
@@ -59,13 +59,13 @@ pub record LeavesOnly {D : Type 0} (moment : D → ℕ) (left_since : D → ℕ 
   -- and what might have been left then still counts
   pub keeps : (t : ℕ) (c : List ℕ) → t ≤ moment old → left_since old t c → left_since new t c
 
--- a call that changes no byte, or several of them: a read gives the same, and a crash since leaves what it might have left before
+-- one or more calls that change no byte: a read gives the same, and a crash since then leaves what it might have left before
 pub record Rests {D : Type 0} (seen : D → List ℕ) (images : D → List ℕ → Type 0) (moment : D → ℕ) (left_since : D → ℕ → List ℕ → Type 0) (old new : D) : Type 0 where
   pub same : seen new ≡ seen old
   pub adds_none : AddsNone (images old) (images new)
   pub time : Elapses (moment old) (moment new) (left_since old) (left_since new) (images old)
 
--- a write of n bytes at the place, done or failed: each image after it is one of before, torn or not
+-- a write of n bytes at the place, done or failed: each image after it is one from before, perhaps torn
 pub record MayTear {D : Type 0} (images : D → List ℕ → Type 0) (moment : D → ℕ) (left_since : D → ℕ → List ℕ → Type 0) (place n : ℕ) (old new : D) : Type 0 where
   pub crash : Each (images new) (Tears (images old) place n)
   pub time : Elapses (moment old) (moment new) (left_since old) (left_since new) (images new)

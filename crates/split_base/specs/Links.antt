@@ -1,4 +1,4 @@
--- The count of faults of a link, of both its sides together.
+-- The count of faults of a link: those of both its sides together.
 use Rattle.std.specs.Prelude.{ℕ, ◌+◌}
 
 -- from the counts of its source and of its sink

@@ -35,7 +35,7 @@ source_side link = (Some link.input.left, link.input.faults, link.input.empty_re
 abbrev pub sink_side : LinkState → Option (List ℕ) × ℕ × ℕ
 sink_side link = (Some link.output.written, link.output.faults, link.output.empty_writes)
 
--- the most bytes that the next call gives: any number where the list has ended
+-- the most bytes that the next call gives: any number once the list has ended
 abbrev pub next_piece : List ℕ → ℕ
 next_piece [] = 2 ^ 64 - 1
 next_piece (p ∷ ps) = p

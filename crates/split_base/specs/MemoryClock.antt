@@ -15,7 +15,7 @@ moved_on [] = []
 moved_on (m ∷ []) = m ∷ []
 moved_on (m ∷ n ∷ ms) = n ∷ ms
 
--- the first moment, or none where none is left
+-- the first moment, or none if none is left
 abbrev pub first_of : List ℕ → Option ℕ
 first_of [] = None
 first_of (m ∷ ms) = Some m
@@ -28,7 +28,7 @@ after_moment c = record { moments = moved_on c.moments; fails = c.fails; calls =
 abbrev pub after_no_moment : ClockState → ClockState
 after_no_moment c = record { moments = c.moments; fails = c.fails; calls = counted c.calls; faults = counted c.faults }
 
--- one call: it fails exactly where its number is listed, and else tells the first moment
+-- one call: it fails if its number is listed, and otherwise tells the first moment
 abbrev pub Ticked : ClockState → Option ℕ → ClockState → Type 0
 Ticked old None new = Contains old.fails (counted old.calls) × (new ≡ after_no_moment old)
 Ticked old (Some moment) new = (Contains old.fails (counted old.calls) → ⊥) × (first_of old.moments ≡ Some moment) × (new ≡ after_moment old)

@@ -37,11 +37,11 @@ after_asking port p = record { to_come = p.to_come; given_back = p.given_back; p
 abbrev pub after_listen : ℕ → PortState → PortState
 after_listen port p = after_call (after_asking port p)
 
--- the first link to come is gone, where there is one
+-- the first link to come is gone, if there is one
 abbrev pub with_one_less : PortState → PortState
 with_one_less p = record { to_come = drop 1 p.to_come; given_back = p.given_back; places = p.places; fails = p.fails; calls = p.calls; faults = p.faults; asked = p.asked }
 
--- after a call that handed out the first link to come, where there is one
+-- after a call that handed out the first link to come, if there is one
 abbrev pub after_link : PortState → PortState
 after_link p = with_one_less (after_call p)
 
@@ -53,13 +53,13 @@ with_fault p = record { to_come = p.to_come; given_back = p.given_back; places =
 abbrev pub after_no_link : PortState → PortState
 after_no_link p = with_fault (after_call p)
 
--- after a link was given back, with so many places: where there is none the link is dropped
+-- after a link was given back, with so many places: without a place, the link is dropped
 abbrev pub taken_back : PortState → LinkState → ℕ → PortState
 taken_back p link zero = p
 taken_back p link (suc places) =
     record { to_come = p.to_come; given_back = p.given_back ++ link ∷ []; places = places; fails = p.fails; calls = p.calls; faults = p.faults; asked = p.asked }
 
--- after a link was given back: it is kept where there is a place for it, and else dropped
+-- after a link was given back: it is kept if there is a place for it, and otherwise dropped
 abbrev pub after_done : PortState → LinkState → PortState
 after_done p link = taken_back p link p.places
 

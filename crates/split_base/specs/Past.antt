@@ -20,13 +20,13 @@ pub record State : Type 0 where
   pub later : List Write
 
 -- a file after a write: with zeros in a gap; one of no bytes changes nothing
-abbrev pub written : List ℕ → ℕ → List ℕ → List ℕ
-written old place [] = old
-written old place (b ∷ bytes) = take place old ++ replicate (place - length old) 0 ++ b ∷ bytes ++ drop (place + length (b ∷ bytes)) old
+abbrev pub after_write : List ℕ → ℕ → List ℕ → List ℕ
+after_write old place [] = old
+after_write old place (b ∷ bytes) = take place old ++ replicate (place - length old) 0 ++ b ∷ bytes ++ drop (place + length (b ∷ bytes)) old
 
 -- the state after this call: a write changes what a read gives and is listed, and a sync makes all of it stable and empties the list
 abbrev pub after : State → Act → State
-after s (Wrote place bytes) = record { seen = written s.seen place bytes; stable = s.stable; later = record { place = place; bytes = bytes } ∷ s.later }
+after s (Wrote place bytes) = record { seen = after_write s.seen place bytes; stable = s.stable; later = record { place = place; bytes = bytes } ∷ s.later }
 after s Synced = record { seen = s.seen; stable = s.seen; later = [] }
 
 -- the state after these calls, one after the other
@@ -35,8 +35,8 @@ after_all s [] = s
 after_all s (act ∷ acts) = after_all (after s act) acts
 
 -- the state of a file that is stable with these bytes, before any write
-abbrev pub fresh : List ℕ → State
-fresh bytes = record { seen = bytes; stable = bytes; later = [] }
+abbrev pub stable_file : List ℕ → State
+stable_file bytes = record { seen = bytes; stable = bytes; later = [] }
 
 -- what a crash may leave of a stable file after these writes
 abbrev pub IsImage : List Write → List ℕ → List ℕ → Type 0
@@ -49,7 +49,7 @@ images_of s c = IsImage s.later s.stable c
 
 -- what a crash after t of these calls or later might have left
 abbrev pub LeftSince : List ℕ → List Act → ℕ → List ℕ → Type 0
-LeftSince first acts t c = (k : ℕ) × (t ≤ k) × (k ≤ length acts) × images_of (after_all (fresh first) (take k acts)) c
+LeftSince first acts t c = (k : ℕ) × (t ≤ k) × (k ≤ length acts) × images_of (after_all (stable_file first) (take k acts)) c
 
 -- how many bytes these writes have together
 abbrev pub total : List Write → ℕ
@@ -59,7 +59,7 @@ total (w ∷ earlier) = total earlier + length w.bytes
 -- a stable file with the first `keep` bytes of these writes on top
 abbrev pub on_top : List ℕ → List Write → ℕ → List ℕ
 on_top stable [] keep = stable
-on_top stable (w ∷ earlier) keep = written (on_top stable earlier keep) w.place (take (keep - total earlier) w.bytes)
+on_top stable (w ∷ earlier) keep = after_write (on_top stable earlier keep) w.place (take (keep - total earlier) w.bytes)
 
 -- a disk in memory as contracts see it: the bytes that it began with and the calls that have changed it since, the
 -- greatest size of the file, the room that is left in its list of calls, the numbers of the calls that fail and of the
@@ -76,7 +76,7 @@ pub record DiskState : Type 0 where
 
 -- the state that the disk has come to by its calls
 abbrev pub state_of : DiskState → State
-state_of d = after_all (fresh d.first) d.acts
+state_of d = after_all (stable_file d.first) d.acts
 
 -- the bytes of the file, as a read of the disk gives them
 abbrev pub seen_of : DiskState → List ℕ
@@ -95,8 +95,8 @@ abbrev pub left_of : DiskState → ℕ → List ℕ → Type 0
 left_of d t c = LeftSince d.first d.acts t c
 
 -- what a crash leaves that keeps so many bytes of the later writes
-abbrev pub crashed : DiskState → ℕ → List ℕ
-crashed d keep = on_top (state_of d).stable (state_of d).later keep
+abbrev pub after_crash : DiskState → ℕ → List ℕ
+after_crash d keep = on_top (state_of d).stable (state_of d).later keep
 
 -- a disk that nobody has called
 abbrev pub new_disk : List ℕ → ℕ → List ℕ → Option ℕ → DiskState

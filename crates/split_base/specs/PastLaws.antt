@@ -4,7 +4,7 @@ use Rattle.std.proofs.Common.{◌≡◌, ◌⊎◌, ⊎_elim, inl, inr, ℕ, ◌
 use Rattle.std.proofs.lemmas.Bool.{cases_lt}
 use Rattle.std.proofs.lemmas.List.{take_all, take_at, drop_at, drop_all, take-take, length-replicate}
 use Rattle.split_base.specs.Disk.{IsTorn}
-use Rattle.split_base.specs.Past.{Act, Wrote, Synced, State, written, after, after_all, fresh, images_of, DiskState, state_of, seen_of, images_at, left_of}
+use Rattle.split_base.specs.Past.{Act, Wrote, Synced, State, after_write, after, after_all, stable_file, images_of, DiskState, state_of, seen_of, images_at, left_of}
 
 -- a file after a write that isn't empty
 abbrev pub over : List ℕ → ℕ → List ℕ → List ℕ
@@ -70,7 +70,7 @@ over_is_torn old bytes place = record {
     regrouped = append_assoc (take place old ++ replicate (place - length old) 0) bytes (drop (place + length bytes) old) ∙ append_assoc (take place old) (replicate (place - length old) 0) (bytes ++ drop (place + length bytes) old)
 
 -- what a whole write gives is among what it may leave
-pub written_is_torn : (old bytes : List ℕ) (place : ℕ) → IsTorn place (length bytes) old (written old place bytes)
+pub written_is_torn : (old bytes : List ℕ) (place : ℕ) → IsTorn place (length bytes) old (after_write old place bytes)
 written_is_torn old [] place = torn_none place 0 old
 written_is_torn old (b ∷ bytes) place = over_is_torn old (b ∷ bytes) place
 
@@ -83,10 +83,10 @@ images_stay s [] is = is
 images_stay s (act ∷ acts) is = images_stay (after s act) acts (image_stays s act is)
 
 pub seen_image : (d : DiskState) → images_at d (seen_of d)
-seen_image d = images_stay (fresh d.first) d.acts refl
+seen_image d = images_stay (stable_file d.first) d.acts refl
 
 pub now_counts : (d : DiskState) (t : ℕ) (c : List ℕ) → t ≤ length d.acts → images_of (state_of d) c → left_of d t c
-now_counts d t c le now = (length d.acts, le, omega arith, subst (λ (acts : List Act). images_of (after_all (fresh d.first) acts) c) (sym (take_all (length d.acts) d.acts (omega arith))) now)
+now_counts d t c le now = (length d.acts, le, omega arith, subst (λ (acts : List Act). images_of (after_all (stable_file d.first) acts) c) (sym (take_all (length d.acts) d.acts (omega arith))) now)
 
 pub now_only : (d : DiskState) (c : List ℕ) → left_of d (length d.acts) c → images_of (state_of d) c
-now_only d c (k, from, to, is) = subst (λ (acts : List Act). images_of (after_all (fresh d.first) acts) c) (take_all k d.acts from) is
+now_only d c (k, from, to, is) = subst (λ (acts : List Act). images_of (after_all (stable_file d.first) acts) c) (take_all k d.acts from) is

@@ -1,7 +1,7 @@
 -- The calls of an object that hands out links and takes them back, if it tells them.
 use Rattle.std.specs.Prelude.{◌≡◌, ℕ, ⊤, List, [], ◌∷◌, ◌++◌, MatchOption, MatchResult, Option, None, Some, Result, Ok, Err}
 
--- the first link that is to come was handed out, none where no link is, and a failed call hands out none
+-- the first link to come was handed out, or none if there is none; a failed call hands out none
 abbrev pub Accepts : {L E : Type 0} → Option (List L) → Option (List L) → Result (Option L) E → Type 0
 Accepts None new result = ⊤
 Accepts (Some links) new result =
@@ -15,13 +15,13 @@ handed_out (Ok None) = 0
 handed_out (Ok (Some link)) = 1
 handed_out (Err error) = 0
 
--- the call answered that no link comes
+-- the call answered that there are no more links
 abbrev pub AnswersNone : {L E : Type 0} → Result (Option L) E → Type 0
 AnswersNone (Ok None) = ⊤
 AnswersNone (Ok (Some link)) = ⊥
 AnswersNone (Err error) = ⊥
 
--- the first link that is to come was given, and a failed call gives none
+-- the first link to come was given, and a failed call gives none
 abbrev pub Dials : {L E : Type 0} → Option (List L) → Option (List L) → Result L E → Type 0
 Dials None new result = ⊤
 Dials (Some links) new result = MatchResult result (λ link. (rest : List _) × (links ≡ link ∷ rest) × (new ≡ Some rest)) (λ _. new ≡ Some links)

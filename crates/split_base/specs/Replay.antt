@@ -2,7 +2,7 @@
 use Rattle.std.specs.Prelude.{ℕ, ◌+◌, ◌-◌, List, [], ◌∷◌, length, take, drop}
 use Rattle.split_base.specs.declared.memory.disk.Call.{Call}
 use Rattle.split_base.specs.declared.memory.disk.Call.TheVariants as call
-use Rattle.split_base.specs.Past.{Act, Wrote, Synced, written}
+use Rattle.split_base.specs.Past.{Act, Wrote, Synced, after_write}
 
 -- the calls, with the written bytes one after the other
 abbrev pub acts_of : List Call → List ℕ → List Act
@@ -17,7 +17,7 @@ bytes_of (call.Wrote place count ∷ calls) = count + bytes_of calls
 bytes_of (call.Synced ∷ calls) = bytes_of calls
 
 -- a file after the first `left` bytes that these calls have written
-abbrev pub played : List ℕ → List Act → ℕ → List ℕ
-played file [] left = file
-played file (Wrote place bytes ∷ acts) left = played (written file place (take left bytes)) acts (left - length bytes)
-played file (Synced ∷ acts) left = played file acts left
+abbrev pub after_bytes : List ℕ → List Act → ℕ → List ℕ
+after_bytes file [] left = file
+after_bytes file (Wrote place bytes ∷ acts) left = after_bytes (after_write file place (take left bytes)) acts (left - length bytes)
+after_bytes file (Synced ∷ acts) left = after_bytes file acts left

@@ -1,8 +1,8 @@
--- What a call does to the bytes that a source has left or a sink holds, where the object tells them.
+-- What a call does to the bytes that a source has left or a sink holds, if the object tells them.
 use Rattle.std.specs.Prelude.{◌≡◌, ℕ, ◌+◌, ◌<◌, ◌≤◌, List, length, take, Option, Result, MatchResult}
 use Rattle.std.specs.Io.KnownBytes.{Consumes, Appends, Keeps, IsAtEnd}
 
--- so many bytes were taken, none of a buffer with room exactly at the end; a failed read takes none
+-- so many bytes were taken, and none into a buffer with room only at the end of the input; a failed read takes none
 abbrev pub Reads : {E : Type 0} → Option (List ℕ) → Option (List ℕ) → Result ℕ E → List ℕ → Type 0
 Reads old new result into =
     MatchResult result
@@ -13,7 +13,7 @@ Reads old new result into =
 abbrev pub CountsEmpty : {E : Type 0} → ℕ → ℕ → Result ℕ E → Type 0
 CountsEmpty before now result = MatchResult result (λ count. (now ≤ before + 1) × (0 < count → now ≤ before)) (λ _. now ≤ before)
 
--- the end was met once at most where the answer is no failure, and not at all where it is one
+-- the end was met at most once, and not at all if the answer is a failure
 abbrev pub EndsOnce : {T E : Type 0} → ℕ → ℕ → Result T E → Type 0
 EndsOnce before now result = MatchResult result (λ _. now ≤ before + 1) (λ _. now ≤ before)
 

@@ -7,7 +7,7 @@ ghost use Rattle.split_base.specs.Asked.{asked_again, never_asked};
 pub struct Asked {
     /// How often.
     pub times: u64,
-    /// The number of the last port that it was asked for; `None` where there was none.
+    /// The number of the last port that it was asked for; `None` if there was none.
     pub last: Option<u16>,
 }
 

@@ -8,7 +8,7 @@ use crate::Failed;
 
 /// Tells the time.
 pub trait Clock {
-    /// What a call may answer, and the clock after it: a moment, or none where the call fails.
+    /// What a call may answer, and the clock after it: a moment, or none if the call fails.
     /// A clock that can't tell this allows every answer.
     ghost gives: { Self → Option ℕ → Self → Type 0 };
 
@@ -17,7 +17,7 @@ pub trait Clock {
 
     /// The moment, in seconds since 1970, at most `LAST_MOMENT`.
     ///
-    /// `Failed` comes only where the count of faults has risen, by one. A call that answers a moment
+    /// `Failed` comes only if the count of faults has risen, by one. A call that answers a moment
     /// leaves the count as it is.
     fn now(&mut self) -> Result<u64, Failed>
         ensures range { IfOk result (λ moment. moment ≤ LAST_MOMENT) }
@@ -26,7 +26,7 @@ pub trait Clock {
         ensures count { IsCounted (faults self.old) (faults self.new) result };
 }
 
-/// Asks the clock once: the moment, or none where the call failed.
+/// Asks the clock once: the moment, or none if the call failed.
 pub fn ask<C: Clock>(clock: &mut C) -> Option<u64>
     ensures asked { ClockRun C.gives C.faults clock.old clock.new (result ∷ []) }
     ensures range { IfSome result (λ moment. moment ≤ LAST_MOMENT) }

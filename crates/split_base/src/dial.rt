@@ -14,10 +14,10 @@ pub trait Dial {
     /// A connection.
     type Link: Link + Drop;
 
-    /// The links still to come; `None` where the object doesn't tell them.
+    /// The links still to come; `None` if the object doesn't tell them.
     ghost to_come: { Self → Option (List Self.Link) };
 
-    /// The links that were given back, each with what it had got by then; `None` where the object
+    /// The links that were given back, each with what it had got by then; `None` if the object
     /// doesn't tell them.
     ghost given_back: { Self → Option (List Self.Link) };
 
@@ -33,25 +33,29 @@ pub trait Dial {
 
     /// Opens a link to the port of this number. Neither side of it has had a fault.
     ///
-    /// `Failed` comes only where the count of faults has risen, by one. No link is given then. `Ok`
+    /// `Failed` comes only if the count of faults has risen, by one. No link is given then. `Ok`
     /// leaves the count as it is.
     fn dial(&mut self, port: u16) -> Result<Self::Link, Failed>
         ensures cause { HasCause (faults self.old) (faults self.new) result }
         ensures count { IsCounted (faults self.old) (faults self.new) result }
         ensures asked { asked self.new ≡ asked_again port (asked self.old) }
         ensures next { Dials (to_come self.old) (to_come self.new) result }
-        ensures fresh { IfOk result (λ link. link_faults (Self.Link.Source.faults link) (Self.Link.Sink.faults link) ≡ 0) }
+        ensures fresh { IfOk result (λ link.
+            link_faults (Self.Link.Source.faults link) (Self.Link.Sink.faults link) ≡ 0) }
         ensures places { places self.new ≡ places self.old }
         ensures back { given_back self.new ≡ given_back self.old };
 
-    /// Takes a link back. Where there is no place for it, it is dropped. The count of faults rises,
-    /// by one, exactly where the link has had a fault.
+    /// Takes a link back. If there is no place for it, it is dropped. The count of faults rises,
+    /// by one, exactly if the link has had a fault.
     fn done(&mut self, link: Self::Link)
-        ensures whole { link_faults (Self.Link.Source.faults link) (Self.Link.Sink.faults link) ≡ 0 → faults self.new ≡ faults self.old }
-        ensures fault { 0 < link_faults (Self.Link.Source.faults link) (Self.Link.Sink.faults link) → faults self.new ≡ counted (faults self.old) }
+        ensures whole { link_faults (Self.Link.Source.faults link) (Self.Link.Sink.faults link) ≡ 0
+            → faults self.new ≡ faults self.old }
+        ensures fault { 0 < link_faults (Self.Link.Source.faults link) (Self.Link.Sink.faults link)
+            → faults self.new ≡ counted (faults self.old) }
         ensures asked { asked self.new ≡ asked self.old }
         ensures come { to_come self.new ≡ to_come self.old }
         ensures places { places self.new ≡ places self.old - 1 }
-        ensures back { 0 < places self.old → TakesBack (given_back self.old) (given_back self.new) link }
+        ensures back { 0 < places self.old
+            → TakesBack (given_back self.old) (given_back self.new) link }
         ensures dropped { places self.old ≡ 0 → given_back self.new ≡ given_back self.old };
 }

@@ -9,7 +9,7 @@ use crate::Failed;
 ///
 /// Between two successful syncs, each written range and everything past the end that was stable
 /// may hold any bytes after a crash; other bytes stay. After a successful sync a crash leaves what
-/// a read gives. This is said of an honest disk alone, and what a read gives of one that tells its
+/// a read gives. This is said only of an honest disk, and what a read gives of one that tells its
 /// bytes. The disk in memory is both.
 pub trait Disk {
     /// The disk tells its bytes: a read gives those that are seen, and no size, read or sync
@@ -37,7 +37,7 @@ pub trait Disk {
 
     /// The file's size, at most 2^63.
     ///
-    /// `Failed` comes only where the count of faults has risen, by one. No byte changes.
+    /// `Failed` comes only if the count of faults has risen, by one. No byte changes.
     fn size(&mut self) -> Result<u64, Failed>
         ensures cause { HasCause (faults self.old) (faults self.new) result }
         ensures counted { IsCounted (faults self.old) (faults self.new) result }
@@ -46,12 +46,13 @@ pub trait Disk {
         ensures still { tells self.old → tells self.new × (seen self.new ≡ seen self.old) }
         ensures told { tells self.old → IfOk result (λ n. n ≡ length (seen self.old)) }
         ensures tick { is_honest self.old → moment self.new ≡ moment self.old }
-        ensures rests { is_honest self.old → Rests seen images moment left_since self.old self.new };
+        ensures rests { is_honest self.old
+            → Rests seen images moment left_since self.old self.new };
 
     /// Moves the bytes from the place on to the front of `into`, up to the buffer's end or the
     /// file's, and answers how many.
     ///
-    /// `Failed` comes only where the count of faults has risen, by one. No byte of the file changes.
+    /// `Failed` comes only if the count of faults has risen, by one. No byte of the file changes.
     fn read_at(&mut self, place: u64, into: &mut [u8]) -> Result<usize, Failed>
         ensures cause { HasCause (faults self.old) (faults self.new) result }
         ensures counted { IsCounted (faults self.old) (faults self.new) result }
@@ -59,14 +60,17 @@ pub trait Disk {
         ensures least { IfOk result (λ n. n ≤ 2 ^ 63 - place) }
         ensures honest { is_honest self.old ↔ is_honest self.new }
         ensures still { tells self.old → tells self.new × (seen self.new ≡ seen self.old) }
-        ensures told { tells self.old → IfOk result (λ n. n ≡ min (length into.old) (length (seen self.old) - place)) }
-        ensures bytes { tells self.old → IfOk result (λ n. take n into.new ≡ take n (drop place (seen self.old))) }
+        ensures told { tells self.old
+            → IfOk result (λ n. n ≡ min (length into.old) (length (seen self.old) - place)) }
+        ensures bytes { tells self.old
+            → IfOk result (λ n. take n into.new ≡ take n (drop place (seen self.old))) }
         ensures tick { is_honest self.old → moment self.new ≡ moment self.old }
-        ensures rests { is_honest self.old → Rests seen images moment left_since self.old self.new };
+        ensures rests { is_honest self.old
+            → Rests seen images moment left_since self.old self.new };
 
     /// Writes the bytes at the place, over what is there and past the end.
     ///
-    /// `Failed` comes only where the count of faults has risen, by one. Until a sync, a crash may
+    /// `Failed` comes only if the count of faults has risen, by one. Until a sync, a crash may
     /// leave any bytes in the range and past the stable end, also after `Failed`. Other bytes stay,
     /// for a read too.
     fn write_at(&mut self, place: u64, bytes: &[u8]) -> Result<(), Failed>
@@ -74,23 +78,28 @@ pub trait Disk {
         ensures counted { IsCounted (faults self.old) (faults self.new) result }
         ensures least { OnOk result (place + length bytes.now ≤ 2 ^ 63) }
         ensures honest { is_honest self.old ↔ is_honest self.new }
-        ensures written { is_honest self.old → OnOk result (IsWritten (seen self.old) place bytes.now (seen self.new)) }
-        ensures stays { is_honest self.old → (end : ℕ) → IsStableTo (images self.old) end → IsSameOutside place (length bytes.now) end (seen self.old) (seen self.new) }
+        ensures written { is_honest self.old
+            → OnOk result (IsWritten (seen self.old) place bytes.now (seen self.new)) }
+        ensures stays { is_honest self.old → (end : ℕ) → IsStableTo (images self.old) end
+            → IsSameOutside place (length bytes.now) end (seen self.old) (seen self.new) }
         ensures tick { is_honest self.old → OnOk result (moment self.new ≡ moment self.old + 1) }
-        ensures tears { is_honest self.old → MayTear images moment left_since place (length bytes.now) self.old self.new };
+        ensures tears { is_honest self.old
+            → MayTear images moment left_since place (length bytes.now) self.old self.new };
 
     /// Makes what a read gives stable: after it, a crash leaves that and nothing else.
     ///
-    /// `Failed` comes only where the count of faults has risen, by one. A crash then leaves what it
+    /// `Failed` comes only if the count of faults has risen, by one. A crash then leaves what it
     /// might have left before.
     fn sync(&mut self) -> Result<(), Failed>
         ensures cause { HasCause (faults self.old) (faults self.new) result }
         ensures counted { IsCounted (faults self.old) (faults self.new) result }
         ensures honest { is_honest self.old ↔ is_honest self.new }
         ensures still { tells self.old → tells self.new × (seen self.new ≡ seen self.old) }
-        ensures durable { is_honest self.old → OnOk result (Only (seen self.old) (images self.new)) }
+        ensures durable { is_honest self.old
+            → OnOk result (Only (seen self.old) (images self.new)) }
         ensures tick { is_honest self.old → OnOk result (moment self.new ≡ moment self.old + 1) }
-        ensures rests { is_honest self.old → Rests seen images moment left_since self.old self.new };
+        ensures rests { is_honest self.old
+            → Rests seen images moment left_since self.old self.new };
 
     /// An honest disk tells its bytes.
     ghost honest_tells: { (disk : Self) → is_honest disk → tells disk };
@@ -107,7 +116,7 @@ pub trait Disk {
 
 /// Writes the bytes at the place and syncs: two calls of the disk.
 ///
-/// `Failed` comes only where the disk's count of faults has risen. A call that fails is not tried
+/// `Failed` comes only if the disk's count of faults has risen. A call that fails is not tried
 /// again: the count has risen by one then, and not at all after `Ok`. A crash at any moment of it, and
 /// after it, leaves an image of before, with any bytes in the range and past the stable end; other
 /// bytes stay, for a read too. After `Ok` there is one image, which holds the bytes. It takes no
@@ -117,11 +126,15 @@ pub fn write_synced<D: Disk>(disk: &mut D, place: u64, bytes: &[u8]) -> Result<(
     ensures counted { IsCounted (D.faults disk.old) (D.faults disk.new) result }
     ensures least { OnOk result (place + length bytes.now ≤ 2 ^ 63) }
     ensures honest { D.is_honest disk.old ↔ D.is_honest disk.new }
-    ensures written { D.is_honest disk.old → OnOk result (IsWritten (D.seen disk.old) place bytes.now (D.seen disk.new)) }
-    ensures stays { D.is_honest disk.old → (end : ℕ) → IsStableTo (D.images disk.old) end → IsSameOutside place (length bytes.now) end (D.seen disk.old) (D.seen disk.new) }
-    ensures durable { D.is_honest disk.old → OnOk result (Only (D.seen disk.new) (D.images disk.new)) }
+    ensures written { D.is_honest disk.old
+        → OnOk result (IsWritten (D.seen disk.old) place bytes.now (D.seen disk.new)) }
+    ensures stays { D.is_honest disk.old → (end : ℕ) → IsStableTo (D.images disk.old) end
+        → IsSameOutside place (length bytes.now) end (D.seen disk.old) (D.seen disk.new) }
+    ensures durable { D.is_honest disk.old
+        → OnOk result (Only (D.seen disk.new) (D.images disk.new)) }
     ensures tick { D.is_honest disk.old → OnOk result (D.moment disk.new ≡ D.moment disk.old + 2) }
-    ensures crash { D.is_honest disk.old → Each (D.images disk.new) (Tears (D.images disk.old) place (length bytes.now)) }
+    ensures crash { D.is_honest disk.old
+        → Each (D.images disk.new) (Tears (D.images disk.old) place (length bytes.now)) }
     ensures any_moment { D.is_honest disk.old → LeavesOnly D.moment D.left_since disk.old disk.new
         (Tears (D.images disk.old) place (length bytes.now)) }
 {

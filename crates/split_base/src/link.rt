@@ -7,7 +7,7 @@ use crate::{Sink, Source};
 /// was written, and a write what is left to read, with the other side's counts.
 ///
 /// It has no call. Its two laws say that what each side calls `beside` is the other side. The
-/// count of faults of a link has risen where that of one of its sides has.
+/// count of faults of a link has risen if that of one of its sides has.
 pub trait Link: Source + Sink {
     /// Beside the source are the bytes that were written and the sink's two counts.
     ghost source_beside: { (link : Self) → Self.Source.beside link ≡ (Self.Sink.written link, Self.Sink.faults link, Self.Sink.empty_writes link) };
@@ -21,7 +21,11 @@ pub trait Link: Source + Sink {
 /// reads and that of reads which gave nothing.
 pub fn sides_law<L: Link>()
     ensures read { (before after : L) → L.Source.beside after ≡ L.Source.beside before
-        → (L.Sink.written after ≡ L.Sink.written before) × (L.Sink.faults after ≡ L.Sink.faults before) × (L.Sink.empty_writes after ≡ L.Sink.empty_writes before) }
+        → (L.Sink.written after ≡ L.Sink.written before)
+        × (L.Sink.faults after ≡ L.Sink.faults before)
+        × (L.Sink.empty_writes after ≡ L.Sink.empty_writes before) }
     ensures write { (before after : L) → L.Sink.beside after ≡ L.Sink.beside before
-        → (L.Source.left after ≡ L.Source.left before) × (L.Source.faults after ≡ L.Source.faults before) × (L.Source.empty_reads after ≡ L.Source.empty_reads before) }
+        → (L.Source.left after ≡ L.Source.left before)
+        × (L.Source.faults after ≡ L.Source.faults before)
+        × (L.Source.empty_reads after ≡ L.Source.empty_reads before) }
 {}

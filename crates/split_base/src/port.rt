@@ -14,10 +14,10 @@ pub trait Port {
     /// A connection.
     type Link: Link + Drop;
 
-    /// The links still to come; `None` where the object doesn't tell them.
+    /// The links still to come; `None` if the object doesn't tell them.
     ghost to_come: { Self → Option (List Self.Link) };
 
-    /// The links that were given back, each with what it had got by then; `None` where the object
+    /// The links that were given back, each with what it had got by then; `None` if the object
     /// doesn't tell them.
     ghost given_back: { Self → Option (List Self.Link) };
 
@@ -41,7 +41,7 @@ pub trait Port {
 
     /// Begins to take connections at the port of this number.
     ///
-    /// `Failed` comes only where the count of faults has risen, by one. `Ok` leaves the count as it
+    /// `Failed` comes only if the count of faults has risen, by one. `Ok` leaves the count as it
     /// is.
     fn listen(&mut self, port: u16) -> Result<(), Failed>
         ensures cause { HasCause (faults self.old) (faults self.new) result }
@@ -54,10 +54,10 @@ pub trait Port {
         ensures come { to_come self.new ≡ to_come self.old }
         ensures back { given_back self.new ≡ given_back self.old };
 
-    /// The next link, or `None` exactly where the port has ended. A port that has ended stays so.
+    /// The next link, or `None` exactly if the port has ended. A port that has ended stays so.
     /// It is asked only while each link that it handed out was given back, and not after `None`.
     ///
-    /// `Failed` comes only where the count of faults has risen, by one. No link is handed out then.
+    /// `Failed` comes only if the count of faults has risen, by one. No link is handed out then.
     /// `Ok` leaves the count as it is.
     fn accept(&mut self) -> Result<Option<Self::Link>, Failed>
         requires none_out { out self.old ≡ 0 }
@@ -73,7 +73,7 @@ pub trait Port {
         ensures places { places self.new ≡ places self.old }
         ensures back { given_back self.new ≡ given_back self.old };
 
-    /// Takes a link back. Where there is no place for it, it is dropped.
+    /// Takes a link back. If there is no place for it, it is dropped.
     fn done(&mut self, link: Self::Link)
         ensures count { faults self.new ≡ faults self.old }
         ensures asked { asked self.new ≡ asked self.old }
@@ -82,6 +82,7 @@ pub trait Port {
         ensures over { is_over self.old ↔ is_over self.new }
         ensures come { to_come self.new ≡ to_come self.old }
         ensures places { places self.new ≡ places self.old - 1 }
-        ensures back { 0 < places self.old → TakesBack (given_back self.old) (given_back self.new) link }
+        ensures back { 0 < places self.old
+            → TakesBack (given_back self.old) (given_back self.new) link }
         ensures dropped { places self.old ≡ 0 → given_back self.new ≡ given_back self.old };
 }

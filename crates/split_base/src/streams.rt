@@ -10,25 +10,25 @@ pub struct Failed;
 
 /// Gives bytes, up to an end.
 pub trait Source {
-    /// The bytes that are left to read; `None` where the object doesn't tell them.
+    /// The bytes that are left to read; `None` if the object doesn't tell them.
     ghost left: { Self → Option (List ℕ) };
 
     /// How many of its calls have failed, up to 2^64 - 1.
     ghost faults: { Self → ℕ };
 
-    /// How many of its reads gave nothing, up to 2^64 - 1, where the object counts them: each at the
+    /// How many of its reads gave nothing, up to 2^64 - 1, if the object counts them: each at the
     /// end, or into no room. So a call that raises it by one at most doesn't read again once a read
     /// has met the end.
     ghost empty_reads: { Self → ℕ } = { λ _. 0 };
 
-    /// Where the object is a sink too: what that side has written, its count of faults, and its
+    /// If the object is a sink too: what that side has written, its count of faults, and its
     /// count of calls without a byte. A read leaves all three as they are.
     ghost beside: { Self → Option (List ℕ) × ℕ × ℕ } = { λ _. (None, 0, 0) };
 
     /// Moves the next bytes to the front of `into`, and answers how many: from 1 to the length of
-    /// `into` where that isn't empty, or 0 exactly at the end.
+    /// `into` if that isn't empty, or 0 exactly at the end.
     ///
-    /// `Failed` comes only where the count of faults has risen, by one. No byte was taken then.
+    /// `Failed` comes only if the count of faults has risen, by one. No byte was taken then.
     /// A call that answers a number leaves the count as it is.
     fn read(&mut self, into: &mut [u8]) -> Result<usize, Failed>
         ensures bytes { Reads (left self.old) (left self.new) result into.new }
@@ -40,23 +40,23 @@ pub trait Source {
 
 /// Takes bytes.
 pub trait Sink {
-    /// The bytes that were written; `None` where the object doesn't tell them.
+    /// The bytes that were written; `None` if the object doesn't tell them.
     ghost written: { Self → Option (List ℕ) };
 
     /// How many of its calls have failed, up to 2^64 - 1.
     ghost faults: { Self → ℕ };
 
-    /// How many of its calls were given no byte, where the object counts them; else always 0.
+    /// How many of its calls were given no byte, if the object counts them; otherwise always 0.
     ghost empty_writes: { Self → ℕ } = { λ _. 0 };
 
-    /// Where the object is a source too: what that side has left, its count of faults, and its count
+    /// If the object is a source too: what that side has left, its count of faults, and its count
     /// of reads that gave nothing. A write leaves all three as they are.
     ghost beside: { Self → Option (List ℕ) × ℕ × ℕ } = { λ _. (None, 0, 0) };
 
     /// Writes the front of `piece`, and answers how many bytes: from 1 to the length of `piece`
-    /// where that isn't empty.
+    /// if that isn't empty.
     ///
-    /// `Failed` comes only where the count of faults has risen, by one. No byte was written then.
+    /// `Failed` comes only if the count of faults has risen, by one. No byte was written then.
     /// A call that answers a number leaves the count as it is.
     fn write(&mut self, piece: &[u8]) -> Result<usize, Failed>
         ensures bytes { Writes (written self.old) (written self.new) result piece.now }

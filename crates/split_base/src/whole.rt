@@ -3,7 +3,7 @@ ghost use Rattle.std.specs.Prelude.{◌≡◌, ◌<◌, ◌≤◌, ◌+◌, ℕ,
 ghost use Rattle.std.specs.Io.KnownBytes.{Appends, Consumes, IsAtEnd};
 ghost use Rattle.split_base.specs.Faults.{HasCause, HasRisen, IsCounted};
 ghost use Rattle.split_base.specs.Streams.{EndsOnce};
-ghost use Rattle.split_base.specs.Whole.{faults_after};
+ghost use Rattle.split_base.specs.Whole.{faults_after_whole};
 
 use crate::{Failed, Sink, Source};
 use std::alloc::Global;
@@ -22,26 +22,31 @@ pub enum ReadStop {
 /// Reads to the end, and gives all the bytes, at most `most` of them. Once a read has met the end it
 /// does not read again.
 ///
-/// - `Fault` comes only where the source's count of faults has risen. A failed read ends the
+/// - `Fault` comes only if the source's count of faults has risen. A failed read ends the
 ///   reading: it is not tried again, so the count has risen by one then, and not at all with
 ///   every other answer.
-/// - `TooLong` comes exactly where there are more than `most` bytes. Then `most + 1` of them were read.
+/// - `TooLong` comes exactly if there are more than `most` bytes. Then `most + 1` of them were read.
 /// - `NoMemory` comes only for lack of memory.
 ///
 /// After each of these the bytes read so far, at most `most + 1`, are lost, and the source goes on
 /// after them.
 pub fn read_all<S: Source>(alloc: Global, source: &mut S, most: usize) -> Result<Vec<u8>, ReadStop>
     ensures short { IfOk result (λ bytes. length bytes.items ≤ most) }
-    ensures bytes { IfOk result (λ bytes. Consumes (S.left source.old) (S.left source.new) bytes.items) }
+    ensures bytes { IfOk result (λ bytes.
+        Consumes (S.left source.old) (S.left source.new) bytes.items) }
     ensures end { IfOk result (λ _. IsAtEnd (S.left source.new)) }
     ensures empty { EndsOnce (S.empty_reads source.old) (S.empty_reads source.new) result }
-    ensures taken { (taken : List ℕ) × (length taken ≤ most + 1) × Consumes (S.left source.old) (S.left source.new) taken }
-    ensures one_more { IsErrOf result ReadStop.TooLong →
-        (taken : List ℕ) × (length taken ≡ most + 1) × Consumes (S.left source.old) (S.left source.new) taken }
-    ensures too_long { IsErrOf result ReadStop.TooLong →
-        IfSome (S.left source.old) (λ bytes. (most < length bytes) × (S.left source.new ≡ Some (drop (most + 1) bytes))) }
-    ensures fault { IsErrOf result ReadStop.Fault → HasRisen (S.faults source.old) (S.faults source.new) }
-    ensures faults { S.faults source.new ≡ faults_after (S.faults source.old) result }
+    ensures taken { (taken : List ℕ) × (length taken ≤ most + 1)
+        × Consumes (S.left source.old) (S.left source.new) taken }
+    ensures one_more { IsErrOf result ReadStop.TooLong
+        → (taken : List ℕ) × (length taken ≡ most + 1)
+        × Consumes (S.left source.old) (S.left source.new) taken }
+    ensures too_long { IsErrOf result ReadStop.TooLong
+        → IfSome (S.left source.old) (λ bytes.
+        (most < length bytes) × (S.left source.new ≡ Some (drop (most + 1) bytes))) }
+    ensures fault { IsErrOf result ReadStop.Fault
+        → HasRisen (S.faults source.old) (S.faults source.new) }
+    ensures faults { S.faults source.new ≡ faults_after_whole (S.faults source.old) result }
     ensures count { S.faults source.old ≤ S.faults source.new }
     ensures beside { S.beside source.new ≡ S.beside source.old }
 {
@@ -66,15 +71,16 @@ pub fn read_all<S: Source>(alloc: Global, source: &mut S, most: usize) -> Result
     }
 }
 
-/// Writes all the bytes. It takes no memory. Where there is no byte, it does not call the sink, and it
+/// Writes all the bytes. It takes no memory. If there is no byte, it does not call the sink, and it
 /// never gives the sink a piece of no bytes.
 ///
-/// `Failed` comes only where the sink's count of faults has risen. A first part of the bytes was
-/// written then, and not all of them: so it never comes where there are none. A failed write is not
-/// tried again: the count has risen by one then, and not at all where all was written.
+/// `Failed` comes only if the sink's count of faults has risen. A first part of the bytes was
+/// written then, and not all of them: so it never comes if there are none. A failed write is not
+/// tried again: the count has risen by one then, and not at all if all was written.
 pub fn write_all<S: Sink>(sink: &mut S, bytes: &[u8]) -> Result<(), Failed>
     ensures ok { IfOk result (λ _. Appends (S.written sink.old) (S.written sink.new) bytes.now) }
-    ensures prefix { OnErr result ((n : ℕ) × (n < length bytes.now) × Appends (S.written sink.old) (S.written sink.new) (take n bytes.now)) }
+    ensures prefix { OnErr result ((n : ℕ) × (n < length bytes.now)
+        × Appends (S.written sink.old) (S.written sink.new) (take n bytes.now)) }
     ensures cause { HasCause (S.faults sink.old) (S.faults sink.new) result }
     ensures count { IsCounted (S.faults sink.old) (S.faults sink.new) result }
     ensures untouched { length bytes.now ≡ 0 → sink.new ≡ sink.old }

@@ -76,7 +76,8 @@ pub fn floor(a: &Frac) -> i128
 /// Asks for a numerator between -10^24 and 10^24 and a denominator up to 4,000,000.
 pub fn rem(a: &Frac) -> Frac
     requires { IsWithinLimits a.now }
-    ensures value { (whole : ℤ) → IsFloor a.now whole → result.num ≡ a.now.num -ℤ whole *ℤ pos a.now.den }
+    ensures value { (whole : ℤ) → IsFloor a.now whole
+        → result.num ≡ a.now.num -ℤ whole *ℤ pos a.now.den }
     ensures den { result.den ≡ a.now.den }
     ensures low { pos 0 ≤ℤ result.num }
     ensures high { result.num <ℤ pos result.den }
@@ -88,7 +89,7 @@ pub fn rem(a: &Frac) -> Frac
     }
 }
 
-/// A numerator times a denominator: a product too small to overflow a sum of two.
+// A numerator times a denominator: a product too small to overflow a sum of two.
 fn scaled(num: i128, den: u64) -> i128
     requires num { unsigned_abs num ≤ MOST_NUMERATOR }
     requires den { den ≤ MOST_DENOMINATOR }
@@ -98,7 +99,7 @@ fn scaled(num: i128, den: u64) -> i128
     num * den as i128
 }
 
-/// The fraction of the value `num / den`, both divided by their greatest common divisor.
+// The fraction of the value `num / den`, both divided by their greatest common divisor.
 fn reduced(num: i128, den: u64) -> Frac
     requires num { unsigned_abs num < 2 ^ 126 }
     requires den { 0 < den }
@@ -113,7 +114,7 @@ fn reduced(num: i128, den: u64) -> Frac
     }
 }
 
-/// The quotient of a numerator, rounded towards 0.
+// The quotient of a numerator, rounded towards 0.
 fn quotient(num: i128, divisor: u64) -> i128
     requires { 0 < divisor }
     ensures { result ≡ int_div num (pos divisor) }

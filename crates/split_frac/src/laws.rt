@@ -13,7 +13,8 @@ pub fn value_law()
     ensures value { (a b : Frac) → a.num *ℤ pos b.den ≡ b.num *ℤ pos a.den → a ≡ b }
     ensures pair { (a b : Frac) → fraction_of a ≡ fraction_of b → a ≡ b }
     ensures divides { (a : Frac) (num : ℤ) (den : ℕ) → HasValue a num den → a.den ∣ den }
-    ensures size { (a : Frac) (num : ℤ) (den : ℕ) → 0 < den → HasValue a num den → unsigned_abs a.num ≤ unsigned_abs num }
+    ensures size { (a : Frac) (num : ℤ) (den : ℕ) → 0 < den → HasValue a num den
+        → unsigned_abs a.num ≤ unsigned_abs num }
 {}
 
 /// Every quotient has a fraction: there is one of the value of any whole number divided into any number of parts above 0.
@@ -24,26 +25,38 @@ pub fn quotient_law()
 /// The order is the order of the values, and a total one: it is turned around with its arguments,
 /// equal only at equal fractions, and transitive.
 pub fn order_law()
-    ensures less { (a b : Frac) → frac_cmp a b ≡ Less ↔ ((a.num *ℤ pos b.den) <ℤ (b.num *ℤ pos a.den)) }
+    ensures less { (a b : Frac) → frac_cmp a b ≡ Less
+        ↔ ((a.num *ℤ pos b.den) <ℤ (b.num *ℤ pos a.den)) }
     ensures equal { (a b : Frac) → frac_cmp a b ≡ Equal ↔ a ≡ b }
     ensures reversed { (a b : Frac) → frac_cmp b a ≡ ordering_reverse (frac_cmp a b) }
-    ensures transitive { (a b c : Frac) → frac_cmp a b ≡ Less → frac_cmp b c ≡ Less → frac_cmp a c ≡ Less }
+    ensures transitive { (a b c : Frac) → frac_cmp a b ≡ Less → frac_cmp b c ≡ Less
+        → frac_cmp a c ≡ Less }
 {}
 
 /// A common multiple of the denominators of two fractions is a multiple of the denominator of
 /// their sum and of their difference, whose numerators are at most what the two numerators over
 /// that multiple add up to. Callers of `add` and `sub` show by it that the result keeps its range.
 pub fn sum_law()
-    ensures sum { (a b c : Frac) (multiple : ℕ) → a.den ∣ multiple → b.den ∣ multiple → IsSum a b c → c.den ∣ multiple }
-    ensures difference { (a b c : Frac) (multiple : ℕ) → a.den ∣ multiple → b.den ∣ multiple → IsDifference a b c → c.den ∣ multiple }
-    ensures sum_size { (a b c : Frac) (multiple : ℕ) → 0 < multiple → a.den ∣ multiple → b.den ∣ multiple → IsSum a b c → unsigned_abs c.num ≤ unsigned_abs a.num * (multiple / a.den) + unsigned_abs b.num * (multiple / b.den) }
-    ensures difference_size { (a b c : Frac) (multiple : ℕ) → 0 < multiple → a.den ∣ multiple → b.den ∣ multiple → IsDifference a b c → unsigned_abs c.num ≤ unsigned_abs a.num * (multiple / a.den) + unsigned_abs b.num * (multiple / b.den) }
+    ensures sum { (a b c : Frac) (multiple : ℕ) → a.den ∣ multiple → b.den ∣ multiple → IsSum a b c
+        → c.den ∣ multiple }
+    ensures difference { (a b c : Frac) (multiple : ℕ) → a.den ∣ multiple → b.den ∣ multiple
+        → IsDifference a b c → c.den ∣ multiple }
+    ensures sum_size { (a b c : Frac) (multiple : ℕ) → 0 < multiple → a.den ∣ multiple
+        → b.den ∣ multiple → IsSum a b c
+        → unsigned_abs c.num
+        ≤ unsigned_abs a.num * (multiple / a.den) + unsigned_abs b.num * (multiple / b.den) }
+    ensures difference_size { (a b c : Frac) (multiple : ℕ) → 0 < multiple → a.den ∣ multiple
+        → b.den ∣ multiple → IsDifference a b c
+        → unsigned_abs c.num
+        ≤ unsigned_abs a.num * (multiple / a.den) + unsigned_abs b.num * (multiple / b.den) }
 {}
 
 /// Two fractions that are whole numbers of k-ths have a sum and a difference of so many k-ths.
 pub fn parts_law()
-    ensures sum { (a b c : Frac) (x y : ℤ) (k : ℕ) → HasValue a x k → HasValue b y k → IsSum a b c → HasValue c (x +ℤ y) k }
-    ensures difference { (a b c : Frac) (x y : ℤ) (k : ℕ) → HasValue a x k → HasValue b y k → IsDifference a b c → HasValue c (x -ℤ y) k }
+    ensures sum { (a b c : Frac) (x y : ℤ) (k : ℕ) → HasValue a x k → HasValue b y k → IsSum a b c
+        → HasValue c (x +ℤ y) k }
+    ensures difference { (a b c : Frac) (x y : ℤ) (k : ℕ) → HasValue a x k → HasValue b y k
+        → IsDifference a b c → HasValue c (x -ℤ y) k }
 {}
 
 /// A fraction has one floor.

@@ -12,7 +12,8 @@ use std::fmt;
 /// `NoMemory`: the text could not grow.
 #[tactic(auto, unfolding(crate::specs::Texts::line))]
 pub fn push_line<D: fmt::Display + Drop>(text: &mut String, content: D) -> Result<(), NoMemory>
-    ensures { OnOk result (IfSome (D.output content) (λ bytes. string_bytes text.new ≡ string_bytes text.old ++ line bytes)) }
+    ensures { OnOk result (IfSome (D.output content) (λ bytes.
+        string_bytes text.new ≡ string_bytes text.old ++ line bytes)) }
 {
     match writeln!(text, "{content}") {
         Ok(()) => Ok(()),
@@ -24,7 +25,8 @@ pub fn push_line<D: fmt::Display + Drop>(text: &mut String, content: D) -> Resul
 ///
 /// `NoMemory`: the text could not grow.
 pub fn push_numbers<T: Number>(text: &mut String, word: &str, numbers: &[T]) -> Result<(), NoMemory>
-    ensures { OnOk result (string_bytes text.new ≡ string_bytes text.old ++ word_line word.now (map T.text numbers.now)) }
+    ensures { OnOk result (string_bytes text.new
+        ≡ string_bytes text.old ++ word_line word.now (map T.text numbers.now)) }
 {
     let numbers = Numbers(numbers);
     push_line(text, format_args!("{word}{numbers}"))

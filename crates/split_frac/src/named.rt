@@ -1,6 +1,6 @@
 // A name under its number.
 ghost use Rattle.std.specs.Prelude.{Some};
-ghost use Rattle.split_frac.specs.Texts.{named};
+ghost use Rattle.split_frac.specs.Texts.{numbered_name};
 
 use std::fmt;
 
@@ -14,9 +14,9 @@ pub struct Named<'a> {
 }
 
 impl fmt::Display for Named<'_> {
-    ghost output = { λ n. Some (named n.number n.name.now) };
+    ghost output = { λ n. Some (numbered_name n.number n.name.now) };
 
-    #[tactic(auto, unfolding(crate::specs::Texts::named))]
+    #[tactic(auto, unfolding(crate::specs::Texts::numbered_name))]
     fn fmt<W: fmt::Write>(&self, f: &mut fmt::Formatter<W>) -> fmt::Result {
         let (number, name) = (self.number, self.name);
         write!(f, "{number} {name}")

@@ -2,7 +2,7 @@
 ghost use Rattle.std.specs.Prelude.{◌≡◌, ℕ, List, map, refl, Some};
 ghost use Rattle.std.specs.Fmt.{decimal, signed_decimal};
 ghost use Rattle.split_frac.specs.Frac.{frac_text};
-ghost use Rattle.split_frac.specs.Texts.{spaced};
+ghost use Rattle.split_frac.specs.Texts.{with_spaces};
 
 use crate::Frac;
 use std::fmt;
@@ -51,7 +51,7 @@ impl Number for Frac {
 pub struct Numbers<'a, T>(pub &'a [T]);
 
 impl<T: Number> fmt::Display for Numbers<'_, T> {
-    ghost output = { λ l. Some (spaced (map T.text l.0.now)) };
+    ghost output = { λ l. Some (with_spaces (map T.text l.0.now)) };
 
     fn fmt<W: fmt::Write>(&self, f: &mut fmt::Formatter<W>) -> fmt::Result {
         for number in self.0 {

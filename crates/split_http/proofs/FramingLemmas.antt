@@ -9,8 +9,8 @@ use Rattle.split_http.specs.declared.framing.Framing.{Framing}
 use Rattle.split_http.specs.declared.framing.Framing.TheVariants as framings
 use Rattle.split_http.specs.declared.head.Head.{Head}
 use Rattle.split_http.specs.declared.heads.HeadTurn.TheVariants as turns
-use Rattle.split_http.specs.Heads.{IsText, HasNoHead, text_of, length_of, expects_of}
-use Rattle.split_http.specs.Turns.{AsksMore, HeadSays, IsOpen}
+use Rattle.split_http.specs.Heads.{IsRequestText, HasNoHead, text_of, length_of, expects_of}
+use Rattle.split_http.specs.Turns.{AsksMore, HeadSays, MayBecomeHead}
 use Rattle.split_http.specs.Framings.{IsRequest, FramingSays, NeverHasHead}
 use Rattle.split_http.proofs.LawLemmas.{one_head}
 
@@ -30,12 +30,12 @@ request_of n bytes (framings.Request bound expects) (head, valid, ((rest, is), b
 )
 
 -- where the first bytes never have a head, none will come there
-pub never_of : (n : ℕ) (bytes : List ℕ) → NeverHasOne IsText (take n bytes) → NeverHasHead bytes
+pub never_of : (n : ℕ) (bytes : List ℕ) → NeverHasOne IsRequestText (take n bytes) → NeverHasHead bytes
 never_of n bytes never more head rest is_head is =
     never (drop n bytes ++ more) (print_request head) rest (head, is_head.valid, is_head.few, refl) (parts n bytes more ∙ is)
 
 -- the first bytes are all, and the parser asks for more of them
-pub open_of : (n : ℕ) (bytes : List ℕ) → length bytes ≤ n → length bytes < MAX_HEAD → HasNone IsText (take n bytes) × AsksMore (take n bytes) → IsOpen bytes
+pub open_of : (n : ℕ) (bytes : List ℕ) → length bytes ≤ n → length bytes < MAX_HEAD → HasNone IsRequestText (take n bytes) × AsksMore (take n bytes) → MayBecomeHead bytes
 open_of n bytes all few looked =
     let same : take n bytes ≡ bytes = take_all n bytes all in
     record {
@@ -45,7 +45,7 @@ open_of n bytes all few looked =
     }
 
 -- nor after as many bytes as a head may have, which have none
-full : (bytes more : List ℕ) → length bytes ≡ MAX_HEAD → HasNone IsText bytes → HasNoHead (bytes ++ more)
+full : (bytes more : List ℕ) → length bytes ≡ MAX_HEAD → HasNone IsRequestText bytes → HasNoHead (bytes ++ more)
 full bytes more size none h rest head is =
     let text = print_request h in
     let split : MAX_HEAD ≡ length text + (MAX_HEAD - length text) = omega (arith, head.short) in
@@ -53,7 +53,7 @@ full bytes more size none h rest head is =
     sym (take_at bytes more MAX_HEAD size) ∙ ap (take MAX_HEAD) is ∙ ap (λ n. take n (text ++ rest)) split ∙ take-append-add text rest (MAX_HEAD - length text) in
     none text (take (MAX_HEAD - length text) rest) (h, head.valid, head.few, refl) front
 
-pub full_of : (n : ℕ) (bytes : List ℕ) → length (take n bytes) ≡ MAX_HEAD → HasNone IsText (take n bytes) → NeverHasHead bytes
+pub full_of : (n : ℕ) (bytes : List ℕ) → length (take n bytes) ≡ MAX_HEAD → HasNone IsRequestText (take n bytes) → NeverHasHead bytes
 full_of n bytes size none more = subst HasNoHead (parts n bytes more) (full (take n bytes) (drop n bytes ++ more) size none)
 
 -- what is taken of bytes that begin with a request is its head, and what that says is what is told

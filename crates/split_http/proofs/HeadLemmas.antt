@@ -19,11 +19,11 @@ use Rattle.httparse.proofs.OpenLemmas.{letter_is_token}
 use Rattle.http_heads.specs.declared.limits.TheConstants.{MAX_FIELDS, ROOM}
 use Rattle.http_heads.specs.Fields.{fields_at}
 use Rattle.http_heads.specs.Search.{IsBad as IsBadText, IsOpen as IsOpenText, HasNone, NeverHasOne}
-use Rattle.split_http.specs.Heads.{IsText, text_of}
+use Rattle.split_http.specs.Heads.{IsRequestText, text_of}
 use Rattle.split_http.specs.declared.head.Verb.{Verb}
 use Rattle.split_http.specs.declared.heads.HeadTurn.{HeadTurn}
 use Rattle.split_http.specs.declared.heads.HeadTurn.TheVariants as turns
-use Rattle.split_http.specs.Turns.{AsksMore, IsToldAs, IsBad, IsOpen, HasHeadOf, HeadSays, CarrySays, IsTaken}
+use Rattle.split_http.specs.Turns.{AsksMore, IsToldAs, IsBad, MayBecomeHead, HasHeadOf, HeadSays, CarrySays, IsTaken}
 
 -- as many fields as were written
 fields_count : (bytes : List ℕ) (headers : List HeaderSpan) (r : RequestSpans) (h : RequestHead)
@@ -34,7 +34,7 @@ fields_count bytes headers r h at fits =
 
 -- a head with more fields leaves no room for another
 too_many_fields : (bytes : List ℕ) (headers : List HeaderSpan) (r : RequestSpans)
-    → IsRequestOf bytes headers r → r.headers ≤ length headers → MAX_FIELDS < r.headers → NeverHasOne IsText bytes
+    → IsRequestOf bytes headers r → r.headers ≤ length headers → MAX_FIELDS < r.headers → NeverHasOne IsRequestText bytes
 too_many_fields bytes headers r of fits many more text rest (k, valid, few, printed) is =
     let h = of.0 in
     let same = request_prefix_free bytes more h k _ rest of.1.reads (valid, is ∙ ap (λ z. z ++ rest) printed) in
@@ -45,7 +45,7 @@ too_many_fields bytes headers r of fits many more text rest (k, valid, few, prin
 -- the same of what the parser answers
 pub many_fields : (bytes : List ℕ) (headers : List HeaderSpan) (result : Result (Status RequestSpans) Error)
     → IfComplete result (IsRequestOf bytes headers) → IfComplete result (IsRequestWithin bytes headers)
-    → IfComplete result (λ spans. MAX_FIELDS < spans.headers → NeverHasOne IsText bytes)
+    → IfComplete result (λ spans. MAX_FIELDS < spans.headers → NeverHasOne IsRequestText bytes)
 many_fields bytes headers (Ok (Complete spans)) of within = too_many_fields bytes headers spans of within.section.count_fits
 many_fields bytes headers (Ok Partial) of within = tt
 many_fields bytes headers (Err error) of within = tt
@@ -56,11 +56,11 @@ pub same_text : (bytes : List ℕ) (headers : List HeaderSpan) (r : RequestSpans
 same_text bytes headers r h at = rw (at.method, at.path, at.version, at.fields) refl
 
 -- bytes that begin with no text of a head begin with no head
-bad_bytes : (bytes : List ℕ) → IsBadText IsText bytes → IsBad bytes
+bad_bytes : (bytes : List ℕ) → IsBadText IsRequestText bytes → IsBad bytes
 bad_bytes bytes bad = (bad.some, λ h rest head is. bad.none (print_request h) rest (h, head.valid, head.few, refl) head.short is)
 
-pub bad_told : (before left : Option (List ℕ)) (bytes : List ℕ) → Keeps before (prepend_known bytes left) → IsBadText IsText bytes
-    → IfSome (prepend_known bytes left) (IsBadText IsText) → (all : List ℕ) × IsToldAs before all × IsBad all
+pub bad_told : (before left : Option (List ℕ)) (bytes : List ℕ) → Keeps before (prepend_known bytes left) → IsBadText IsRequestText bytes
+    → IfSome (prepend_known bytes left) (IsBadText IsRequestText) → (all : List ℕ) × IsToldAs before all × IsBad all
 bad_told None left bytes same bad says = (bytes, tt, bad_bytes bytes bad)
 bad_told (Some x) None bytes same bad says = absurd same
 bad_told (Some x) (Some y) bytes same bad says = (bytes ++ y, same, bad_bytes (bytes ++ y) says)
@@ -92,7 +92,7 @@ asks_of_nothing : AsksMore []
 asks_of_nothing = inl (none_in_nothing, inl (print_request some_head, some_head, (some_head_valid, sym (append-nil (print_request some_head)))))
 
 -- the parser asks for more of the bytes, of which there may be none
-open_bytes : (bytes : List ℕ) → IsOpenText IsText AsksMore bytes → IsOpen bytes
+open_bytes : (bytes : List ℕ) → IsOpenText IsRequestText AsksMore bytes → MayBecomeHead bytes
 open_bytes [] may = record { none = λ h rest head is. none_in_nothing h rest (head.valid, is); asks = asks_of_nothing; few = may.few }
 open_bytes (b ∷ bytes) may = record {
   none = λ h rest head is. may.none (omega arith) (print_request h) rest (h, head.valid, head.few, refl) is;
@@ -101,7 +101,7 @@ open_bytes (b ∷ bytes) may = record {
 }
 
 -- no head of any number of fields, so none with few
-pub none_of_text : (bytes : List ℕ) → HasNoRequest bytes → HasNone IsText bytes
+pub none_of_text : (bytes : List ℕ) → HasNoRequest bytes → HasNone IsRequestText bytes
 none_of_text bytes none text rest (h, valid, few, printed) is = none h rest (valid, is ∙ ap (λ z. z ++ rest) printed)
 
 -- the parser answers that it asks for more, or that it has no room
@@ -137,10 +137,10 @@ pub carried : (old bytes new : List ℕ) (result : HeadTurn) → ((read : List �
     → (read : List ℕ) × CarrySays (old ++ read) new result
 carried old bytes new result (read, is) says = (read, subst (λ z. CarrySays z new result) is says)
 
-pub bad_carry : (old bytes : List ℕ) → ((read : List ℕ) × (bytes ≡ old ++ read)) → IsBadText IsText bytes → (read : List ℕ) × CarrySays (old ++ read) bytes turns.BadHead
+pub bad_carry : (old bytes : List ℕ) → ((read : List ℕ) × (bytes ≡ old ++ read)) → IsBadText IsRequestText bytes → (read : List ℕ) × CarrySays (old ++ read) bytes turns.BadHead
 bad_carry old bytes more bad = carried old bytes bytes turns.BadHead more (refl, bad_bytes bytes bad)
 
-pub open_carry : (old bytes : List ℕ) → ((read : List ℕ) × (bytes ≡ old ++ read)) → IsOpenText IsText AsksMore bytes → (read : List ℕ) × CarrySays (old ++ read) bytes turns.LinkFault
+pub open_carry : (old bytes : List ℕ) → ((read : List ℕ) × (bytes ≡ old ++ read)) → IsOpenText IsRequestText AsksMore bytes → (read : List ℕ) × CarrySays (old ++ read) bytes turns.LinkFault
 open_carry old bytes more may = carried old bytes bytes turns.LinkFault more (refl, open_bytes bytes may)
 
 pub taken_carry : (bytes new : List ℕ) (result : HeadTurn) → IsTaken bytes new result → CarrySays bytes new result

@@ -4,7 +4,7 @@ use Rattle.httparse.specs.Grammar.{RequestHead, print_request}
 use Rattle.split_http.specs.declared.framing.Framing.{Framing}
 use Rattle.split_http.specs.declared.framing.Framing.TheVariants as framings
 use Rattle.split_http.specs.Heads.{IsHead, HasNoHead, text_of, length_of, expects_of}
-use Rattle.split_http.specs.Turns.{IsOpen}
+use Rattle.split_http.specs.Turns.{MayBecomeHead}
 
 -- the bytes begin with no head, and will not, whatever follows
 abbrev pub NeverHasHead : List ℕ → Type 0
@@ -22,6 +22,6 @@ IsRequest bytes (framings.Request bound expects) = (head : RequestHead) × IsHea
 
 -- what is at the front: no head yet, and the parser asks for more; no head ever; or a request
 abbrev pub FramingSays : List ℕ → Framing → Type 0
-FramingSays bytes framings.Open = IsOpen bytes
+FramingSays bytes framings.Open = MayBecomeHead bytes
 FramingSays bytes framings.NoHead = NeverHasHead bytes
 FramingSays bytes (framings.Request bound expects) = IsRequest bytes (framings.Request bound expects)

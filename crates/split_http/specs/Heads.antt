@@ -26,10 +26,10 @@ abbrev pub HasNoHead : List ℕ → Type 0
 HasNoHead bytes = (head : RequestHead) (rest : List ℕ) → IsHead head → bytes ≢ print_request head ++ rest
 
 -- the text of such a head, however long
-abbrev pub IsText : List ℕ → Type 0
-IsText text = (head : RequestHead) × IsRequestHead head × (length head.fields ≤ MAX_FIELDS) × (text ≡ print_request head)
+abbrev pub IsRequestText : List ℕ → Type 0
+IsRequestText text = (head : RequestHead) × IsRequestHead head × (length head.fields ≤ MAX_FIELDS) × (text ≡ print_request head)
 
--- the head is at the front of the bytes, at these spans
+-- the bytes begin with the head, and these are the spans of its parts
 pub record IsFoundAt (bytes : List ℕ) (fields : List HeaderSpan) (spans : RequestSpans) : Type 0 where
   pub head : (h : RequestHead) × IsRequestAt bytes fields spans h × (length h.fields ≤ MAX_FIELDS)
   pub within : IsRequestWithin bytes fields spans
@@ -65,7 +65,7 @@ key_from value = if length value == 64 then value else replicate 64 0
 abbrev pub key_of : List Pair → Option (List ℕ)
 key_of fields = option_map key_from (value_of (codes "x-key") fields)
 
--- HTTP/1.1 has exactly one Host, HTTP/1.0 at most one
+-- HTTP/1.1 without exactly one Host, or HTTP/1.0 with more than one
 abbrev pub has_bad_host : ℕ → ℕ → Bool
 has_bad_host minor hosts = if minor == 1 then not (hosts == 1) else nat_lt 1 hosts
 
@@ -86,10 +86,10 @@ first_refusal verb minor fields =
     else stated_by verb (stated_of fields))
 
 -- the first refusal of a head
-abbrev pub refusal_of : HeadText → Option ℕ
-refusal_of text = first_refusal (verb_of text.method) text.minor text.fields
+abbrev pub refusal_of_head : HeadText → Option ℕ
+refusal_of_head text = first_refusal (verb_of text.method) text.minor text.fields
 
--- the body's length: what is told where nothing is refused
+-- the body's length: the one that the head tells, if nothing is refused
 abbrev pub length_by : Option ℕ → Stated → ℕ
 length_by None (Bytes count) = count
 length_by None Absent = 0
@@ -98,7 +98,7 @@ length_by (Some refusal) stated = 0
 
 -- the length of the body that a head announces
 abbrev pub length_of : HeadText → ℕ
-length_of text = length_by (refusal_of text) (stated_of text.fields)
+length_of text = length_by (refusal_of_head text) (stated_of text.fields)
 
 -- an interim reply is due: HTTP/1.1, not refused, with a body and `Expect: 100-continue`
 abbrev pub expects_by : ℕ → ℕ → List Pair → Bool
@@ -122,7 +122,7 @@ pub record IsHeadOf (text : HeadText) (head : HeadValue) : Type 0 where
   pub verb : head.verb ≡ verb_of text.method
   pub path : IsPathOf text.target head.path
   pub key : head.key ≡ key_of text.fields
-  pub refused : head.refused ≡ refusal_of text
+  pub refused : head.refused ≡ refusal_of_head text
   pub body : head.length ≡ length_of text
   pub expects : head.expects ≡ expects_of text
   pub closes : head.closes ≡ closes_of text

@@ -8,7 +8,7 @@ use Rattle.split_http.specs.declared.replies.HttpReply.{HttpReply}
 use Rattle.split_http.specs.declared.replies.Allow.{Allow}
 use Rattle.split_http.specs.declared.replies.Allow.TheVariants.{GetHead, Post}
 
--- the line of the date of a second since 1970, or nothing where there is none
+-- the line with the date of a second since 1970, or nothing if there is none
 abbrev pub IsDateLine : Option ℕ → List ℕ → Type 0
 IsDateLine None line = line ≡ []
 IsDateLine (Some moment) line = (date : HttpDate) × (unix_secs date ≡ moment) × (line ≡ codes "Date: " ++ date_text date ++ codes "\r\n")
@@ -17,23 +17,23 @@ IsDateLine (Some moment) line = (date : HttpDate) × (unix_secs date ≡ moment)
 abbrev pub kind_line : Bool → List ℕ
 kind_line plain = cond plain (codes "Content-Type: text/plain; charset=utf-8\r\n") (codes "Content-Type: application/json\r\n")
 
--- the line of the methods that the route has, where they are told
+-- the line with the methods that the route has, if they are told
 abbrev pub allow_line : Option Allow → List ℕ
 allow_line None = []
 allow_line (Some GetHead) = codes "Allow: GET, HEAD\r\n"
 allow_line (Some Post) = codes "Allow: POST\r\n"
 
--- the line that closes the connection, where it is closed
+-- the line that says that the connection closes, if it does
 abbrev pub close_line : Bool → List ℕ
 close_line close = cond close (codes "Connection: close\r\n") []
 
--- the body, left out where it is to be
+-- the body, unless it is to be left out
 abbrev pub body_of : HttpReply → List ℕ
 body_of reply = cond reply.bodiless [] reply.text.now
 
 -- status line, date line, type, length, the two lines that may come, an empty line, and the body
-abbrev pub joined : List ℕ → List ℕ → List ℕ → List ℕ → List ℕ → List ℕ → List ℕ → List ℕ → List ℕ
-joined digits phrase date kind size allow close body =
+abbrev pub reply_of_parts : List ℕ → List ℕ → List ℕ → List ℕ → List ℕ → List ℕ → List ℕ → List ℕ → List ℕ
+reply_of_parts digits phrase date kind size allow close body =
     codes "HTTP/1.1 " ++ digits ++ codes " " ++ phrase ++ codes "\r\n"
     ++ date ++ kind
     ++ codes "Content-Length: " ++ size ++ codes "\r\n"
@@ -43,7 +43,7 @@ joined digits phrase date kind size allow close body =
 -- the reply with that line for its date
 abbrev pub reply_with : List ℕ → HttpReply → List ℕ
 reply_with date reply =
-    joined (code_digits reply.status) (unwrap_or (reason_phrase reply.status) []) date
+    reply_of_parts (code_digits reply.status) (unwrap_or (reason_phrase reply.status) []) date
     (kind_line reply.plain)
     (decimal (length reply.text.now))
     (allow_line reply.allow)

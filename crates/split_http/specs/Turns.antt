@@ -14,7 +14,7 @@ use Rattle.http_heads.specs.declared.limits.TheConstants.{MAX_HEAD, ROOM}
 use Rattle.split_http.specs.Pieces.{AppendsPart, AppendsProperPart}
 use Rattle.split_http.specs.Heads.{IsHead, HasNoHead, IsHeadOf, text_of, verb_of}
 
--- these are the bytes, where an object tells them
+-- these are the bytes, if the object tells them
 abbrev pub IsToldAs : Option (List ℕ) → List ℕ → Type 0
 IsToldAs None bytes = ⊤
 IsToldAs (Some known) bytes = bytes ≡ known
@@ -29,7 +29,7 @@ abbrev pub AsksMore : List ℕ → Type 0
 AsksMore bytes = (HasNoRequest bytes × MayBecomeRequest bytes) ⊎ RequestExceeds ROOM bytes
 
 -- the bytes begin with no head, the parser asks for more of them, and they are fewer than a head may have
-pub record IsOpen (bytes : List ℕ) : Type 0 where
+pub record MayBecomeHead (bytes : List ℕ) : Type 0 where
   pub none : HasNoHead bytes
   pub asks : AsksMore bytes
   pub few : length bytes < MAX_HEAD
@@ -38,8 +38,8 @@ pub record IsOpen (bytes : List ℕ) : Type 0 where
 abbrev pub HasHeadOf : Verb → List ℕ → Type 0
 HasHeadOf verb bytes = (h : RequestHead) × (rest : List ℕ) × IsHead h × (verb ≡ verb_of h.method) × (bytes ≡ print_request h ++ rest)
 
--- what the next head is and what it leaves of the bytes: a head is taken off, with what it says; nothing is taken where there is no head or the
--- link failed
+-- what the next head is and what it leaves of the bytes: a head is taken off, with what it says; nothing is taken if there is no head or the link
+-- failed
 abbrev pub HeadSays : Option (List ℕ) → Option (List ℕ) → HeadTurn → Type 0
 HeadSays old new (turns.Head head) = (h : RequestHead) × IsHead h × IsHeadOf (text_of h) head × Consumes old new (print_request h)
 HeadSays old new turns.BadHead = Keeps old new × ((all : List ℕ) × IsToldAs old all × IsBad all)
@@ -55,16 +55,16 @@ IsTaken old new turns.End = ⊥
 IsTaken old new turns.LinkFault = ⊥
 IsTaken old new (turns.NoMemory verb) = (new ≡ old) × HasHeadOf verb old
 
--- what the bytes that the carry held and those read after them are, and what the carry holds then, whatever the link tells: the head at the front
--- is taken off, and otherwise nothing is; a read fails only where the parser asks for more of the bytes held
+-- what the bytes that the carry held and those read after them are, and what the carry holds then, whatever the link tells: the head at the front is
+-- taken off, and otherwise nothing is; a read fails only if the parser asks for more of the bytes held
 abbrev pub CarrySays : List ℕ → List ℕ → HeadTurn → Type 0
 CarrySays bytes new (turns.Head head) = (h : RequestHead) × IsHead h × IsHeadOf (text_of h) head × (bytes ≡ print_request h ++ new)
 CarrySays bytes new turns.BadHead = (new ≡ bytes) × IsBad bytes
 CarrySays bytes new turns.End = (new ≡ bytes) × (bytes ≡ [])
-CarrySays bytes new turns.LinkFault = (new ≡ bytes) × IsOpen bytes
+CarrySays bytes new turns.LinkFault = (new ≡ bytes) × MayBecomeHead bytes
 CarrySays bytes new (turns.NoMemory verb) = (new ≡ bytes) × HasHeadOf verb bytes
 
--- the link's count of failed reads after a head: one more where a read failed
+-- the link's count of failed reads after a head: one more if a read failed
 abbrev pub faults_of : ℕ → HeadTurn → ℕ
 faults_of before (turns.Head head) = before
 faults_of before turns.BadHead = before
@@ -72,7 +72,7 @@ faults_of before turns.End = before
 faults_of before turns.LinkFault = counted before
 faults_of before (turns.NoMemory verb) = before
 
--- the interim line, where it is due
+-- the interim line, if it is due
 abbrev pub interim_of : Bool → List ℕ
 interim_of due = if due then codes "HTTP/1.1 100 Continue\r\n\r\n" else []
 
@@ -91,7 +91,7 @@ BodySays old new before now head bodies.NoMemory = (head.refused ≡ None) × (0
 abbrev pub IsWriteFault : Option (List ℕ) → Option (List ℕ) → Option (List ℕ) → Option (List ℕ) → Head → Type 0
 IsWriteFault old new before now head = (head.expects ≡ true) × Keeps old new × AppendsProperPart before now (interim_of head.expects)
 
--- a read within the body failed: the interim line was written where it is due, and what was taken and what the carry holds are less than the body
+-- a read within the body failed: the interim line was written if it is due, and what was taken and what the carry holds are less than the body
 abbrev pub IsReadFault : Option (List ℕ) → Option (List ℕ) → Option (List ℕ) → Option (List ℕ) → List ℕ → Head → Type 0
 IsReadFault old new before now held head =
     ((part : List ℕ) × Consumes old new part × (length part + length held < head.length)) × Appends before now (interim_of head.expects)

@@ -28,29 +28,34 @@ pub enum BodyTurn {
     NoMemory,
 }
 
-/// Reads the body after a head and takes it off the link's bytes. Where the head asks for it, the
+/// Reads the body after a head and takes it off the link's bytes. If the head asks for it, the
 /// interim line is written to the link first.
 ///
-/// - `Refused` comes exactly where the head is refused. Nothing is read or written then.
-/// - `Cut` comes exactly where the input ends within the body.
+/// - `Refused` comes exactly if the head is refused. Nothing is read or written then.
+/// - `Cut` comes exactly if the input ends within the body.
 /// - `LinkFault` comes for one failed call, which one of the link's two counts of faults tells: a
-///   write of the interim line, where it is due, of which some is missing then, before anything was
+///   write of the interim line, if it is due, of which some is missing then, before anything was
 ///   read; or a read after the whole line, while less than the body was read. So nothing is read
-///   where no body is due, and a failed call is not tried again.
-/// - `NoMemory` comes only where memory ran out for a body of one byte or more, and before anything is
+///   if no body is due, and a failed call is not tried again.
+/// - `NoMemory` comes only if memory ran out for a body of one byte or more, and before anything is
 ///   read or written.
 ///
 /// Each answer but `LinkFault` leaves both counts as they are. No write is empty.
 /// After anything but a body the connection takes no further request.
 pub fn next_body<L: Link>(alloc: Global, link: &mut L, carry: &mut Carry, head: &Head) -> BodyTurn
-    ensures says { BodySays (prepend_known carry.old (L.Source.left link.old)) (prepend_known carry.new (L.Source.left link.new))
-        (L.Sink.written link.old) (L.Sink.written link.new) head.now result }
-    ensures cause { result ≡ BodyTurn.LinkFault → HasRisen (L.Source.faults link.old) (L.Source.faults link.new) ⊎ HasRisen (L.Sink.faults link.old) (L.Sink.faults link.new) }
+    ensures says { BodySays (prepend_known carry.old (L.Source.left link.old))
+        (prepend_known carry.new (L.Source.left link.new)) (L.Sink.written link.old)
+        (L.Sink.written link.new) head.now result }
+    ensures cause { result ≡ BodyTurn.LinkFault
+        → HasRisen (L.Source.faults link.old) (L.Source.faults link.new)
+        ⊎ HasRisen (L.Sink.faults link.old) (L.Sink.faults link.new) }
     ensures reads { L.Source.faults link.old ≤ L.Source.faults link.new }
     ensures writes { L.Sink.faults link.old ≤ L.Sink.faults link.new }
     ensures empty { L.Sink.empty_writes link.new ≡ L.Sink.empty_writes link.old }
-    ensures counts { BodyCounts (prepend_known carry.old (L.Source.left link.old)) (prepend_known carry.new (L.Source.left link.new))
-        (L.Sink.written link.old) (L.Sink.written link.new) carry.new head.now (L.Source.faults link.old) (L.Source.faults link.new) (L.Sink.faults link.old) (L.Sink.faults link.new) result }
+    ensures counts { BodyCounts (prepend_known carry.old (L.Source.left link.old))
+        (prepend_known carry.new (L.Source.left link.new)) (L.Sink.written link.old)
+        (L.Sink.written link.new) carry.new head.now (L.Source.faults link.old)
+        (L.Source.faults link.new) (L.Sink.faults link.old) (L.Sink.faults link.new) result }
 {
     if let Some(row) = head.refused {
         return BodyTurn::Refused { row };
@@ -74,10 +79,12 @@ pub fn next_body<L: Link>(alloc: Global, link: &mut L, carry: &mut Carry, head: 
     BodyTurn::Body(body)
 }
 
-// Writes the interim line where it is due.
+// Writes the interim line if it is due.
 fn write_interim<S: Sink>(sink: &mut S, due: bool) -> Result<(), Failed>
-    ensures whole { OnOk result (Appends (S.written sink.old) (S.written sink.new) (interim_of due)) }
-    ensures part { OnErr result (AppendsProperPart (S.written sink.old) (S.written sink.new) (interim_of due)) }
+    ensures whole { OnOk result
+        (Appends (S.written sink.old) (S.written sink.new) (interim_of due)) }
+    ensures part { OnErr result
+        (AppendsProperPart (S.written sink.old) (S.written sink.new) (interim_of due)) }
     ensures due { OnErr result (IsTrue due) }
     ensures cause { HasCause (S.faults sink.old) (S.faults sink.new) result }
     ensures count { IsCounted (S.faults sink.old) (S.faults sink.new) result }
@@ -87,6 +94,7 @@ fn write_interim<S: Sink>(sink: &mut S, due: bool) -> Result<(), Failed>
     write_all(sink, interim(due))
 }
 
+// A client that asks for it waits for this line before it sends the body (RFC 9110, section 10.1.1).
 fn interim(due: bool) -> &'static [u8]
     ensures { result.now ≡ interim_of due }
 {

@@ -23,6 +23,7 @@ pub(crate) enum Stated {
     Bytes(u32),
 }
 
+// Names and values of fields are compared without regard to case.
 fn tells(bytes: &[u8], field: &HeaderSpan, name: &[u8], value: &[u8]) -> bool
     requires { IsHeaderWithin (length bytes.now) field.now }
     ensures { result ≡ is_named_and name.now value.now (header_bytes bytes.now field.now) }
@@ -33,11 +34,13 @@ fn tells(bytes: &[u8], field: &HeaderSpan, name: &[u8], value: &[u8]) -> bool
 // Whether some field has that name and that value, both in any letter case.
 pub(crate) fn any_named(bytes: &[u8], fields: &[HeaderSpan], name: &[u8], value: &[u8]) -> bool
     requires { All (IsHeaderWithin (length bytes.now)) fields.now }
-    ensures { result ≡ list_any (λ f. is_named_and name.now value.now (header_bytes bytes.now f)) fields.now }
+    ensures { result
+        ≡ list_any (λ f. is_named_and name.now value.now (header_bytes bytes.now f)) fields.now }
 {
     fields.iter().any(|field| tells(bytes, field, name, value))
 }
 
+// Blanks around a value do not belong to it.
 fn trim_start(mut text: &[u8]) -> &[u8]
     ensures { result.now ≡ skip_ows text.now }
 {
@@ -49,6 +52,7 @@ fn trim_start(mut text: &[u8]) -> &[u8]
     text
 }
 
+// Blanks around a value do not belong to it.
 fn trim_end(mut text: &[u8]) -> &[u8]
     ensures { result.now ≡ reverse (skip_ows (reverse text.now)) }
 {
@@ -60,6 +64,7 @@ fn trim_end(mut text: &[u8]) -> &[u8]
     text
 }
 
+// A `Connection` field lists options, and only `close` matters here.
 fn option_closes(option: &[u8]) -> bool
     ensures { result ≡ is_close option.now }
 {
@@ -82,6 +87,7 @@ fn closes_in(value: &[u8]) -> bool
     option_closes(&value[start..])
 }
 
+// A field with other options may still ask for the connection to be closed.
 fn lists(bytes: &[u8], field: &HeaderSpan, name: &[u8]) -> bool
     requires { IsHeaderWithin (length bytes.now) field.now }
     ensures { result ≡ is_listing name.now (header_bytes bytes.now field.now) }

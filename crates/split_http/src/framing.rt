@@ -33,8 +33,8 @@ pub enum Framing {
 /// Where the request at the front of these bytes ends, by the rule by which `next_head` and `next_body` read it. So a caller that has the
 /// bytes of a client can tell when its request is whole, before a link reads any of them. Nothing is kept, and no memory is taken.
 ///
-/// - `Request` comes exactly where a head is at the front, as `next_head` finds it.
-/// - `NoHead` comes only where none is there, whatever follows; so as soon as 8,192 bytes hold none.
+/// - `Request` comes exactly if a head is at the front, as `next_head` finds it.
+/// - `NoHead` comes only if none is there, whatever follows; so as soon as 8,192 bytes hold none.
 /// - `Open` comes only for fewer bytes than these, and only while the parser asks for more of them.
 pub fn framing_of(bytes: &[u8]) -> Framing
     ensures { FramingSays bytes.now result }
@@ -57,8 +57,10 @@ pub fn framing_of(bytes: &[u8]) -> Framing
 /// One rule: where bytes begin with a request, `next_head` takes its head. What the head says of the body's length and of the interim reply is
 /// what `framing_of` says.
 pub fn framing_law()
-    ensures { (bytes rest : List ℕ) (bound : ℕ) (expects : Bool) (head : Head) → FramingSays bytes (Framing.Request bound expects)
-        → HeadSays (Some bytes) (Some rest) (HeadTurn.Head head) → (bound + length rest ≡ length bytes + head.length) × (head.expects ≡ expects) }
+    ensures { (bytes rest : List ℕ) (bound : ℕ) (expects : Bool) (head : Head)
+        → FramingSays bytes (Framing.Request bound expects)
+        → HeadSays (Some bytes) (Some rest) (HeadTurn.Head head)
+        → (bound + length rest ≡ length bytes + head.length) × (head.expects ≡ expects) }
 {}
 
 // The request whose head was found.

@@ -31,15 +31,15 @@ pub enum Verb {
 pub struct Head {
     /// The method.
     pub verb: Verb,
-    /// The path of the target; `None` exactly where `http` refuses the target or it has no path.
+    /// The path of the target; `None` exactly if `http` refuses the target or it has no path.
     pub path: Option<PathText>,
-    /// The value of the first field `x-key`; 64 zero bytes, which are nobody's key, where it has
-    /// another length. `None` exactly where there is no such field.
+    /// The value of the first field `x-key`; 64 zero bytes, which are nobody's key, if it has
+    /// another length. `None` exactly if there is no such field.
     pub key: Option<[u8; 64]>,
     /// The first of the five refusals of a head, in the order of their numbers: `BAD_HOST`,
     /// `FRAMING`, `BAD_LENGTH`, `LENGTH_MISSING`, `BODY_TOO_LARGE`.
     pub refused: Option<u8>,
-    /// The body's length; 0 where there is no body or the head is refused.
+    /// The body's length; 0 if there is no body or the head is refused.
     pub length: u32,
     /// Whether an interim reply is due before the body.
     pub expects: bool,
@@ -48,6 +48,7 @@ pub struct Head {
     pub closes: bool,
 }
 
+// A method that no route has is still a good request: it's answered by 405, so it isn't refused here.
 pub(crate) fn read_verb(method: &[u8]) -> Verb
     ensures { result ≡ verb_of method.now }
 {
@@ -63,13 +64,14 @@ pub(crate) fn read_verb(method: &[u8]) -> Verb
     Verb::Other
 }
 
+// HTTP/1.1 asks for just one `Host`, and HTTP/1.0 allows none (RFC 9112, section 3.2).
 fn bad_host(minor: u8, hosts: usize) -> bool
     ensures { result ≡ has_bad_host minor hosts }
 {
     if minor == 1 { hosts != 1 } else { hosts > 1 }
 }
 
-// What the length that the head tells refuses.
+// The refusal that the length in the head calls for, if any.
 fn length_refusal(verb: Verb, stated: Stated) -> Option<u8>
     ensures { result ≡ stated_by verb stated }
 {
@@ -116,6 +118,7 @@ pub(crate) fn body_length(refused: Option<u8>, stated: Stated) -> u32
     }
 }
 
+// A value of any other length becomes a key that belongs to nobody.
 fn key_bytes(value: &[u8]) -> [u8; 64]
     ensures { result ≡ key_from value.now }
 {
@@ -156,7 +159,7 @@ fn closes(bytes: &[u8], fields: &[HeaderSpan], minor: u8) -> bool
 }
 
 // What the head at the front of the bytes says, whose parts are at these spans. `NoMemory` comes
-// only where there was no memory for the path.
+// only if there was no memory for the path.
 pub(crate) fn head_at(
     alloc: Global,
     bytes: &[u8],

@@ -2,8 +2,8 @@
 //! routes; and replies.
 //!
 //! The cut does not depend on the pieces (`cut_law`), and `framing_of` tells a port where a request
-//! ends by the same rule (`framing_law`). Nothing is read after a head that waits, nor where no
-//! body is due. `write_reply` writes exactly the bytes of the reply, or a first part of them where
+//! ends by the same rule (`framing_law`). Nothing is read after a head that waits, nor if no
+//! body is due. `write_reply` writes exactly the bytes of the reply, or a first part of them if
 //! a write fails, and takes no memory.
 #![tactic(auto)]
 

@@ -23,6 +23,7 @@ impl Model for PathText {
 }
 
 impl PathText {
+    // The router looks at text of its own, so the path is copied.
     fn new(alloc: Global, text: &str) -> Result<PathText, NoMemory>
         ensures { IfOk result (λ p. p ≡ text.now) }
     {
@@ -40,9 +41,11 @@ impl PathText {
     }
 }
 
-// The path of a target, where it has one.
+// The path of a target, if it has one.
 fn path_of(alloc: Global, uri: &Uri) -> Result<Option<PathText>, NoMemory>
-    ensures { IfOk result (λ found. MatchOption found (length (uri_path uri.now) ≡ 0) (λ path. (path ≡ uri_path uri.now) × (0 < length path))) }
+    ensures { IfOk result (λ found.
+        MatchOption found (length (uri_path uri.now) ≡ 0) (λ path.
+        (path ≡ uri_path uri.now) × (0 < length path))) }
 {
     let path = uri.path();
     if path.is_empty() {
@@ -51,8 +54,8 @@ fn path_of(alloc: Global, uri: &Uri) -> Result<Option<PathText>, NoMemory>
     Ok(Some(PathText::new(alloc, path)?))
 }
 
-// The path of a target, where `http` takes the target and it has one. An absolute target's path is
-// taken, and a fragment and a query are left out. `NoMemory` comes only where memory ran out.
+// The path of a target, if `http` takes the target and it has one. An absolute target's path is
+// taken, and a fragment and a query are left out. `NoMemory` comes only if memory ran out.
 pub(crate) fn target_path(alloc: Global, target: &[u8]) -> Result<Option<PathText>, NoMemory>
     ensures { IfOk result (IsPathOf target.now) }
 {

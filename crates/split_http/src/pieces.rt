@@ -11,15 +11,18 @@ use split_base::{Failed, Sink, write_all};
 // How many bytes may wait to be written together, so that a short reply is one write.
 const MOST_HELD: usize = 2048;
 
-// Puts a piece after the bytes that wait. Where it has no room these are written first, and a
+// Puts a piece after the bytes that wait. If it has no room these are written first, and a
 // piece that is longer than the room goes with them.
 fn hold<S: Sink>(
     sink: &mut S,
     held: &mut ArrayVec<u8, MOST_HELD>,
     piece: &[u8],
 ) -> Result<(), Failed>
-    ensures whole { OnOk result ((out : List ℕ) × Appends (S.written sink.old) (S.written sink.new) out × (held.old.items ++ piece.now ≡ out ++ held.new.items)) }
-    ensures part { OnErr result (AppendsProperPart (S.written sink.old) (S.written sink.new) (held.old.items ++ piece.now)) }
+    ensures whole { OnOk result
+        ((out : List ℕ) × Appends (S.written sink.old) (S.written sink.new) out
+        × (held.old.items ++ piece.now ≡ out ++ held.new.items)) }
+    ensures part { OnErr result (AppendsProperPart (S.written sink.old) (S.written sink.new)
+        (held.old.items ++ piece.now)) }
     ensures cause { HasCause (S.faults sink.old) (S.faults sink.new) result }
     ensures count { IsCounted (S.faults sink.old) (S.faults sink.new) result }
     ensures empty { S.empty_writes sink.new ≡ S.empty_writes sink.old }
@@ -39,8 +42,10 @@ fn hold<S: Sink>(
 
 // Writes all the pieces, up to the first write that fails. It takes no memory.
 pub(crate) fn write_pieces<S: Sink>(sink: &mut S, pieces: &[&[u8]]) -> Result<(), Failed>
-    ensures whole { OnOk result (Appends (S.written sink.old) (S.written sink.new) (flat_map (λ p. p.now) pieces.now)) }
-    ensures part { OnErr result (AppendsProperPart (S.written sink.old) (S.written sink.new) (flat_map (λ p. p.now) pieces.now)) }
+    ensures whole { OnOk result
+        (Appends (S.written sink.old) (S.written sink.new) (flat_map (λ p. p.now) pieces.now)) }
+    ensures part { OnErr result (AppendsProperPart (S.written sink.old) (S.written sink.new)
+        (flat_map (λ p. p.now) pieces.now)) }
     ensures cause { HasCause (S.faults sink.old) (S.faults sink.new) result }
     ensures count { IsCounted (S.faults sink.old) (S.faults sink.new) result }
     ensures empty { S.empty_writes sink.new ≡ S.empty_writes sink.old }

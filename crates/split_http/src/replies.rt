@@ -5,7 +5,7 @@ ghost use Rattle.http.specs.StatusCode.{code_digits, reason_phrase};
 ghost use Rattle.httpdate.specs.Date.{date_text};
 ghost use Rattle.split_base.specs.Faults.{HasCause, IsCounted};
 ghost use Rattle.split_http.specs.Pieces.{AppendsProperPart};
-ghost use Rattle.split_http.specs.Replies.{IsReply, IsDateLine, allow_line, kind_line, close_line, body_of, joined};
+ghost use Rattle.split_http.specs.Replies.{IsReply, IsDateLine, allow_line, kind_line, close_line, body_of, reply_of_parts};
 ghost use Rattle.split_base.specs.declared.limits.TheConstants.{LAST_MOMENT};
 
 use crate::pieces::write_pieces;
@@ -30,9 +30,9 @@ pub struct HttpReply<'a> {
     pub status: u16,
     /// The whole body.
     pub text: &'a [u8],
-    /// Whether the body is plain text; else it is JSON.
+    /// Whether the body is plain text; otherwise it is JSON.
     pub plain: bool,
-    /// The date, in seconds since 1970; `None` where the clock failed.
+    /// The date, in seconds since 1970; `None` if the clock failed.
     pub moment: Option<u64>,
     /// What the line `Allow` lists; `None` for no such line.
     pub allow: Option<Allow>,
@@ -42,6 +42,7 @@ pub struct HttpReply<'a> {
     pub close: bool,
 }
 
+// Each status of a reply is a known one, so it has digits and a phrase.
 fn phrase(status: u16) -> (&'static str, &'static str)
     requires { IsSome (reason_phrase status) }
     ensures digits { result.0.now ≡ code_digits status }
@@ -56,6 +57,7 @@ fn phrase(status: u16) -> (&'static str, &'static str)
     }
 }
 
+// The date always has the same length, so the line is filled in place.
 fn date_line(date: HttpDate) -> [u8; 37]
     ensures { result ≡ codes "Date: " ++ date_text date ++ codes "\r\n" }
 {
@@ -65,6 +67,7 @@ fn date_line(date: HttpDate) -> [u8; 37]
     line
 }
 
+// Without an answer of the clock there is no date, which a reply may leave out.
 fn date_bytes(moment: Option<u64>) -> Option<[u8; 37]>
     requires { IfSome moment (λ t. t ≤ LAST_MOMENT) }
     ensures { IsDateLine moment (unwrap_or result []) }
@@ -78,6 +81,7 @@ fn date_bytes(moment: Option<u64>) -> Option<[u8; 37]>
     }
 }
 
+// The line, or nothing if the clock has failed.
 fn date_or_nothing(date: &Option<[u8; 37]>) -> &[u8]
     ensures { result.now ≡ unwrap_or date.now [] }
 {
@@ -87,6 +91,7 @@ fn date_or_nothing(date: &Option<[u8; 37]>) -> &[u8]
     }
 }
 
+// Certificates and reports are plain text, and every other reply is JSON.
 fn kind_text(plain: bool) -> &'static [u8]
     ensures { result.now ≡ kind_line plain }
 {
@@ -97,6 +102,7 @@ fn kind_text(plain: bool) -> &'static [u8]
     }
 }
 
+// A reply that refuses a method says which ones the route has (RFC 9110, section 15.5.6).
 fn allow_text(allow: Option<Allow>) -> &'static [u8]
     ensures { result.now ≡ allow_line allow }
 {
@@ -107,12 +113,14 @@ fn allow_text(allow: Option<Allow>) -> &'static [u8]
     }
 }
 
+// A client is told when no further request is read on this connection.
 fn close_text(close: bool) -> &'static [u8]
     ensures { result.now ≡ close_line close }
 {
     if close { b"Connection: close\r\n" } else { b"" }
 }
 
+// A reply to HEAD has all the fields but no body.
 fn body<'a>(reply: &HttpReply<'a>) -> &'a [u8]
     ensures { result.now ≡ body_of reply.now }
 {
@@ -132,10 +140,12 @@ fn write_parts<'a, S: Sink>(
     close: &'a [u8],
     body: &'a [u8],
 ) -> Result<(), Failed>
-    ensures whole { OnOk result (Appends (S.written sink.old) (S.written sink.new)
-        (joined digits.now phrase.now date.now kind.now size.now allow.now close.now body.now)) }
-    ensures part { OnErr result (AppendsProperPart (S.written sink.old) (S.written sink.new)
-        (joined digits.now phrase.now date.now kind.now size.now allow.now close.now body.now)) }
+    ensures whole { OnOk result
+        (Appends (S.written sink.old) (S.written sink.new) (reply_of_parts digits.now phrase.now
+        date.now kind.now size.now allow.now close.now body.now)) }
+    ensures part { OnErr result
+        (AppendsProperPart (S.written sink.old) (S.written sink.new) (reply_of_parts digits.now
+        phrase.now date.now kind.now size.now allow.now close.now body.now)) }
     ensures cause { HasCause (S.faults sink.old) (S.faults sink.new) result }
     ensures count { IsCounted (S.faults sink.old) (S.faults sink.new) result }
     ensures empty { S.empty_writes sink.new ≡ S.empty_writes sink.old }
@@ -161,16 +171,18 @@ fn write_parts<'a, S: Sink>(
 }
 
 /// Writes the reply: its status with the phrase of `http`, the date as RFC 9110 has it, the
-/// type and length of its body, `Allow` and `Connection: close` where they are due, an empty
+/// type and length of its body, `Allow` and `Connection: close` if they are due, an empty
 /// line, and the body. It takes no memory, and makes no empty write.
 ///
-/// `Failed` comes only where the sink's count of faults has risen. A first part of the reply was
+/// `Failed` comes only if the sink's count of faults has risen. A first part of the reply was
 /// written then, and at least one byte of it is missing.
 pub fn write_reply<S: Sink>(sink: &mut S, reply: &HttpReply<'_>) -> Result<(), Failed>
     requires status { IsSome (reason_phrase reply.now.status) }
     requires moment { IfSome reply.now.moment (λ t. t ≤ LAST_MOMENT) }
-    ensures whole { OnOk result ((bytes : List ℕ) × IsReply reply.now bytes × Appends (S.written sink.old) (S.written sink.new) bytes) }
-    ensures part { OnErr result ((bytes : List ℕ) × IsReply reply.now bytes × AppendsProperPart (S.written sink.old) (S.written sink.new) bytes) }
+    ensures whole { OnOk result ((bytes : List ℕ) × IsReply reply.now bytes
+        × Appends (S.written sink.old) (S.written sink.new) bytes) }
+    ensures part { OnErr result ((bytes : List ℕ) × IsReply reply.now bytes
+        × AppendsProperPart (S.written sink.old) (S.written sink.new) bytes) }
     ensures cause { HasCause (S.faults sink.old) (S.faults sink.new) result }
     ensures count { IsCounted (S.faults sink.old) (S.faults sink.new) result }
     ensures empty { S.empty_writes sink.new ≡ S.empty_writes sink.old }

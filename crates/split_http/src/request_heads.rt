@@ -1,5 +1,5 @@
 // Heads of requests, as the search for heads takes them.
-ghost use Rattle.split_http.specs.Heads.{IsFoundAt, IsText};
+ghost use Rattle.split_http.specs.Heads.{IsFoundAt, IsRequestText};
 ghost use Rattle.split_http.specs.Turns.{AsksMore};
 
 use http_heads::{HeadKind, ROOM};
@@ -11,7 +11,7 @@ pub(crate) struct RequestHeads;
 impl HeadKind for RequestHeads {
     type Spans = RequestSpans;
 
-    ghost IsText = { IsText };
+    ghost IsText = { IsRequestText };
 
     ghost AsksMore = { AsksMore };
 

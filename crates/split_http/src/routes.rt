@@ -41,7 +41,7 @@ pub enum Place {
 pub struct Route {
     /// What it asks for.
     pub place: Place,
-    /// The id of the instance, from 1 to 4,294,967,295; 0 where the path names none in plain
+    /// The id of the instance, from 1 to 4,294,967,295; 0 if the path names none in plain
     /// decimal.
     pub id: u32,
 }
@@ -68,7 +68,7 @@ pub struct Routes {
 impl Routes {
     /// All routes of the host.
     ///
-    /// `NoMemory` comes only where memory ran out.
+    /// `NoMemory` comes only if memory ran out.
     pub fn new(alloc: Global) -> Result<Routes, NoMemory> {
         match make_router(alloc) {
             Ok(router) => Ok(Routes { router }),
@@ -79,8 +79,8 @@ impl Routes {
     /// Where a request with this method and path leads; a target without a path leads nowhere. It
     /// takes no memory.
     ///
-    /// - `NoRoute` comes exactly where no route has the path.
-    /// - `Method` comes exactly where a route has the path, but not the method.
+    /// - `NoRoute` comes exactly if no route has the path.
+    /// - `Method` comes exactly if a route has the path, but not the method.
     pub fn find(&self, verb: Verb, path: Option<&PathText>) -> Result<Route, RouteFault>
         ensures { IsRouted verb (option_map (λ p. p.now) path.entry) result }
     {
@@ -119,6 +119,7 @@ fn make_router(alloc: Global) -> Result<Router<(Place, Allow)>, InsertError>
     Ok(router)
 }
 
+// A path that the router doesn't know is no route.
 fn find_endpoint(router: &Router<(Place, Allow)>, path: &str) -> Option<(Place, Allow)>
     requires { router.now ≡ route_rows }
     ensures { result ≡ endpoint_of path.now }
@@ -129,6 +130,7 @@ fn find_endpoint(router: &Router<(Place, Allow)>, path: &str) -> Option<(Place, 
     }
 }
 
+// A route that can be read answers HEAD as well as GET.
 fn admits(allow: Allow, verb: Verb) -> bool
     ensures { result ≡ has_verb allow verb }
 {
@@ -153,6 +155,7 @@ fn id_bytes(path: &[u8]) -> &[u8]
     &rest[..size]
 }
 
+// A number has one spelling, so none begins with a zero.
 fn leads_zero(text: &[u8]) -> bool
     ensures { IsTrue result ↔ (slice_index_or text.now 0 0 ≡ 48) }
 {
@@ -162,7 +165,7 @@ fn leads_zero(text: &[u8]) -> bool
     }
 }
 
-// The number that is there in plain decimal, from 1 to the greatest `u32`; else 0.
+// The number that is there in plain decimal, from 1 to the greatest `u32`; otherwise 0.
 fn number(text: &[u8]) -> u32
     ensures { IsId text.now result }
 {

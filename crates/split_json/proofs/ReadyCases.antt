@@ -13,16 +13,16 @@ use Rattle.bid_rules.specs.declared.bids.Facts.{Facts}
 use Rattle.bid_rules.specs.declared.limits.TheConstants.{ITEM_ROOM, MEMBER_ROOM, MOST_GOODS, MOST_PLACES, MOST_RENT, PLACE_ROOM, USUAL_STEPS}
 use Rattle.bid_rules.specs.Checks.{passes_bid, passes_facts}
 use Rattle.bid_rules.specs.Facts.{IsCheckedBid, IsCheckedFacts, member_count}
-use Rattle.case_fields.specs.Rules.{allowed_bid}
+use Rattle.body_fields.specs.Rules.{allowed_bid}
 use Rattle.split_lemmas.proofs.Checks.{bid_decided, facts_decided}
 use Rattle.std.specs.Bool.{Decides}
-use Rattle.split_json.specs.Rules.{bid_in, bids_in, each, elements, entry_in, is_within, json_of, kind_in, legs_in, list_in, listed, name_in, names_in, number_in, passing, written_bid}
-use Rattle.split_json.specs.Reading.{CaseData, HeadData, IsReady, IsReadyHead, allowed, answer_of, case_in, case_of_object, fares_head, field_text, free_fares, goods_head, head_of_object, held, held_or, item_count, rent_head, rest_of_head, goods_facts, rent_facts, fares_facts, ◌>>=◌}
-use Rattle.case_fields.specs.declared.fields.FieldName.{FieldName}
-use Rattle.case_fields.specs.declared.fields.FieldName.TheVariants as field
+use Rattle.split_json.specs.Rules.{bid_in, bids_in, each, elements, entry_in, is_within, json_of, kind_in, legs_in, list_in, array_in, name_in, names_in, number_in, passing, written_bid}
+use Rattle.split_json.specs.Reading.{CaseData, HeadData, IsReady, IsReadyHead, facts_or_field, answer_of, case_in, case_of_object, fares_head, field_text, free_fares, goods_head, head_of_object, field_or_name, held_or, item_count, rent_head, rest_of_head, goods_facts, rent_facts, fares_facts, ◌>>=◌}
+use Rattle.body_fields.specs.declared.fields.FieldName.{FieldName}
+use Rattle.body_fields.specs.declared.fields.FieldName.TheVariants as field
 use Rattle.split_json.specs.declared.rules.Kind.{Kind}
 use Rattle.split_json.specs.declared.rules.Kind.TheVariants as kind
-use Rattle.case_fields.specs.declared.fields.BodyFault.TheVariants.{Field}
+use Rattle.body_fields.specs.declared.fields.BodyFault.TheVariants.{Field}
 
 -- where a test lets x pass, its fact holds
 pub passed : {A : Type 0} (P : Type 0) (test : Bool) (x y : A) → Decides test P → (if test then Some x else None) ≡ Some y → P × (x ≡ y)
@@ -50,7 +50,7 @@ both-ok (Ok x) next y h and_so = and_so x refl h
 both-ok (Err name) next y h and_so = cc h
 
 -- the value of a field that keeps its rule
-pub held-ok : {A P : Type 0} (name : FieldName) (rule : Data → Option A) (body : Data) (x : A) → held name rule body ≡ Ok x → ((d : Data) → rule d ≡ Some x → P) → P
+pub held-ok : {A P : Type 0} (name : FieldName) (rule : Data → Option A) (body : Data) (x : A) → field_or_name name rule body ≡ Ok x → ((d : Data) → rule d ≡ Some x → P) → P
 held-ok name rule body x h next =
     option_and_then_some rule (get (field_text name) body) x (given-ok (option_and_then rule (get (field_text name) body)) name x h) (λ d found kept. next d kept)
 
@@ -69,7 +69,7 @@ each-some {A} {B} rule P keeps (x ∷ xs) ys h =
 pub list_in-some : {B : Type 0} (rule : Data → Option B) (P : B → Type 0) → ((d : Data) (y : B) → rule d ≡ Some y → P y) → (count : ℕ) (d : Data) (ys : List B) → list_in rule count count d ≡ Some ys → (length ys ≡ count) × All P ys
 list_in-some rule P keeps count d ys h =
     option_and_then_some (each rule) (elements count count d) ys h (λ ds found kept.
-    option_and_then_some (passing (λ es. is_within count count (length es))) (listed d) ds found (λ es some chosen.
+    option_and_then_some (passing (λ es. is_within count count (length es))) (array_in d) ds found (λ es some chosen.
     let fits = chosen-some (is_within count count (length es)) es ds chosen in
     let within = and_parts (nat_le count (length es)) (nat_le (length es) count) fits.0 in
     let all = each-some rule P keeps ds ys kept in
@@ -98,10 +98,10 @@ entry_in-some given d entry h = by_null (is_some (as_null d)) h
 -- a head of facts that were allowed, with a name for each member and item, is ready
 allowed-ready : (name : FieldName) (title : List ℕ) (members items : List (List ℕ)) (given : Facts) (head : HeadData)
     → length members ≡ member_count given → length items ≡ item_count given
-    → (allowed name given >>= (λ all. Ok (record { title = title; members = members; items = items; facts = all }))) ≡ Ok head → IsReadyHead head
-unfolding allowed
+    → (facts_or_field name given >>= (λ all. Ok (record { title = title; members = members; items = items; facts = all }))) ≡ Ok head → IsReadyHead head
+unfolding facts_or_field
 allowed-ready name title members items given head each_member each_item h =
-    both-ok (allowed name given) _ head h (λ all found is.
+    both-ok (facts_or_field name given) _ head h (λ all found is.
     let checked = passed (IsCheckedFacts given) (passes_facts given) given all (facts_decided given) (given-ok (if passes_facts given then Some given else None) name all found) in
     let ready : IsReadyHead (record { title = title; members = members; items = items; facts = given }) = record { facts = checked.0; members = each_member; items = each_item } in
     subst IsReadyHead (cc is) (subst (λ (f : Facts). IsReadyHead (record { title = title; members = members; items = items; facts = f })) checked.1 ready))
@@ -110,10 +110,10 @@ allowed-ready name title members items given head each_member each_item h =
 rent_head-ready : (title : List ℕ) (body : Data) (head : HeadData) → rent_head title body ≡ Ok head → IsReadyHead head
 unfolding rent_head
 rent_head-ready title body head h =
-    both-ok (held field.Members (names_in 0 MEMBER_ROOM) body) _ head h (λ members _ after_members.
-    both-ok (allowed field.Members (rent_facts (length members) MOST_RENT)) _ head after_members (λ _ _ rest.
-    both-ok (held field.Rooms (names_in (length members) (length members)) body) _ head rest (λ rooms rooms_held after_rooms.
-    both-ok (held field.Rent number_in body) _ head after_rooms (λ rent _ after_rent.
+    both-ok (field_or_name field.Members (names_in 0 MEMBER_ROOM) body) _ head h (λ members _ after_members.
+    both-ok (facts_or_field field.Members (rent_facts (length members) MOST_RENT)) _ head after_members (λ _ _ rest.
+    both-ok (field_or_name field.Rooms (names_in (length members) (length members)) body) _ head rest (λ rooms rooms_held after_rooms.
+    both-ok (field_or_name field.Rent number_in body) _ head after_rooms (λ rent _ after_rent.
     held-ok field.Rooms (names_in (length members) (length members)) body rooms rooms_held (λ value kept.
     allowed-ready field.Rent title members rooms (rent_facts (length members) rent) head refl (list_in-some name_in (λ _. ⊤) (λ _ _ _. tt) (length members) value rooms kept).0 after_rent)))))
 
@@ -121,10 +121,10 @@ rent_head-ready title body head h =
 goods_head-ready : (title : List ℕ) (body : Data) (head : HeadData) → goods_head title body ≡ Ok head → IsReadyHead head
 unfolding goods_head
 goods_head-ready title body head h =
-    both-ok (held field.Members (names_in 0 MEMBER_ROOM) body) _ head h (λ members _ after_members.
-    both-ok (allowed field.Members (goods_facts (length members) MOST_GOODS USUAL_STEPS)) _ head after_members (λ _ _ rest.
-    both-ok (held field.Goods (names_in 0 ITEM_ROOM) body) _ head rest (λ goods _ after_goods.
-    both-ok (allowed field.Goods (goods_facts (length members) (length goods) USUAL_STEPS)) _ head after_goods (λ _ _ more.
+    both-ok (field_or_name field.Members (names_in 0 MEMBER_ROOM) body) _ head h (λ members _ after_members.
+    both-ok (facts_or_field field.Members (goods_facts (length members) MOST_GOODS USUAL_STEPS)) _ head after_members (λ _ _ rest.
+    both-ok (field_or_name field.Goods (names_in 0 ITEM_ROOM) body) _ head rest (λ goods _ after_goods.
+    both-ok (facts_or_field field.Goods (goods_facts (length members) (length goods) USUAL_STEPS)) _ head after_goods (λ _ _ more.
     both-ok (held_or USUAL_STEPS field.Limit number_in body) _ head more (λ limit _ after_limit.
     allowed-ready field.Limit title members goods (goods_facts (length members) (length goods) limit) head refl refl after_limit)))))
 
@@ -132,21 +132,21 @@ goods_head-ready title body head h =
 fares_head-ready : (title : List ℕ) (body : Data) (head : HeadData) → fares_head title body ≡ Ok head → IsReadyHead head
 unfolding fares_head
 fares_head-ready title body head h =
-    both-ok (held field.Members (names_in 0 MEMBER_ROOM) body) _ head h (λ members _ after_members.
-    both-ok (allowed field.Members (free_fares (length members) MOST_PLACES 0)) _ head after_members (λ _ _ rest.
-    both-ok (held field.Places (names_in 0 PLACE_ROOM) body) _ head rest (λ places _ after_places.
-    both-ok (allowed field.Places (free_fares (length members) (length places) 0)) _ head after_places (λ _ _ more.
-    both-ok (held field.Flag number_in body) _ head more (λ flag _ after_flag.
-    both-ok (allowed field.Flag (free_fares (length members) (length places) flag)) _ head after_flag (λ _ _ most.
-    both-ok (held field.Legs legs_in body) _ head most (λ legs _ after_legs.
+    both-ok (field_or_name field.Members (names_in 0 MEMBER_ROOM) body) _ head h (λ members _ after_members.
+    both-ok (facts_or_field field.Members (free_fares (length members) MOST_PLACES 0)) _ head after_members (λ _ _ rest.
+    both-ok (field_or_name field.Places (names_in 0 PLACE_ROOM) body) _ head rest (λ places _ after_places.
+    both-ok (facts_or_field field.Places (free_fares (length members) (length places) 0)) _ head after_places (λ _ _ more.
+    both-ok (field_or_name field.Flag number_in body) _ head more (λ flag _ after_flag.
+    both-ok (facts_or_field field.Flag (free_fares (length members) (length places) flag)) _ head after_flag (λ _ _ most.
+    both-ok (field_or_name field.Legs legs_in body) _ head most (λ legs _ after_legs.
     allowed-ready field.Legs title members places (fares_facts (length members) (length places) flag legs) head refl refl after_legs)))))))
 
 -- a head that an object gives is ready
 pub head_of_object-ready : (body : Data) (head : HeadData) → head_of_object body ≡ Ok head → IsReadyHead head
 unfolding head_of_object
 head_of_object-ready body head h =
-    both-ok (held field.Kind kind_in body) _ head h (λ kind _ after_kind.
-    both-ok (held field.Title name_in body) _ head after_kind (λ title _ after_title.
+    both-ok (field_or_name field.Kind kind_in body) _ head h (λ kind _ after_kind.
+    both-ok (field_or_name field.Title name_in body) _ head after_kind (λ title _ after_title.
     by_kind kind title after_title))
   where
     by_kind : (kind : Kind) (title : List ℕ) → rest_of_head kind title body ≡ Ok head → IsReadyHead head
@@ -159,7 +159,7 @@ pub case_of_object-ready : (body : Data) (case : CaseData) → case_of_object bo
 unfolding case_of_object
 case_of_object-ready body case h =
     both-ok (head_of_object body) _ case h (λ head found after_head.
-    both-ok (held field.Bids (bids_in head.facts) body) _ case after_head (λ bids bids_held is.
+    both-ok (field_or_name field.Bids (bids_in head.facts) body) _ case after_head (λ bids bids_held is.
     held-ok field.Bids (bids_in head.facts) body bids bids_held (λ value kept.
     let whole = head_of_object-ready body head found in
     let entries = list_in-some (entry_in head.facts) (λ entry. IfSome entry (IsCheckedBid head.facts)) (entry_in-some head.facts) (member_count head.facts) value bids kept in

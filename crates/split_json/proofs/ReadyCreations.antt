@@ -4,16 +4,16 @@ use Rattle.std.proofs.lemmas.Option.{option_and_then_some}
 use Rattle.serde_json.specs.Data.{Data}
 use Rattle.serde_json.specs.Find.{as_str}
 use Rattle.bid_rules.specs.declared.limits.TheConstants.{ITEM_ROOM, MEMBER_ROOM, MOST_GOODS, MOST_PLACES, MOST_RENT, PLACE_ROOM, USUAL_STEPS}
-use Rattle.case_fields.specs.declared.limits.TheConstants.{LAST_DEADLINE}
-use Rattle.case_fields.specs.declared.fields.FieldName.{FieldName}
-use Rattle.case_fields.specs.declared.fields.FieldName.TheVariants as field
-use Rattle.case_fields.specs.declared.creations.Creation.{Creation}
-use Rattle.case_fields.specs.Creations.{CreationView, IsCheckedCreation, creation_view}
-use Rattle.case_fields.specs.Rules.{IsName, is_name, is_tag}
+use Rattle.body_fields.specs.declared.limits.TheConstants.{LAST_DEADLINE}
+use Rattle.body_fields.specs.declared.fields.FieldName.{FieldName}
+use Rattle.body_fields.specs.declared.fields.FieldName.TheVariants as field
+use Rattle.body_fields.specs.declared.creations.Creation.{Creation}
+use Rattle.body_fields.specs.Creations.{CreationView, IsCheckedCreation, creation_view}
+use Rattle.body_fields.specs.Rules.{IsName, is_name, is_tag}
 use Rattle.split_json.specs.declared.rules.Kind.{Kind}
 use Rattle.split_json.specs.declared.rules.Kind.TheVariants as kind
 use Rattle.split_json.specs.Bodies.{creation_of_object, deadline_in, tag_in}
-use Rattle.split_json.specs.Reading.{HeadData, allowed, fares_facts, fares_head, free_fares, goods_facts, goods_head, head_of_object, held, held_or, rent_facts, rent_head, rest_of_head}
+use Rattle.split_json.specs.Reading.{HeadData, facts_or_field, fares_facts, fares_head, free_fares, goods_facts, goods_head, head_of_object, field_or_name, held_or, rent_facts, rent_head, rest_of_head}
 use Rattle.split_json.specs.Rules.{each, elements, kind_in, legs_in, name_in, names_in, number_in, passing}
 use Rattle.split_json.proofs.ReadyCases.{both-ok, chosen-some, each-some, head_of_object-ready, held-ok}
 
@@ -29,7 +29,7 @@ names-named low high d names h =
     option_and_then_some (each name_in) (elements low high d) names h (λ ds found kept. (each-some name_in IsName (λ d text is. passing-ok is_name (as_str d) text is) ds names kept).1)
 
 -- so is each of a field
-held-named : (name : FieldName) (low high : ℕ) (body : Data) (names : List (List ℕ)) → held name (names_in low high) body ≡ Ok names → All IsName names
+held-named : (name : FieldName) (low high : ℕ) (body : Data) (names : List (List ℕ)) → field_or_name name (names_in low high) body ≡ Ok names → All IsName names
 held-named name low high body names h = held-ok name (names_in low high) body names h (λ d kept. names-named low high d names kept)
 
 -- the title is a name, and so is each of the members and items
@@ -42,11 +42,11 @@ record HasNames (head : HeadData) : Type 0 where
 rent_head-named : (title : List ℕ) (body : Data) (head : HeadData) → IsName title → rent_head title body ≡ Ok head → HasNames head
 unfolding rent_head
 rent_head-named title body head named h =
-    both-ok (held field.Members (names_in 0 MEMBER_ROOM) body) _ head h (λ members members_held after_members.
-    both-ok (allowed field.Members (rent_facts (length members) MOST_RENT)) _ head after_members (λ _ _ rest.
-    both-ok (held field.Rooms (names_in (length members) (length members)) body) _ head rest (λ rooms rooms_held after_rooms.
-    both-ok (held field.Rent number_in body) _ head after_rooms (λ rent _ after_rent.
-    both-ok (allowed field.Rent (rent_facts (length members) rent)) _ head after_rent (λ all _ is.
+    both-ok (field_or_name field.Members (names_in 0 MEMBER_ROOM) body) _ head h (λ members members_held after_members.
+    both-ok (facts_or_field field.Members (rent_facts (length members) MOST_RENT)) _ head after_members (λ _ _ rest.
+    both-ok (field_or_name field.Rooms (names_in (length members) (length members)) body) _ head rest (λ rooms rooms_held after_rooms.
+    both-ok (field_or_name field.Rent number_in body) _ head after_rooms (λ rent _ after_rent.
+    both-ok (facts_or_field field.Rent (rent_facts (length members) rent)) _ head after_rent (λ all _ is.
     let whole : HasNames (record { title = title; members = members; items = rooms; facts = all }) = record {
       title = named;
       members = held-named field.Members 0 MEMBER_ROOM body members members_held;
@@ -58,12 +58,12 @@ rent_head-named title body head named h =
 goods_head-named : (title : List ℕ) (body : Data) (head : HeadData) → IsName title → goods_head title body ≡ Ok head → HasNames head
 unfolding goods_head
 goods_head-named title body head named h =
-    both-ok (held field.Members (names_in 0 MEMBER_ROOM) body) _ head h (λ members members_held after_members.
-    both-ok (allowed field.Members (goods_facts (length members) MOST_GOODS USUAL_STEPS)) _ head after_members (λ _ _ rest.
-    both-ok (held field.Goods (names_in 0 ITEM_ROOM) body) _ head rest (λ goods goods_held after_goods.
-    both-ok (allowed field.Goods (goods_facts (length members) (length goods) USUAL_STEPS)) _ head after_goods (λ _ _ more.
+    both-ok (field_or_name field.Members (names_in 0 MEMBER_ROOM) body) _ head h (λ members members_held after_members.
+    both-ok (facts_or_field field.Members (goods_facts (length members) MOST_GOODS USUAL_STEPS)) _ head after_members (λ _ _ rest.
+    both-ok (field_or_name field.Goods (names_in 0 ITEM_ROOM) body) _ head rest (λ goods goods_held after_goods.
+    both-ok (facts_or_field field.Goods (goods_facts (length members) (length goods) USUAL_STEPS)) _ head after_goods (λ _ _ more.
     both-ok (held_or USUAL_STEPS field.Limit number_in body) _ head more (λ limit _ after_limit.
-    both-ok (allowed field.Limit (goods_facts (length members) (length goods) limit)) _ head after_limit (λ all _ is.
+    both-ok (facts_or_field field.Limit (goods_facts (length members) (length goods) limit)) _ head after_limit (λ all _ is.
     let whole : HasNames (record { title = title; members = members; items = goods; facts = all }) = record {
       title = named;
       members = held-named field.Members 0 MEMBER_ROOM body members members_held;
@@ -75,14 +75,14 @@ goods_head-named title body head named h =
 fares_head-named : (title : List ℕ) (body : Data) (head : HeadData) → IsName title → fares_head title body ≡ Ok head → HasNames head
 unfolding fares_head
 fares_head-named title body head named h =
-    both-ok (held field.Members (names_in 0 MEMBER_ROOM) body) _ head h (λ members members_held after_members.
-    both-ok (allowed field.Members (free_fares (length members) MOST_PLACES 0)) _ head after_members (λ _ _ rest.
-    both-ok (held field.Places (names_in 0 PLACE_ROOM) body) _ head rest (λ places places_held after_places.
-    both-ok (allowed field.Places (free_fares (length members) (length places) 0)) _ head after_places (λ _ _ more.
-    both-ok (held field.Flag number_in body) _ head more (λ flag _ after_flag.
-    both-ok (allowed field.Flag (free_fares (length members) (length places) flag)) _ head after_flag (λ _ _ most.
-    both-ok (held field.Legs legs_in body) _ head most (λ legs _ after_legs.
-    both-ok (allowed field.Legs (fares_facts (length members) (length places) flag legs)) _ head after_legs (λ all _ is.
+    both-ok (field_or_name field.Members (names_in 0 MEMBER_ROOM) body) _ head h (λ members members_held after_members.
+    both-ok (facts_or_field field.Members (free_fares (length members) MOST_PLACES 0)) _ head after_members (λ _ _ rest.
+    both-ok (field_or_name field.Places (names_in 0 PLACE_ROOM) body) _ head rest (λ places places_held after_places.
+    both-ok (facts_or_field field.Places (free_fares (length members) (length places) 0)) _ head after_places (λ _ _ more.
+    both-ok (field_or_name field.Flag number_in body) _ head more (λ flag _ after_flag.
+    both-ok (facts_or_field field.Flag (free_fares (length members) (length places) flag)) _ head after_flag (λ _ _ most.
+    both-ok (field_or_name field.Legs legs_in body) _ head most (λ legs _ after_legs.
+    both-ok (facts_or_field field.Legs (fares_facts (length members) (length places) flag legs)) _ head after_legs (λ all _ is.
     let whole : HasNames (record { title = title; members = members; items = places; facts = all }) = record {
       title = named;
       members = held-named field.Members 0 MEMBER_ROOM body members members_held;
@@ -94,8 +94,8 @@ fares_head-named title body head named h =
 head_of_object-named : (body : Data) (head : HeadData) → head_of_object body ≡ Ok head → HasNames head
 unfolding head_of_object
 head_of_object-named body head h =
-    both-ok (held field.Kind kind_in body) _ head h (λ kind _ after_kind.
-    both-ok (held field.Title name_in body) _ head after_kind (λ title title_held after_title.
+    both-ok (field_or_name field.Kind kind_in body) _ head h (λ kind _ after_kind.
+    both-ok (field_or_name field.Title name_in body) _ head after_kind (λ title title_held after_title.
     held-ok field.Title name_in body title title_held (λ d kept. by_kind kind title (passing-ok is_name (as_str d) title kept) after_title)))
   where
     by_kind : (kind : Kind) (title : List ℕ) → IsName title → rest_of_head kind title body ≡ Ok head → HasNames head
@@ -108,8 +108,8 @@ creation_of_object-checked : (body : Data) (c : CreationView) → creation_of_ob
 unfolding creation_of_object
 creation_of_object-checked body c h last =
     both-ok (head_of_object body) _ c h (λ head head_is after_head.
-    both-ok (held field.Deadline deadline_in body) _ c after_head (λ deadline _ after_deadline.
-    both-ok (held field.Tag tag_in body) _ c after_deadline (λ tag tag_held is.
+    both-ok (field_or_name field.Deadline deadline_in body) _ c after_head (λ deadline _ after_deadline.
+    both-ok (field_or_name field.Tag tag_in body) _ c after_deadline (λ tag tag_held is.
     held-ok field.Tag tag_in body tag tag_held (λ d kept.
     let ready = head_of_object-ready body head head_is in
     let named = head_of_object-named body head head_is in

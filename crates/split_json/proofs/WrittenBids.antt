@@ -12,8 +12,8 @@ use Rattle.bid_rules.specs.declared.limits.TheConstants.{ITEM_ROOM}
 use Rattle.bid_rules.specs.Checks.{passes_bid}
 use Rattle.split_lemmas.proofs.Checks.{bid_decided}
 use Rattle.bid_rules.specs.Facts.{IsCheckedBid, IsCheckedFacts}
-use Rattle.case_fields.specs.Rules.{allowed_bid}
-use Rattle.split_json.specs.Rules.{bid_in, each, is_within, listed, number_in, values_in, whole_number}
+use Rattle.body_fields.specs.Rules.{allowed_bid}
+use Rattle.split_json.specs.Rules.{bid_in, each, is_within, array_in, number_in, values_in, whole_number}
 use Rattle.split_json.proofs.ReadyCases.{bid_in-some, each-some}
 
 -- a checked bid passes
@@ -30,14 +30,14 @@ place-read (facts.Fares fares) value place sound number checked =
     rw (number, small) (passes (facts.Fares fares) (bid.Place place) checked)
 
 -- so many numbers are read
-numbers-read : (value : Data) (list : List Data) (values : ArrayVec ℕ) → listed value ≡ Some list → each number_in list ≡ Some values.items → length values.items ≤ ITEM_ROOM → values_in value ≡ Some (bid.Values values)
+numbers-read : (value : Data) (list : List Data) (values : ArrayVec ℕ) → array_in value ≡ Some list → each number_in list ≡ Some values.items → length values.items ≤ ITEM_ROOM → values_in value ≡ Some (bid.Values values)
 numbers-read value list values found read few =
     let many : length values.items ≡ length list = (each-some number_in (λ _. ⊤) (λ _ _ _. tt) list values.items read).0 in
     let fits : is_within 0 ITEM_ROOM (length list) ≡ true = and_from (nat_le 0 (length list)) (nat_le (length list) ITEM_ROOM) (le-leb 0 (length list) (omega arith)) (le-leb (length list) ITEM_ROOM (omega (arith, many, few))) in
     rw (found, fits, read) refl
 
 -- checked values or points are read
-values-read : (given : Facts) (value : Data) (list : List Data) (values : ArrayVec ℕ) → IsCheckedFacts given → listed value ≡ Some list → each number_in list ≡ Some values.items → IsCheckedBid given (bid.Values values) → bid_in given value ≡ Some (bid.Values values)
+values-read : (given : Facts) (value : Data) (list : List Data) (values : ArrayVec ℕ) → IsCheckedFacts given → array_in value ≡ Some list → each number_in list ≡ Some values.items → IsCheckedBid given (bid.Values values) → bid_in given value ≡ Some (bid.Values values)
 values-read (facts.Rent rent) value list values sound found read checked =
     rw (numbers-read value list values found read (omega (arith, checked.0, sound.0.1))) (passes (facts.Rent rent) (bid.Values values) checked)
 values-read (facts.Goods goods) value list values sound found read checked =
@@ -49,5 +49,5 @@ pub place-iff : (given : Facts) (value : Data) (place : ℕ) → IsCheckedFacts 
 place-iff given value place sound number = (bid_in-some given value (bid.Place place), place-read given value place sound number)
 
 -- and a list of numbers exactly where they are checked values or points
-pub values-iff : (given : Facts) (value : Data) (list : List Data) (values : ArrayVec ℕ) → IsCheckedFacts given → listed value ≡ Some list → each number_in list ≡ Some values.items → (bid_in given value ≡ Some (bid.Values values)) ↔ IsCheckedBid given (bid.Values values)
+pub values-iff : (given : Facts) (value : Data) (list : List Data) (values : ArrayVec ℕ) → IsCheckedFacts given → array_in value ≡ Some list → each number_in list ≡ Some values.items → (bid_in given value ≡ Some (bid.Values values)) ↔ IsCheckedBid given (bid.Values values)
 values-iff given value list values sound found read = (bid_in-some given value (bid.Values values), values-read given value list values sound found read)

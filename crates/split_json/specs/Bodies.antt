@@ -4,15 +4,15 @@ use Rattle.std.specs.Result.{result_map_both}
 use Rattle.serde_json.specs.Data.{Data}
 use Rattle.serde_json.specs.Find.{as_str, get}
 use Rattle.bid_rules.specs.declared.limits.TheConstants.{ITEM_ROOM}
-use Rattle.case_fields.specs.declared.bodies.BidBody.{BidBody}
-use Rattle.case_fields.specs.declared.fields.BodyFault.{BodyFault}
-use Rattle.case_fields.specs.declared.fields.BodyFault.TheVariants.{Json, Field}
-use Rattle.case_fields.specs.declared.fields.FieldName.{FieldName}
-use Rattle.case_fields.specs.declared.fields.FieldName.TheVariants as field
-use Rattle.case_fields.specs.Creations.{CreationView}
-use Rattle.case_fields.specs.Rules.{is_tag}
+use Rattle.body_fields.specs.declared.bodies.BidBody.{BidBody}
+use Rattle.body_fields.specs.declared.fields.BodyFault.{BodyFault}
+use Rattle.body_fields.specs.declared.fields.BodyFault.TheVariants.{Json, Field}
+use Rattle.body_fields.specs.declared.fields.FieldName.{FieldName}
+use Rattle.body_fields.specs.declared.fields.FieldName.TheVariants as field
+use Rattle.body_fields.specs.Creations.{CreationView}
+use Rattle.body_fields.specs.Rules.{is_tag}
 use Rattle.split_json.specs.Deadlines.{deadline_of}
-use Rattle.split_json.specs.Reading.{field_text, head_of_object, held, ◌>>=◌}
+use Rattle.split_json.specs.Reading.{field_text, head_of_object, field_or_name, ◌>>=◌}
 use Rattle.split_json.specs.Rules.{json_of, number_in, numbers_in, passing, place_in}
 
 -- the second that a JSON value names as a deadline, if it is a text that does
@@ -28,11 +28,11 @@ tag_in d = option_and_then (passing is_tag) (as_str d)
 unfoldable pub creation_of_object : Data → Result CreationView FieldName
 creation_of_object body = do
   head ← head_of_object body
-  deadline ← held field.Deadline deadline_in body
-  tag ← held field.Tag tag_in body
+  deadline ← field_or_name field.Deadline deadline_in body
+  tag ← field_or_name field.Tag tag_in body
   Ok (record { title = head.title; members = head.members; items = head.items; facts = head.facts; deadline = deadline; tag = tag })
 
--- the creation that a JSON value holds, or what is wrong, where no value means that the body is no JSON
+-- the creation that a JSON value holds, or what is wrong; no value means that the body is no JSON
 abbrev pub creation_of : Option Data → Result CreationView BodyFault
 creation_of None = Err Json
 creation_of (Some body) = result_map_both (λ creation. creation) Field (creation_of_object body)
@@ -42,15 +42,15 @@ abbrev pub creation_in : List ℕ → Result CreationView BodyFault
 creation_in body = creation_of (json_of body)
 
 -- what the body holds in a field, if the field is there and has its form
-abbrev pub found : {A : Type 0} → FieldName → (Data → Option A) → Data → Option A
-found name form body = option_and_then form (get (field_text name) body)
+abbrev pub field_in : {A : Type 0} → FieldName → (Data → Option A) → Data → Option A
+field_in name form body = option_and_then form (get (field_text name) body)
 
 -- the turn, and the values or the place, each if it is there and has its form, while a JSON value that is no object has none of them
 unfoldable pub bid_body_of : Data → BidBody
 bid_body_of body = record {
-  turn = found field.Turn number_in body;
-  values = option_map (λ values. record { items = values }) (found field.Values (numbers_in ITEM_ROOM) body);
-  place = found field.Place place_in body;
+  turn = field_in field.Turn number_in body;
+  values = option_map (λ values. record { items = values }) (field_in field.Values (numbers_in ITEM_ROOM) body);
+  place = field_in field.Place place_in body;
 }
 
 -- what a JSON value holds of a bid, where no value means that the body is no JSON, and a field is never a fault here

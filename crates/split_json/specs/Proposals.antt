@@ -5,13 +5,13 @@ use Rattle.serde_json.specs.Data.{Data}
 use Rattle.bid_rules.specs.declared.bids.Bid.{Bid}
 use Rattle.bid_rules.specs.declared.bids.Facts.{Facts}
 use Rattle.bid_rules.specs.declared.bids.Facts.TheVariants as facts
-use Rattle.case_fields.specs.declared.fields.FieldName.{FieldName}
-use Rattle.case_fields.specs.declared.fields.FieldName.TheVariants as field
-use Rattle.case_fields.specs.declared.fields.BodyFault.{BodyFault}
-use Rattle.case_fields.specs.declared.fields.BodyFault.TheVariants.{Json, Field}
+use Rattle.body_fields.specs.declared.fields.FieldName.{FieldName}
+use Rattle.body_fields.specs.declared.fields.FieldName.TheVariants as field
+use Rattle.body_fields.specs.declared.fields.BodyFault.{BodyFault}
+use Rattle.body_fields.specs.declared.fields.BodyFault.TheVariants.{Json, Field}
 use Rattle.split_json.specs.declared.rules.Kind.{Kind}
 use Rattle.split_json.specs.declared.rules.Kind.TheVariants as kind
-use Rattle.split_json.specs.Reading.{CaseData, IsReady, case_of_object, held, ◌>>=◌}
+use Rattle.split_json.specs.Reading.{CaseData, IsReady, case_of_object, field_or_name, ◌>>=◌}
 use Rattle.split_json.specs.Rules.{json_of, kind_in, list_in, passing, place_in}
 
 -- the kind, if it is goods
@@ -39,10 +39,10 @@ owners_in goods bids = list_in (owner_in bids) goods goods
 -- the case of goods that a JSON object holds, or its first broken field, which is the kind for a case of another kind
 unfoldable pub goods_case_of_object : Data → Result CaseData FieldName
 goods_case_of_object body = do
-  kind ← held field.Kind goods_in body
+  kind ← field_or_name field.Kind goods_in body
   case_of_object body
 
--- the case of goods that a JSON value holds, or what is wrong, where no value means that the body is no JSON
+-- the case of goods that a JSON value holds, or what is wrong; no value means that the body is no JSON
 abbrev pub goods_answer : Option Data → Result CaseData BodyFault
 goods_answer None = Err Json
 goods_answer (Some body) = result_map_both (λ case. case) Field (goods_case_of_object body)
@@ -55,10 +55,10 @@ goods_case_in body = goods_answer (json_of body)
 unfoldable pub proposal_of_object : Data → Result (CaseData × List ℕ) FieldName
 proposal_of_object body = do
   case ← goods_case_of_object body
-  owners ← held field.Owners (owners_in (length case.items) case.bids) body
+  owners ← field_or_name field.Owners (owners_in (length case.items) case.bids) body
   Ok (case, owners)
 
--- the case of goods and the owners that a JSON value holds, or what is wrong, where no value means that the body is no JSON
+-- the case of goods and the owners that a JSON value holds, or what is wrong; no value means that the body is no JSON
 abbrev pub proposal_answer : Option Data → Result (CaseData × List ℕ) BodyFault
 proposal_answer None = Err Json
 proposal_answer (Some body) = result_map_both (λ proposal. proposal) Field (proposal_of_object body)

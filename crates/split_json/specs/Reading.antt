@@ -12,16 +12,16 @@ use Rattle.bid_rules.specs.declared.limits.TheConstants.{ITEM_ROOM, MEMBER_ROOM,
 use Rattle.bid_rules.specs.Checks.{passes_facts}
 use Rattle.bid_rules.specs.Facts.{IsCheckedBid, IsCheckedFacts, member_count}
 use Rattle.split_json.specs.Rules.{bids_in, json_of, kind_in, legs_in, name_in, names_in, number_in}
-use Rattle.case_fields.specs.declared.fields.FieldName.{FieldName}
-use Rattle.case_fields.specs.declared.fields.FieldName.TheVariants as field
+use Rattle.body_fields.specs.declared.fields.FieldName.{FieldName}
+use Rattle.body_fields.specs.declared.fields.FieldName.TheVariants as field
 use Rattle.split_json.specs.declared.rules.Kind.{Kind}
 use Rattle.split_json.specs.declared.rules.Kind.TheVariants as kind
-use Rattle.case_fields.specs.declared.fields.BodyFault.{BodyFault}
-use Rattle.case_fields.specs.declared.fields.BodyFault.TheVariants.{Json, Field}
+use Rattle.body_fields.specs.declared.fields.BodyFault.{BodyFault}
+use Rattle.body_fields.specs.declared.fields.BodyFault.TheVariants.{Json, Field}
 use Rattle.split_json.specs.declared.input.CaseInput.{CaseInput}
 use Rattle.split_json.specs.declared.input.Head.{Head}
-pub use Rattle.case_fields.specs.Fields.{field_text}
-pub use Rattle.case_fields.specs.Creations.{item_count}
+pub use Rattle.body_fields.specs.Fields.{field_text}
+pub use Rattle.body_fields.specs.Creations.{item_count}
 
 -- what a case is about: its title, the names of members and of items, and its facts, with texts as lists of bytes
 pub record HeadData : Type 0 where
@@ -48,8 +48,8 @@ pub record CaseData : Type 0 where
   pub bids : List (Option Bid)
 
 -- what a case that was read holds, with texts as lists of bytes
-abbrev pub shown : CaseInput → CaseData
-shown input = record {
+abbrev pub case_data_of : CaseInput → CaseData
+case_data_of input = record {
   title = input.title.bytes;
   members = map (λ text. text.bytes) input.members.items;
   items = map (λ text. text.bytes) input.items.items;
@@ -58,12 +58,12 @@ shown input = record {
 }
 
 -- what the body holds in a field, or the name of the field if it is missing or breaks its rule
-abbrev pub held : {A : Type 0} → FieldName → (Data → Option A) → Data → Result A FieldName
-held name rule body = ok_or (option_and_then rule (get (field_text name) body)) name
+abbrev pub field_or_name : {A : Type 0} → FieldName → (Data → Option A) → Data → Result A FieldName
+field_or_name name rule body = ok_or (option_and_then rule (get (field_text name) body)) name
 
--- what the body holds in a field, or the usual value if the field is missing, which a null is not
+-- what the body holds in a field, or the usual value if the field is missing; a null doesn't count as missing
 abbrev pub held_or : {A : Type 0} → A → FieldName → (Data → Option A) → Data → Result A FieldName
-held_or usual name rule body = if is_some (get (field_text name) body) then held name rule body else Ok usual
+held_or usual name rule body = if is_some (get (field_text name) body) then field_or_name name rule body else Ok usual
 
 -- the next test, of what passed the first, while the name of a broken field stays
 infixl 10 ◌>>=◌
@@ -72,8 +72,8 @@ Ok x >>= next = next x
 Err name >>= next = Err name
 
 -- the facts, if they have no fault, and otherwise the name of the field that was read last
-unfoldable pub allowed : FieldName → Facts → Result Facts FieldName
-allowed name given = ok_or (if passes_facts given then Some given else None) name
+unfoldable pub facts_or_field : FieldName → Facts → Result Facts FieldName
+facts_or_field name given = ok_or (if passes_facts given then Some given else None) name
 
 -- the facts of a rent
 abbrev pub rent_facts : ℕ → ℕ → Facts
@@ -95,35 +95,35 @@ free_fares members places flag = fares_facts members places flag (replicate (pla
 -- the fields to come
 unfoldable pub rent_head : List ℕ → Data → Result HeadData FieldName
 rent_head title body = do
-  members ← held field.Members (names_in 0 MEMBER_ROOM) body
-  some ← allowed field.Members (rent_facts (length members) MOST_RENT)
-  rooms ← held field.Rooms (names_in (length members) (length members)) body
-  rent ← held field.Rent number_in body
-  all ← allowed field.Rent (rent_facts (length members) rent)
+  members ← field_or_name field.Members (names_in 0 MEMBER_ROOM) body
+  some ← facts_or_field field.Members (rent_facts (length members) MOST_RENT)
+  rooms ← field_or_name field.Rooms (names_in (length members) (length members)) body
+  rent ← field_or_name field.Rent number_in body
+  all ← facts_or_field field.Rent (rent_facts (length members) rent)
   Ok (record { title = title; members = members; items = rooms; facts = all })
 
 -- the fields of goods after the title, which are the goods and the limit of steps, and the limit may be missing
 unfoldable pub goods_head : List ℕ → Data → Result HeadData FieldName
 goods_head title body = do
-  members ← held field.Members (names_in 0 MEMBER_ROOM) body
-  some ← allowed field.Members (goods_facts (length members) MOST_GOODS USUAL_STEPS)
-  goods ← held field.Goods (names_in 0 ITEM_ROOM) body
-  more ← allowed field.Goods (goods_facts (length members) (length goods) USUAL_STEPS)
+  members ← field_or_name field.Members (names_in 0 MEMBER_ROOM) body
+  some ← facts_or_field field.Members (goods_facts (length members) MOST_GOODS USUAL_STEPS)
+  goods ← field_or_name field.Goods (names_in 0 ITEM_ROOM) body
+  more ← facts_or_field field.Goods (goods_facts (length members) (length goods) USUAL_STEPS)
   limit ← held_or USUAL_STEPS field.Limit number_in body
-  all ← allowed field.Limit (goods_facts (length members) (length goods) limit)
+  all ← facts_or_field field.Limit (goods_facts (length members) (length goods) limit)
   Ok (record { title = title; members = members; items = goods; facts = all })
 
 -- the fields of a shared fare after the title, which are the places, the flag fall and the legs
 unfoldable pub fares_head : List ℕ → Data → Result HeadData FieldName
 fares_head title body = do
-  members ← held field.Members (names_in 0 MEMBER_ROOM) body
-  some ← allowed field.Members (free_fares (length members) MOST_PLACES 0)
-  places ← held field.Places (names_in 0 PLACE_ROOM) body
-  more ← allowed field.Places (free_fares (length members) (length places) 0)
-  flag ← held field.Flag number_in body
-  most ← allowed field.Flag (free_fares (length members) (length places) flag)
-  legs ← held field.Legs legs_in body
-  all ← allowed field.Legs (fares_facts (length members) (length places) flag legs)
+  members ← field_or_name field.Members (names_in 0 MEMBER_ROOM) body
+  some ← facts_or_field field.Members (free_fares (length members) MOST_PLACES 0)
+  places ← field_or_name field.Places (names_in 0 PLACE_ROOM) body
+  more ← facts_or_field field.Places (free_fares (length members) (length places) 0)
+  flag ← field_or_name field.Flag number_in body
+  most ← facts_or_field field.Flag (free_fares (length members) (length places) flag)
+  legs ← field_or_name field.Legs legs_in body
+  all ← facts_or_field field.Legs (fares_facts (length members) (length places) flag legs)
   Ok (record { title = title; members = members; items = places; facts = all })
 
 -- the fields after the title, by kind
@@ -135,18 +135,18 @@ rest_of_head kind.Fares = fares_head
 -- the fields of a case before the bids, in the order in which they are tested, or the first that is missing or breaks its rule
 unfoldable pub head_of_object : Data → Result HeadData FieldName
 head_of_object body = do
-  kind ← held field.Kind kind_in body
-  title ← held field.Title name_in body
+  kind ← field_or_name field.Kind kind_in body
+  title ← field_or_name field.Title name_in body
   rest_of_head kind title body
 
 -- the case that a JSON object holds, or the first of its fields that is missing or breaks its rule
 unfoldable pub case_of_object : Data → Result CaseData FieldName
 case_of_object body = do
   head ← head_of_object body
-  bids ← held field.Bids (bids_in head.facts) body
+  bids ← field_or_name field.Bids (bids_in head.facts) body
   Ok (record { title = head.title; members = head.members; items = head.items; facts = head.facts; bids = bids })
 
--- the case that a JSON value holds, or what is wrong, where no value means that the body is no JSON
+-- the case that a JSON value holds, or what is wrong; no value means that the body is no JSON
 abbrev pub answer_of : Option Data → Result CaseData BodyFault
 answer_of None = Err Json
 answer_of (Some body) = result_map_both (λ case. case) Field (case_of_object body)

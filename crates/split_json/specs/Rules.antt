@@ -1,4 +1,4 @@
--- What the fields of a body hold, by form: texts, whole numbers and lists. Which texts are names is said by `case_fields`, and which of
+-- What the fields of a body hold, by form: texts, whole numbers and lists. Which texts are names is said by `body_fields`, and which of
 -- these make checked facts and bids by `bid_rules`.
 use Rattle.std.specs.Prelude.{ℕ, ◌&&◌, nat_le, Bool, if◌then◌else◌, List, [], ◌∷◌, length, codes, bytes_eq, Option, Some, None, is_some, option_map, option_and_then}
 use Rattle.std.specs.Str.{is_utf8}
@@ -12,7 +12,7 @@ use Rattle.bid_rules.specs.declared.bids.Facts.{Facts}
 use Rattle.bid_rules.specs.declared.bids.Facts.TheVariants as facts
 use Rattle.bid_rules.specs.declared.limits.TheConstants.{ITEM_ROOM, LEG_ROW_ROOM, PLACE_ROOM}
 use Rattle.bid_rules.specs.Facts.{member_count}
-use Rattle.case_fields.specs.Rules.{allowed_bid, is_name}
+use Rattle.body_fields.specs.Rules.{allowed_bid, is_name}
 use Rattle.split_json.specs.declared.rules.Kind.{Kind}
 use Rattle.split_json.specs.declared.rules.Kind.TheVariants as kind
 
@@ -71,12 +71,12 @@ each rule [] = Some []
 each rule (x ∷ xs) = option_and_then (λ y. option_map (λ ys. y ∷ ys) (each rule xs)) (rule x)
 
 -- the elements of a JSON value, if it is an array
-abbrev pub listed : Data → Option (List Data)
-listed d = option_map list_of (as_array d)
+abbrev pub array_in : Data → Option (List Data)
+array_in d = option_map list_of (as_array d)
 
 -- the elements of a JSON value, if it is an array with a number of them in the range
 abbrev pub elements : ℕ → ℕ → Data → Option (List Data)
-elements least most d = option_and_then (passing (λ ds. is_within least most (length ds))) (listed d)
+elements least most d = option_and_then (passing (λ ds. is_within least most (length ds))) (array_in d)
 
 -- what the elements of a JSON array hold, if their number is in the range and each keeps the rule
 abbrev pub list_in : {B : Type 0} → (Data → Option B) → ℕ → ℕ → Data → Option (List B)

@@ -7,18 +7,19 @@ ghost use Rattle.split_json.specs.Rules.{json_of};
 use crate::bodies::parsed;
 use crate::held::value_of;
 use crate::rules::{number_in, numbers_in, place_in};
-use case_fields::{BidBody, BodyFault, FieldName};
+use body_fields::{BidBody, BodyFault, FieldName};
 use serde_json::Value;
 use split_base::NoMemory;
 use std::alloc::Global;
 
 /// The body of a bid or of a withdrawal that a body of JSON holds, or `Json` if it is no JSON text (RFC 8259) that `serde_json` reads.
 ///
-/// A field is `None` exactly if it is absent or of another form, so all are where the body is no object: a turn is a whole number below
+/// A field is `None` exactly if it is absent or of another form, so all are if the body is no object: a turn is a whole number below
 /// 2^32, values are at most 24 of these, and a place is a whole number below 2^8. `NoMemory`: memory ran out.
 pub fn read_bid(alloc: Global, body: &[u8]) -> Result<Result<BidBody, BodyFault>, NoMemory>
     ensures bid { IfOk result (λ answer. answer ≡ bid_body_in body.now) }
-    ensures json { IfOk result (λ answer. (answer ≡ Err BodyFault.Json) ↔ (json_of body.now ≡ None)) }
+    ensures json { IfOk result (λ answer.
+        (answer ≡ Err BodyFault.Json) ↔ (json_of body.now ≡ None)) }
     ensures no_field { IfOk result (λ answer. IfErr answer (λ fault. fault ≡ BodyFault.Json)) }
 {
     match parsed(alloc, body)? {
@@ -27,6 +28,7 @@ pub fn read_bid(alloc: Global, body: &[u8]) -> Result<Result<BidBody, BodyFault>
     }
 }
 
+// A field that is missing or breaks its rule is left out here, because only the host knows which ones it needs.
 #[tactic(auto, unfolding(crate::specs::Bodies::bid_body_of))]
 fn bid_body_of(body: &Value) -> BidBody
     ensures { result ≡ bid_body_of (view body.now) }

@@ -7,7 +7,7 @@ use serde_json::Value;
 use split_base::NoMemory;
 use std::alloc::Global;
 
-/// The value that the bytes are as JSON, or none. `NoMemory`: memory ran out.
+// The value that the bytes are as JSON, or none. `NoMemory`: memory ran out.
 pub(crate) fn parsed(alloc: Global, body: &[u8]) -> Result<Option<Value>, NoMemory>
     ensures { IfOk result (λ value. option_map view value ≡ json_of body.now) }
 {

@@ -15,13 +15,14 @@ use bid_rules::limits::{
     USUAL_STEPS,
 };
 use bid_rules::{Facts, Fares, Goods, Rent};
-use case_fields::{FieldName, Name};
+use body_fields::{FieldName, Name};
 use serde_json::Value;
 
-/// The head that the body gives, or the first field of it whose rule is broken.
+// The head that the body gives, or the first field of it whose rule is broken.
 #[tactic(auto, unfolding(crate::specs::Reading::head_of_object))]
 pub(crate) fn head_of_object(body: &Value) -> Result<Head, FieldName>
-    ensures head { result_map_both shown_head (λ name. name) result ≡ head_of_object (view body.now) }
+    ensures head { result_map_both shown_head (λ name. name) result
+        ≡ head_of_object (view body.now) }
     ensures checked { IfOk result (λ head. IsCheckedFacts head.facts) }
 {
     let kind = kind_of(body)?;
@@ -33,9 +34,11 @@ pub(crate) fn head_of_object(body: &Value) -> Result<Head, FieldName>
     }
 }
 
+// The number of members is tested before the rooms are read, since there must be just as many of them.
 #[tactic(auto, unfolding(crate::specs::Reading::rent_head))]
 fn rent_head(body: &Value, title: Name) -> Result<Head, FieldName>
-    ensures head { result_map_both shown_head (λ name. name) result ≡ rent_head title.bytes (view body.now) }
+    ensures head { result_map_both shown_head (λ name. name) result
+        ≡ rent_head title.bytes (view body.now) }
     ensures checked { IfOk result (λ head. IsCheckedFacts head.facts) }
 {
     let members = names_of(body, FieldName::Members, 0, MEMBER_ROOM)?;
@@ -53,7 +56,7 @@ fn rent_head(body: &Value, title: Name) -> Result<Head, FieldName>
     })
 }
 
-/// How many names there are.
+// How many names there are.
 fn name_count<const N: usize>(names: &ArrayVec<Name, N>) -> u8
     requires { length names.now.items ≤ u8.MAX }
     ensures { result ≡ length (map (λ text. text.bytes) names.now.items) }
@@ -61,15 +64,18 @@ fn name_count<const N: usize>(names: &ArrayVec<Name, N>) -> u8
     names.len() as u8
 }
 
+// Facts made early, with the greatest rent, let the members be tested before the rent is read.
 fn rent_facts(members: u8, rent: u32) -> Facts
     ensures { result ≡ rent_facts members rent }
 {
     Facts::Rent(Rent { members, rent })
 }
 
+// Each count is tested as soon as it's known, so that the first field at fault is the one that is named.
 #[tactic(auto, unfolding(crate::specs::Reading::goods_head))]
 fn goods_head(body: &Value, title: Name) -> Result<Head, FieldName>
-    ensures head { result_map_both shown_head (λ name. name) result ≡ goods_head title.bytes (view body.now) }
+    ensures head { result_map_both shown_head (λ name. name) result
+        ≡ goods_head title.bytes (view body.now) }
     ensures checked { IfOk result (λ head. IsCheckedFacts head.facts) }
 {
     let members = names_of(body, FieldName::Members, 0, MEMBER_ROOM)?;
@@ -91,6 +97,7 @@ fn goods_head(body: &Value, title: Name) -> Result<Head, FieldName>
     })
 }
 
+// Facts made early, with the usual limit, let the counts be tested before the limit is read.
 fn goods_facts(members: u8, goods: u8, limit: u32) -> Facts
     ensures { result ≡ goods_facts members goods limit }
 {
@@ -101,9 +108,11 @@ fn goods_facts(members: u8, goods: u8, limit: u32) -> Facts
     })
 }
 
+// Each field is tested as soon as it's read, so that the first one at fault is the one that is named.
 #[tactic(auto, unfolding(crate::specs::Reading::fares_head))]
 fn fares_head(body: &Value, title: Name) -> Result<Head, FieldName>
-    ensures head { result_map_both shown_head (λ name. name) result ≡ fares_head title.bytes (view body.now) }
+    ensures head { result_map_both shown_head (λ name. name) result
+        ≡ fares_head title.bytes (view body.now) }
     ensures checked { IfOk result (λ head. IsCheckedFacts head.facts) }
 {
     let members = names_of(body, FieldName::Members, 0, MEMBER_ROOM)?;
@@ -124,6 +133,7 @@ fn fares_head(body: &Value, title: Name) -> Result<Head, FieldName>
     })
 }
 
+// The facts once every field is there; before that, `free_fares` stands in for the costs.
 fn fares_facts(members: u8, places: u8, flag: u32, legs: Legs) -> Facts
     ensures { result ≡ fares_facts members places flag legs.items }
 {
@@ -135,7 +145,7 @@ fn fares_facts(members: u8, places: u8, flag: u32, legs: Legs) -> Facts
     })
 }
 
-/// Fares whose legs cost nothing.
+// Fares whose legs cost nothing.
 #[tactic(auto, unfolding(crate::specs::Reading::free_fares))]
 fn free_fares(members: u8, places: u8, flag: u32) -> Facts
     requires { places ≤ MOST_PLACES }
@@ -148,7 +158,7 @@ fn free_fares(members: u8, places: u8, flag: u32) -> Facts
     fares_facts(members, places, flag, legs)
 }
 
-/// A leg to each place, at no cost.
+// A leg to each place, at no cost.
 fn free_legs(places: u8) -> LegRow
     requires { places ≤ MOST_PLACES }
     ensures { result.items ≡ replicate places 0 }

@@ -2,7 +2,7 @@
 use arrayvec::ArrayVec;
 use bid_rules::limits::{ITEM_ROOM, MEMBER_ROOM};
 use bid_rules::{Bid, Facts};
-use case_fields::Name;
+use body_fields::Name;
 
 /// What a case is about: all that its body has before the bids. The head that a body gives has facts without fault.
 #[derive(Drop)]

@@ -3,7 +3,7 @@ ghost use Rattle.std.specs.Prelude.{◌≡◌, ◌≤◌, ◌↔◌, ℕ, List, 
 ghost use Rattle.serde_json.specs.Data.{Data};
 ghost use Rattle.arrayvec.specs.ArrayVec.{ArrayVec};
 ghost use Rattle.bid_rules.specs.Facts.{IsCheckedBid, IsCheckedFacts};
-ghost use Rattle.split_json.specs.Rules.{bid_in, each, listed, number_in, whole_number};
+ghost use Rattle.split_json.specs.Rules.{bid_in, each, array_in, number_in, whole_number};
 ghost use Rattle.split_json.specs.Reading.{CaseData, HeadData, IsReady, IsReadyHead, case_in, free_fares, goods_facts, head_of_object, rent_facts};
 
 use bid_rules::limits::{
@@ -26,11 +26,13 @@ pub fn head_law()
 /// place, and a list of whole numbers below 2^32 exactly if they are checked values or points. The facts are asked to be checked since
 /// the form has the room of checked facts alone: a bid of more entries or a greater place is refused before the rule is asked.
 pub fn field_rules_law()
-    ensures places { (facts : Facts) (value : Data) (place : ℕ) → IsCheckedFacts facts → whole_number value ≡ Some place
-        → (bid_in facts value ≡ Some (Bid.Place place)) ↔ IsCheckedBid facts (Bid.Place place) }
-    ensures values { (facts : Facts) (value : Data) (list : List Data) (values : ArrayVec ℕ) → IsCheckedFacts facts
-        → listed value ≡ Some list → each number_in list ≡ Some values.items
-        → (bid_in facts value ≡ Some (Bid.Values values)) ↔ IsCheckedBid facts (Bid.Values values) }
+    ensures places { (facts : Facts) (value : Data) (place : ℕ) → IsCheckedFacts facts
+        → whole_number value ≡ Some place → (bid_in facts value ≡ Some (Bid.Place place))
+        ↔ IsCheckedBid facts (Bid.Place place) }
+    ensures values { (facts : Facts) (value : Data) (list : List Data) (values : ArrayVec ℕ)
+        → IsCheckedFacts facts → array_in value ≡ Some list
+        → each number_in list ≡ Some values.items → (bid_in facts value ≡ Some (Bid.Values values))
+        ↔ IsCheckedBid facts (Bid.Values values) }
 {}
 
 /// Why a fault of facts that are not read whole is that of the field read last: the values in place of those to come are good. So a rent and goods are refused after the members, and goods after the goods, exactly if their number is out of its
@@ -39,7 +41,9 @@ pub fn field_fault_law()
     ensures rent { (members : ℕ) → IsCheckedFacts (rent_facts members MOST_RENT)
         ↔ (FEWEST_MEMBERS ≤ members) × (members ≤ MOST_MEMBERS) }
     ensures goods { (members goods : ℕ) → IsCheckedFacts (goods_facts members goods USUAL_STEPS)
-        ↔ (FEWEST_MEMBERS ≤ members) × (members ≤ MOST_MEMBERS) × (1 ≤ goods) × (goods ≤ MOST_GOODS) }
+        ↔ (FEWEST_MEMBERS ≤ members) × (members ≤ MOST_MEMBERS) × (1 ≤ goods)
+        × (goods ≤ MOST_GOODS) }
     ensures fares { (members places flag : ℕ) → IsCheckedFacts (free_fares members places flag)
-        ↔ (FEWEST_MEMBERS ≤ members) × (members ≤ MOST_RIDERS) × (1 ≤ places) × (places ≤ MOST_PLACES) × (flag ≤ MOST_FARE_CENTS) }
+        ↔ (FEWEST_MEMBERS ≤ members) × (members ≤ MOST_RIDERS) × (1 ≤ places)
+        × (places ≤ MOST_PLACES) × (flag ≤ MOST_FARE_CENTS) }
 {}

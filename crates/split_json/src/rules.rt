@@ -7,7 +7,7 @@ ghost use Rattle.split_json.specs.Rules.{bid_in, bids_in, each, elements, entry_
 use arrayvec::ArrayVec;
 use bid_rules::limits::{LEG_ROW_ROOM, LegRow, Legs, MEMBER_ROOM};
 use bid_rules::{Bid, Facts};
-use case_fields::{Name, allowed_bid, is_name, member_count};
+use body_fields::{Name, allowed_bid, is_name, member_count};
 use serde_json::Value;
 
 /// The kinds of case.
@@ -18,6 +18,7 @@ pub(crate) enum Kind {
     Fares,
 }
 
+// The words by which bodies name the kinds.
 fn kind_named(text: &str) -> Option<Kind>
     ensures { result ≡ kind_named text.now }
 {
@@ -29,12 +30,14 @@ fn kind_named(text: &str) -> Option<Kind>
     }
 }
 
+// A value that is not a text names no kind.
 pub(crate) fn kind_in(value: &Value) -> Option<Kind>
     ensures { result ≡ kind_in (view value.now) }
 {
     kind_named(value.as_str()?)
 }
 
+// A name that breaks the rule counts as none.
 pub(crate) fn name_in(value: &Value) -> Option<Name>
     ensures { option_map (λ text. text.bytes) result ≡ name_in (view value.now) }
 {
@@ -69,6 +72,7 @@ pub(crate) fn place_in(value: &Value) -> Option<u8>
     Some(place as u8)
 }
 
+// Both ends belong to the range.
 fn is_within(low: usize, high: usize, number: usize) -> bool
     ensures { result ≡ is_within low high number }
 {
@@ -77,7 +81,8 @@ fn is_within(low: usize, high: usize, number: usize) -> bool
 
 // The elements of a list that has at least and at most so many.
 pub(crate) fn elements(value: &Value, least: usize, most: usize) -> Option<&[Value]>
-    ensures values { option_map (λ values. map view values.now) result ≡ elements least most (view value.now) }
+    ensures values { option_map (λ values. map view values.now) result
+        ≡ elements least most (view value.now) }
     ensures few { IfSome result (λ values. length values.now ≤ most) }
 {
     let list = value.as_array()?.as_slice();
@@ -88,6 +93,7 @@ pub(crate) fn elements(value: &Value, least: usize, most: usize) -> Option<&[Val
     }
 }
 
+// One value that is not a name spoils the list.
 fn each_name<const N: usize>(list: &[Value]) -> Option<ArrayVec<Name, N>>
     requires { length list.now ≤ N }
     ensures names { option_map (λ names. map (λ text. text.bytes) names.items) result
@@ -101,6 +107,7 @@ fn each_name<const N: usize>(list: &[Value]) -> Option<ArrayVec<Name, N>>
     Some(names)
 }
 
+// The length is tested first, so the names always fit their room.
 pub(crate) fn names_in<const N: usize>(
     value: &Value,
     least: usize,
@@ -114,6 +121,7 @@ pub(crate) fn names_in<const N: usize>(
     each_name(elements(value, least, most)?)
 }
 
+// One value that is not a number spoils the list.
 fn each_number<const N: usize>(list: &[Value]) -> Option<ArrayVec<u32, N>>
     requires { length list.now ≤ N }
     ensures { option_map (λ numbers. numbers.items) result ≡ each number_in (map view list.now) }
@@ -139,6 +147,7 @@ fn row_in(value: &Value) -> Option<LegRow>
     numbers_in(value)
 }
 
+// One value that is not a row spoils the table.
 fn each_row(list: &[Value]) -> Option<Legs>
     requires { length list.now ≤ LEG_ROW_ROOM }
     ensures { option_map (λ legs. legs.items) result ≡ each row_in (map view list.now) }
@@ -150,6 +159,7 @@ fn each_row(list: &[Value]) -> Option<Legs>
     Some(rows)
 }
 
+// The number of rows is tested against the places later, when these are known.
 pub(crate) fn legs_in(value: &Value) -> Option<Legs>
     ensures { option_map (λ legs. legs.items) result ≡ legs_in (view value.now) }
 {
@@ -166,6 +176,7 @@ fn written_bid(value: &Value, facts: &Facts) -> Option<Bid>
     }
 }
 
+// A bid of the right form must also keep the limits that the facts set.
 fn bid_in(value: &Value, facts: &Facts) -> Option<Bid>
     requires { IsCheckedFacts facts.now }
     ensures { result ≡ bid_in facts.now (view value.now) }
@@ -173,7 +184,7 @@ fn bid_in(value: &Value, facts: &Facts) -> Option<Bid>
     allowed_bid(facts, written_bid(value, facts)?)
 }
 
-// An entry of the bids: null where the member has not bid.
+// An entry of the bids: null if the member has not bid.
 fn entry_in(value: &Value, facts: &Facts) -> Option<Option<Bid>>
     requires { IsCheckedFacts facts.now }
     ensures { result ≡ entry_in facts.now (view value.now) }
@@ -184,10 +195,12 @@ fn entry_in(value: &Value, facts: &Facts) -> Option<Option<Bid>>
     Some(Some(bid_in(value, facts)?))
 }
 
+// One entry that is neither a bid nor null spoils the list.
 fn each_bid(list: &[Value], facts: &Facts) -> Option<ArrayVec<Option<Bid>, MEMBER_ROOM>>
     requires list { length list.now ≤ MEMBER_ROOM }
     requires facts { IsCheckedFacts facts.now }
-    ensures { option_map (λ bids. bids.items) result ≡ each (entry_in facts.now) (map view list.now) }
+    ensures { option_map (λ bids. bids.items) result
+        ≡ each (entry_in facts.now) (map view list.now) }
 {
     let mut bids = ArrayVec::new();
     for item in list {
@@ -196,6 +209,7 @@ fn each_bid(list: &[Value], facts: &Facts) -> Option<ArrayVec<Option<Bid>, MEMBE
     Some(bids)
 }
 
+// There must be an entry for each member, null for one who has not bid.
 pub(crate) fn bids_in(value: &Value, facts: &Facts) -> Option<ArrayVec<Option<Bid>, MEMBER_ROOM>>
     requires { IsCheckedFacts facts.now }
     ensures { option_map (λ bids. bids.items) result ≡ bids_in facts.now (view value.now) }

@@ -10,7 +10,7 @@ use Rattle.split_frac.specs.Frac.{frac_text, fraction_of}
 use Rattle.split_reports.specs.Parts.{lines_to, named_at, number_at, text_at}
 use Rattle.split_reports.specs.Names.{NamesData}
 use Rattle.split_reports.specs.Lines.{count_line}
-use Rattle.split_frac.specs.Texts.{line_of, spaced}
+use Rattle.split_frac.specs.Texts.{line_of, with_spaces}
 
 -- the number of the member who is this rider
 abbrev pub member_of : FareCase → ℕ → ℕ
@@ -22,7 +22,7 @@ fares_head given case = line_of (codes "fares " ∷ given.title ∷ []) ++ count
 
 -- the line of the cost of all riders and of the route, by the numbers of the members
 abbrev pub total_line : FareCase → ℕ → List ℕ → List ℕ
-total_line case total route = line_of (codes "total " ∷ decimal total ∷ codes ", route" ∷ spaced (map decimal (map (member_of case) route)) ∷ [])
+total_line case total route = line_of (codes "total " ∷ decimal total ∷ codes ", route" ∷ with_spaces (map decimal (map (member_of case) route)) ∷ [])
 
 -- the line of a rider: the member, the place, the exact fare, what the rider pays, and what the rider would cost alone
 abbrev pub rider_line : NamesData → FareCase → List Frac → List ℤ → ℕ → List ℕ

@@ -24,7 +24,7 @@ pub record RentTold : Type 0 where
   pub least : Frac
   pub envy : List (List Frac)
 
--- what the figures of a rent tell
+-- what the figures for a rent say
 abbrev pub figures_shown : RentFigures → RentTold
 figures_shown figures = record {
   rooms = figures.division.now.best.rooms.items;

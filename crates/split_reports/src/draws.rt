@@ -13,7 +13,7 @@ pub(crate) struct Draws {
 }
 
 impl Draws {
-    /// What is drawn from a number.
+    // What is drawn from a number.
     pub(crate) fn of(number: u64) -> Self
         ensures { result.last ≡ seed number }
     {
@@ -22,7 +22,7 @@ impl Draws {
         }
     }
 
-    /// Draws the next number.
+    // Draws the next number.
     pub(crate) fn draw(&mut self) -> u32
         ensures drawn { result ≡ next self.old.last }
         ensures last { self.new.last ≡ result }
@@ -32,7 +32,7 @@ impl Draws {
         self.last
     }
 
-    /// Draws so many weights, each from 1 to `WEIGHTS`.
+    // Draws so many weights, each from 1 to `WEIGHTS`.
     pub(crate) fn weights(&mut self, count: u8) -> Values
         requires { count ≤ ITEM_ROOM }
         ensures weights { result.items ≡ weights_behind self.old.last count }

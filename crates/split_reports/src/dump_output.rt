@@ -11,7 +11,7 @@ use sealed_core::Instance;
 use split_base::NoMemory;
 use std::alloc::Global;
 
-/// A writer that has written the names of the fields.
+// A writer that has written the names of the fields.
 #[tactic(auto, unfolding(crate::specs::DumpRows::header_line))]
 pub(crate) fn header_written(alloc: Global) -> Result<Writer<Vec<u8>>, NoMemory>
     ensures { IfOk result (λ writer. IsBetweenRows writer header_line) }
@@ -32,7 +32,7 @@ pub(crate) fn header_written(alloc: Global) -> Result<Writer<Vec<u8>>, NoMemory>
     }
 }
 
-/// Writes the row of an instance.
+// Writes the row of an instance.
 #[tactic(auto, unfolding(crate::specs::DumpRows::row_line))]
 pub(crate) fn write_row(
     writer: &mut Writer<Vec<u8>>,
@@ -62,7 +62,7 @@ pub(crate) fn write_row(
     }
 }
 
-/// The name of the facts' kind.
+// The name of the facts' kind.
 fn kind_of(facts: &Facts) -> &[u8]
     ensures { result.now ≡ kind_name facts.now }
 {
@@ -73,7 +73,7 @@ fn kind_of(facts: &Facts) -> &[u8]
     }
 }
 
-/// How many members have a bid.
+// How many members have a bid.
 fn bid_count(bids: &[Option<Bid>]) -> usize
     ensures { result ≡ count_by is_some bids.now }
 {

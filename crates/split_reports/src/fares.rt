@@ -22,9 +22,10 @@ use split_base::NoMemory;
 use split_frac::{Frac, Numbers, push_line};
 use std::alloc::Global;
 
-/// Appends the title and the numbers of riders and members.
+// Appends the title and the numbers of riders and members.
 fn push_head(lines: &mut String, names: &Names<'_>, case: &FareCase) -> Result<(), NoMemory>
-    ensures { OnOk result (string_bytes lines.new ≡ string_bytes lines.old ++ fares_head (shown_names names.now) case.now) }
+    ensures { OnOk result (string_bytes lines.new
+        ≡ string_bytes lines.old ++ fares_head (shown_names names.now) case.now) }
 {
     let title = names.title.as_str();
     let (riders, members) = (case.who.len(), names.members.len());
@@ -33,7 +34,7 @@ fn push_head(lines: &mut String, names: &Names<'_>, case: &FareCase) -> Result<(
     Ok(())
 }
 
-/// The numbers of members of the riders of a route, in its order.
+// The numbers of members of the riders of a route, in its order.
 fn members_along(case: &FareCase, route: &[u8]) -> ArrayVec<u8, RIDER_ROOM>
     requires few { length route.now ≤ RIDER_ROOM }
     requires riders { All (λ rider. (1 ≤ rider) × (rider ≤ length case.now.who.items)) route.now }
@@ -46,11 +47,12 @@ fn members_along(case: &FareCase, route: &[u8]) -> ArrayVec<u8, RIDER_ROOM>
     members
 }
 
-/// Appends the cost of all and the route, in the numbers of members.
+// Appends the cost of all and the route, in the numbers of members.
 fn push_total(lines: &mut String, case: &FareCase, total: u32, route: &[u8]) -> Result<(), NoMemory>
     requires few { length route.now ≤ RIDER_ROOM }
     requires riders { All (λ rider. (1 ≤ rider) × (rider ≤ length case.now.who.items)) route.now }
-    ensures { OnOk result (string_bytes lines.new ≡ string_bytes lines.old ++ total_line case.now total route.now) }
+    ensures { OnOk result
+        (string_bytes lines.new ≡ string_bytes lines.old ++ total_line case.now total route.now) }
 {
     let members = members_along(case, route);
     let route = Numbers(members.as_slice());
@@ -72,12 +74,15 @@ pub(crate) struct RiderLines<'a> {
 }
 
 impl RiderLines<'_> {
-    /// Appends the line of a rider, whose cost alone is given.
+    // Appends the line of a rider, whose cost alone is given.
     fn push_rider(&self, lines: &mut String, alone: u32, rider: u8) -> Result<(), NoMemory>
         requires low { 1 ≤ rider }
         requires high { rider ≤ length self.now.case.now.who.items }
         requires alone { alone ≡ coalition_cost self.now.case.now (rider ∷ []) }
-        ensures { OnOk result (string_bytes lines.new ≡ string_bytes lines.old ++ rider_line (shown_names self.now.names.now) self.now.case.now self.now.fares.now self.now.pays.now rider) }
+        ensures { OnOk result (string_bytes lines.new
+            ≡ string_bytes lines.old
+            ++ rider_line (shown_names self.now.names.now) self.now.case.now self.now.fares.now
+            self.now.pays.now rider) }
     {
         let person = named(
             self.names.members.as_slice(),
@@ -95,10 +100,14 @@ impl RiderLines<'_> {
         )
     }
 
-    /// Appends the lines of the riders.
+    // Appends the lines of the riders.
     fn push_riders(&self, lines: &mut String, costs: &Costs) -> Result<(), NoMemory>
         requires costs { costs.now ≡ self.now.case.now }
-        ensures { OnOk result (string_bytes lines.new ≡ string_bytes lines.old ++ lines_to (length self.now.case.now.who.items) (rider_line (shown_names self.now.names.now) self.now.case.now self.now.fares.now self.now.pays.now)) }
+        ensures { OnOk result (string_bytes lines.new
+            ≡ string_bytes lines.old
+            ++ lines_to (length self.now.case.now.who.items)
+            (rider_line (shown_names self.now.names.now) self.now.case.now self.now.fares.now
+            self.now.pays.now)) }
     {
         lines_law();
         for k in 0..self.case.who.len() as u8 {
@@ -109,7 +118,7 @@ impl RiderLines<'_> {
     }
 }
 
-/// What a rider would cost alone.
+// What a rider would cost alone.
 fn cost_alone(costs: &Costs, rider: u8) -> u32
     requires low { 1 ≤ rider }
     requires few { rider ≤ MOST_RIDERS }
@@ -120,15 +129,19 @@ fn cost_alone(costs: &Costs, rider: u8) -> u32
     costs.cost_of(1 << (rider - 1))
 }
 
-/// The report of shared fares, in which the riders pay this.
+// The report of shared fares, in which the riders pay this.
 fn fares_text(
     alloc: Global,
     riders: &RiderLines<'_>,
     division: &FareDivision,
 ) -> Result<Vec<u8>, NoMemory>
-    requires route { All (λ rider. (1 ≤ rider) × (rider ≤ length riders.now.case.now.who.items)) division.now.route.items }
+    requires route { All (λ rider. (1 ≤ rider) × (rider ≤ length riders.now.case.now.who.items))
+        division.now.route.items }
     requires costs { division.now.costs ≡ riders.now.case.now }
-    ensures { IfOk result (λ text. text.items ≡ fares_report (shown_names riders.now.names.now) riders.now.case.now division.now.total division.now.route.items riders.now.fares.now riders.now.pays.now) }
+    ensures { IfOk result (λ text.
+        text.items
+        ≡ fares_report (shown_names riders.now.names.now) riders.now.case.now division.now.total
+        division.now.route.items riders.now.fares.now riders.now.pays.now) }
 {
     let mut lines = String::new(alloc);
     push_head(&mut lines, riders.names, riders.case)?;
@@ -142,7 +155,7 @@ fn fares_text(
     Ok(lines.into_bytes())
 }
 
-/// The report of shared fares, from the division that the solver gives for the case.
+// The report of shared fares, from the division that the solver gives for the case.
 pub(crate) fn fares_report(
     alloc: Global,
     names: &Names<'_>,
@@ -153,7 +166,8 @@ pub(crate) fn fares_report(
     requires members { length names.now.members.now.items ≡ case.now.facts.members }
     requires places { length names.now.items.now.items ≡ case.now.facts.places }
     requires division { IsFareDivision case.now division.now }
-    ensures { IfOk result (λ text. IsFaresReport (shown_names names.now) case.now division.now text.items) }
+    ensures { IfOk result (λ text.
+        IsFaresReport (shown_names names.now) case.now division.now text.items) }
 {
     orders_law();
     let pays = cent_plan(division.fares.as_slice(), i64::from(division.total));

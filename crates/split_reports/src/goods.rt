@@ -16,9 +16,10 @@ use split_base::NoMemory;
 use split_frac::{Numbers, push_line};
 use std::alloc::Global;
 
-/// Appends the title and the numbers of players and members.
+// Appends the title and the numbers of players and members.
 fn push_head(lines: &mut String, names: &Names<'_>, case: &GoodsCase) -> Result<(), NoMemory>
-    ensures { OnOk result (string_bytes lines.new ≡ string_bytes lines.old ++ goods_head (shown_names names.now) case.now) }
+    ensures { OnOk result (string_bytes lines.new
+        ≡ string_bytes lines.old ++ goods_head (shown_names names.now) case.now) }
 {
     let title = names.title.as_str();
     let (players, members) = (case.who.len(), names.members.len());
@@ -27,9 +28,10 @@ fn push_head(lines: &mut String, names: &Names<'_>, case: &GoodsCase) -> Result<
     Ok(())
 }
 
-/// Appends the pair of the allocation and the number of steps.
+// Appends the pair of the allocation and the number of steps.
 fn push_pair(lines: &mut String, pair: &Pair, steps: u32) -> Result<(), NoMemory>
-    ensures { OnOk result (string_bytes lines.new ≡ string_bytes lines.old ++ pair_line pair.now steps) }
+    ensures { OnOk result
+        (string_bytes lines.new ≡ string_bytes lines.old ++ pair_line pair.now steps) }
 {
     let (count, product) = (pair.count, pair.product);
     push_line(
@@ -38,7 +40,7 @@ fn push_pair(lines: &mut String, pair: &Pair, steps: u32) -> Result<(), NoMemory
     )
 }
 
-/// Appends the line of a player in the table of points.
+// Appends the line of a player in the table of points.
 fn push_envy(
     lines: &mut String,
     case: &GoodsCase,
@@ -48,14 +50,16 @@ fn push_envy(
     requires low { 1 ≤ player }
     requires who { player ≤ length case.now.who.items }
     requires high { player ≤ length table.now }
-    ensures { OnOk result (string_bytes lines.new ≡ string_bytes lines.old ++ player_envy case.now (map (λ row. row.items) table.now) player) }
+    ensures { OnOk result (string_bytes lines.new
+        ≡ string_bytes lines.old
+        ++ player_envy case.now (map (λ row. row.items) table.now) player) }
 {
     let member = case.who[player as usize - 1];
     let row = Numbers(table[player as usize - 1].as_slice());
     push_line(lines, format_args!("envy {member}:{row}"))
 }
 
-/// Appends the table of points.
+// Appends the table of points.
 fn push_table(
     lines: &mut String,
     case: &GoodsCase,
@@ -63,7 +67,10 @@ fn push_table(
 ) -> Result<(), NoMemory>
     requires case { IsValidGoodsCase case.now }
     requires rows { length table.now ≡ player_count case.now }
-    ensures { OnOk result (string_bytes lines.new ≡ string_bytes lines.old ++ lines_to (player_count case.now) (player_envy case.now (map (λ row. row.items) table.now))) }
+    ensures { OnOk result (string_bytes lines.new
+        ≡ string_bytes lines.old
+        ++ lines_to (player_count case.now)
+        (player_envy case.now (map (λ row. row.items) table.now))) }
 {
     lines_law();
     for k in 0..case.values.len() as u8 {
@@ -72,7 +79,7 @@ fn push_table(
     Ok(())
 }
 
-/// The report of goods, with the lines of the players and a table of points.
+// The report of goods, with the lines of the players and a table of points.
 fn goods_text(
     alloc: Global,
     players: &PlayerLines<'_>,
@@ -80,7 +87,11 @@ fn goods_text(
     table: &[ArrayVec<i32, MEMBER_ROOM>],
 ) -> Result<Vec<u8>, NoMemory>
     requires rows { length table.now ≡ player_count players.now.case.now }
-    ensures { IfOk result (λ text. text.items ≡ goods_report (shown_names players.now.names.now) players.now.case.now players.now.owners.now division.now.pair division.now.steps (map (λ row. row.items) table.now)) }
+    ensures { IfOk result (λ text.
+        text.items
+        ≡ goods_report (shown_names players.now.names.now) players.now.case.now
+        players.now.owners.now division.now.pair division.now.steps
+        (map (λ row. row.items) table.now)) }
 {
     let mut lines = String::new(alloc);
     push_head(&mut lines, players.names, players.case)?;
@@ -90,7 +101,7 @@ fn goods_text(
     Ok(lines.into_bytes())
 }
 
-/// The report of goods, from the division that the solver gives for the case.
+// The report of goods, from the division that the solver gives for the case.
 pub(crate) fn goods_report(
     alloc: Global,
     names: &Names<'_>,
@@ -100,7 +111,8 @@ pub(crate) fn goods_report(
     requires case { IsValidGoodsCase case.now }
     requires members { length names.now.members.now.items ≡ case.now.facts.members }
     requires division { IsGoodsDivision case.now division.now }
-    ensures { IfOk result (λ text. IsGoodsReport (shown_names names.now) case.now division.now text.items) }
+    ensures { IfOk result (λ text.
+        IsGoodsReport (shown_names names.now) case.now division.now text.items) }
 {
     let players = PlayerLines {
         names,

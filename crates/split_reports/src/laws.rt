@@ -15,8 +15,10 @@ use split_frac::value_law;
 
 /// What is given fixes the report: a case has one division by the solver, and a division has one text.
 pub fn report_law()
-    ensures { (given : CaseData) (case : Case) (division others : Division) (text other : List ℕ) → IsReady given → case_of given.facts given.bids ≡ Ok case
-        → IsDivisionOf case division → IsDivisionOf case others → IsReport given case division text → IsReport given case others other → text ≡ other }
+    ensures { (given : CaseData) (case : Case) (division others : Division) (text other : List ℕ)
+        → IsReady given → case_of given.facts given.bids ≡ Ok case → IsDivisionOf case division
+        → IsDivisionOf case others → IsReport given case division text
+        → IsReport given case others other → text ≡ other }
 {
     best_fares_law();
     case_law();

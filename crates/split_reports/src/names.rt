@@ -4,7 +4,7 @@ ghost use Rattle.split_reports.specs.Parts.{text_at};
 
 use arrayvec::ArrayVec;
 use bid_rules::limits::{ITEM_ROOM, MEMBER_ROOM};
-use case_fields::Name;
+use body_fields::Name;
 use split_frac::Named;
 
 /// What a text on a case calls by name.

@@ -4,5 +4,6 @@ ghost use Rattle.split_reports.specs.Parts.{lines_to};
 
 /// A text to which the lines of the first few numbers were appended has those of one number more once its line is appended, too.
 pub fn lines_law()
-    ensures { (line : ℕ → List ℕ) (k : ℕ) (start old new : List ℕ) → old ≡ start ++ lines_to k line → new ≡ old ++ line (k + 1) → new ≡ start ++ lines_to (k + 1) line }
+    ensures { (line : ℕ → List ℕ) (k : ℕ) (start old new : List ℕ) → old ≡ start ++ lines_to k line
+        → new ≡ old ++ line (k + 1) → new ≡ start ++ lines_to (k + 1) line }
 {}

@@ -35,7 +35,7 @@ impl fmt::Display for GoodsList<'_> {
     }
 }
 
-/// The goods, by number, that a player has.
+// The goods, by number, that a player has.
 fn goods_of(owners: &[u8], player: u8) -> ArrayVec<u8, ITEM_ROOM>
     requires { length owners.now ≤ ITEM_ROOM }
     ensures { result.items ≡ goods_of owners.now player }
@@ -64,11 +64,14 @@ pub struct PlayerLines<'a> {
 }
 
 impl PlayerLines<'_> {
-    /// Appends the line of a player.
+    // Appends the line of a player.
     fn push_player(&self, lines: &mut String, player: u8) -> Result<(), NoMemory>
         requires low { 1 ≤ player }
         requires high { player ≤ player_count self.now.case.now }
-        ensures { OnOk result (string_bytes lines.new ≡ string_bytes lines.old ++ player_line (shown_names self.now.names.now) self.now.case.now self.now.owners.now player) }
+        ensures { OnOk result (string_bytes lines.new
+            ≡ string_bytes lines.old
+            ++ player_line (shown_names self.now.names.now) self.now.case.now self.now.owners.now
+            player) }
     {
         let person = named(
             self.names.members.as_slice(),
@@ -85,7 +88,10 @@ impl PlayerLines<'_> {
 
     /// Appends the lines of the players.
     pub fn push_players(&self, lines: &mut String) -> Result<(), NoMemory>
-        ensures { OnOk result (string_bytes lines.new ≡ string_bytes lines.old ++ lines_to (player_count self.now.case.now) (player_line (shown_names self.now.names.now) self.now.case.now self.now.owners.now)) }
+        ensures { OnOk result (string_bytes lines.new
+            ≡ string_bytes lines.old
+            ++ lines_to (player_count self.now.case.now)
+            (player_line (shown_names self.now.names.now) self.now.case.now self.now.owners.now)) }
     {
         lines_law();
         for k in 0..self.case.values.len() as u8 {

@@ -34,9 +34,10 @@ pub(crate) struct RentFigures<'a> {
     pub(crate) envy: ArrayVec<ArrayVec<Frac, MEMBER_ROOM>, MEMBER_ROOM>,
 }
 
-/// Appends the title, the number of members and the rent.
+// Appends the title, the number of members and the rent.
 fn push_head(lines: &mut String, title: &str, members: u8, rent: u32) -> Result<(), NoMemory>
-    ensures { OnOk result (string_bytes lines.new ≡ string_bytes lines.old ++ rent_head title.now members rent) }
+    ensures { OnOk result
+        (string_bytes lines.new ≡ string_bytes lines.old ++ rent_head title.now members rent) }
 {
     push_line(lines, format_args!("rent {title}"))?;
     push_line(lines, format_args!("members {members}"))?;
@@ -44,7 +45,7 @@ fn push_head(lines: &mut String, title: &str, members: u8, rent: u32) -> Result<
     Ok(())
 }
 
-/// Appends the line of a member.
+// Appends the line of a member.
 fn push_member(
     lines: &mut String,
     names: &Names<'_>,
@@ -54,7 +55,9 @@ fn push_member(
     requires low { 1 ≤ member }
     requires high { member ≤ length names.now.members.now.items }
     requires figures { AreFigures (shown_names names.now) (figures_shown figures.now) }
-    ensures { OnOk result (string_bytes lines.new ≡ string_bytes lines.old ++ member_line (shown_names names.now) (figures_shown figures.now) member) }
+    ensures { OnOk result (string_bytes lines.new
+        ≡ string_bytes lines.old
+        ++ member_line (shown_names names.now) (figures_shown figures.now) member) }
 {
     let division = figures.division;
     let number = division.best.rooms[member as usize - 1];
@@ -69,14 +72,17 @@ fn push_member(
     )
 }
 
-/// Appends the lines of the members.
+// Appends the lines of the members.
 fn push_members(
     lines: &mut String,
     names: &Names<'_>,
     figures: &RentFigures<'_>,
 ) -> Result<(), NoMemory>
     requires figures { AreFigures (shown_names names.now) (figures_shown figures.now) }
-    ensures { OnOk result (string_bytes lines.new ≡ string_bytes lines.old ++ lines_to (length names.now.members.now.items) (member_line (shown_names names.now) (figures_shown figures.now))) }
+    ensures { OnOk result (string_bytes lines.new
+        ≡ string_bytes lines.old
+        ++ lines_to (length names.now.members.now.items)
+        (member_line (shown_names names.now) (figures_shown figures.now))) }
 {
     lines_law();
     for k in 0..names.members.len() as u8 {
@@ -85,26 +91,30 @@ fn push_members(
     Ok(())
 }
 
-/// Appends the line of the least utility.
+// Appends the line of the least utility.
 fn push_least(lines: &mut String, least: &Frac) -> Result<(), NoMemory>
-    ensures { OnOk result (string_bytes lines.new ≡ string_bytes lines.old ++ least_line least.now) }
+    ensures { OnOk result
+        (string_bytes lines.new ≡ string_bytes lines.old ++ least_line least.now) }
 {
     push_line(lines, format_args!("least utility {least}"))
 }
 
-/// Appends the line of a member in the envy table.
+// Appends the line of a member in the envy table.
 fn push_envy(lines: &mut String, figures: &RentFigures<'_>, member: u8) -> Result<(), NoMemory>
     requires low { 1 ≤ member }
     requires high { member ≤ length figures.now.envy.items }
-    ensures { OnOk result (string_bytes lines.new ≡ string_bytes lines.old ++ member_envy (figures_shown figures.now) member) }
+    ensures { OnOk result (string_bytes lines.new
+        ≡ string_bytes lines.old ++ member_envy (figures_shown figures.now) member) }
 {
     let row = Numbers(figures.envy[member as usize - 1].as_slice());
     push_line(lines, format_args!("envy {member}:{row}"))
 }
 
-/// Appends the envy table.
+// Appends the envy table.
 fn push_table(lines: &mut String, figures: &RentFigures<'_>) -> Result<(), NoMemory>
-    ensures { OnOk result (string_bytes lines.new ≡ string_bytes lines.old ++ lines_to (length figures.now.envy.items) (member_envy (figures_shown figures.now))) }
+    ensures { OnOk result (string_bytes lines.new
+        ≡ string_bytes lines.old
+        ++ lines_to (length figures.now.envy.items) (member_envy (figures_shown figures.now))) }
 {
     lines_law();
     for k in 0..figures.envy.len() as u8 {
@@ -113,7 +123,7 @@ fn push_table(lines: &mut String, figures: &RentFigures<'_>) -> Result<(), NoMem
     Ok(())
 }
 
-/// The report of a rent, from the figures that it tells.
+// The report of a rent, from the figures that it tells.
 fn rent_text(
     alloc: Global,
     names: &Names<'_>,
@@ -121,7 +131,8 @@ fn rent_text(
     figures: &RentFigures<'_>,
 ) -> Result<Vec<u8>, NoMemory>
     requires { AreFigures (shown_names names.now) (figures_shown figures.now) }
-    ensures { IfOk result (λ text. text.items ≡ rent_report (shown_names names.now) rent (figures_shown figures.now)) }
+    ensures { IfOk result (λ text.
+        text.items ≡ rent_report (shown_names names.now) rent (figures_shown figures.now)) }
 {
     let mut lines = String::new(alloc);
     push_head(
@@ -136,13 +147,14 @@ fn rent_text(
     Ok(lines.into_bytes())
 }
 
-/// The utility of each member with their own room.
+// The utility of each member with their own room.
 fn utilities_of(case: &RentCase, rooms: &[u8], prices: &[Frac]) -> ArrayVec<Frac, MEMBER_ROOM>
     requires case { IsValidRentCase case.now }
     requires count { length rooms.now ≡ room_count case.now }
     requires rooms { All (λ room. (1 ≤ room) × (room ≤ room_count case.now)) rooms.now }
     requires prices { ArePrices case.now prices.now }
-    ensures { AreUtilities case.now rooms.now (map fraction_of prices.now) (map fraction_of result.items) }
+    ensures { AreUtilities case.now rooms.now (map fraction_of prices.now)
+        (map fraction_of result.items) }
 {
     let mut utilities = ArrayVec::new();
     for member in 0..case.facts.members as usize {
@@ -151,7 +163,7 @@ fn utilities_of(case: &RentCase, rooms: &[u8], prices: &[Frac]) -> ArrayVec<Frac
     utilities
 }
 
-/// What the report tells of a division.
+// What the report tells of a division.
 fn figures_of<'a>(case: &RentCase, division: &'a RentDivision) -> RentFigures<'a>
     requires case { IsValidRentCase case.now }
     requires division { IsRentDivision case.now division.now }
@@ -168,7 +180,7 @@ fn figures_of<'a>(case: &RentCase, division: &'a RentDivision) -> RentFigures<'a
     }
 }
 
-/// The report of a rent, from the division that the solver gives for the case.
+// The report of a rent, from the division that the solver gives for the case.
 pub(crate) fn rent_report(
     alloc: Global,
     names: &Names<'_>,
@@ -179,7 +191,8 @@ pub(crate) fn rent_report(
     requires members { length names.now.members.now.items ≡ room_count case.now }
     requires rooms { length names.now.items.now.items ≡ room_count case.now }
     requires division { IsRentDivision case.now division.now }
-    ensures { IfOk result (λ text. IsRentReport (shown_names names.now) case.now division.now text.items) }
+    ensures { IfOk result (λ text.
+        IsRentReport (shown_names names.now) case.now division.now text.items) }
 {
     let figures = figures_of(case, division);
     rent_text(alloc, names, case.facts.rent, &figures)

@@ -1,9 +1,9 @@
 // The report of a case of any kind.
 ghost use Rattle.std.specs.Prelude.{◌≡◌, Ok, IfOk, length};
 ghost use Rattle.bid_rules.specs.Facts.{IsValidCase, case_of, facts_of, member_count};
-ghost use Rattle.case_fields.specs.Creations.{item_count};
+ghost use Rattle.body_fields.specs.Creations.{item_count};
 ghost use Rattle.certificates.specs.Division.{IsDivisionOf};
-ghost use Rattle.split_json.specs.Reading.{IsReady, shown};
+ghost use Rattle.split_json.specs.Reading.{IsReady, case_data_of};
 ghost use Rattle.split_reports.specs.Names.{shown_names};
 ghost use Rattle.split_reports.specs.Reports.{IsNamedReport, IsReport};
 
@@ -28,10 +28,11 @@ pub fn report(
     case: &Case,
     division: &Division,
 ) -> Result<Vec<u8>, NoMemory>
-    requires input { IsReady (shown input.now) }
+    requires input { IsReady (case_data_of input.now) }
     requires case { case_of input.now.facts input.now.bids.items ≡ Ok case.now }
     requires division { IsDivisionOf case.now division.now }
-    ensures { IfOk result (λ text. IsReport (shown input.now) case.now division.now text.items) }
+    ensures { IfOk result (λ text.
+        IsReport (case_data_of input.now) case.now division.now text.items) }
 {
     case_law();
     let names = Names {
@@ -56,7 +57,8 @@ pub fn named_report(
     requires members { length names.now.members.now.items ≡ member_count (facts_of case.now) }
     requires items { length names.now.items.now.items ≡ item_count (facts_of case.now) }
     requires division { IsDivisionOf case.now division.now }
-    ensures { IfOk result (λ text. IsNamedReport (shown_names names.now) case.now division.now text.items) }
+    ensures { IfOk result (λ text.
+        IsNamedReport (shown_names names.now) case.now division.now text.items) }
 {
     match (case, division) {
         (Case::Rent(case), Division::Rent(division)) => rent_report(alloc, names, case, division),

@@ -4,7 +4,7 @@ ghost use Rattle.split_reports.specs.TrialSpreads.{spread};
 
 use bid_rules::limits::Values;
 
-/// Spreads a whole by weights: the first few have of it what their sum has of the sum of all, rounded down.
+// Spreads a whole by weights: the first few have of it what their sum has of the sum of all, rounded down.
 pub(crate) fn spread_by(whole: u32, weights: &Values) -> Values
     requires some { 0 < sum weights.now.items }
     requires few { sum weights.now.items < 2 ^ 32 }
@@ -23,7 +23,7 @@ pub(crate) fn spread_by(whole: u32, weights: &Values) -> Values
     values
 }
 
-/// The sum of the weights.
+// The sum of the weights.
 fn sum_of(weights: &Values) -> u32
     requires { sum weights.now.items < 2 ^ 32 }
     ensures { result ≡ sum weights.now.items }
@@ -35,7 +35,7 @@ fn sum_of(weights: &Values) -> u32
     total
 }
 
-/// What a part of the total has of the whole, rounded down.
+// What a part of the total has of the whole, rounded down.
 fn part_of(whole: u32, part: u32, total: u32) -> u32
     requires some { 0 < total }
     requires part { part ≤ total }

@@ -6,7 +6,7 @@ ghost use Rattle.split_reports.specs.Parts.{text_at};
 
 use split_frac::Frac;
 
-/// The fraction with this number.
+// The fraction with this number.
 pub(crate) fn fraction_at(fractions: &[Frac], number: u8) -> Frac
     requires low { 1 ≤ number }
     requires high { number ≤ length fractions.now }
@@ -15,7 +15,7 @@ pub(crate) fn fraction_at(fractions: &[Frac], number: u8) -> Frac
     fractions[number as usize - 1]
 }
 
-/// The amount with this number.
+// The amount with this number.
 pub(crate) fn amount_at(amounts: &[i64], number: u8) -> i64
     requires low { 1 ≤ number }
     requires high { number ≤ length amounts.now }

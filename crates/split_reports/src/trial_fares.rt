@@ -9,7 +9,7 @@ use crate::draws::Draws;
 use crate::limits::{LEAST_LEG, LEG_COUNT};
 use bid_rules::limits::{LegRow, Legs, RiderList};
 
-/// Draws the legs from the origin and from each place, in order.
+// Draws the legs from the origin and from each place, in order.
 pub(crate) fn draw_legs(draws: &mut Draws, places: u8) -> Legs
     requires { places ≤ PLACE_ROOM }
     ensures legs { result.items ≡ leg_table draws.old.last places (places + 1) }
@@ -22,7 +22,7 @@ pub(crate) fn draw_legs(draws: &mut Draws, places: u8) -> Legs
     legs
 }
 
-/// Draws the legs from the origin, 0, or from a place to each place in order. That of the place to itself is 0 without a draw.
+// Draws the legs from the origin, 0, or from a place to each place in order. That of the place to itself is 0 without a draw.
 fn draw_row(draws: &mut Draws, from: u8, places: u8) -> LegRow
     requires { places ≤ PLACE_ROOM }
     ensures legs { result.items ≡ legs_drawn draws.old.last from places }
@@ -35,10 +35,12 @@ fn draw_row(draws: &mut Draws, from: u8, places: u8) -> LegRow
     row
 }
 
-/// Draws the leg from the origin or a place to a place.
+// Draws the leg from the origin or a place to a place.
 fn draw_leg(draws: &mut Draws, from: u8, place: u8) -> u32
-    ensures leg { result ≡ (if place == from then 0 else LEAST_LEG + next draws.old.last % LEG_COUNT) }
-    ensures last { draws.new.last ≡ (if place == from then draws.old.last else next draws.old.last) }
+    ensures leg { result
+        ≡ (if place == from then 0 else LEAST_LEG + next draws.old.last % LEG_COUNT) }
+    ensures last { draws.new.last
+        ≡ (if place == from then draws.old.last else next draws.old.last) }
 {
     if place == from {
         return 0;
@@ -46,7 +48,7 @@ fn draw_leg(draws: &mut Draws, from: u8, place: u8) -> u32
     LEAST_LEG + draws.draw() % LEG_COUNT
 }
 
-/// Draws a place for each rider.
+// Draws a place for each rider.
 pub(crate) fn draw_places(draws: &mut Draws, riders: u8, places: u8) -> RiderList
     requires riders { riders ≤ RIDER_ROOM }
     requires places { 1 ≤ places }

@@ -16,7 +16,9 @@ pub fn trial_law()
     ensures rent { (number : ℕ) → IsValidRentCase (trial_rent number) }
     ensures goods { (number : ℕ) → IsValidGoodsCase (trial_goods number) }
     ensures fare { (number : ℕ) → IsValidFareCase (trial_fare number) }
-    ensures prefixes { (case : GoodsCase) (steps : ℕ) → HasSteps case steps → steps ≤ tasks_of case * list_count (player_count case) (case.facts.goods - depth_of case) }
+    ensures prefixes { (case : GoodsCase) (steps : ℕ) → HasSteps case steps
+        → steps
+        ≤ tasks_of case * list_count (player_count case) (case.facts.goods - depth_of case) }
     ensures within { (number steps : ℕ) → HasSteps (trial_goods number) steps → steps ≤ 87360 }
     ensures first { after 1 (seed 1) ≡ 48271 }
     ensures second { after 2 (seed 1) ≡ 182605794 }

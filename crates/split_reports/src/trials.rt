@@ -35,7 +35,7 @@ pub fn trial_cases(number: u64) -> (RentCase, GoodsCase, FareCase)
     (rent, goods, fare)
 }
 
-/// Draws the rent.
+// Draws the rent.
 fn draw_rent(draws: &mut Draws) -> RentCase
     ensures case { result ≡ rent_behind draws.old.last }
     ensures last { draws.new.last ≡ after RENT_DRAWS draws.old.last }
@@ -49,7 +49,7 @@ fn draw_rent(draws: &mut Draws) -> RentCase
     }
 }
 
-/// Draws the goods.
+// Draws the goods.
 fn draw_goods(draws: &mut Draws) -> GoodsCase
     ensures case { result ≡ goods_behind draws.old.last }
     ensures last { draws.new.last ≡ after GOODS_DRAWS draws.old.last }
@@ -65,7 +65,7 @@ fn draw_goods(draws: &mut Draws) -> GoodsCase
     }
 }
 
-/// Draws the fare.
+// Draws the fare.
 fn draw_fare(draws: &mut Draws) -> FareCase
     ensures { result ≡ fare_behind draws.old.last }
 {
@@ -84,7 +84,7 @@ fn draw_fare(draws: &mut Draws) -> FareCase
     }
 }
 
-/// Draws rows of as many weights as there are columns, and spreads the whole by each.
+// Draws rows of as many weights as there are columns, and spreads the whole by each.
 fn draw_rows(draws: &mut Draws, rows: u8, columns: u8, whole: u32) -> ValueTable
     requires rows { rows ≤ MEMBER_ROOM }
     requires some { 1 ≤ columns }
@@ -100,7 +100,7 @@ fn draw_rows(draws: &mut Draws, rows: u8, columns: u8, whole: u32) -> ValueTable
     table
 }
 
-/// All members, by number from 1.
+// All members, by number from 1.
 fn all_members<const ROOM: usize>(members: u8) -> ArrayVec<u8, ROOM>
     requires room { members ≤ ROOM }
     requires few { members ≤ MEMBER_ROOM }

@@ -28,7 +28,9 @@ pub fn solve_alone(
     requires bids { All (λ bid. IfSome bid (IsCheckedBid facts.now)) bids.now }
     ensures solved { IsSolved facts.now bids.now result }
     ensures void { IsVoid result ↔ AreMissing facts.now bids.now }
-    ensures over { (goods : GoodsCase) (steps : ℕ) → case_of facts.now bids.now ≡ Ok (case.Goods goods) → HasSteps goods steps → IsOver result ↔ (goods.facts.limit < steps) }
+    ensures over { (goods : GoodsCase) (steps : ℕ)
+        → case_of facts.now bids.now ≡ Ok (case.Goods goods) → HasSteps goods steps → IsOver result
+        ↔ (goods.facts.limit < steps) }
 {
     case_law();
     limit_law();
@@ -42,7 +44,7 @@ pub fn solve_alone(
     }
 }
 
-/// The best division of a case.
+// The best division of a case.
 fn lone_division(alloc: Global, case: &Case) -> Result<Division, SolveFault>
     requires case { IsValidCase case.now }
     ensures { IsDivided case.now result }
@@ -57,7 +59,7 @@ fn lone_division(alloc: Global, case: &Case) -> Result<Division, SolveFault>
     }
 }
 
-/// What the search of a case of goods finds.
+// What the search of a case of goods finds.
 fn searched(case: &GoodsCase) -> Result<GoodsDivision, OverLimit>
     requires { IsValidGoodsCase case.now }
     ensures { IsSearched case.now result }

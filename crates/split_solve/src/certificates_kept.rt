@@ -8,11 +8,13 @@ ghost use Rattle.split_solve.specs.Searches.{IsGoodsText};
 
 use crate::kept::{KeptSearches, same_case};
 use crate::limits::{MOST_KEPT_BYTES, MOST_KEPT_SEARCHES};
+use crate::solver::Solver;
 use bid_rules::{Case, GoodsCase};
 use certificates::{Division, write_certificate};
-use split_base::NoMemory;
+use split_base::{Gate, NoMemory};
 use std::alloc::Global;
 use std::marker::Model;
+use std::thread::Threads;
 
 /// A case of goods, and its certificate. Contracts see the case.
 #[derive(Drop)]
@@ -33,7 +35,7 @@ impl Model for KeptCertificate {
 }
 
 impl KeptCertificate {
-    /// A copy of the certificate, if it is that of this case and there is memory for a copy.
+    // A copy of the certificate, if it is that of this case and there is memory for a copy.
     fn answer(&self, alloc: Global, case: &GoodsCase) -> Option<Vec<u8>>
         ensures { IfSome result (λ text. IsGoodsText case.now text.items) }
     {
@@ -46,7 +48,7 @@ impl KeptCertificate {
 }
 
 impl KeptSearches {
-    /// A copy of the certificate of this case, if it is kept.
+    // A copy of the certificate of this case, if it is kept.
     fn certificate(&self, alloc: Global, case: &GoodsCase) -> Option<Vec<u8>>
         ensures { IfSome result (λ text. IsGoodsText case.now text.items) }
     {
@@ -58,7 +60,7 @@ impl KeptSearches {
         None
     }
 
-    /// Keeps the certificate of a case, in place of the oldest ones where there is no room beside them.
+    // Keeps the certificate of a case, in place of the oldest ones where there is no room beside them.
     fn keep_certificate(&mut self, alloc: Global, case: &GoodsCase, text: &[u8])
         requires { IsGoodsText case.now text.now }
     {
@@ -74,7 +76,7 @@ impl KeptSearches {
         }
     }
 
-    /// Forgets the oldest certificates until one of so many bytes has room.
+    // Forgets the oldest certificates until one of so many bytes has room.
     fn make_room(&mut self, bytes: usize) {
         for _ in 0..MOST_KEPT_SEARCHES {
             if self.certificates.is_empty() || self.has_room(bytes) {
@@ -84,13 +86,13 @@ impl KeptSearches {
         }
     }
 
-    /// Whether a certificate of so many bytes has room beside those that are kept.
+    // Whether a certificate of so many bytes has room beside those that are kept.
     fn has_room(&self, bytes: usize) -> bool {
         self.certificates.len() < MOST_KEPT_SEARCHES
             && self.kept_bytes().saturating_add(bytes) <= MOST_KEPT_BYTES
     }
 
-    /// How many bytes the certificates have that are kept.
+    // How many bytes the certificates have that are kept.
     fn kept_bytes(&self) -> usize {
         let mut bytes: usize = 0;
         for kept in self.certificates.iter() {
@@ -100,7 +102,7 @@ impl KeptSearches {
     }
 }
 
-/// The same bytes once more, if there is memory for them.
+// The same bytes once more, if there is memory for them.
 fn copy_of(alloc: Global, bytes: &[u8]) -> Option<Vec<u8>>
     ensures { IfSome result (λ copy. copy.items ≡ bytes.now) }
 {
@@ -115,23 +117,23 @@ fn copy_of(alloc: Global, bytes: &[u8]) -> Option<Vec<u8>>
 ///
 /// They never change the text, since each is the canonical certificate of its whole case. Memory that is refused for keeping is no fault.
 /// `NoMemory` comes only when memory runs out.
-pub fn certificate_once(
-    alloc: Global,
+pub fn certificate_once<R: Threads + Sync, G: Gate + Sync>(
+    solver: &mut Solver<'_, R, G>,
     case: &Case,
     division: &Division,
-    searches: &mut KeptSearches,
 ) -> Result<Vec<u8>, NoMemory>
     requires case { IsValidCase case.now }
     requires division { IsDivisionOf case.now division.now }
     ensures { IfOk result (λ text. IsCanonical case.now text.items) }
 {
+    let alloc = solver.means.alloc;
     match case {
-        Case::Goods(goods) => goods_certificate(alloc, case, goods, division, searches),
+        Case::Goods(goods) => goods_certificate(alloc, case, goods, division, solver.searches),
         Case::Rent(_) | Case::Fares(_) => write_certificate(alloc, case, division),
     }
 }
 
-/// The certificate of a case of goods, by the kept ones.
+// The certificate of a case of goods, by the kept ones.
 fn goods_certificate(
     alloc: Global,
     case: &Case,

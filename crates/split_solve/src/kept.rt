@@ -30,7 +30,7 @@ impl Model for KeptSearch {
 }
 
 impl KeptSearch {
-    /// What the search of this case found, if it is the case that is kept.
+    // What the search of this case found, if it is the case that is kept.
     fn answer(&self, case: &GoodsCase) -> Option<Result<GoodsDivision, OverLimit>>
         ensures { IfSome result (IsSearched case.now) }
     {
@@ -62,7 +62,7 @@ impl KeptSearches {
         }
     }
 
-    /// What the search of this case found, if it is kept.
+    // What the search of this case found, if it is kept.
     pub(crate) fn answer(&self, case: &GoodsCase) -> Option<Result<GoodsDivision, OverLimit>>
         ensures { IfSome result (IsSearched case.now) }
     {
@@ -74,7 +74,7 @@ impl KeptSearches {
         None
     }
 
-    /// Keeps what the search of a case found, in place of the oldest if there are `MOST_KEPT_SEARCHES`.
+    // Keeps what the search of a case found, in place of the oldest if there are `MOST_KEPT_SEARCHES`.
     pub(crate) fn keep(&mut self, case: &GoodsCase, found: &Result<GoodsDivision, OverLimit>)
         requires { IsSearched case.now found.now }
     {
@@ -88,7 +88,7 @@ impl KeptSearches {
     }
 }
 
-/// The same case once more.
+// The same case once more.
 pub(crate) fn same_case(case: &GoodsCase) -> GoodsCase
     ensures { result ≡ case.now }
 {
@@ -103,7 +103,7 @@ pub(crate) fn same_case(case: &GoodsCase) -> GoodsCase
     }
 }
 
-/// The same end of a search once more.
+// The same end of a search once more.
 fn same_end(found: &Result<GoodsDivision, OverLimit>) -> Result<GoodsDivision, OverLimit>
     ensures { result ≡ found.now }
 {
@@ -117,7 +117,7 @@ fn same_end(found: &Result<GoodsDivision, OverLimit>) -> Result<GoodsDivision, O
     }
 }
 
-/// The same numbers once more.
+// The same numbers once more.
 fn same_numbers<const N: usize>(numbers: &ArrayVec<u8, N>) -> ArrayVec<u8, N>
     ensures { result ≡ numbers.now }
 {
@@ -128,7 +128,7 @@ fn same_numbers<const N: usize>(numbers: &ArrayVec<u8, N>) -> ArrayVec<u8, N>
     copy
 }
 
-/// The same points once more, by player.
+// The same points once more, by player.
 fn same_table(table: &ValueTable) -> ValueTable
     ensures { result ≡ table.now }
 {
@@ -139,7 +139,7 @@ fn same_table(table: &ValueTable) -> ValueTable
     copy
 }
 
-/// The same points once more, by good.
+// The same points once more, by good.
 fn same_values(values: &Values) -> Values
     ensures { result ≡ values.now }
 {

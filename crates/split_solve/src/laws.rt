@@ -16,13 +16,19 @@ use nash_search::limit_law;
 /// Unless memory runs out, facts and bids have one end: a case with its best division, or one fault. So neither the number of workers nor
 /// their order changes it. Checked facts and bids have one division, too (`one_end`).
 pub fn solve_law()
-    ensures one_case { (facts : Facts) (bids : List (Option Bid)) (a b : Case × Division) → IsSolved facts bids (Ok a) → IsSolved facts bids (Ok b) → a.0 ≡ b.0 }
-    ensures one_fault { (facts : Facts) (bids : List (Option Bid)) (fault other : SolveFault) → IsSolved facts bids (Err fault) → IsSolved facts bids (Err other)
-        → fault ≢ NoMemory → other ≢ NoMemory → fault ≡ other }
-    ensures one_kind { (facts : Facts) (bids : List (Option Bid)) (answer : Case × Division) (fault : SolveFault) → IsSolved facts bids (Ok answer) → IsSolved facts bids (Err fault)
+    ensures one_case { (facts : Facts) (bids : List (Option Bid)) (a b : Case × Division)
+        → IsSolved facts bids (Ok a) → IsSolved facts bids (Ok b) → a.0 ≡ b.0 }
+    ensures one_fault { (facts : Facts) (bids : List (Option Bid)) (fault other : SolveFault)
+        → IsSolved facts bids (Err fault) → IsSolved facts bids (Err other) → fault ≢ NoMemory
+        → other ≢ NoMemory → fault ≡ other }
+    ensures one_kind { (facts : Facts) (bids : List (Option Bid)) (answer : Case × Division)
+        (fault : SolveFault) → IsSolved facts bids (Ok answer) → IsSolved facts bids (Err fault)
         → fault ≡ NoMemory }
-    ensures one_end { (facts : Facts) (bids : List (Option Bid)) (end other : Result (Case × Division) SolveFault) → IsCheckedFacts facts → length bids ≡ member_count facts
-        → All (λ bid. IfSome bid (IsCheckedBid facts)) bids → IsSolved facts bids end → IsSolved facts bids other → end ≢ Err NoMemory → other ≢ Err NoMemory → end ≡ other }
+    ensures one_end { (facts : Facts) (bids : List (Option Bid))
+        (end other : Result (Case × Division) SolveFault) → IsCheckedFacts facts
+        → length bids ≡ member_count facts → All (λ bid. IfSome bid (IsCheckedBid facts)) bids
+        → IsSolved facts bids end → IsSolved facts bids other → end ≢ Err NoMemory
+        → other ≢ Err NoMemory → end ≡ other }
 {
     case_law();
     division_law();

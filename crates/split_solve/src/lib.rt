@@ -11,10 +11,12 @@ mod certificates_kept;
 mod kept;
 mod laws;
 pub mod limits;
+mod solver;
 mod solving;
 
 pub use alone::solve_alone;
 pub use certificates_kept::certificate_once;
 pub use kept::KeptSearches;
 pub use laws::solve_law;
+pub use solver::Solver;
 pub use solving::{SolveFault, solve, solve_once};

@@ -10,12 +10,13 @@ ghost use Rattle.split_solve.specs.Searches.{IsSearched};
 ghost use Rattle.split_solve.specs.Solving.{IsDivided, IsOver, IsSolved, IsVoid};
 
 use crate::kept::KeptSearches;
+use crate::solver::Solver;
 use bid_rules::{Bid, Case, Facts, GoodsCase, Missing, case_law, make_case};
 use certificates::Division;
 use nash_search::{GoodsDivision, OverLimit, limit_law};
 use rent_maximin::solve_rent;
 use search_workers::limits::MOST_WORKERS;
-use search_workers::search;
+use search_workers::{Means, Workers, search};
 use shapley_core::solve_fares;
 use split_base::{Gate, NoMemory};
 use std::alloc::Global;
@@ -51,31 +52,36 @@ pub fn solve<R: Threads + Sync, G: Gate + Sync>(
     requires workers { (1 ≤ workers) × (workers ≤ MOST_WORKERS) }
     ensures solved { IsSolved facts.now bids.now result }
     ensures void { IsVoid result ↔ AreMissing facts.now bids.now }
-    ensures over { (goods : GoodsCase) (steps : ℕ) → case_of facts.now bids.now ≡ Ok (case.Goods goods) → HasSteps goods steps → IsOver result ↔ (goods.facts.limit < steps) }
+    ensures over { (goods : GoodsCase) (steps : ℕ)
+        → case_of facts.now bids.now ≡ Ok (case.Goods goods) → HasSteps goods steps → IsOver result
+        ↔ (goods.facts.limit < steps) }
 {
     let mut searches = KeptSearches::new(alloc);
-    solve_once(alloc, rt, facts, bids, &mut searches, workers, gate)
+    let means = Means { alloc, rt, gate };
+    let mut solver = Solver {
+        means: &means,
+        workers: Workers::new(workers),
+        searches: &mut searches,
+    };
+    solve_once(&mut solver, facts, bids)
 }
 
 /// What `solve` gives, by the kept searches: a case of goods that is among them is not searched anew, and the search of another is kept.
 ///
 /// They never change the answer. Memory that is refused for keeping is no fault.
 pub fn solve_once<R: Threads + Sync, G: Gate + Sync>(
-    alloc: Global,
-    rt: &R,
+    solver: &mut Solver<'_, R, G>,
     facts: &Facts,
     bids: &[Option<Bid>],
-    searches: &mut KeptSearches,
-    workers: u8,
-    gate: &G,
 ) -> Result<(Case, Division), SolveFault>
     requires facts { IsCheckedFacts facts.now }
     requires count { length bids.now ≡ member_count facts.now }
     requires bids { All (λ bid. IfSome bid (IsCheckedBid facts.now)) bids.now }
-    requires workers { (1 ≤ workers) × (workers ≤ MOST_WORKERS) }
     ensures solved { IsSolved facts.now bids.now result }
     ensures void { IsVoid result ↔ AreMissing facts.now bids.now }
-    ensures over { (goods : GoodsCase) (steps : ℕ) → case_of facts.now bids.now ≡ Ok (case.Goods goods) → HasSteps goods steps → IsOver result ↔ (goods.facts.limit < steps) }
+    ensures over { (goods : GoodsCase) (steps : ℕ)
+        → case_of facts.now bids.now ≡ Ok (case.Goods goods) → HasSteps goods steps → IsOver result
+        ↔ (goods.facts.limit < steps) }
 {
     case_law();
     limit_law();
@@ -83,59 +89,51 @@ pub fn solve_once<R: Threads + Sync, G: Gate + Sync>(
         Ok(case) => case,
         Err(missing) => return Err(SolveFault::Void { missing }),
     };
-    match best_division(alloc, rt, &case, searches, workers, gate) {
+    match best_division(solver, &case) {
         Ok(division) => Ok((case, division)),
         Err(fault) => Err(fault),
     }
 }
 
-/// The best division of a case, by the kept searches.
+// The best division of a case, by the kept searches.
 fn best_division<R: Threads + Sync, G: Gate + Sync>(
-    alloc: Global,
-    rt: &R,
+    solver: &mut Solver<'_, R, G>,
     case: &Case,
-    searches: &mut KeptSearches,
-    workers: u8,
-    gate: &G,
 ) -> Result<Division, SolveFault>
     requires case { IsValidCase case.now }
-    requires workers { (1 ≤ workers) × (workers ≤ MOST_WORKERS) }
     ensures { IsDivided case.now result }
 {
     match case {
         Case::Rent(case) => Ok(Division::Rent(solve_rent(case))),
-        Case::Goods(case) => end_of(search_once(alloc, rt, case, searches, workers, gate)),
-        Case::Fares(case) => match solve_fares(alloc, case) {
+        Case::Goods(case) => end_of(search_once(solver, case)),
+        Case::Fares(case) => match solve_fares(solver.means.alloc, case) {
             Ok(division) => Ok(Division::Fares(division)),
             Err(NoMemory) => Err(SolveFault::NoMemory),
         },
     }
 }
 
-/// What the search of a case of goods finds: what is kept of it, and otherwise a new search, which is then kept.
+// What the search of a case of goods finds: what is kept of it, and otherwise a new search, which is then kept.
 fn search_once<R: Threads + Sync, G: Gate + Sync>(
-    alloc: Global,
-    rt: &R,
+    solver: &mut Solver<'_, R, G>,
     case: &GoodsCase,
-    searches: &mut KeptSearches,
-    workers: u8,
-    gate: &G,
 ) -> Result<GoodsDivision, OverLimit>
     requires case { IsValidGoodsCase case.now }
-    requires workers { (1 ≤ workers) × (workers ≤ MOST_WORKERS) }
     ensures { IsSearched case.now result }
 {
-    match searches.answer(case) {
+    match solver.searches.answer(case) {
         Some(found) => found,
         None => {
-            let found = search(alloc, rt, case, workers, gate);
-            searches.keep(case, &found);
+            let means = solver.means;
+            let workers = solver.workers.count();
+            let found = search(means.alloc, means.rt, case, workers, means.gate);
+            solver.searches.keep(case, &found);
             found
         }
     }
 }
 
-/// How a case of goods ends by its search.
+// How a case of goods ends by its search.
 pub(crate) fn end_of(found: Result<GoodsDivision, OverLimit>) -> Result<Division, SolveFault>
     ensures { (goods : GoodsCase) → IsSearched goods found → IsDivided (case.Goods goods) result }
 {

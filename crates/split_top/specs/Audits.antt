@@ -19,7 +19,7 @@ use Rattle.split_base.specs.Ports.{Dials, TakesBack}
 use Rattle.rule_verdicts.specs.declared.verdict.Verdict.{Verdict}
 use Rattle.rule_verdicts.specs.declared.verdict.Verdict.TheVariants.{No, Yes}
 
--- the ending that an answer of a fetch is
+-- the ending that the answer of a fetch stands for
 abbrev pub fetch_ending : Result Verdict FetchEnd → Result (List ℕ) Stop
 fetch_ending (Ok Yes) = Ok yes_line
 fetch_ending (Ok (No rule)) = Err (BrokenRule rule)
@@ -29,7 +29,7 @@ fetch_ending (Err (NotText line)) = Err (BrokenLine line)
 fetch_ending (Err fetch.TooLong) = Err stop.TooLong
 fetch_ending (Err LinkFault) = Err PortFault
 
--- the dialer's count afterwards: one more where the link failed
+-- the dialer's count afterwards: one more if the link failed
 abbrev pub faults_behind : ℕ → Result Verdict FetchEnd → ℕ
 faults_behind before (Ok verdict) = before
 faults_behind before (Err Reply) = before

@@ -55,7 +55,7 @@ HasCauses tells outside words status = get_or (licences tells outside words) sta
 abbrev pub IsStill : ℕ → ℕ → Type 0
 IsStill before after = HasRisen before after → ⊥
 
--- where no call of an object that the command uses failed, it ends as its input or its file calls for, or because there was no memory where it takes some
+-- if no call of an object that the command uses failed, it ends as its input or its file calls for, or for lack of memory if it takes any
 abbrev pub Finishes : {D P L C X M : Type 0} → OutsideTells D P L C X M → Outside D P C X → Command → ℕ → Type 0
 Finishes tells outside (Init secret) status =
     tells.disk.is_honest outside.disk → IsStill (tells.disk.faults outside.disk) (tells.disk.faults outside.disk_now) → length (tells.disk.seen outside.disk) ≡ 0 → status ≡ 0
@@ -70,14 +70,14 @@ Finishes tells outside (Read reads) status =
     IsSound outside.input
     → IfSome outside.input.bytes_before (λ bytes. (ending : Result (List ℕ) Stop) → CallsFor reads bytes ending → (status ≡ (owed ending).status) ⊎ (ReadingTakesMemory reads × (status ≡ 9)))
 
--- where no write failed, the status is 2 exactly where the words are no row, and else the one that their command finishes with
+-- if no write failed, the status is 2 exactly if the words are no row, and otherwise the one that their command finishes with
 abbrev pub IsComplete : {D P L C X M : Type 0} → OutsideTells D P L C X M → Outside D P C X → List (List ℕ) → ℕ → Type 0
 IsComplete tells outside words status =
     IsSound outside.output → (AreNoRow words × (status ≡ 2)) ⊎ ((command : Command) × Names words command × Finishes tells outside command status)
 
--- What holds of the words of `serve`, for each ending whose line was due. If the file was not opened, that line has status 4, 7 or 9, and neither
--- the port nor the clock was called. Else the headline holds of so many links, at most COUNT, as `IsOpened` says: the line has status 0 and tells
--- their number, and no call of the port failed; or 8, where one failed. Where that was the call to listen, they are none.
+-- What holds of the words of `serve`, for each ending whose line was due. If the file was not opened, that line has status 4, 7 or 9, and neither the
+-- port nor the clock was called. Otherwise the headline holds of so many links, at most COUNT, as `IsOpened` says: the line has status 0 and tells
+-- their number, and no call of the port failed; or it has status 8, because one failed. If that was the call to listen, there are no links.
 pub record IsServed {D P L C X M : Type 0} (tells : OutsideTells D P L C X M) (outside : Outside D P C X) (port count status : ℕ) : Type 0 where
   pub ending : Result (List ℕ) Stop
   pub serves : Serves tells.disk tells.port tells.links tells.clock outside.disk outside.disk_now outside.port outside.port_now outside.clock outside.clock_now port count ending

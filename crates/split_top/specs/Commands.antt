@@ -2,7 +2,6 @@
 use Rattle.std.specs.Prelude.{◌≡◌, ℕ, List, [], ◌∷◌, codes}
 use Rattle.input_commands.specs.declared.command.InputCommand.{InputCommand}
 use Rattle.input_commands.specs.declared.command.InputCommand.TheVariants.{Solve, Report, Check, Weigh, Winner, CheckWinner}
-use Rattle.input_commands.specs.Commands.{AreWorkers, HasWorkers}
 use Rattle.search_workers.specs.declared.limits.TheConstants.{MOST_WORKERS}
 use Rattle.split_top.specs.declared.command.Command.{Command}
 use Rattle.split_top.specs.declared.command.Command.TheVariants.{Init, Serve, Dump, Trial, Audit, Read}
@@ -40,12 +39,3 @@ Names words (Read reads) = NamesReading words reads
 -- the words are no row of the command table
 abbrev pub AreNoRow : List (List ℕ) → Type 0
 AreNoRow words = (command : Command) → Names words command → ⊥
-
--- the numbers of workers of the command are in their range
-abbrev pub IsInRange : Command → Type 0
-IsInRange (Init secret) = Unit {0}
-IsInRange (Serve port workers count) = AreWorkers workers
-IsInRange Dump = Unit {0}
-IsInRange (Trial number workers) = AreWorkers workers
-IsInRange (Audit port asked) = Unit {0}
-IsInRange (Read reads) = HasWorkers reads

@@ -1,4 +1,4 @@
--- What was around a command before it and after it.
+-- The objects outside a command, before it and after it.
 use Rattle.std.specs.Prelude.{◌≡◌}
 use Rattle.command_results.specs.ObjectUse.{IsUntouched, ObjectUse}
 
@@ -38,26 +38,26 @@ pub record UsesNothing {D P C X : Type 0} (outside : Outside D P C X) : Type 0 w
   pub dialer : outside.dialer_now ≡ outside.dialer
   pub input : IsUntouched outside.input
 
--- nothing but the disk and the output was
+-- nothing but the disk and the output was touched
 pub record UsesDisk {D P C X : Type 0} (outside : Outside D P C X) : Type 0 where
   pub port : outside.port_now ≡ outside.port
   pub clock : outside.clock_now ≡ outside.clock
   pub dialer : outside.dialer_now ≡ outside.dialer
   pub input : IsUntouched outside.input
 
--- nothing but the disk, the port, the clock and the output was
+-- nothing but the disk, the port, the clock and the output was touched
 pub record UsesHost {D P C X : Type 0} (outside : Outside D P C X) : Type 0 where
   pub dialer : outside.dialer_now ≡ outside.dialer
   pub input : IsUntouched outside.input
 
--- nothing but the dialer and the output was
+-- nothing but the dialer and the output was touched
 pub record UsesDialer {D P C X : Type 0} (outside : Outside D P C X) : Type 0 where
   pub disk : outside.disk_now ≡ outside.disk
   pub port : outside.port_now ≡ outside.port
   pub clock : outside.clock_now ≡ outside.clock
   pub input : IsUntouched outside.input
 
--- nothing but the input and the output was
+-- nothing but the input and the output was touched
 pub record UsesInput {D P C X : Type 0} (outside : Outside D P C X) : Type 0 where
   pub disk : outside.disk_now ≡ outside.disk
   pub port : outside.port_now ≡ outside.port

@@ -9,10 +9,11 @@ use remote_check::{FetchEnd, Words, fetch};
 use rule_verdicts::Verdict;
 use split_base::{Dial, Failed};
 
-/// Dials the port of a host on this machine, once, has the certificate of an instance judged as it comes, and gives the link back, whatever came. It takes no
-/// memory.
+// Dials the port of a host on this machine, once, has the certificate of an instance judged as it comes, and gives the link back, whatever came. It takes no
+// memory.
 pub(crate) fn audit<X: Dial>(dialer: &mut X, port: u16, words: &Words) -> Result<Text, Stop>
-    ensures { Audits X.Dial (tells_of X.Link.Source X.Link.Sink) dialer.old dialer.new port words.now (ending_of result) }
+    ensures { Audits X.Dial (tells_of X.Link.Source X.Link.Sink) dialer.old dialer.new port
+        words.now (ending_of result) }
 {
     let mut link = match dialer.dial(port) {
         Ok(link) => link,
@@ -23,7 +24,7 @@ pub(crate) fn audit<X: Dial>(dialer: &mut X, port: u16, words: &Words) -> Result
     ending(answer)
 }
 
-/// The ending that an answer is.
+// The ending that an answer is.
 fn ending(answer: Result<Verdict, FetchEnd>) -> Result<Text, Stop>
     ensures { ending_of result ≡ fetch_ending answer }
 {

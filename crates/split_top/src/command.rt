@@ -10,28 +10,44 @@ use crate::words::{key_in, number_in, secret_in};
 use gate_log::SECRET_SIZE;
 use input_commands::InputCommand;
 use remote_check::Words;
+use search_workers::Workers;
 use search_workers::limits::MOST_WORKERS;
 
 /// A row of the command table.
 #[derive(Clone, Copy, Debug)]
 pub enum Command {
     /// `init SECRET`: makes the journal, with the secret of 64 hexadecimal digits.
-    Init { secret: [u8; SECRET_SIZE] },
+    Init {
+        secret: [u8; SECRET_SIZE],
+    },
     /// `serve PORT WORKERS COUNT`: serves connections, and writes how many.
-    Serve { port: u16, workers: u8, count: u64 },
+    Serve {
+        port: u16,
+        workers: Workers,
+        count: u64,
+    },
     /// `dump`: writes the instances of the journal as comma-separated values.
     Dump,
     /// `trial NUMBER WORKERS`: makes three cases from the number, solves and checks them, and writes what came of it.
-    Trial { number: u64, workers: u8 },
+    Trial {
+        number: u64,
+        workers: Workers,
+    },
     /// `audit PORT ID KEY`: fetches the certificate of an instance from a host on this machine, and writes whether all its rules hold.
-    Audit { port: u16, words: Words },
+    Audit {
+        port: u16,
+        words: Words,
+    },
     /// One that reads an input: `solve WORKERS`, `report WORKERS`, `check`, `weigh`, `winner` or `checkwinner`.
-    Read { reads: InputCommand },
+    Read {
+        reads: InputCommand,
+    },
 }
 
-/// The command that the words name, if they are a row of the command table.
+// The command that the words name, if they are a row of the command table.
 pub(crate) fn command_of(words: &[String]) -> Option<Command>
-    ensures { MatchOption result (AreNoRow (map string_bytes words.now)) (Names (map string_bytes words.now)) }
+    ensures { MatchOption result (AreNoRow (map string_bytes words.now))
+        (Names (map string_bytes words.now)) }
 {
     match words.split_first() {
         Some((name, rest)) => command_named(name.as_str(), rest),
@@ -39,9 +55,10 @@ pub(crate) fn command_of(words: &[String]) -> Option<Command>
     }
 }
 
-/// The command of this name, with the words after it.
+// The command of this name, with the words after it.
 fn command_named(name: &str, rest: &[String]) -> Option<Command>
-    ensures { MatchOption result (AreNoRow (name.now ∷ map string_bytes rest.now)) (Names (name.now ∷ map string_bytes rest.now)) }
+    ensures { MatchOption result (AreNoRow (name.now ∷ map string_bytes rest.now))
+        (Names (name.now ∷ map string_bytes rest.now)) }
 {
     match rest {
         [] => lone_command(name),
@@ -54,7 +71,7 @@ fn command_named(name: &str, rest: &[String]) -> Option<Command>
     }
 }
 
-/// The command of this name alone.
+// The command of this name alone.
 fn lone_command(name: &str) -> Option<Command>
     ensures { MatchOption result (AreNoRow (name.now ∷ [])) (Names (name.now ∷ [])) }
 {
@@ -68,9 +85,10 @@ fn lone_command(name: &str) -> Option<Command>
     }
 }
 
-/// The command of this name with one word more.
+// The command of this name with one word more.
 fn command_of_one(name: &str, word: &str) -> Option<Command>
-    ensures { MatchOption result (AreNoRow (name.now ∷ word.now ∷ [])) (Names (name.now ∷ word.now ∷ [])) }
+    ensures { MatchOption result (AreNoRow (name.now ∷ word.now ∷ []))
+        (Names (name.now ∷ word.now ∷ [])) }
 {
     match name {
         "init" => Some(Command::Init {
@@ -86,9 +104,10 @@ fn command_of_one(name: &str, word: &str) -> Option<Command>
     }
 }
 
-/// The command of this name with two words more.
+// The command of this name with two words more.
 fn command_of_two(name: &str, first: &str, second: &str) -> Option<Command>
-    ensures { MatchOption result (AreNoRow (name.now ∷ first.now ∷ second.now ∷ [])) (Names (name.now ∷ first.now ∷ second.now ∷ [])) }
+    ensures { MatchOption result (AreNoRow (name.now ∷ first.now ∷ second.now ∷ []))
+        (Names (name.now ∷ first.now ∷ second.now ∷ [])) }
 {
     match name {
         "trial" => Some(Command::Trial {
@@ -99,9 +118,10 @@ fn command_of_two(name: &str, first: &str, second: &str) -> Option<Command>
     }
 }
 
-/// The command of this name with three words more.
+// The command of this name with three words more.
 fn command_of_three(name: &str, first: &str, second: &str, third: &str) -> Option<Command>
-    ensures { MatchOption result (AreNoRow (name.now ∷ first.now ∷ second.now ∷ third.now ∷ [])) (Names (name.now ∷ first.now ∷ second.now ∷ third.now ∷ [])) }
+    ensures { MatchOption result (AreNoRow (name.now ∷ first.now ∷ second.now ∷ third.now ∷ []))
+        (Names (name.now ∷ first.now ∷ second.now ∷ third.now ∷ [])) }
 {
     match name {
         "serve" => Some(Command::Serve {
@@ -120,20 +140,23 @@ fn command_of_three(name: &str, first: &str, second: &str, third: &str) -> Optio
     }
 }
 
+// A command that reads an input.
 fn reading(reads: InputCommand) -> Command
     ensures { result ≡ Command.Read reads }
 {
     Command::Read { reads }
 }
 
-/// The number of workers that a word says.
-fn workers_in(word: &str) -> Option<u8>
-    ensures { MatchOption result (IsNoNumber 1 MOST_WORKERS word.now) (IsNumber 1 MOST_WORKERS word.now) }
+// The number of workers that a word says.
+fn workers_in(word: &str) -> Option<Workers>
+    ensures { MatchOption result (IsNoNumber 1 MOST_WORKERS word.now)
+        (IsNumber 1 MOST_WORKERS word.now) }
 {
-    Some(number_in(word, 1, u64::from(MOST_WORKERS))? as u8)
+    let count = number_in(word, 1, u64::from(MOST_WORKERS))?;
+    Some(Workers::new(count as u8))
 }
 
-/// The number of a port that a word says.
+// The number of a port that a word says.
 fn port_in(word: &str) -> Option<u16>
     ensures { MatchOption result (IsNoNumber 1 MOST_PORT word.now) (IsNumber 1 MOST_PORT word.now) }
 {

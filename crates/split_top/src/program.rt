@@ -1,11 +1,9 @@
 // The top call: from words to a status and what is written.
 ghost use Rattle.std.specs.Prelude.{◌≡◌, ◌≤◌, map, string_bytes};
 ghost use Rattle.command_results.specs.Endings.{ending_of, owed};
-ghost use Rattle.command_results.specs.ObjectUse.{Ends, ObjectUse, told};
+ghost use Rattle.command_results.specs.ObjectUse.{Ends, ObjectUse, use_of};
 ghost use Rattle.serving.specs.Served.{tells_of};
-ghost use Rattle.input_commands.specs.Commands.{AreWorkers};
 ghost use Rattle.split_top.specs.Causes.{Holds};
-ghost use Rattle.split_top.specs.Commands.{IsInRange};
 ghost use Rattle.split_top.specs.Outside.{outside_of};
 ghost use Rattle.split_top.specs.Runs.{Came, Comes, Tries, tells_by};
 
@@ -15,6 +13,7 @@ use command_results::{Stop, Text};
 use host_commands::{dump, headline_law, make, serve_port};
 use host_journal::events_law;
 use input_commands::{input_answer_law, input_ending};
+use search_workers::{Means, Workers};
 use split_base::{Clock, Dial, Disk, Failed, Gate, NoMemory, Port, Sink, Source, write_all};
 use std::alloc::Global;
 use std::thread::Threads;
@@ -32,7 +31,7 @@ pub struct Status {
 /// | words | does |
 /// |---|---|
 /// | `init SECRET` | makes the journal, with the secret of 64 hexadecimal digits; writes nothing |
-/// | `serve PORT WORKERS COUNT` | opens the journal, listens at the port, serves COUNT connections (a connection that comes back after others counts again), then exits; writes `served` and their number, which is smaller than COUNT only where no connection comes any more |
+/// | `serve PORT WORKERS COUNT` | opens the journal, listens at the port, serves COUNT connections (a connection that comes back after others counts again), then exits; writes `served` and their number, which is smaller than COUNT only if no connection comes any more |
 /// | `dump` | opens the journal, and writes its instances as comma-separated values |
 /// | `trial NUMBER WORKERS` | makes three cases from the number, solves them and checks their certificates, and writes four lines |
 /// | `audit PORT ID KEY` | has a host on this machine give an instance's certificate, judges it, and writes `yes` or `no` and the rule |
@@ -46,15 +45,15 @@ pub struct Status {
 /// | status | comes | line |
 /// |---|---|---|
 /// | 0 | the command came to its text | that text |
-/// | 1 | exactly where bids are missing; where the step count of goods, or the count of prefixes that an audit leaves open, is above the case's limit; where a case for adjusted winner has not two players; where a rule is broken | `void:` and the members who lack a bid; `step limit` and the limit; `not two`; `no` and the first such rule |
-/// | 2 | exactly where the words are no row of the command table | `refused: words` |
-/// | 3 | exactly where the input is too long, no JSON, breaks a field's rule, or is no text of its grammar; where what a host replied is no reply that holds a certificate, or has another status than 200 | `refused: too long`, `refused: json`, `refused: field NAME`, `refused: line K` with the first broken line, `refused: reply`, `refused: status N` |
-/// | 4 | exactly where the file is no journal, or not empty where one is made | `refused: journal at PLACE` |
-/// | 5 | only where the input's count of faults rose in this call, by one | `read fault` |
-/// | 6 | only where one write failed and a byte of the text is missing: the output's count rose in this call, by one | a first part of the text, and not all of it |
-/// | 7 | only where the disk's count rose, by one, while the file was made or opened | `store fault` |
-/// | 8 | only where the port's count rose in `listen` or `accept`, or the dialer's, by one | `port fault` |
-/// | 9 | only where there was no memory; never for `init`, `check`, `checkwinner` and `audit`, nor for `serve` once it listens | `no memory` |
+/// | 1 | exactly if bids are missing; if the step count of goods, or the count of prefixes that an audit leaves open, is above the case's limit; if a case for adjusted winner doesn't have two players; or if a rule is broken | `void:` and the members who lack a bid; `step limit` and the limit; `not two`; `no` and the first such rule |
+/// | 2 | exactly if the words are no row of the command table | `refused: words` |
+/// | 3 | exactly if the input is too long, no JSON, breaks a field's rule, or is no text of its grammar; or if what a host replied is no reply that holds a certificate, or has another status than 200 | `refused: too long`, `refused: json`, `refused: field NAME`, `refused: line K` with the first broken line, `refused: reply`, `refused: status N` |
+/// | 4 | exactly if the file is no journal, or not empty when one is to be made | `refused: journal at PLACE` |
+/// | 5 | only if the input's count of faults rose in this call, by one | `read fault` |
+/// | 6 | only if one write failed and a byte of the text is missing: the output's count rose in this call, by one | a first part of the text, and not all of it |
+/// | 7 | only if the disk's count rose, by one, while the file was made or opened | `store fault` |
+/// | 8 | only if the port's count rose in `listen` or `accept`, or the dialer's, by one | `port fault` |
+/// | 9 | only if there was no memory; never for `init`, `check`, `checkwinner` and `audit`, nor for `serve` once it listens | `no memory` |
 ///
 /// The tests come in the order of the work: words, reading, file, port, solving or judging, writing. What a command does not use is untouched: it is not
 /// called. The port comes with no link out, and has not answered yet that none comes. `serve` asks it once to listen, at PORT and at no other, and for one link
@@ -83,22 +82,28 @@ pub fn run<
 ) -> Status
     requires none_out { P.out port.old ≡ 0 }
     requires goes_on { P.is_over port.old → ⊥ }
-    ensures holds { Holds (tells_by D.Disk P.Port (tells_of P.Link.Source P.Link.Sink) C.Clock X.Dial (tells_of X.Link.Source X.Link.Sink))
-        (outside_of disk.old disk.new port.old port.new clock.old clock.new dialer.old dialer.new (told I.left I.faults input.old input.new) (told O.written O.faults output.old output.new))
-        (map string_bytes words.now) result.code }
+    ensures holds { Holds
+        (tells_by D.Disk P.Port (tells_of P.Link.Source P.Link.Sink) C.Clock X.Dial
+        (tells_of X.Link.Source X.Link.Sink))
+        (outside_of disk.old disk.new port.old port.new clock.old clock.new dialer.old dialer.new
+        (use_of I.left I.faults input.old input.new)
+        (use_of O.written O.faults output.old output.new)) (map string_bytes words.now)
+        result.code }
     ensures empty { O.empty_writes output.new ≡ O.empty_writes output.old }
     ensures output { O.faults output.old ≤ O.faults output.new }
 {
     events_law();
     headline_law::<D, P, C>();
     input_answer_law();
-    let ending = decide(alloc, rt, words, disk, port, clock, input, gate, dialer);
+    let means = Means { alloc, rt, gate };
+    let ending = decide(&means, words, disk, port, clock, input, dialer);
     write_ending(output, &ending)
 }
 
-/// Writes the ending's text, and answers its status, or 6 where a write failed.
+// Writes the ending's text, and answers its status, or 6 if a write failed.
 fn write_ending<O: Sink>(output: &mut O, ending: &Result<Text, Stop>) -> Status
-    ensures ends { Ends (told O.written O.faults output.old output.new) (owed (ending_of ending.now)).text (owed (ending_of ending.now)).status result.code }
+    ensures ends { Ends (use_of O.written O.faults output.old output.new)
+        (owed (ending_of ending.now)).text (owed (ending_of ending.now)).status result.code }
     ensures empty { O.empty_writes output.new ≡ O.empty_writes output.old }
     ensures count { O.faults output.old ≤ O.faults output.new }
 {
@@ -111,9 +116,10 @@ fn write_ending<O: Sink>(output: &mut O, ending: &Result<Text, Stop>) -> Status
     }
 }
 
-/// Writes the text, and answers this status, or 6 where a write failed.
+// Writes the text, and answers this status, or 6 if a write failed.
 fn write_text<O: Sink>(output: &mut O, text: &[u8], code: u8) -> Status
-    ensures ends { Ends (told O.written O.faults output.old output.new) text.now code result.code }
+    ensures ends { Ends (use_of O.written O.faults output.old output.new) text.now code
+        result.code }
     ensures empty { O.empty_writes output.new ≡ O.empty_writes output.old }
     ensures count { O.faults output.old ≤ O.faults output.new }
 {
@@ -123,50 +129,50 @@ fn write_text<O: Sink>(output: &mut O, text: &[u8], code: u8) -> Status
     }
 }
 
-/// How the command of the words ends, before anything is written.
-#[allow(clippy::too_many_arguments)]
+// How the command of the words ends, before anything is written.
 fn decide<R: Threads + Sync, D: Disk, P: Port, C: Clock, I: Source, G: Gate + Sync, X: Dial>(
-    alloc: Global,
-    rt: &R,
+    means: &Means<'_, R, G>,
     words: &[String],
     disk: &mut D,
     port: &mut P,
     clock: &mut C,
     input: &mut I,
-    gate: &G,
     dialer: &mut X,
 ) -> Result<Text, Stop>
     requires none_out { P.out port.old ≡ 0 }
     requires goes_on { P.is_over port.old → ⊥ }
-    ensures { (output : ObjectUse) → Comes (tells_by D.Disk P.Port (tells_of P.Link.Source P.Link.Sink) C.Clock X.Dial (tells_of X.Link.Source X.Link.Sink))
-        (outside_of disk.old disk.new port.old port.new clock.old clock.new dialer.old dialer.new (told I.left I.faults input.old input.new) output)
-        (map string_bytes words.now) (ending_of result) }
+    ensures { (output : ObjectUse)
+        → Comes
+        (tells_by D.Disk P.Port (tells_of P.Link.Source P.Link.Sink) C.Clock X.Dial
+        (tells_of X.Link.Source X.Link.Sink))
+        (outside_of disk.old disk.new port.old port.new clock.old clock.new dialer.old dialer.new
+        (use_of I.left I.faults input.old input.new) output) (map string_bytes words.now)
+        (ending_of result) }
 {
     match command_of(words) {
         None => Err(Stop::BadWords),
-        Some(command) => execute(alloc, rt, command, disk, port, clock, input, gate, dialer),
+        Some(command) => execute(means, command, disk, port, clock, input, dialer),
     }
 }
 
-/// How a command ends, before anything is written.
-#[allow(clippy::too_many_arguments)]
+// How a command ends, before anything is written.
 fn execute<R: Threads + Sync, D: Disk, P: Port, C: Clock, I: Source, G: Gate + Sync, X: Dial>(
-    alloc: Global,
-    rt: &R,
+    means: &Means<'_, R, G>,
     command: Command,
     disk: &mut D,
     port: &mut P,
     clock: &mut C,
     input: &mut I,
-    gate: &G,
     dialer: &mut X,
 ) -> Result<Text, Stop>
-    requires range { IsInRange command }
     requires none_out { P.out port.old ≡ 0 }
     requires goes_on { P.is_over port.old → ⊥ }
-    ensures { (output : ObjectUse) → Came (tells_by D.Disk P.Port (tells_of P.Link.Source P.Link.Sink) C.Clock X.Dial (tells_of X.Link.Source X.Link.Sink))
-        (outside_of disk.old disk.new port.old port.new clock.old clock.new dialer.old dialer.new (told I.left I.faults input.old input.new) output)
-        command (ending_of result) }
+    ensures { (output : ObjectUse)
+        → Came
+        (tells_by D.Disk P.Port (tells_of P.Link.Source P.Link.Sink) C.Clock X.Dial
+        (tells_of X.Link.Source X.Link.Sink))
+        (outside_of disk.old disk.new port.old port.new clock.old clock.new dialer.old dialer.new
+        (use_of I.left I.faults input.old input.new) output) command (ending_of result) }
 {
     match command {
         Command::Init { secret } => make(disk, &secret),
@@ -174,29 +180,26 @@ fn execute<R: Threads + Sync, D: Disk, P: Port, C: Clock, I: Source, G: Gate + S
             port: number,
             workers,
             count,
-        } => serve_port(alloc, rt, disk, port, clock, number, workers, count, gate),
-        Command::Dump => dump(alloc, disk),
-        Command::Trial { number, workers } => trial(alloc, rt, number, workers, gate),
+        } => serve_port(means, workers, disk, port, clock, number, count),
+        Command::Dump => dump(means.alloc, disk),
+        Command::Trial { number, workers } => trial(means, workers, number),
         Command::Audit {
             port: number,
             words,
         } => audit(dialer, number, &words),
-        Command::Read { reads } => input_ending(alloc, rt, reads, input, gate),
+        Command::Read { reads } => input_ending(means, reads, input),
     }
 }
 
-/// The trial of a number.
+// The trial of a number.
 fn trial<R: Threads + Sync, G: Gate + Sync>(
-    alloc: Global,
-    rt: &R,
+    means: &Means<'_, R, G>,
+    workers: Workers,
     number: u64,
-    workers: u8,
-    gate: &G,
 ) -> Result<Text, Stop>
-    requires { AreWorkers workers }
     ensures { Tries number (ending_of result) }
 {
-    match trial_text(alloc, rt, number, workers, gate) {
+    match trial_text(means, workers, number) {
         Ok(text) => Ok(Text::Kept(text)),
         Err(NoMemory) => Err(Stop::NoMemory),
     }

@@ -8,7 +8,8 @@ use split_reports::trial_law;
 
 /// A number has one text of its trial. So it is the same for every number of workers.
 pub fn trial_text_law()
-    ensures one { (number : ℕ) (text other : List ℕ) → IsTrialText number text → IsTrialText number other → text ≡ other }
+    ensures one { (number : ℕ) (text other : List ℕ) → IsTrialText number text
+        → IsTrialText number other → text ≡ other }
 {
     one_rent_division_law();
     step_count_law();

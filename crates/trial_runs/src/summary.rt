@@ -12,8 +12,7 @@ use bid_rules::{Case, FareCase, GoodsCase, RentCase};
 use certificates::Division;
 use nash_search::GoodsDivision;
 use rent_maximin::solve_rent;
-use search_workers::limits::MOST_WORKERS;
-use search_workers::search;
+use search_workers::{Means, Workers, search};
 use shapley_core::solve_fares;
 use split_base::{Gate, NoMemory};
 use split_frac::push_line;
@@ -25,29 +24,27 @@ use std::thread::Threads;
 /// the product of their utilities and the steps of the search; what all riders of the fare cost. The last three end with `check yes`.
 ///
 /// The cases are drawn from the number, each gets its best division, and its certificate is written in memory, read back and judged: the
-/// verdict is yes. Goods are searched by 1 to `MOST_WORKERS` workers, whose number never changes the text, and their step count is never above the
-/// limit. `NoMemory` comes only if memory runs out.
+/// verdict is yes. The number of workers never changes the text, and the step count of the goods is never above the limit. `NoMemory` comes only
+/// if memory runs out.
 pub fn trial_text<R: Threads + Sync, G: Gate + Sync>(
-    alloc: Global,
-    rt: &R,
+    means: &Means<'_, R, G>,
+    workers: Workers,
     number: u64,
-    workers: u8,
-    gate: &G,
 ) -> Result<Vec<u8>, NoMemory>
-    requires { (1 ≤ workers) × (workers ≤ MOST_WORKERS) }
     ensures { IfOk result (λ text. IsTrialText number text.items) }
 {
     trial_law();
     let (rent, goods, fare) = trial_cases(number);
+    let alloc = means.alloc;
     let mut text = String::new(alloc);
     push_line(&mut text, format_args!("trial {number}"))?;
     push_rent(alloc, &mut text, rent)?;
-    push_goods(alloc, rt, &mut text, goods, workers, gate)?;
+    push_goods(means, workers, &mut text, goods)?;
     push_fare(alloc, &mut text, fare)?;
     Ok(text.into_bytes())
 }
 
-/// Solves and checks a rent, and appends its line.
+// Solves and checks a rent, and appends its line.
 fn push_rent(alloc: Global, text: &mut String, case: RentCase) -> Result<(), NoMemory>
     requires { IsValidRentCase case }
     ensures { OnOk result (IsRentLine case (string_bytes text.old) (string_bytes text.new)) }
@@ -58,50 +55,44 @@ fn push_rent(alloc: Global, text: &mut String, case: RentCase) -> Result<(), NoM
     push_line(text, format_args!("rent least {least} check yes"))
 }
 
-/// The best division of goods whose step count is within their limit.
+// The best division of goods whose step count is within their limit.
 fn divide_goods<R: Threads + Sync, G: Gate + Sync>(
-    alloc: Global,
-    rt: &R,
+    means: &Means<'_, R, G>,
+    workers: Workers,
     case: &GoodsCase,
-    workers: u8,
-    gate: &G,
 ) -> GoodsDivision
     requires case { IsValidGoodsCase case.now }
     requires within { (steps : ℕ) → HasSteps case.now steps → steps ≤ case.now.facts.limit }
-    requires workers { (1 ≤ workers) × (workers ≤ MOST_WORKERS) }
     ensures { IsGoodsDivision case.now result }
 {
-    match search(alloc, rt, case, workers, gate) {
+    match search(means.alloc, means.rt, case, workers.count(), means.gate) {
         Ok(division) => division,
         Err(_) => unreachable!(),
     }
 }
 
-/// Solves and checks goods whose step count is within their limit, and appends their line.
+// Solves and checks goods whose step count is within their limit, and appends their line.
 fn push_goods<R: Threads + Sync, G: Gate + Sync>(
-    alloc: Global,
-    rt: &R,
+    means: &Means<'_, R, G>,
+    workers: Workers,
     text: &mut String,
     case: GoodsCase,
-    workers: u8,
-    gate: &G,
 ) -> Result<(), NoMemory>
     requires case { IsValidGoodsCase case }
     requires within { (steps : ℕ) → HasSteps case steps → steps ≤ case.facts.limit }
-    requires workers { (1 ≤ workers) × (workers ≤ MOST_WORKERS) }
     ensures { OnOk result (IsGoodsLine case (string_bytes text.old) (string_bytes text.new)) }
 {
-    let division = divide_goods(alloc, rt, &case, workers, gate);
+    let division = divide_goods(means, workers, &case);
     let (count, product) = (division.pair.count, division.pair.product);
     let steps = division.steps;
-    check_division(alloc, &Case::Goods(case), &Division::Goods(division))?;
+    check_division(means.alloc, &Case::Goods(case), &Division::Goods(division))?;
     push_line(
         text,
         format_args!("goods count {count} product {product} steps {steps} check yes"),
     )
 }
 
-/// Solves and checks a shared fare, and appends its line.
+// Solves and checks a shared fare, and appends its line.
 fn push_fare(alloc: Global, text: &mut String, case: FareCase) -> Result<(), NoMemory>
     requires { IsValidFareCase case }
     ensures { OnOk result (IsFareLine case (string_bytes text.old) (string_bytes text.new)) }

@@ -2,10 +2,10 @@
 use Rattle.std.proofs.Common.{◌≡◌, ℕ, ℤ, pos, List, ◌↔◌, sym, subst}
 use Rattle.bid_rules.specs.declared.goods.GoodsCase.{GoodsCase}
 use Rattle.bid_rules.specs.Fractions.{Fraction, IsQuotient}
-use Rattle.winner_laws.specs.Divisions.{first_points, second_points}
-use Rattle.winner_laws.specs.Parts.{parts_list, parts_of}
-use Rattle.winner_laws.specs.Printed.{AreProperShares, HaveTotal}
-use Rattle.winner_laws.specs.Shown.{AreShares, AreTotals}
+use Rattle.winner_definition.specs.Divisions.{first_points, second_points}
+use Rattle.winner_definition.specs.Parts.{parts_list, parts_of}
+use Rattle.winner_definition.specs.Printed.{AreProperShares, HaveTotal}
+use Rattle.winner_definition.specs.Shown.{AreShares, AreTotals}
 
 -- what is known of shares that are counted in parts
 pub record ShareFacts : Type 0 where

@@ -7,10 +7,10 @@ use Rattle.bid_rules.specs.declared.goods.GoodsCase.{GoodsCase}
 use Rattle.bid_rules.specs.Fractions.{Fraction}
 use Rattle.split_frac.specs.declared.frac.Frac.{Frac}
 use Rattle.split_frac.specs.Frac.{fraction_of}
-use Rattle.winner_laws.specs.Divisions.{parts_held}
-use Rattle.winner_laws.specs.Parts.{is_split, part_of, parts_list, parts_of}
-use Rattle.winner_laws.specs.Printed.{AreProperShares, IsShare}
-use Rattle.winner_laws.specs.Shown.{AreShares, HasOneSplit}
+use Rattle.winner_definition.specs.Divisions.{parts_held}
+use Rattle.winner_definition.specs.Parts.{is_split, part_of, parts_list, parts_of}
+use Rattle.winner_definition.specs.Printed.{AreProperShares, IsShare}
+use Rattle.winner_definition.specs.Shown.{AreShares, HasOneSplit}
 use Rattle.winner_rules.specs.Split.{HasSplitUpTo, split_at}
 
 not_both : {b : Bool} → b ≡ true → b ≡ false → ⊥

@@ -8,7 +8,7 @@ use Rattle.cert_reader.specs.Forms.{Pairs}
 use Rattle.cert_reader.specs.Layout.{PairView}
 use Rattle.cert_reader.specs.Pairs.{IsPairText}
 use Rattle.cert_reader.specs.Reading.{IsEndOf}
-use Rattle.winner_laws.specs.Printed.{AreFairShares}
+use Rattle.winner_definition.specs.Printed.{AreFairShares}
 use Rattle.rule_verdicts.specs.declared.verdict.Verdict.{Verdict}
 use Rattle.rule_verdicts.specs.declared.verdict.Verdict.TheVariants.{Yes}
 use Rattle.rule_verdicts.specs.Verdicts.{IsVerdictOf}

@@ -3,7 +3,7 @@ use Rattle.std.specs.Prelude.{◌≡◌, ℕ, pos, ◌≤ℤ◌, List, [], ◌�
 use Rattle.bid_rules.specs.declared.goods.GoodsCase.{GoodsCase}
 use Rattle.bid_rules.specs.declared.limits.TheConstants.{MOST_MEMBERS, MOST_STEPS, PAIR}
 use Rattle.bid_rules.specs.Goods.{IsValidGoodsCase}
-use Rattle.winner_laws.specs.Printed.{AreProperShares, HaveTotal, SupportShares}
+use Rattle.winner_definition.specs.Printed.{AreProperShares, HaveTotal, SupportShares}
 use Rattle.cert_reader.specs.Layout.{PairView}
 use Rattle.rule_verdicts.specs.Verdicts.{rule_at}
 

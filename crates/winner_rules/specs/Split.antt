@@ -1,7 +1,7 @@
 -- How many of the shares are those of split goods.
 use Rattle.std.specs.Prelude.{◌≡◌, ℕ, pos, ◌<◌, List, length, slice_index_or, Bool, true, false, ◌⊎◌}
 use Rattle.bid_rules.specs.Fractions.{Fraction}
-use Rattle.winner_laws.specs.Parts.{is_split}
+use Rattle.winner_definition.specs.Parts.{is_split}
 
 -- whether the share at this place, counted from 0, is that of a split good
 abbrev pub split_at : List Fraction → ℕ → Bool

@@ -12,14 +12,39 @@ use rule_verdicts::{members_between, rows_of_amounts};
 /// A row of printed points, by good.
 pub(crate) type PrintedRow = ArrayVec<i128, ITEM_ROOM>;
 
-/// The printed case, where it is one of two players.
+// The printed case, if it is one of two players.
 pub(crate) fn case_of(goods: u8, who: &[i128], values: &[PrintedRow]) -> Option<GoodsCase>
     requires who { length who.now ≤ MEMBER_ROOM }
     requires values { length values.now ≤ MEMBER_ROOM }
-    ensures { (shares : List Fraction) (weights : List ℤ) (total : Fraction) → MatchOption result
-        (HasCase (record { goods = goods; who = who.now; values = map (λ row. row.items) values.now; shares = shares; weights = weights; total = total }) → ⊥)
-        (λ case. HasCase (record { goods = goods; who = who.now; values = map (λ row. row.items) values.now; shares = shares; weights = weights; total = total })
-        × (case ≡ printed_case (record { goods = goods; who = who.now; values = map (λ row. row.items) values.now; shares = shares; weights = weights; total = total }))) }
+    ensures { (shares : List Fraction) (weights : List ℤ) (total : Fraction)
+        → MatchOption result
+        (HasCase (record {
+          goods = goods;
+          who = who.now;
+          values = map (λ row. row.items) values.now;
+          shares = shares;
+          weights = weights;
+          total = total;
+        }) → ⊥)
+        (λ case.
+        HasCase (record {
+          goods = goods;
+          who = who.now;
+          values = map (λ row. row.items) values.now;
+          shares = shares;
+          weights = weights;
+          total = total;
+        })
+        × (case
+        ≡ printed_case (record {
+          goods = goods;
+          who = who.now;
+          values = map (λ row. row.items)
+              values.now;
+          shares = shares;
+          weights = weights;
+          total = total;
+        }))) }
 {
     if who.len() != PAIR_ROOM {
         return None;

@@ -3,7 +3,7 @@ ghost use Rattle.std.specs.Prelude.{◌≡◌, ◌≤◌, ℕ, List, IsErrOf, Ok
 ghost use Rattle.std.specs.Io.KnownBytes.{Consumes};
 ghost use Rattle.split_base.specs.Faults.{HasRisen};
 ghost use Rattle.cert_reader.specs.Ends.{OfAnswer};
-ghost use Rattle.cert_reader.specs.Stream.{ends_at, faults_after};
+ghost use Rattle.cert_reader.specs.Stream.{ends_at, faults_after_reading};
 ghost use Rattle.winner_rules.specs.Judged.{IsPairJudgement, PrintsFair};
 
 use crate::laws::winner_verdict_law;
@@ -15,15 +15,19 @@ use split_base::Source;
 /// Reads the text of adjusted winner, and answers whether all its rules hold, or the first that does not. It takes no memory. Once a read has
 /// met the end it does not read again.
 ///
-/// - `NotText` comes exactly where the input has at most 4,000,000 bytes and is not the text of a pair, with its first broken line. It was read to its end.
-/// - `TooLong` comes exactly where it has more, whatever its lines. 4,000,001 bytes were read.
-/// - `ReadFault` comes only where the source's count of faults has risen, and at once: the failed read is not tried again.
+/// - `NotText` comes exactly if the input has at most 4,000,000 bytes and is not the text of a pair, with its first broken line. It was read to its end.
+/// - `TooLong` comes exactly if it has more, whatever its lines. 4,000,001 bytes were read.
+/// - `ReadFault` comes only if the source's count of faults has risen, and at once: the failed read is not tried again.
 pub fn check_pair_text<S: Source>(source: &mut S) -> Result<Verdict, TextEnd>
-    ensures judged { (taken : List ℕ) × Consumes (S.left source.old) (S.left source.new) taken × IsPairJudgement (S.left source.new) taken result }
-    ensures fair { result ≡ Ok Verdict.Yes → (taken : List ℕ) × Consumes (S.left source.old) (S.left source.new) taken × PrintsFair taken }
-    ensures faults { S.faults source.new ≡ faults_after (S.faults source.old) result }
+    ensures judged { (taken : List ℕ) × Consumes (S.left source.old) (S.left source.new) taken
+        × IsPairJudgement (S.left source.new) taken result }
+    ensures fair { result ≡ Ok Verdict.Yes
+        → (taken : List ℕ) × Consumes (S.left source.old) (S.left source.new) taken
+        × PrintsFair taken }
+    ensures faults { S.faults source.new ≡ faults_after_reading (S.faults source.old) result }
     ensures empty { S.empty_reads source.new ≤ ends_at (S.empty_reads source.old) result }
-    ensures fault { IsErrOf result TextEnd.ReadFault → HasRisen (S.faults source.old) (S.faults source.new) }
+    ensures fault { IsErrOf result TextEnd.ReadFault
+        → HasRisen (S.faults source.old) (S.faults source.new) }
     ensures count { S.faults source.old ≤ S.faults source.new }
     ensures beside { S.beside source.new ≡ S.beside source.old }
 {
@@ -37,12 +41,18 @@ pub fn check_pair_text<S: Source>(source: &mut S) -> Result<Verdict, TextEnd>
 /// Checks the text of adjusted winner as `check_pair_text` does, and answers with the reasons of a reader who keeps what it reads. `NoMemory` never comes.
 /// The program asks `check_pair_text`; this is for a caller who handles the ends of `read_certificate` and wants the same ones here.
 pub fn check_winner<S: Source>(source: &mut S) -> Result<Verdict, ReadEnd>
-    ensures judged { (taken : List ℕ) × Consumes (S.left source.old) (S.left source.new) taken × OfAnswer (IsPairJudgement (S.left source.new) taken) result }
-    ensures fair { result ≡ Ok Verdict.Yes → (taken : List ℕ) × Consumes (S.left source.old) (S.left source.new) taken × PrintsFair taken }
+    ensures judged { (taken : List ℕ) × Consumes (S.left source.old) (S.left source.new) taken
+        × OfAnswer (IsPairJudgement (S.left source.new) taken) result }
+    ensures fair { result ≡ Ok Verdict.Yes
+        → (taken : List ℕ) × Consumes (S.left source.old) (S.left source.new) taken
+        × PrintsFair taken }
     ensures memory { IsErrOf result ReadEnd.NoMemory → ⊥ }
-    ensures faults { OfAnswer (λ answer. S.faults source.new ≡ faults_after (S.faults source.old) answer) result }
-    ensures empty { OfAnswer (λ answer. S.empty_reads source.new ≤ ends_at (S.empty_reads source.old) answer) result }
-    ensures fault { IsErrOf result ReadEnd.ReadFault → HasRisen (S.faults source.old) (S.faults source.new) }
+    ensures faults { OfAnswer
+        (λ answer. S.faults source.new ≡ faults_after_reading (S.faults source.old) answer) result }
+    ensures empty { OfAnswer
+        (λ answer. S.empty_reads source.new ≤ ends_at (S.empty_reads source.old) answer) result }
+    ensures fault { IsErrOf result ReadEnd.ReadFault
+        → HasRisen (S.faults source.old) (S.faults source.new) }
     ensures count { S.faults source.old ≤ S.faults source.new }
     ensures beside { S.beside source.new ≡ S.beside source.old }
 {

@@ -16,8 +16,8 @@ use cert_reader::PairText;
 use rule_verdicts::Verdict;
 use split_frac::Frac;
 
-/// The verdict on what is printed: how many goods, the members who are the players, their points by good, player 1's share of each good, the weights, and what
-/// each player has.
+// The verdict on what is printed: how many goods, the members who are the players, their points by good, player 1's share of each good, the weights, and what
+// each player has.
 fn check_lines(
     goods: u8,
     who: &[i128],
@@ -31,7 +31,16 @@ fn check_lines(
     requires shares { AreShort shares.now }
     requires num { IsSmall total.now.num }
     requires den { total.now.den ≤ MOST_PRINTED_DENOMINATOR }
-    ensures { IsVerdictOf (rules_of_winner (record { goods = goods; who = who.now; values = map (λ row. row.items) values.now; shares = map fraction_of shares.now; weights = weights.now; total = fraction_of total.now })) result }
+    ensures { IsVerdictOf
+        (rules_of_winner (record {
+          goods = goods;
+          who = who.now;
+          values = map (λ row. row.items) values.now;
+          shares = map
+              fraction_of shares.now;
+          weights = weights.now;
+          total = fraction_of total.now;
+        })) result }
 {
     let Some(case) = case_of(goods, who, values) else {
         return Verdict::No { rule: 1 };

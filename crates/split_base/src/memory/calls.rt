@@ -12,6 +12,7 @@ pub(crate) struct Calls {
 }
 
 impl Calls {
+    // No call has been made yet, so none has failed.
     pub(crate) fn new(fails: Vec<u64>) -> Self
         ensures { result ≡ record { fails = fails; made = 0; faults = 0 } }
     {

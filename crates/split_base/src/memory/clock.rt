@@ -43,7 +43,8 @@ impl MemClock {
     pub fn new(moments: Vec<u64>, fails: Vec<u64>) -> Self
         requires some { 0 < length moments.items }
         requires range { All (λ m. m ≤ LAST_MOMENT) moments.items }
-        ensures { result ≡ record { moments = moments.items; fails = fails.items; calls = 0; faults = 0 } }
+        ensures { result
+            ≡ record { moments = moments.items; fails = fails.items; calls = 0; faults = 0 } }
     {
         MemClock {
             moments,
@@ -66,10 +67,11 @@ impl Clock for MemClock {
         ensures cause { HasCause self.old.faults self.new.faults result }
         ensures count { IsCounted self.old.faults self.new.faults result }
 
-        // It fails exactly where its number is listed, and then has no effect but on the counts.
+        // It fails exactly if its number is listed, and then has no effect but on the counts.
         ensures fails { IsErr result ↔ Contains self.old.fails (counted self.old.calls) }
         ensures told { IfOk result (λ moment. first_of self.old.moments ≡ Some moment) }
-        ensures after { MatchResult result (λ _. self.new ≡ after_moment self.old) (λ _. self.new ≡ after_no_moment self.old) }
+        ensures after { MatchResult result (λ _. self.new ≡ after_moment self.old)
+            (λ _. self.new ≡ after_no_moment self.old) }
     {
         if self.calls.begin() {
             return Err(self.calls.fail());

@@ -39,7 +39,8 @@ impl MemDial {
     /// `NoMemory` comes for want of the memory for those places.
     pub fn new(alloc: Global, links: Vec<MemLink>, fails: Vec<u64>) -> Result<Self, NoMemory>
         requires { All (λ link. faults_of_link link ≡ 0) links.items }
-        ensures { IfOk result (λ dial. dial ≡ new_port links.items (length links.items) fails.items) }
+        ensures { IfOk result (λ dial.
+            dial ≡ new_port links.items (length links.items) fails.items) }
     {
         let links = Links::new(alloc, links, fails)?;
         Ok(MemDial { links })
@@ -84,9 +85,12 @@ impl Dial for MemDial {
         ensures places { self.new.places ≡ self.old.places }
         ensures back { Some self.new.given_back ≡ Some self.old.given_back }
 
-        // It fails exactly where its number is listed or no link is left.
-        ensures fails { IsErr result ↔ (Contains self.old.fails (counted self.old.calls) ⊎ (self.old.to_come ≡ [])) }
-        ensures after { MatchResult result (λ _. self.new ≡ with_one_less (after_listen port self.old)) (λ _. self.new ≡ with_fault (after_listen port self.old)) }
+        // It fails exactly if its number is listed or no link is left.
+        ensures fails { IsErr result
+            ↔ (Contains self.old.fails (counted self.old.calls) ⊎ (self.old.to_come ≡ [])) }
+        ensures after { MatchResult result
+            (λ _. self.new ≡ with_one_less (after_listen port self.old))
+            (λ _. self.new ≡ with_fault (after_listen port self.old)) }
     {
         self.links.ask(port);
         if self.links.begin() {
@@ -104,8 +108,10 @@ impl Dial for MemDial {
         ensures asked { self.new.asked ≡ self.old.asked }
         ensures come { Some self.new.to_come ≡ Some self.old.to_come }
         ensures places { self.new.places ≡ self.old.places - 1 }
-        ensures back { 0 < self.old.places → TakesBack (Some self.old.given_back) (Some self.new.given_back) link }
-        ensures dropped { self.old.places ≡ 0 → Some self.new.given_back ≡ Some self.old.given_back }
+        ensures back { 0 < self.old.places
+            → TakesBack (Some self.old.given_back) (Some self.new.given_back) link }
+        ensures dropped { self.old.places ≡ 0
+            → Some self.new.given_back ≡ Some self.old.given_back }
     {
         if link.has_fault() {
             let _failed = self.links.fail();

@@ -2,8 +2,8 @@
 ghost use Rattle.std.specs.Prelude.{◌≡◌, ◌≤◌, ◌<◌, ◌↔◌, ◌⊎◌, ◌+◌, ◌-◌, ◌^◌, ◌++◌, [], min, ℕ, List, length, take, drop, replicate, vec_len, vec_capacity, IfOk, OnOk, OnErr, IsErr, IsTrue, MatchResult};
 ghost use Rattle.split_base.specs.Faults.{HasCause, HasRisen, IsCounted};
 ghost use Rattle.split_base.specs.Disk.{IsWritten, IsSameOutside, IsStableTo, Only, Rests, MayTear};
-ghost use Rattle.split_base.specs.Past.{DiskState, Wrote, Synced, written, seen_of, images_at, moment_of, left_of, crashed, new_disk, IsDown, IsFull, after_call, after_fault, after_act};
-ghost use Rattle.split_base.specs.Replay.{played, acts_of, bytes_of};
+ghost use Rattle.split_base.specs.Past.{DiskState, Wrote, Synced, after_write, seen_of, images_at, moment_of, left_of, after_crash, new_disk, IsDown, IsFull, after_call, after_fault, after_act};
+ghost use Rattle.split_base.specs.Replay.{after_bytes, acts_of, bytes_of};
 ghost use Rattle.split_base.specs.declared.memory.disk.TheConstants.{CALL_SIZE};
 
 use super::NoMemory;
@@ -111,13 +111,14 @@ impl MemDisk {
         self.calls.fail()
     }
 
-    /// The bytes that a read gives: the whole file. It is no call that may fail.
+    /// The bytes that a read gives: the whole file. It isn't a call that may fail.
     pub fn bytes(&self) -> &[u8]
         ensures { result.now ≡ seen_of self.now }
     {
         &self.file
     }
 
+    // A write must end within what the file may hold, so that it needs no memory.
     fn has_room(&self, place: u64, count: usize) -> bool
         ensures room { IsTrue result ↔ (place + count ≤ self.now.room) }
         ensures most { IsTrue result → place + count ≤ 2 ^ 63 }
@@ -125,16 +126,19 @@ impl MemDisk {
         count <= self.room && place <= (self.room - count) as u64
     }
 
+    // Each call takes room in the list of calls, besides the bytes that it writes.
     fn has_list(&self, count: usize) -> bool
         ensures { IsTrue result ↔ (count + CALL_SIZE ≤ self.now.list) }
     {
         self.list >= CALL_SIZE && count <= self.list - CALL_SIZE
     }
 
+    // A write changes the file at once, but a crash may still lose it, so it is listed too.
     fn put(&mut self, place: u64, bytes: &[u8])
         requires room { place + length bytes.now ≤ self.old.room }
         requires list { length bytes.now + CALL_SIZE ≤ self.old.list }
-        ensures { self.new ≡ after_act self.old (Wrote place bytes.now) (length bytes.now + CALL_SIZE) }
+        ensures { self.new
+            ≡ after_act self.old (Wrote place bytes.now) (length bytes.now + CALL_SIZE) }
     {
         write_within(&mut self.file, place as usize, bytes);
         extend_within(&mut self.bytes, bytes);
@@ -143,6 +147,7 @@ impl MemDisk {
         self.list -= count + CALL_SIZE;
     }
 
+    // What was written before a sync survives a crash.
     fn settle(&mut self)
         requires { CALL_SIZE ≤ self.old.list }
         ensures { self.new ≡ after_act self.old Synced CALL_SIZE }
@@ -159,7 +164,7 @@ impl MemDisk {
     /// memory; the disk is lost then.
     pub fn crash(self, alloc: Global, keep: usize, room: usize) -> Result<Self, NoMemory>
         requires { length (seen_of self) ≤ room }
-        ensures left { IfOk result (λ disk. disk ≡ new_disk (crashed self keep) room [] None) }
+        ensures left { IfOk result (λ disk. disk ≡ new_disk (after_crash self keep) room [] None) }
         ensures image { IfOk result (λ disk. images_at self disk.first) }
     {
         let file = self.kept(alloc, keep)?;
@@ -168,9 +173,9 @@ impl MemDisk {
 
     // The bytes that such a crash leaves.
     fn kept(&self, alloc: Global, keep: usize) -> Result<Vec<u8>, NoMemory>
-        ensures bytes { IfOk result (λ file. file.items ≡ crashed self.now keep) }
+        ensures bytes { IfOk result (λ file. file.items ≡ after_crash self.now keep) }
         ensures size { IfOk result (λ file. length file.items ≤ length (seen_of self.now)) }
-        ensures image { images_at self.now (crashed self.now keep) }
+        ensures image { images_at self.now (after_crash self.now keep) }
     {
         let limit = self.stable + keep.min(self.bytes.len() - self.stable);
         replayed(alloc, &self.first, &self.acts, &self.bytes, limit)
@@ -186,7 +191,8 @@ fn replayed(
     mut left: usize,
 ) -> Result<Vec<u8>, NoMemory>
     requires { bytes_of acts.now ≡ length bytes.now }
-    ensures { IfOk result (λ file. file.items ≡ played first.now (acts_of acts.entry.now bytes.entry.now) left) }
+    ensures { IfOk result (λ file.
+        file.items ≡ after_bytes first.now (acts_of acts.entry.now bytes.entry.now) left) }
 {
     let Ok(mut file) = first.to_vec(alloc) else {
         return Err(NoMemory);
@@ -205,7 +211,7 @@ fn replayed(
 
 // Writes over a file, with zeros in a gap. A write of no bytes changes nothing.
 fn write_over(file: &mut Vec<u8>, place: usize, bytes: &[u8]) -> Result<(), NoMemory>
-    ensures ok { OnOk result (file.new.items ≡ written file.old.items place bytes.now) }
+    ensures ok { OnOk result (file.new.items ≡ after_write file.old.items place bytes.now) }
     ensures capacity { vec_capacity file.old ≤ vec_capacity file.new }
     ensures full { OnErr result (vec_capacity file.old < place + length bytes.now) }
 {
@@ -220,14 +226,16 @@ fn write_over(file: &mut Vec<u8>, place: usize, bytes: &[u8]) -> Result<(), NoMe
     Ok(())
 }
 
+// The caller has seen that there is room, so writing needs no memory and can't fail.
 fn write_within(file: &mut Vec<u8>, place: usize, bytes: &[u8])
     requires { place + length bytes.now ≤ vec_capacity file.old }
-    ensures bytes { file.new.items ≡ written file.old.items place bytes.now }
+    ensures bytes { file.new.items ≡ after_write file.old.items place bytes.now }
     ensures capacity { vec_capacity file.old ≤ vec_capacity file.new }
 {
     write_over(file, place, bytes).unwrap();
 }
 
+// The caller has seen that there is room, so the list doesn't grow its memory and can't fail.
 fn extend_within(bytes: &mut Vec<u8>, more: &[u8])
     requires { vec_len bytes.old + length more.now ≤ vec_capacity bytes.old }
     ensures bytes { bytes.new.items ≡ bytes.old.items ++ more.now }
@@ -238,7 +246,8 @@ fn extend_within(bytes: &mut Vec<u8>, more: &[u8])
 
 // Fills up a file that is shorter with zeros.
 fn grow(file: &mut Vec<u8>, end: usize) -> Result<(), NoMemory>
-    ensures ok { OnOk result (file.new.items ≡ file.old.items ++ replicate (end - length file.old.items) 0) }
+    ensures ok { OnOk result
+        (file.new.items ≡ file.old.items ++ replicate (end - length file.old.items) 0) }
     ensures capacity { vec_capacity file.old ≤ vec_capacity file.new }
     ensures full { OnErr result (vec_capacity file.old < end) }
 {
@@ -251,12 +260,13 @@ fn grow(file: &mut Vec<u8>, end: usize) -> Result<(), NoMemory>
 // Copies the bytes to their place in a file.
 fn copy_to(file: &mut [u8], place: usize, bytes: &[u8])
     requires { place + length bytes.now ≤ length file.old }
-    ensures { file.new ≡ take place file.old ++ bytes.now ++ drop (place + length bytes.now) file.old }
+    ensures { file.new
+        ≡ take place file.old ++ bytes.now ++ drop (place + length bytes.now) file.old }
 {
     file[place..place + bytes.len()].copy_from_slice(bytes);
 }
 
-// Copies as many bytes of a file as come from the place on, up to the buffer's end.
+// Copies the bytes of a file from the place on, as many as there are and the buffer holds.
 fn copy_from(file: &[u8], place: u64, into: &mut [u8]) -> usize
     ensures count { result ≡ min (length into.old) (length file.now - place) }
     ensures bytes { take result into.new ≡ take result (drop place file.now) }
@@ -307,9 +317,10 @@ impl Disk for MemDisk {
         ensures tick { moment_of self.new ≡ moment_of self.old }
         ensures rests { Rests seen_of images_at moment_of left_of self.old self.new }
 
-        // It fails exactly where its number is listed or the disk has stopped.
+        // It fails exactly if its number is listed or the disk has stopped.
         ensures fails { IsErr result ↔ IsDown self.old }
-        ensures after { MatchResult result (λ _. self.new ≡ after_call self.old) (λ _. self.new ≡ after_fault (after_call self.old)) }
+        ensures after { MatchResult result (λ _. self.new ≡ after_call self.old)
+            (λ _. self.new ≡ after_fault (after_call self.old)) }
     {
         if self.begin() {
             return Err(self.fail());
@@ -324,14 +335,17 @@ impl Disk for MemDisk {
         ensures least { IfOk result (λ n. n ≤ 2 ^ 63 - place) }
         ensures honest { Unit {0} }
         ensures still { Unit {0} × (seen_of self.new ≡ seen_of self.old) }
-        ensures told { IfOk result (λ n. n ≡ min (length into.old) (length (seen_of self.old) - place)) }
-        ensures bytes { IfOk result (λ n. take n into.new ≡ take n (drop place (seen_of self.old))) }
+        ensures told { IfOk result (λ n.
+            n ≡ min (length into.old) (length (seen_of self.old) - place)) }
+        ensures bytes { IfOk result (λ n.
+            take n into.new ≡ take n (drop place (seen_of self.old))) }
         ensures tick { moment_of self.new ≡ moment_of self.old }
         ensures rests { Rests seen_of images_at moment_of left_of self.old self.new }
 
-        // It fails exactly where its number is listed or the disk has stopped.
+        // It fails exactly if its number is listed or the disk has stopped.
         ensures fails { IsErr result ↔ IsDown self.old }
-        ensures after { MatchResult result (λ _. self.new ≡ after_call self.old) (λ _. self.new ≡ after_fault (after_call self.old)) }
+        ensures after { MatchResult result (λ _. self.new ≡ after_call self.old)
+            (λ _. self.new ≡ after_fault (after_call self.old)) }
     {
         if self.begin() {
             return Err(self.fail());
@@ -344,16 +358,23 @@ impl Disk for MemDisk {
         ensures counted { IsCounted self.old.faults self.new.faults result }
         ensures least { OnOk result (place + length bytes.now ≤ 2 ^ 63) }
         ensures honest { Unit {0} }
-        ensures written { OnOk result (IsWritten (seen_of self.old) place bytes.now (seen_of self.new)) }
-        ensures stays { (end : ℕ) → IsStableTo (images_at self.old) end → IsSameOutside place (length bytes.now) end (seen_of self.old) (seen_of self.new) }
+        ensures written { OnOk result
+            (IsWritten (seen_of self.old) place bytes.now (seen_of self.new)) }
+        ensures stays { (end : ℕ) → IsStableTo (images_at self.old) end
+            → IsSameOutside place (length bytes.now) end (seen_of self.old) (seen_of self.new) }
         ensures tick { OnOk result (moment_of self.new ≡ moment_of self.old + 1) }
-        ensures tears { MayTear images_at moment_of left_of place (length bytes.now) self.old self.new }
+        ensures tears { MayTear images_at moment_of left_of place (length bytes.now) self.old
+            self.new }
 
-        // It fails exactly where its number is listed, the disk has stopped, or it lacks room in the file or the list.
-        ensures fails { IsErr result ↔ (IsDown self.old ⊎ (self.old.room < place + length bytes.now) ⊎ IsFull self.old (length bytes.now + CALL_SIZE)) }
+        // It fails exactly if its number is listed, the disk has stopped, or it lacks room in the file or the list.
+        ensures fails { IsErr result
+            ↔ (IsDown self.old ⊎ (self.old.room < place + length bytes.now)
+            ⊎ IsFull self.old (length bytes.now + CALL_SIZE)) }
         ensures after { MatchResult result
-            (λ _. self.new ≡ after_act (after_call self.old) (Wrote place bytes.now) (length bytes.now + CALL_SIZE))
-            (λ _. self.new ≡ after_fault (after_call self.old)) }
+            (λ _.
+            self.new
+            ≡ after_act (after_call self.old) (Wrote place bytes.now)
+            (length bytes.now + CALL_SIZE)) (λ _. self.new ≡ after_fault (after_call self.old)) }
     {
         if self.begin() || !self.has_room(place, bytes.len()) || !self.has_list(bytes.len()) {
             return Err(self.fail());
@@ -371,7 +392,7 @@ impl Disk for MemDisk {
         ensures tick { OnOk result (moment_of self.new ≡ moment_of self.old + 1) }
         ensures rests { Rests seen_of images_at moment_of left_of self.old self.new }
 
-        // It fails exactly where its number is listed, the disk has stopped, or it lacks room in the list.
+        // It fails exactly if its number is listed, the disk has stopped, or it lacks room in the list.
         ensures fails { IsErr result ↔ (IsDown self.old ⊎ IsFull self.old CALL_SIZE) }
         ensures after { MatchResult result
             (λ _. self.new ≡ after_act (after_call self.old) Synced CALL_SIZE)

@@ -62,16 +62,22 @@ impl Source for MemLink {
     ghost beside = { sink_side };
 
     fn read(&mut self, into: &mut [u8]) -> Result<usize, Failed>
-        ensures bytes { Reads (Some self.old.input.left) (Some self.new.input.left) result into.new }
+        ensures bytes { Reads (Some self.old.input.left) (Some self.new.input.left) result
+            into.new }
         ensures empty { CountsEmpty self.old.input.empty_reads self.new.input.empty_reads result }
         ensures beside { sink_side self.new ≡ sink_side self.old }
         ensures cause { HasCause self.old.input.faults self.new.input.faults result }
         ensures count { IsCounted self.old.input.faults self.new.input.faults result }
 
-        // It fails exactly where the source's number is listed, and leaves the sink as it is.
-        ensures fails { IsErr result ↔ Contains self.old.input.fails (counted self.old.input.calls) }
-        ensures taken { IfOk result (λ n. n ≡ min (next_piece self.old.input.pieces) (min (length into.old) (length self.old.input.left))) }
-        ensures after { MatchResult result (λ n. self.new.input ≡ after_read self.old.input n) (λ _. self.new.input ≡ after_failed_read self.old.input) }
+        // It fails exactly if the source's number is listed, and leaves the sink as it is.
+        ensures fails { IsErr result
+            ↔ Contains self.old.input.fails (counted self.old.input.calls) }
+        ensures taken { IfOk result (λ n.
+            n
+            ≡ min (next_piece self.old.input.pieces)
+            (min (length into.old) (length self.old.input.left))) }
+        ensures after { MatchResult result (λ n. self.new.input ≡ after_read self.old.input n)
+            (λ _. self.new.input ≡ after_failed_read self.old.input) }
         ensures output { self.new.output ≡ self.old.output }
     {
         self.input.read(into)
@@ -88,16 +94,22 @@ impl Sink for MemLink {
     ghost beside = { source_side };
 
     fn write(&mut self, piece: &[u8]) -> Result<usize, Failed>
-        ensures bytes { Writes (Some self.old.output.written) (Some self.new.output.written) result piece.now }
-        ensures empty { 0 < length piece.now → self.new.output.empty_writes ≡ self.old.output.empty_writes }
+        ensures bytes { Writes (Some self.old.output.written) (Some self.new.output.written) result
+            piece.now }
+        ensures empty { 0 < length piece.now
+            → self.new.output.empty_writes ≡ self.old.output.empty_writes }
         ensures beside { source_side self.new ≡ source_side self.old }
         ensures cause { HasCause self.old.output.faults self.new.output.faults result }
         ensures count { IsCounted self.old.output.faults self.new.output.faults result }
 
-        // It fails exactly where the sink's number is listed or the piece doesn't fit, and leaves the source as it is.
-        ensures fails { IsErr result ↔ (Contains self.old.output.fails (counted self.old.output.calls) ⊎ (self.old.output.room < length piece.now)) }
+        // It fails exactly if the sink's number is listed or the piece doesn't fit, and leaves the source as it is.
+        ensures fails { IsErr result
+            ↔ (Contains self.old.output.fails (counted self.old.output.calls)
+            ⊎ (self.old.output.room < length piece.now)) }
         ensures taken { IfOk result (λ n. n ≡ length piece.now) }
-        ensures after { MatchResult result (λ _. self.new.output ≡ after_write self.old.output piece.now) (λ _. self.new.output ≡ after_failed_write self.old.output piece.now) }
+        ensures after { MatchResult result
+            (λ _. self.new.output ≡ after_write self.old.output piece.now)
+            (λ _. self.new.output ≡ after_failed_write self.old.output piece.now) }
         ensures input { self.new.input ≡ self.old.input }
     {
         self.output.write(piece)

@@ -80,9 +80,10 @@ impl Links {
         self.calls.fail()
     }
 
-    // The first link to come, where there is one.
+    // The first link to come, if there is one.
     pub(crate) fn next(&mut self) -> Option<MemLink>
-        ensures next { MatchOption result (self.old.to_come ≡ []) (λ link. self.old.to_come ≡ link ∷ drop 1 self.old.to_come) }
+        ensures next { MatchOption result (self.old.to_come ≡ []) (λ link.
+            self.old.to_come ≡ link ∷ drop 1 self.old.to_come) }
         ensures after { self.new ≡ with_one_less self.old }
     {
         if self.to_come.is_empty() {
@@ -91,6 +92,7 @@ impl Links {
         Some(self.to_come.remove(0))
     }
 
+    // A link is kept for the test to look at, if there is still a place for it.
     pub(crate) fn take_back(&mut self, link: MemLink)
         ensures { self.new ≡ after_done self.old link }
     {
@@ -100,12 +102,14 @@ impl Links {
         }
     }
 
+    // Tests look at how often a port or a dialer was asked, and for which number last.
     pub(crate) fn asked(&self) -> Asked
         ensures { result ≡ self.now.asked }
     {
         self.asked
     }
 
+    // Tests look at what was written to these links.
     pub(crate) fn given_back(&self) -> &[MemLink]
         ensures { result.now ≡ self.now.given_back }
     {

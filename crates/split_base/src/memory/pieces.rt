@@ -22,6 +22,7 @@ impl Model for Pieces {
 }
 
 impl Pieces {
+    // An empty piece would look like the end of the source, so no size is 0.
     pub(crate) fn new(sizes: Vec<usize>) -> Self
         requires { All (λ size. 0 < size) sizes.items }
         ensures { result ≡ sizes.items }
@@ -29,7 +30,7 @@ impl Pieces {
         Pieces { sizes, turn: 0 }
     }
 
-    // The most bytes that the next call gives: any number where the list is used up.
+    // The most bytes that the next call gives: any number once the list is used up.
     pub(crate) fn next(&mut self) -> usize
         ensures some { 0 < result }
         ensures size { result ≡ next_piece self.old }

@@ -11,7 +11,7 @@ use crate::{Asked, Failed, Port};
 use std::alloc::Global;
 use std::marker::Model;
 
-/// A port that hands out its links in order, and has ended where they are used up.
+/// A port that hands out its links in order, and has ended when they are used up.
 ///
 /// Its calls of `listen` and `accept` are numbered together from 1. A call whose number is listed
 /// as failing fails, and hands out no link. No call after `new` takes memory.
@@ -101,9 +101,11 @@ impl Port for MemPort {
         ensures come { Some self.new.links.to_come ≡ Some self.old.links.to_come }
         ensures back { Some self.new.links.given_back ≡ Some self.old.links.given_back }
 
-        // It fails exactly where its number is listed.
-        ensures fails { IsErr result ↔ Contains self.old.links.fails (counted self.old.links.calls) }
-        ensures after { MatchResult result (λ _. self.new.links ≡ after_listen port self.old.links) (λ _. self.new.links ≡ with_fault (after_listen port self.old.links)) }
+        // It fails exactly if its number is listed.
+        ensures fails { IsErr result
+            ↔ Contains self.old.links.fails (counted self.old.links.calls) }
+        ensures after { MatchResult result (λ _. self.new.links ≡ after_listen port self.old.links)
+            (λ _. self.new.links ≡ with_fault (after_listen port self.old.links)) }
     {
         self.links.ask(port);
         if self.links.begin() {
@@ -126,9 +128,11 @@ impl Port for MemPort {
         ensures places { self.new.links.places ≡ self.old.links.places }
         ensures back { Some self.new.links.given_back ≡ Some self.old.links.given_back }
 
-        // It fails exactly where its number is listed.
-        ensures fails { IsErr result ↔ Contains self.old.links.fails (counted self.old.links.calls) }
-        ensures after { MatchResult result (λ _. self.new.links ≡ after_link self.old.links) (λ _. self.new.links ≡ after_no_link self.old.links) }
+        // It fails exactly if its number is listed.
+        ensures fails { IsErr result
+            ↔ Contains self.old.links.fails (counted self.old.links.calls) }
+        ensures after { MatchResult result (λ _. self.new.links ≡ after_link self.old.links)
+            (λ _. self.new.links ≡ after_no_link self.old.links) }
     {
         if self.links.begin() {
             return Err(self.links.fail());
@@ -149,8 +153,10 @@ impl Port for MemPort {
         ensures over { IsTrue self.old.is_over ↔ IsTrue self.new.is_over }
         ensures come { Some self.new.links.to_come ≡ Some self.old.links.to_come }
         ensures places { self.new.links.places ≡ self.old.links.places - 1 }
-        ensures back { 0 < self.old.links.places → TakesBack (Some self.old.links.given_back) (Some self.new.links.given_back) link }
-        ensures dropped { self.old.links.places ≡ 0 → Some self.new.links.given_back ≡ Some self.old.links.given_back }
+        ensures back { 0 < self.old.links.places
+            → TakesBack (Some self.old.links.given_back) (Some self.new.links.given_back) link }
+        ensures dropped { self.old.links.places ≡ 0
+            → Some self.new.links.given_back ≡ Some self.old.links.given_back }
         ensures after { self.new.links ≡ after_done self.old.links link }
     {
         self.out = self.out.saturating_sub(1);

@@ -47,7 +47,16 @@ impl MemSink {
     ///
     /// `NoMemory` comes for want of that memory.
     pub fn new(alloc: Global, room: usize, fails: Vec<u64>) -> Result<Self, NoMemory>
-        ensures { IfOk result (λ sink. sink ≡ record { written = []; room = room; fails = fails.items; calls = 0; faults = 0; empty_writes = 0 }) }
+        ensures { IfOk result (λ sink.
+            sink
+            ≡ record {
+              written = [];
+              room = room;
+              fails = fails.items;
+              calls = 0;
+              faults = 0;
+              empty_writes = 0;
+            }) }
     {
         let Ok(bytes) = Vec::with_capacity(alloc, room) else {
             return Err(NoMemory);
@@ -74,6 +83,7 @@ impl MemSink {
         self.empty_writes
     }
 
+    // A link with a failed write counts as broken.
     pub(crate) fn has_fault(&self) -> bool
         ensures { IsTrue result ↔ (0 < self.now.faults) }
     {
@@ -95,10 +105,13 @@ impl Sink for MemSink {
         ensures cause { HasCause self.old.faults self.new.faults result }
         ensures count { IsCounted self.old.faults self.new.faults result }
 
-        // It fails exactly where its number is listed or the piece doesn't fit, and then has no effect but on the counts.
-        ensures fails { IsErr result ↔ (Contains self.old.fails (counted self.old.calls) ⊎ (self.old.room < length piece.now)) }
+        // It fails exactly if its number is listed or the piece doesn't fit, and then has no effect but on the counts.
+        ensures fails { IsErr result
+            ↔ (Contains self.old.fails (counted self.old.calls)
+            ⊎ (self.old.room < length piece.now)) }
         ensures taken { IfOk result (λ n. n ≡ length piece.now) }
-        ensures after { MatchResult result (λ _. self.new ≡ after_write self.old piece.now) (λ _. self.new ≡ after_failed_write self.old piece.now) }
+        ensures after { MatchResult result (λ _. self.new ≡ after_write self.old piece.now)
+            (λ _. self.new ≡ after_failed_write self.old piece.now) }
     {
         self.empty_writes = counted_empty(self.empty_writes, piece);
         if self.calls.begin() || self.room < piece.len() {

@@ -46,7 +46,15 @@ impl MemSource {
     /// bytes that it gives, and `fails` the numbers of the calls that fail, from 1.
     pub fn new(bytes: Vec<u8>, pieces: Vec<usize>, fails: Vec<u64>) -> Self
         requires { All (λ p. 0 < p) pieces.items }
-        ensures { result ≡ record { left = bytes.items; pieces = pieces.items; fails = fails.items; calls = 0; faults = 0; empty_reads = 0 } }
+        ensures { result
+            ≡ record {
+              left = bytes.items;
+              pieces = pieces.items;
+              fails = fails.items;
+              calls = 0;
+              faults = 0;
+              empty_reads = 0;
+            } }
     {
         MemSource {
             bytes,
@@ -64,6 +72,7 @@ impl MemSource {
         self.empty_reads
     }
 
+    // A link with a failed read counts as broken.
     pub(crate) fn has_fault(&self) -> bool
         ensures { IsTrue result ↔ (0 < self.now.faults) }
     {
@@ -105,10 +114,12 @@ impl Source for MemSource {
         ensures cause { HasCause self.old.faults self.new.faults result }
         ensures count { IsCounted self.old.faults self.new.faults result }
 
-        // It fails exactly where its number is listed, and then has no effect but on the counts.
+        // It fails exactly if its number is listed, and then has no effect but on the counts.
         ensures fails { IsErr result ↔ Contains self.old.fails (counted self.old.calls) }
-        ensures taken { IfOk result (λ n. n ≡ min (next_piece self.old.pieces) (min (length into.old) (length self.old.left))) }
-        ensures after { MatchResult result (λ n. self.new ≡ after_read self.old n) (λ _. self.new ≡ after_failed_read self.old) }
+        ensures taken { IfOk result (λ n.
+            n ≡ min (next_piece self.old.pieces) (min (length into.old) (length self.old.left))) }
+        ensures after { MatchResult result (λ n. self.new ≡ after_read self.old n)
+            (λ _. self.new ≡ after_failed_read self.old) }
     {
         if self.calls.begin() {
             return Err(self.calls.fail());

@@ -1,4 +1,4 @@
-use Rattle.winner_laws.specs.Moving.{IsNextOf}
+use Rattle.winner_definition.specs.Moving.{IsNextOf}
 use Rattle.adjusted_winner.proofs.moving.next_good.Given as goal
 
 abbrev pub invariant-loop-k : goal.invariant-loop-k

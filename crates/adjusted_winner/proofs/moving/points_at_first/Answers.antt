@@ -1,6 +1,6 @@
 use Rattle.std.proofs.Common.{arith, ◌≡◌, ◌+◌, ◌==◌, ℕ, cond, ap}
 use Rattle.bid_rules.specs.Goods.{points}
-use Rattle.winner_laws.specs.Winners.{first_owner}
+use Rattle.winner_definition.specs.Winners.{first_owner}
 use Rattle.split_lemmas.proofs.RangeSteps.{sum_more}
 use Rattle.adjusted_winner.proofs.moving.points_at_first.Goals as goal
 

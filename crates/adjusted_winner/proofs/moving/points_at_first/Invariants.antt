@@ -2,7 +2,7 @@ use Rattle.std.proofs.Common.{◌≡◌, ◌*◌, ◌≤◌, ◌==◌, cond, sum
 use Rattle.std.specs.List.{range_with_len}
 use Rattle.bid_rules.specs.declared.limits.TheConstants.{WHOLE_POINTS}
 use Rattle.bid_rules.specs.Goods.{points}
-use Rattle.winner_laws.specs.Winners.{first_owner}
+use Rattle.winner_definition.specs.Winners.{first_owner}
 use Rattle.adjusted_winner.proofs.moving.points_at_first.Given as goal
 
 abbrev pub invariant-loop-k : goal.invariant-loop-k

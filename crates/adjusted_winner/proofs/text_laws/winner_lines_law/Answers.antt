@@ -6,8 +6,8 @@ use Rattle.adjusted_winner.specs.declared.winner.Winner.{Winner}
 use Rattle.bid_rules.specs.declared.goods.GoodsCase.{GoodsCase}
 use Rattle.bid_rules.specs.Goods.{IsValidGoodsCase, player_count}
 use Rattle.cert_reader.specs.Pairs.{IsPairText}
-use Rattle.winner_laws.specs.Printed.{AreProperShares, HaveTotal, SupportShares}
-use Rattle.winner_laws.specs.Shown.{IsShown}
+use Rattle.winner_definition.specs.Printed.{AreProperShares, HaveTotal, SupportShares}
+use Rattle.winner_definition.specs.Shown.{IsShown}
 use Rattle.split_frac.specs.Frac.{fraction_of}
 use Rattle.adjusted_winner.specs.Lines.{winner_view}
 use Rattle.adjusted_winner.proofs.FewParts.{PartFacts, answer_in_few, shares_short, total_short}

@@ -3,9 +3,9 @@ use Rattle.std.specs.List.{AllZip, range_with_len}
 use Rattle.std.proofs.Math.Nat.{mul-le-mul}
 use Rattle.bid_rules.specs.Goods.{points}
 use Rattle.split_frac.specs.Frac.{HasValue}
-use Rattle.winner_laws.specs.Divisions.{first_points}
-use Rattle.winner_laws.specs.Procedure.{first_share, other_player}
-use Rattle.winner_laws.specs.Winners.{greater_points, lesser_points}
+use Rattle.winner_definition.specs.Divisions.{first_points}
+use Rattle.winner_definition.specs.Procedure.{first_share, other_player}
+use Rattle.winner_definition.specs.Winners.{greater_points, lesser_points}
 use Rattle.adjusted_winner.proofs.LastGoods.{last_outcome}
 use Rattle.adjusted_winner.proofs.winner.moved.Goals as goal
 

@@ -1,8 +1,8 @@
 use Rattle.std.proofs.Common.{arith, ◌≡◌, ◌*◌, pos, [], subst, map, refl, sym, ◌∙◌, inl, inr}
 use Rattle.std.specs.List.{range_with_len}
 use Rattle.split_frac.specs.Frac.{HasValue}
-use Rattle.winner_laws.specs.Procedure.{points_at_first}
-use Rattle.winner_laws.specs.Winners.{share_at_first}
+use Rattle.winner_definition.specs.Procedure.{points_at_first}
+use Rattle.winner_definition.specs.Winners.{share_at_first}
 use Rattle.adjusted_winner.proofs.winner.solve_winner.Goals as goal
 
 pub moved-requires-clause-richer : goal.moved-requires-clause-richer

@@ -16,42 +16,42 @@ unreachable-requires-in-Ok-Done g c =
     let told = next.piece.2 [] [] c.new-pieces.ensures.read in
     let all = told.0 in
     let none = c.new-pieces.ensures.start in
-    let some = some_lines c.next_piece.new.self.counts in
+    let some = some_lines c.next_part.new.self.counts in
     omega (arith, all, none, some)
 
-pub returns-in-Err-next_piece-clause-judged : goal.returns-in-Err-next_piece-clause-judged
-returns-in-Err-next_piece-clause-judged g c =
+pub returns-in-Err-next_part-clause-judged : goal.returns-in-Err-next_part-clause-judged
+returns-in-Err-next_part-clause-judged g c =
     let inv = c.lines.invariant in
-    let p = (rw c.in-Err-next_piece.end-is at c.in-Err-next_piece.ensures).piece in
+    let p = (rw c.in-Err-next_part.end-is at c.in-Err-next_part.ensures).piece in
     (inv.taken ++ p.0, Consumes-trans _ _ _ inv.taken p.0 inv.took p.1, p.2 inv.taken inv.up_to.said inv.up_to.read)
 
 pub take-requires : goal.take-requires
 take-requires g c =
     let inv = c.lines.invariant in
-    let next = rw c.in-Ok-Line-next_piece.field-0-is at c.in-Ok-Line-next_piece.ensures in
+    let next = rw c.in-Ok-Line-next_part.field-0-is at c.in-Ok-Line-next_part.ensures in
     let p = next.piece in
     let told = p.2 inv.taken inv.up_to.said inv.up_to.read in
-    let last = Numbers (map fraction_of c.in-Ok-Line-next_piece.numbers.items) in
-    let rest = c.text_law.ensures.completed c.next_piece-in-lines.new.self (inv.taken ++ p.0) (inv.up_to.said ++ last ∷ []) told.3 in
-    let goes = line_goes c.lines.lines c.lines.pieces c.next_piece-in-lines.new.self inv.up_to.said rest.0 last (inv.taken ++ p.0) inv.up_to.knows inv.up_to.kind inv.up_to.some inv.up_to.long told.1 told.2 told.3 (next.more (λ e. absurd (cc))).0 rest.1 in
+    let last = Numbers (map fraction_of c.next_part-in-lines.new.numbers.items) in
+    let rest = c.text_law.ensures.completed c.next_part-in-lines.new.self (inv.taken ++ p.0) (inv.up_to.said ++ last ∷ []) told.3 in
+    let goes = line_goes c.lines.lines c.lines.pieces c.next_part-in-lines.new.self inv.up_to.said rest.0 last (inv.taken ++ p.0) inv.up_to.knows inv.up_to.kind inv.up_to.some inv.up_to.long told.1 told.2 told.3 (next.more (λ e. absurd (cc))).0 rest.1 in
     (inv.up_to.said, goes.0, goes.1, goes.2)
 
-pub lines-preserved-in-Ok-Line-next_piece : goal.lines-preserved-in-Ok-Line-next_piece
-lines-preserved-in-Ok-Line-next_piece g c =
+pub lines-preserved-in-Ok-Line-next_part : goal.lines-preserved-in-Ok-Line-next_part
+lines-preserved-in-Ok-Line-next_part g c =
     let inv = c.lines.invariant in
-    let next = rw c.in-Ok-Line-next_piece.field-0-is at c.in-Ok-Line-next_piece.ensures in
+    let next = rw c.in-Ok-Line-next_part.field-0-is at c.in-Ok-Line-next_part.ensures in
     let p = next.piece in
     let told = p.2 inv.taken inv.up_to.said inv.up_to.read in
-    let last = Numbers (map fraction_of c.in-Ok-Line-next_piece.numbers.items) in
-    let rest = c.text_law.ensures.completed c.next_piece-in-lines.new.self (inv.taken ++ p.0) (inv.up_to.said ++ last ∷ []) told.3 in
-    let goes = line_goes c.lines.lines c.lines.pieces c.next_piece-in-lines.new.self inv.up_to.said rest.0 last (inv.taken ++ p.0) inv.up_to.knows inv.up_to.kind inv.up_to.some inv.up_to.long told.1 told.2 told.3 (next.more (λ e. absurd (cc))).0 rest.1 in
+    let last = Numbers (map fraction_of c.next_part-in-lines.new.numbers.items) in
+    let rest = c.text_law.ensures.completed c.next_part-in-lines.new.self (inv.taken ++ p.0) (inv.up_to.said ++ last ∷ []) told.3 in
+    let goes = line_goes c.lines.lines c.lines.pieces c.next_part-in-lines.new.self inv.up_to.said rest.0 last (inv.taken ++ p.0) inv.up_to.knows inv.up_to.kind inv.up_to.some inv.up_to.long told.1 told.2 told.3 (next.more (λ e. absurd (cc))).0 rest.1 in
     record {
       taken = inv.taken ++ p.0;
       took = Consumes-trans _ _ _ inv.taken p.0 inv.took p.1;
       up_to = record {
         said = inv.up_to.said ++ last ∷ [];
         read = told.3;
-        kind = kind_stays c.lines.pieces.lines c.lines.pieces.counts c.next_piece-in-lines.new.self.counts inv.up_to.some told.2 ∙ inv.up_to.kind ∙ ap Some (sym c.take.ensures.kind);
+        kind = kind_stays c.lines.pieces.lines c.lines.pieces.counts c.next_part-in-lines.new.self.counts inv.up_to.some told.2 ∙ inv.up_to.kind ∙ ap Some (sym c.take.ensures.kind);
         knows = c.take.ensures.knows inv.up_to.said goes.0 goes.1 goes.2;
         to_come = (next.more (λ e. absurd (cc))).0;
         some = (let one = told.1 in let some = inv.up_to.some in omega arith);
@@ -65,21 +65,21 @@ lines-preserved-in-Ok-Line-next_piece g c =
 pub take_mark-requires : goal.take_mark-requires
 take_mark-requires g c =
     let inv = c.lines.invariant in
-    let next = rw c.in-Ok-Mark-next_piece.field-0-is at c.in-Ok-Mark-next_piece.ensures in
+    let next = rw c.in-Ok-Mark-next_part.field-0-is at c.in-Ok-Mark-next_part.ensures in
     let p = next.piece in
     let told = p.2 inv.taken inv.up_to.said inv.up_to.read in
-    let mark = c.in-Ok-Mark-next_piece.mark in
-    let rest = c.text_law.ensures.completed c.next_piece-in-lines.new.self (inv.taken ++ p.0) (with_mark inv.up_to.said mark) told.2 in
-    (inv.up_to.said, next_mark_goes c.lines.lines c.lines.pieces c.next_piece-in-lines.new.self inv.taken p.0 rest.0 mark inv.up_to told.1 told.2 rest.1)
+    let mark = c.in-Ok-Mark-next_part.mark in
+    let rest = c.text_law.ensures.completed c.next_part-in-lines.new.self (inv.taken ++ p.0) (with_mark inv.up_to.said mark) told.2 in
+    (inv.up_to.said, next_mark_goes c.lines.lines c.lines.pieces c.next_part-in-lines.new.self inv.taken p.0 rest.0 mark inv.up_to told.1 told.2 rest.1)
 
 pub take_marks-requires-clause-known : goal.take_marks-requires-clause-known
 take_marks-requires-clause-known g c =
     let inv = c.lines.invariant in
-    let next = rw c.in-Ok-Mark-next_piece.field-0-is at c.in-Ok-Mark-next_piece.ensures in
+    let next = rw c.in-Ok-Mark-next_part.field-0-is at c.in-Ok-Mark-next_part.ensures in
     let p = next.piece in
     let told = p.2 inv.taken inv.up_to.said inv.up_to.read in
-    let mark = c.in-Ok-Mark-next_piece.mark in
-    let new = c.next_piece-in-lines.new.self in
+    let mark = c.in-Ok-Mark-next_part.mark in
+    let new = c.next_part-in-lines.new.self in
     let rest = c.text_law.ensures.completed new (inv.taken ++ p.0) (with_mark inv.up_to.said mark) told.2 in
     let goes = next_mark_goes c.lines.lines c.lines.pieces new inv.taken p.0 rest.0 mark inv.up_to told.1 told.2 rest.1 in
     let up_to = up_to_mark c.lines.lines c.take_mark.new.self c.lines.pieces new inv.taken p.0 mark inv.up_to told.1 told.2 (next.more (λ e. absurd (cc))).0 c.take_mark.ensures.kind (c.take_mark.ensures.knows inv.up_to.said goes) in
@@ -88,11 +88,11 @@ take_marks-requires-clause-known g c =
 pub returns-in-Err-take_marks-clause-judged : goal.returns-in-Err-take_marks-clause-judged
 returns-in-Err-take_marks-clause-judged g c =
     let inv = c.lines.invariant in
-    let next = rw c.in-Ok-Mark-next_piece.field-0-is at c.in-Ok-Mark-next_piece.ensures in
+    let next = rw c.in-Ok-Mark-next_part.field-0-is at c.in-Ok-Mark-next_part.ensures in
     let p = next.piece in
     let told = p.2 inv.taken inv.up_to.said inv.up_to.read in
-    let mark = c.in-Ok-Mark-next_piece.mark in
-    let new = c.next_piece-in-lines.new.self in
+    let mark = c.in-Ok-Mark-next_part.mark in
+    let new = c.next_part-in-lines.new.self in
     let rest = c.text_law.ensures.completed new (inv.taken ++ p.0) (with_mark inv.up_to.said mark) told.2 in
     let goes = next_mark_goes c.lines.lines c.lines.pieces new inv.taken p.0 rest.0 mark inv.up_to told.1 told.2 rest.1 in
     let up_to = up_to_mark c.lines.lines c.take_mark.new.self c.lines.pieces new inv.taken p.0 mark inv.up_to told.1 told.2 (next.more (λ e. absurd (cc))).0 c.take_mark.ensures.kind (c.take_mark.ensures.knows inv.up_to.said goes) in
@@ -102,11 +102,11 @@ returns-in-Err-take_marks-clause-judged g c =
 pub lines-preserved : goal.lines-preserved
 lines-preserved g c =
     let inv = c.lines.invariant in
-    let next = rw c.in-Ok-Mark-next_piece.field-0-is at c.in-Ok-Mark-next_piece.ensures in
+    let next = rw c.in-Ok-Mark-next_part.field-0-is at c.in-Ok-Mark-next_part.ensures in
     let p = next.piece in
     let told = p.2 inv.taken inv.up_to.said inv.up_to.read in
-    let mark = c.in-Ok-Mark-next_piece.mark in
-    let new = c.next_piece-in-lines.new.self in
+    let mark = c.in-Ok-Mark-next_part.mark in
+    let new = c.next_part-in-lines.new.self in
     let rest = c.text_law.ensures.completed new (inv.taken ++ p.0) (with_mark inv.up_to.said mark) told.2 in
     let goes = next_mark_goes c.lines.lines c.lines.pieces new inv.taken p.0 rest.0 mark inv.up_to told.1 told.2 rest.1 in
     let up_to = up_to_mark c.lines.lines c.take_mark.new.self c.lines.pieces new inv.taken p.0 mark inv.up_to told.1 told.2 (next.more (λ e. absurd (cc))).0 c.take_mark.ensures.kind (c.take_mark.ensures.knows inv.up_to.said goes) in
@@ -121,27 +121,27 @@ lines-preserved g c =
       beside = marks.beside ∙ next.beside ∙ inv.beside;
     }
 
-pub returns-in-Ok-Done-next_piece-clause-judged : goal.returns-in-Ok-Done-next_piece-clause-judged
-returns-in-Ok-Done-next_piece-clause-judged g c =
+pub returns-in-Ok-Done-next_part-clause-judged : goal.returns-in-Ok-Done-next_part-clause-judged
+returns-in-Ok-Done-next_part-clause-judged g c =
     let inv = c.lines.invariant in
-    let next = rw c.in-Ok-Done-next_piece.field-0-is at c.in-Ok-Done-next_piece.ensures in
+    let next = rw c.in-Ok-Done-next_part.field-0-is at c.in-Ok-Done-next_part.ensures in
     let p = next.piece in
     let told = p.2 inv.taken inv.up_to.said inv.up_to.read in
-    let counts = c.next_piece-in-lines.new.self.counts in
-    let goes = end_goes c.lines.lines c.lines.pieces c.next_piece-in-lines.new.self inv.up_to.said (inv.taken ++ p.0) inv.up_to.knows inv.up_to.kind inv.up_to.some told.1 told.2 in (
+    let counts = c.next_part-in-lines.new.self.counts in
+    let goes = end_goes c.lines.lines c.lines.pieces c.next_part-in-lines.new.self inv.up_to.said (inv.taken ++ p.0) inv.up_to.knows inv.up_to.kind inv.up_to.some told.1 told.2 in (
       inv.taken ++ p.0,
       Consumes-trans _ _ _ inv.taken p.0 inv.took p.1,
       (judged_so (inv.taken ++ p.0) counts (inv.up_to.said ++ says [] ∷ []) c.verdict.result told.2 (c.verdict.ensures inv.up_to.said goes), told.3, told.4),
     )
 
-pub returns-in-Ok-Done-next_piece-clause-best : goal.returns-in-Ok-Done-next_piece-clause-best
-returns-in-Ok-Done-next_piece-clause-best g c agreed =
+pub returns-in-Ok-Done-next_part-clause-best : goal.returns-in-Ok-Done-next_part-clause-best
+returns-in-Ok-Done-next_part-clause-best g c agreed =
     let inv = c.lines.invariant in
-    let next = rw c.in-Ok-Done-next_piece.field-0-is at c.in-Ok-Done-next_piece.ensures in
+    let next = rw c.in-Ok-Done-next_part.field-0-is at c.in-Ok-Done-next_part.ensures in
     let p = next.piece in
     let told = p.2 inv.taken inv.up_to.said inv.up_to.read in
-    let counts = c.next_piece-in-lines.new.self.counts in
-    let goes = end_goes c.lines.lines c.lines.pieces c.next_piece-in-lines.new.self inv.up_to.said (inv.taken ++ p.0) inv.up_to.knows inv.up_to.kind inv.up_to.some told.1 told.2 in
+    let counts = c.next_part-in-lines.new.self.counts in
+    let goes = end_goes c.lines.lines c.lines.pieces c.next_part-in-lines.new.self inv.up_to.said (inv.taken ++ p.0) inv.up_to.knows inv.up_to.kind inv.up_to.some told.1 told.2 in
     let same : c.verdict.result ≡ Yes = cc in
     let certificate : IsCertificate (inv.taken ++ p.0) =
     subst (IsJudged (inv.taken ++ p.0)) same (judged_so (inv.taken ++ p.0) counts (inv.up_to.said ++ says [] ∷ []) c.verdict.result told.2 (c.verdict.ensures inv.up_to.said goes)) in (
@@ -189,7 +189,7 @@ lines-init g c =
       up_to = record {
         said = says (pos 1 ∷ []) ∷ says [] ∷ [];
         read = told.3;
-        kind = told_lines c.in-Ok-Kind.kind c.next_piece.new.self.counts c.new-lines.result told.2 c.new-lines.ensures.kind;
+        kind = told_lines c.in-Ok-Kind.kind c.next_part.new.self.counts c.new-lines.result told.2 c.new-lines.ensures.kind;
         knows = c.new-lines.ensures.knows;
         to_come = (next.more (λ e. absurd (cc))).0;
         some = (let two = told.1 in omega (arith, two));
@@ -203,15 +203,15 @@ lines-init g c =
 pub verdict-requires : goal.verdict-requires
 verdict-requires g c =
     let inv = c.lines.invariant in
-    let next = rw c.in-Ok-Done-next_piece.field-0-is at c.in-Ok-Done-next_piece.ensures in
+    let next = rw c.in-Ok-Done-next_part.field-0-is at c.in-Ok-Done-next_part.ensures in
     let p = next.piece in
     let told = p.2 inv.taken inv.up_to.said inv.up_to.read in
-    (inv.up_to.said, end_goes c.lines.lines c.lines.pieces c.next_piece-in-lines.new.self inv.up_to.said (inv.taken ++ p.0) inv.up_to.knows inv.up_to.kind inv.up_to.some told.1 told.2)
+    (inv.up_to.said, end_goes c.lines.lines c.lines.pieces c.next_part-in-lines.new.self inv.up_to.said (inv.taken ++ p.0) inv.up_to.knows inv.up_to.kind inv.up_to.some told.1 told.2)
 
-pub unreachable-requires-in-Ok-Kind-next_piece : goal.unreachable-requires-in-Ok-Kind-next_piece
-unreachable-requires-in-Ok-Kind-next_piece g c =
+pub unreachable-requires-in-Ok-Kind-next_part : goal.unreachable-requires-in-Ok-Kind-next_part
+unreachable-requires-in-Ok-Kind-next_part g c =
     let inv = c.lines.invariant in
-    let next = rw c.in-Ok-Kind-next_piece.field-0-is at c.in-Ok-Kind-next_piece.ensures in
+    let next = rw c.in-Ok-Kind-next_part.field-0-is at c.in-Ok-Kind-next_part.ensures in
     let told = next.piece.2 inv.taken inv.up_to.said inv.up_to.read in
     let none = told.0 in
     let some = inv.up_to.some in

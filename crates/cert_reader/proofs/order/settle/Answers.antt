@@ -29,8 +29,8 @@ returns c counts said are agree is =
     let end = c.loop-choice.auto.choice-end in
     c.loop-choice.invariant tried.choice said (omega arith) (subst (λ form. IsLineOf form said c.args.line.now) (sym tried.same) is)
 
-pub returns-in-Some : goal.returns-in-Some
-returns-in-Some c =
+pub returns-then-read_at : goal.returns-then-read_at
+returns-then-read_at c =
     let low : c.loop-choice.choice < choice_count c.args.index c.args.known = (let count = c.choices-choice-end.ensures.value in let test = c.loop-choice-test.true in let end = c.loop-choice.auto.choice-end in omega arith) in
     let valid = subst (IsChoice c.args.index c.args.known) (sym c.chosen-counts.ensures) (choice_valid c.args.index c.args.known c.loop-choice.choice c.requires.known c.requires.index low) in
-    (valid.are, valid.agree, valid.within, c.in-Some.ensures)
+    (valid.are, valid.agree, valid.within, c.if-read_at.ensures)

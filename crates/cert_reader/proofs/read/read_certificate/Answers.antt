@@ -4,7 +4,7 @@ use Rattle.cert_reader.specs.Forms.{AreCounts, forms_of}
 use Rattle.cert_reader.specs.Gathered.{Gathered, whole_said}
 use Rattle.cert_reader.specs.declared.certificate.Certificate.{Certificate}
 use Rattle.cert_reader.specs.declared.pieces.Piece.{Piece}
-use Rattle.cert_reader.specs.Stream.{faults_after}
+use Rattle.cert_reader.specs.Stream.{faults_after_reading}
 use Rattle.cert_reader.specs.Text.{CanSayAll}
 use Rattle.cert_reader.specs.Whole.{IsGathering}
 use Rattle.cert_reader.proofs.Gathering.{answer_is, gathering_done, gathering_end, gathering_full, gathering_kind, gathering_line, gathering_mark, stopped_faults, whole_full, whole_read}
@@ -18,7 +18,7 @@ returns-in-Err-clause-read g c =
 
 pub returns-in-Err-clause-faults : goal.returns-in-Err-clause-faults
 returns-in-Err-clause-faults g c =
-    inl (Err c.in-Err.end, ap Err c.from.ensures, c.in-Err.ensures.faults ∙ stopped_faults Piece _ c.in-Err.end ∙ ap (λ n. faults_after {T = Certificate} n (Err c.in-Err.end)) c.pieces.invariant.faults)
+    inl (Err c.in-Err.end, ap Err c.from.ensures, c.in-Err.ensures.faults ∙ stopped_faults Piece _ c.in-Err.end ∙ ap (λ n. faults_after_reading {T = Certificate} n (Err c.in-Err.end)) c.pieces.invariant.faults)
 
 pub returns-in-Err-clause-empty : goal.returns-in-Err-clause-empty
 returns-in-Err-clause-empty g c = inl (Err c.in-Err.end, ap Err c.from.ensures, omega (arith, c.in-Err.ensures.empty, c.pieces.invariant.empty))

@@ -1,5 +1,5 @@
 use Rattle.std.proofs.Common.{◌≡◌, count_by, arith, sym, ap, ◌∙◌}
-use Rattle.goods_audit.specs.Domination.{is_open, open_count, prefixes}
+use Rattle.goods_audit.specs.Domination.{leaves_room, open_count, prefixes}
 use Rattle.goods_audit.specs.Paths.{found_in, to_come}
 use Rattle.goods_audit.proofs.PathLists.{come_first}
 use Rattle.goods_audit.proofs.walk.search.Goals as goal
@@ -14,7 +14,7 @@ prefixes-init c =
       path = c.requires.path;
       few = omega arith;
       seen = λ owners whole long. (
-        (let all : count_by (is_open case owners) (to_come case c.args.start.owners.items) ≡ open_count case owners = ap (count_by (is_open case owners)) come in omega (arith, all)),
+        (let all : count_by (leaves_room case owners) (to_come case c.args.start.owners.items) ≡ open_count case owners = ap (count_by (leaves_room case owners)) come in omega (arith, all)),
         ap (found_in case owners) (sym come),
       );
     }

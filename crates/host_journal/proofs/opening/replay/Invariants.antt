@@ -2,7 +2,7 @@
 use Rattle.std.proofs.Common.{◌≡◌, ◌≤◌, ◌-◌, ◌^◌, ◌↔◌, List, ℕ}
 use Rattle.split_base.specs.Disk.{Rests}
 use Rattle.sealed_core.specs.Host.{EventView, HasRoom}
-use Rattle.host_journal.specs.Journal.{IsHostOf, IsHostOfFile, IsReplaying}
+use Rattle.host_journal.specs.Journal.{IsHostOf, IsHostWithFile, IsReplaying}
 use Rattle.host_journal.proofs.opening.replay.Given as goal
 
 abbrev pub invariant-loop : goal.invariant-loop
@@ -16,7 +16,7 @@ invariant-loop g l = record {
   still : g.D.Disk.tells l.initial.disk → g.D.Disk.tells l.disk × (g.D.Disk.seen l.disk ≡ g.D.Disk.seen l.initial.disk);
   replaying : g.D.Disk.tells l.initial.disk → (secret : List ℕ) (events : List EventView) → IsReplaying (g.D.Disk.seen l.initial.disk) l.initial.log l.initial.host.content secret events
       → (all : List EventView) × IsReplaying (g.D.Disk.seen l.disk) l.log l.host.content secret all;
-  made : (secret : List ℕ) (events : List EventView) → IsHostOf l.initial.host.content secret events → (all : List EventView) × IsHostOfFile l.host.content secret all
+  made : (secret : List ℕ) (events : List EventView) → IsHostOf l.initial.host.content secret events → (all : List EventView) × IsHostWithFile l.host.content secret all
       (g.D.Disk.tells l.initial.disk → IsReplaying (g.D.Disk.seen l.initial.disk) l.initial.log l.initial.host.content secret events → IsReplaying (g.D.Disk.seen l.disk) l.log l.host.content secret all);
 }
 

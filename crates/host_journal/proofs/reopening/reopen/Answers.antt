@@ -7,7 +7,7 @@ pub returns-in-Ok-clause-reopened : goal.returns-in-Ok-clause-reopened
 returns-in-Ok-clause-reopened g c s stands =
     let (e, waits) = waiting_event c.args.serving.now.waiting s.waiting c.requires stands.waiting in
     was_opened g.D.Disk c.args.serving.now c.args.disk.now c.open_in.new.disk s stands e waits (Ok (tt {0})) c.open_in.ensures.honest c.open_in.ensures.count c.open_in.ensures.any_moment
-    c.open_in.ensures.after (g.met.D.Disk.seen_is_image c.args.disk.now) c.events_law.ensures.one_meaning _ refl c.in-Ok.ensures.faults refl c.in-Ok.ensures.one c.in-Ok.ensures.done (rw c.swap.ensures.x_after c.in-Ok.ensures.made)
+    c.open_in.ensures.after (g.met.D.Disk.seen_is_image c.args.disk.now) c.events_law.ensures.one_meaning c.go_on.new.serving refl c.in-Ok.ensures.faults c.go_on.ensures.ready c.in-Ok.ensures.one c.in-Ok.ensures.done (rw c.go_on.ensures.host (rw c.go_on.ensures.log c.in-Ok.ensures.made))
 
 pub returns-in-Err-clause-reopened : goal.returns-in-Err-clause-reopened
 returns-in-Err-clause-reopened g c s stands =

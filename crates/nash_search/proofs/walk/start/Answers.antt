@@ -4,7 +4,7 @@ use Rattle.bid_rules.specs.Goods.{player_count}
 use Rattle.nash_bounds.specs.Lanes.{IsFork}
 use Rattle.nash_bounds.specs.Prefixes.{prefix_bound}
 use Rattle.nash_bounds.specs.Counted.{is_counted}
-use Rattle.nash_search.specs.Waiting.{IsSettled, IsWalk, to_come}
+use Rattle.nash_search.specs.Waiting.{IsReadyForNext, IsWalk, to_come}
 use Rattle.nash_search.specs.declared.walk.Walk.{Walk}
 use Rattle.nash_search.proofs.WalkMoves.{first_walk, first_of, All-last, IsFirst}
 use Rattle.nash_search.proofs.walk.start.Goals as goal
@@ -14,7 +14,7 @@ abbrev first : goal.After-first_levels-levels → Walk
 first c = record { rules = c.args.rules; table = c.args.table; path = c.pop.new.self; levels = c.first_levels-levels.result; nodes = 0; best = None }
 
 -- it is a settled walk that has the prefix to come, if that is counted
-is : (c : goal.After-first_levels-levels) → IsWalk c.args.case.now (first c) × IsSettled (first c)
+is : (c : goal.After-first_levels-levels) → IsWalk c.args.case.now (first c) × IsReadyForNext (first c)
     × (to_come (first c) ≡ cond (is_counted c.args.case.now c.args.rules.floor c.args.rules.above c.args.prefix.now.owners.items) (c.args.prefix.now.owners.items ∷ []) [])
 is c =
     let case = c.args.case.now in

@@ -1,7 +1,7 @@
 use Rattle.std.proofs.Common.{option_map, refl, sym, subst}
 use Rattle.sealed_core.specs.declared.replies.Reply.{Reply}
 use Rattle.sealed_core.specs.Host.{event_view}
-use Rattle.sealed_core.specs.Sealed.{applied}
+use Rattle.sealed_core.specs.Sealed.{with_event}
 use Rattle.reply_texts.specs.Pages.{IsTextAt}
 use Rattle.reply_texts.specs.Refusals.{of_refusal}
 use Rattle.reply_texts.specs.Replies.{of_closed, of_reply, of_turn}
@@ -9,15 +9,15 @@ use Rattle.reply_texts.proofs.replies.text_after.Goals as goal
 
 pub returns-in-Kept : goal.returns-in-Kept
 returns-in-Kept c =
-    subst (λ (r : Reply). IsTextAt (of_reply (applied c.args.host.now.content (option_map event_view c.args.event.now)) r) c.turn_text.result) (sym c.in-Kept.is)
+    subst (λ (r : Reply). IsTextAt (of_reply (with_event c.args.host.now.content (option_map event_view c.args.event.now)) r) c.turn_text.result) (sym c.in-Kept.is)
     (record { value = of_turn c.in-Kept.turn; is = refl; told = c.turn_text.ensures })
 
 pub returns-in-Closed : goal.returns-in-Closed
 returns-in-Closed c =
-    subst (λ (r : Reply). IsTextAt (of_reply (applied c.args.host.now.content (option_map event_view c.args.event.now)) r) c.closed_text.result) (sym c.in-Closed.is)
+    subst (λ (r : Reply). IsTextAt (of_reply (with_event c.args.host.now.content (option_map event_view c.args.event.now)) r) c.closed_text.result) (sym c.in-Closed.is)
     (record { value = of_closed; is = refl; told = c.closed_text.ensures })
 
 pub returns-in-Refused : goal.returns-in-Refused
 returns-in-Refused c =
-    subst (λ (r : Reply). IsTextAt (of_reply (applied c.args.host.now.content (option_map event_view c.args.event.now)) r) c.refusal_text.result) (sym c.in-Refused.is)
+    subst (λ (r : Reply). IsTextAt (of_reply (with_event c.args.host.now.content (option_map event_view c.args.event.now)) r) c.refusal_text.result) (sym c.in-Refused.is)
     (record { value = of_refusal c.in-Refused.refusal; is = refl; told = c.refusal_text.ensures })

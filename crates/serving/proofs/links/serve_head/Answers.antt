@@ -5,7 +5,7 @@ use Rattle.serving.specs.Dues.{is_head}
 use Rattle.serving.proofs.Finishing.{finish_held}
 use Rattle.serving.proofs.Going.{counts_finished, head_quiet, head_served}
 use Rattle.serving.proofs.Hearing.{due_to_refused, due_to_request}
-use Rattle.serving.specs.Served.{carried, link_view, tells_of}
+use Rattle.serving.specs.Served.{with_carry, link_view, tells_of}
 use Rattle.requests.specs.Said.{SaidView, said_view}
 use Rattle.serving.specs.Serving.{StandsAt, due_of, host_service}
 use Rattle.serving.proofs.Worlds.{responded}
@@ -14,7 +14,7 @@ use Rattle.serving.proofs.links.serve_head.Goals as goal
 pub returns-in-Quiet-clause-says : goal.returns-in-Quiet-clause-says
 returns-in-Quiet-clause-says g c w stands =
     let tells = tells_of g.L.Source g.L.Sink in
-    head_quiet (host_service g.D.Disk) (carried c.args.carry.now (link_view tells c.args.link.now)) c.hear.new.carry (link_view tells c.hear.new.link)
+    head_quiet (host_service g.D.Disk) (with_carry c.args.carry.now (link_view tells c.args.link.now)) c.hear.new.carry (link_view tells c.hear.new.link)
     (ClockRun g.C.Clock.gives g.C.Clock.faults c.args.clock.now c.hear.new.clock) (StandsAt g.D.Disk c.args.serving.now c.args.disk.now) c.args.last w c.in-Quiet.end c.in-Quiet.ensures.says stands
 
 pub returns-in-Quiet-clause-counts : goal.returns-in-Quiet-clause-counts
@@ -23,8 +23,8 @@ returns-in-Quiet-clause-counts g c = (c.in-Quiet.ensures.says.ending, c.in-Quiet
 pub returns-in-Refused-clause-says : goal.returns-in-Refused-clause-says
 returns-in-Refused-clause-says g c w stands =
     let tells = tells_of g.L.Source g.L.Sink in
-    let link = carried c.args.carry.now (link_view tells c.args.link.now) in
-    let mid = carried c.hear.new.carry (link_view tells c.hear.new.link) in
+    let link = with_carry c.args.carry.now (link_view tells c.args.link.now) in
+    let mid = with_carry c.hear.new.carry (link_view tells c.hear.new.link) in
     let now = link_view tells c.write_said.new.link in
     let asked = ClockRun g.C.Clock.gives g.C.Clock.faults c.args.clock.now c.hear.new.clock in
     let stand = StandsAt g.D.Disk c.args.serving.now c.args.disk.now in
@@ -43,8 +43,8 @@ returns-in-Refused-clause-counts g c =
 pub returns-in-Request-clause-says : goal.returns-in-Request-clause-says
 returns-in-Request-clause-says g c w stands =
     let tells = tells_of g.L.Source g.L.Sink in
-    let link = carried c.args.carry.now (link_view tells c.args.link.now) in
-    let mid = carried c.hear.new.carry (link_view tells c.hear.new.link) in
+    let link = with_carry c.args.carry.now (link_view tells c.args.link.now) in
+    let mid = with_carry c.hear.new.carry (link_view tells c.hear.new.link) in
     let now = link_view tells c.write_said-in-Request.new.link in
     let asked = ClockRun g.C.Clock.gives g.C.Clock.faults c.args.clock.now c.hear.new.clock in
     let stand = StandsAt g.D.Disk c.respond-said.new.serving c.respond-said.new.disk in

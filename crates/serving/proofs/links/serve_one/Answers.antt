@@ -2,7 +2,7 @@ use Rattle.std.proofs.Common.{rules, arith, suc, None, ◌≡◌, ◌∙◌, ◌
 use Rattle.serving.specs.declared.limits.TheConstants.{MAX_REQUESTS}
 use Rattle.serving.proofs.Going.{going_ends, going_on, going_start}
 use Rattle.serving.proofs.Hearing.{counts_joined, none_joined}
-use Rattle.serving.specs.Served.{carried, link_view, tells_of}
+use Rattle.serving.specs.Served.{with_carry, link_view, tells_of}
 use Rattle.serving.specs.Serving.{StandsAt, host_service}
 use Rattle.serving.proofs.Lasting.{some_left}
 use Rattle.serving.proofs.links.serve_one.Goals as goal
@@ -26,7 +26,7 @@ returns-in-Some-clause-run g c w stands =
     let more : c.loop-end.left ≡ suc n = omega (arith, c.loop-end.invariant.more) in
     let going = c.loop-end.invariant.going w stands in
     going_ends (host_service g.D.Disk) MAX_REQUESTS g.C.Clock.gives g.C.Clock.faults c.args.clock.now c.loop-end.clock c.serve_head.new.clock
-    (link_view tells c.args.link.now) (carried c.loop-end.carry (link_view tells c.loop-end.link)) (link_view tells c.serve_head.new.link)
+    (link_view tells c.args.link.now) (with_carry c.loop-end.carry (link_view tells c.loop-end.link)) (link_view tells c.serve_head.new.link)
     (StandsAt g.D.Disk c.loop-end.serving c.loop-end.disk) (StandsAt g.D.Disk c.serve_head.new.serving c.serve_head.new.disk) n w c.in-Some.end (rw more at going) c.in-Some.ensures.says
 
 pub returns-in-Some-clause-counts : goal.returns-in-Some-clause-counts
@@ -48,7 +48,7 @@ loop-end-preserved g c = record {
       let more : c.loop-end.left ≡ suc n = omega (arith, c.loop-end.invariant.more) in
       let going = c.loop-end.invariant.going w stands in
       going_on (host_service g.D.Disk) MAX_REQUESTS g.C.Clock.gives g.C.Clock.faults c.args.clock.now c.loop-end.clock c.serve_head.new.clock
-      (link_view tells c.args.link.now) (carried c.loop-end.carry (link_view tells c.loop-end.link)) (carried c.serve_head.new.carry (link_view tells c.serve_head.new.link))
+      (link_view tells c.args.link.now) (with_carry c.loop-end.carry (link_view tells c.loop-end.link)) (with_carry c.serve_head.new.carry (link_view tells c.serve_head.new.link))
       (StandsAt g.D.Disk c.loop-end.serving c.loop-end.disk) (StandsAt g.D.Disk c.serve_head.new.serving c.serve_head.new.disk) n w (rw more at going) c.in-None.ensures.says;
   counts = none_joined (link_view (tells_of g.L.Source g.L.Sink) c.args.link.now) (link_view (tells_of g.L.Source g.L.Sink) c.loop-end.link) (link_view (tells_of g.L.Source g.L.Sink) c.serve_head.new.link)
       c.loop-end.invariant.counts c.in-None.ensures.counts;

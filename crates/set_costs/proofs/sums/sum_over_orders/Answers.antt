@@ -1,5 +1,5 @@
 use Rattle.std.proofs.Common.{arith, ◌≡◌, ◌≤◌, ◌*◌, ◌^◌, ◌∙◌, ◌++◌, ◌∷◌, [], Contains, length, unsigned_abs, to_z, of_z, FitsSigned, rules, ap, sym, subst}
-use Rattle.std.specs.Int.{w128}
+use Rattle.std.specs.Int.{w64}
 use Rattle.std.proofs.Math.Pow.{pow_mono}
 use Rattle.std.proofs.lemmas.Int.{to_z-of_z}
 use Rattle.std.proofs.lemmas.List.{length-append}
@@ -9,8 +9,7 @@ use Rattle.bid_rules.specs.Coalitions.{riders_in}
 use Rattle.bid_rules.specs.FareLimits.{most_cost}
 use Rattle.bid_rules.specs.Orders.{factorial}
 use Rattle.best_laws.specs.MarginalSums.{marginal_sum}
-use Rattle.split_lemmas.proofs.WideNumbers.{kept_whole}
-use Rattle.set_costs.proofs.SetSums.{lists_more, rider_of_all, sum_small}
+use Rattle.set_costs.proofs.SetSums.{kept_whole, lists_more, rider_of_all, sum_small}
 use Rattle.set_costs.proofs.sums.sum_over_orders.Goals as goal
 
 pub push-requires : goal.push-requires
@@ -24,8 +23,8 @@ pub loop-preserved : goal.loop-preserved
 loop-preserved c =
     let old = c.loop.sums.items in
     let items = c.push.ensures.items in
-    let range : FitsSigned w128 c.next_sum-sum.result = search rules in
-    let same : to_z w128 (of_z w128 c.next_sum-sum.result) ≡ c.next_sum-sum.result = to_z-of_z w128 c.next_sum-sum.result range in
+    let range : FitsSigned w64 c.next_sum-sum.result = search rules in
+    let same : to_z w64 (of_z w64 c.next_sum-sum.result) ≡ c.next_sum-sum.result = to_z-of_z w64 c.next_sum-sum.result range in
     record {
       count = (let long = ap length items ∙ length-append old _ in let count = c.loop.invariant.count in omega (arith, long, count));
       sums = lists_more c.args.costs.now c.args.rider old c.push.new.self.items c.next_sum-sum.result (items ∙ ap (λ z. old ++ z ∷ []) same)

@@ -1,7 +1,7 @@
 use Rattle.std.proofs.Common.{arith, ◌≡◌, ◌∙◌, pos, ℕ, [], ◌∷◌, map, sym, ap, subst}
 use Rattle.bid_rules.specs.declared.goods.GoodsCase.{GoodsCase}
 use Rattle.bid_rules.specs.Goods.{IsValidGoodsCase, player_count}
-use Rattle.winner_laws.specs.Printed.{AreProperShares, HaveTotal, SupportShares}
+use Rattle.winner_definition.specs.Printed.{AreProperShares, HaveTotal, SupportShares}
 use Rattle.split_frac.specs.Frac.{fraction_of}
 use Rattle.split_lemmas.proofs.AskedInOrder.{none_asked, one_asked}
 use Rattle.winner_rules.specs.Rules.{HasWeights, printed_case, winner_rule}

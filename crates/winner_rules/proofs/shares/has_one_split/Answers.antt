@@ -1,6 +1,6 @@
 use Rattle.std.proofs.Common.{arith, rules, ◌≡◌, ◌+◌, ◌<◌, true, false, Bool, length, map, sym, ap, ◌∙◌, subst}
 use Rattle.split_frac.specs.Frac.{fraction_of}
-use Rattle.winner_laws.specs.Parts.{is_split}
+use Rattle.winner_definition.specs.Parts.{is_split}
 use Rattle.std.proofs.lemmas.List.{length-map}
 use Rattle.winner_rules.specs.Split.{HasSplitUpTo, split_at}
 use Rattle.winner_rules.proofs.Splits.{shares_map, split_first, split_here, split_second, split_skip}

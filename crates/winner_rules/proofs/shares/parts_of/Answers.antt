@@ -2,7 +2,7 @@ use Rattle.std.proofs.Common.{arith, rules, ◌≡◌, ◌+◌, ◌<◌, pos, tr
 use Rattle.std.proofs.lemmas.List.{get_or-map, length-map}
 use Rattle.bid_rules.specs.Fractions.{Fraction}
 use Rattle.split_frac.specs.Frac.{fraction_of}
-use Rattle.winner_laws.specs.Parts.{is_split}
+use Rattle.winner_definition.specs.Parts.{is_split}
 use Rattle.winner_rules.specs.Split.{split_at}
 use Rattle.winner_rules.proofs.Splits.{next_or, parts_first, parts_none, split_here}
 use Rattle.winner_rules.proofs.shares.parts_of.Goals as goal

@@ -2,8 +2,8 @@ use Rattle.std.proofs.Common.{arith, rules, ◌≡◌, ◌*◌, ◌-◌, ◌≤�
 use Rattle.std.proofs.Math.Nat.{mul-le-mul}
 use Rattle.std.proofs.lemmas.List.{length-map}
 use Rattle.bid_rules.specs.Goods.{points}
-use Rattle.winner_laws.specs.Divisions.{parts_held}
-use Rattle.winner_laws.specs.Parts.{part_of, parts_list, parts_of}
+use Rattle.winner_definition.specs.Divisions.{parts_held}
+use Rattle.winner_definition.specs.Parts.{part_of, parts_list, parts_of}
 use Rattle.split_frac.specs.Frac.{fraction_of}
 use Rattle.winner_rules.proofs.Splits.{part_few, part_here}
 use Rattle.winner_rules.proofs.totals.first_worth.Goals as goal

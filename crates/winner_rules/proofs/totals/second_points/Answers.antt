@@ -1,7 +1,7 @@
 use Rattle.std.proofs.Common.{arith, rules, ◌≡◌, ◌+◌, ◌-◌, ◌*◌, ℕ, map, ap}
 use Rattle.bid_rules.specs.Goods.{points}
-use Rattle.winner_laws.specs.Divisions.{parts_held}
-use Rattle.winner_laws.specs.Parts.{parts_list}
+use Rattle.winner_definition.specs.Divisions.{parts_held}
+use Rattle.winner_definition.specs.Parts.{parts_list}
 use Rattle.split_lemmas.proofs.RangeSteps.{sum_more}
 use Rattle.split_frac.specs.Frac.{fraction_of}
 use Rattle.winner_rules.proofs.totals.second_points.Goals as goal

@@ -1,8 +1,8 @@
 use Rattle.std.proofs.Common.{◌≡◌, ◌*◌, ◌≤◌, ◌-◌, map, sum_by}
 use Rattle.std.specs.List.{range_with_len}
 use Rattle.bid_rules.specs.Goods.{points}
-use Rattle.winner_laws.specs.Divisions.{parts_held}
-use Rattle.winner_laws.specs.Parts.{parts_list}
+use Rattle.winner_definition.specs.Divisions.{parts_held}
+use Rattle.winner_definition.specs.Parts.{parts_list}
 use Rattle.split_frac.specs.Frac.{fraction_of}
 use Rattle.winner_rules.proofs.totals.second_points.Given as goal
 

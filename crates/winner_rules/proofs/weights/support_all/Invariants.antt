@@ -1,6 +1,6 @@
 use Rattle.std.proofs.Common.{ℕ, pos, ◌*◌, ◌≤◌, ◌<ℤ◌, map}
 use Rattle.bid_rules.specs.Goods.{points}
-use Rattle.winner_laws.specs.Shown.{share_of}
+use Rattle.winner_definition.specs.Shown.{share_of}
 use Rattle.split_frac.specs.Frac.{fraction_of}
 use Rattle.winner_rules.proofs.weights.support_all.Given as goal
 

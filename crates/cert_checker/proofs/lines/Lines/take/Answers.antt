@@ -9,7 +9,7 @@ pub take-requires : goal.take-requires
 take-requires c =
     let said = c.requires.0 in
     let goes = c.requires.3 in
-    let r = rent_is goes.counts said (Numbers (map fraction_of c.args.numbers.items) ∷ c.requires.1 ∷ c.requires.2) c.in-Rent.lines.lines.items goes.are_counts (goes.kind ∙ ap (λ l. Some (kind_of_lines l)) c.in-Rent.is) goes.fits
+    let r = rent_is goes.counts said (Numbers (map fraction_of c.args.numbers.now.items) ∷ c.requires.1 ∷ c.requires.2) c.in-Rent.lines.lines.items goes.are_counts (goes.kind ∙ ap (λ l. Some (kind_of_lines l)) c.in-Rent.is) goes.fits
     (subst (KnowsLines said) c.in-Rent.is goes.knows) in
     let long = r.long in
     let few = r.few in
@@ -19,7 +19,7 @@ pub take-requires-in-Fares : goal.take-requires-in-Fares
 take-requires-in-Fares c =
     let said = c.requires.0 in
     let goes = c.requires.3 in
-    let numbers = Numbers (map fraction_of c.args.numbers.items) in
+    let numbers = Numbers (map fraction_of c.args.numbers.now.items) in
     let f = fares_is goes.counts _ goes.are_counts (goes.kind ∙ ap (λ l. Some (kind_of_lines l)) c.in-Fares.is) goes.fits in (
       f.view,
       said,

@@ -1,7 +1,7 @@
 use Rattle.std.proofs.Common.{arith, ◌≡◌, subst, sym}
 use Rattle.cert_reader.specs.Forms.{Tree}
 use Rattle.cert_reader.specs.Order.{form_in}
-use Rattle.cert_reader.specs.Reading.{IsOpen, Reading}
+use Rattle.cert_reader.specs.Reading.{HasLineToCome, Reading}
 use Rattle.cert_reader.specs.Forms.{Certificates}
 use Rattle.cert_reader.proofs.Agreeing.{in_range}
 use Rattle.cert_reader.proofs.FormPlaces.{lines_few}
@@ -18,14 +18,14 @@ overflow_add-self g c = let few = lines_few c.self.inside.counts (in_range Certi
 pub returns-in-Err-clause-mark : goal.returns-in-Err-clause-mark
 returns-in-Err-clause-mark g c =
     first_unread_at c.args.self.now c.self.inside.bytes c.first_mark.new.bytes _ _ c.self.inside.lines c.self.inside.counts c.self.inside.in_tree c.in-Err.end c.self.view_is c.requires.whole c.in-Err.ensures.few
-    (subst IsOpen (sym c.self.view_is) c.requires.open) (subst (λ (r : Reading). form_in r.counts r.lines ≡ Tree) (sym c.self.view_is) c.requires.tree) c.in-Err.ensures.mark
+    (subst HasLineToCome (sym c.self.view_is) c.requires.open) (subst (λ (r : Reading). form_in r.counts r.lines ≡ Tree) (sym c.self.view_is) c.requires.tree) c.in-Err.ensures.mark
 
 pub returns-in-Ok-clause-mark : goal.returns-in-Ok-clause-mark
 returns-in-Ok-clause-mark g c =
     first_read_at c.args.self.now c.self.inside.bytes c.first_mark.new.bytes _ _ c.self.inside.lines c.self.inside.counts c.self.inside.in_tree c.in-Ok.mark c.self.view_is c.requires.whole
-    (subst IsOpen (sym c.self.view_is) c.requires.open) (subst (λ (r : Reading). form_in r.counts r.lines ≡ Tree) (sym c.self.view_is) c.requires.tree) c.in-Ok.ensures.mark
+    (subst HasLineToCome (sym c.self.view_is) c.requires.open) (subst (λ (r : Reading). form_in r.counts r.lines ≡ Tree) (sym c.self.view_is) c.requires.tree) c.in-Ok.ensures.mark
 
 pub returns-in-Ok-clause-open : goal.returns-in-Ok-clause-open
 returns-in-Ok-clause-open g c =
-    let last = behind_tree c.self.inside.counts c.self.inside.lines (subst IsOpen (sym c.self.view_is) c.requires.open) (subst (λ (r : Reading). form_in r.counts r.lines ≡ Tree) (sym c.self.view_is) c.requires.tree) in
+    let last = behind_tree c.self.inside.counts c.self.inside.lines (subst HasLineToCome (sym c.self.view_is) c.requires.open) (subst (λ (r : Reading). form_in r.counts r.lines ≡ Tree) (sym c.self.view_is) c.requires.tree) in
     omega arith

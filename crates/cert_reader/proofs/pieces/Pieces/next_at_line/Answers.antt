@@ -15,7 +15,7 @@ returns-in-Ok-clause-piece g c =
 
 pub returns-then-is_open-clause-piece : goal.returns-then-is_open-clause-piece
 returns-then-is_open-clause-piece g c =
-    goes_so c.args.self.now _ _ (λ taken said. IsLineRead Certificates c.args.self.now c.next_line.new.self (g.S.Source.left c.next_line.new.source) taken said (Ok c.in-Ok-next_line.numbers)) (λ taken said. IsPiece c.args.self.now c.next_line.new.self (g.S.Source.left c.next_line.new.source) taken said (Line c.in-Ok-next_line.numbers))
+    goes_so c.args.self.now _ _ (λ taken said. IsLineRead Certificates c.args.self.now c.next_line.new.self (g.S.Source.left c.next_line.new.source) taken said (Ok c.next_line.new.numbers)) (λ taken said. IsPiece c.args.self.now c.next_line.new.self (g.S.Source.left c.next_line.new.source) taken said (Line c.next_line.new.numbers))
     (λ taken said h. (c.requires.some, h.0, h.1, h.2)) c.in-Ok-next_line.ensures.line
 
 pub returns-in-Ok-finish-clause-piece : goal.returns-in-Ok-finish-clause-piece
@@ -27,8 +27,8 @@ returns-in-Ok-finish-clause-piece g c =
     (λ (l : c.next_line.new.self.lines < length (forms_of c.next_line.new.self.counts)). absurd (let told = c.if-is_open.ensures.1 l in let test = c.if-is_open.false in cc))
     (λ (h : length (forms_of c.next_line.new.self.counts) ≤ c.next_line.new.self.lines). omega arith)
     (cases_lt c.next_line.new.self.lines (length (forms_of c.next_line.new.self.counts))) in
-    done_read c.args.self.now c.next_line.new.self c.finish.new.self _ _ _ c.in-Ok-next_line.numbers (omega arith) c.in-Ok-finish.ensures.same.1 c.in-Ok-next_line.ensures.line c.in-Ok-finish.ensures.finish
+    done_read c.args.self.now c.next_line.new.self c.finish.new.self _ _ _ c.next_line.new.numbers (omega arith) c.in-Ok-finish.ensures.same.1 c.in-Ok-next_line.ensures.line c.in-Ok-finish.ensures.finish
 
 pub returns-in-Err-finish-clause-piece : goal.returns-in-Err-finish-clause-piece
 returns-in-Err-finish-clause-piece g c =
-    done_unread c.args.self.now c.next_line.new.self _ _ _ c.in-Ok-next_line.numbers c.in-Err-finish.end c.in-Ok-next_line.ensures.line c.in-Err-finish.ensures.finish
+    done_unread c.args.self.now c.next_line.new.self _ _ _ c.next_line.new.numbers c.in-Err-finish.end c.in-Ok-next_line.ensures.line c.in-Err-finish.ensures.finish

@@ -19,11 +19,11 @@ next_line-requires-in-Ok g c =
 
 pub returns-in-Err-next_line-clause-piece : goal.returns-in-Err-next_line-clause-piece
 returns-in-Err-next_line-clause-piece g c =
-    kind_unread c.args.self.now c.next_line.new.self c.next_line-in-Ok.new.self _ _ _ c.in-Ok.field-0 c.in-Err-next_line.end c.in-Ok.ensures.line c.in-Err-next_line.ensures.line
+    kind_unread c.args.self.now c.next_line.new.self c.next_line-in-Ok.new.self _ _ _ c.next_line.new.numbers c.in-Err-next_line.end c.in-Ok.ensures.line c.in-Err-next_line.ensures.line
 
 pub returns-in-Ok-next_line-clause-piece : goal.returns-in-Ok-next_line-clause-piece
 returns-in-Ok-next_line-clause-piece g c =
-    kind_read c.args.self.now c.next_line.new.self c.next_line-in-Ok.new.self _ _ _ c.in-Ok.field-0 c.in-Ok-next_line.field-0 c.number.result c.requires.lines
+    kind_read c.args.self.now c.next_line.new.self c.next_line-in-Ok.new.self _ _ _ c.next_line.new.numbers c.next_line-in-Ok.new.numbers c.number.result c.requires.lines
     (let none = c.requires.lines in let one = c.in-Ok.ensures.lines in let two = c.in-Ok-next_line.ensures.lines in omega arith) (c.kind.result, c.kind.ensures, c.number.ensures) c.in-Ok.ensures.line c.in-Ok-next_line.ensures.line
 
 pub returns-in-Ok-next_line-clause-more : goal.returns-in-Ok-next_line-clause-more

@@ -1,16 +1,13 @@
 -- What was given out of the line so far.
-use Rattle.std.proofs.Common.{◌≡◌, ℕ, ◌+◌, ◌-◌, ◌<◌, ◌≤◌, List, length, true, false}
-use Rattle.cert_reader.specs.Stream.{Hands, IsPlain}
+use Rattle.std.proofs.Common.{◌≡◌, ℕ, ◌+◌, ◌-◌, ◌≤◌, List, length}
+use Rattle.cert_reader.proofs.Handed.{KeptSoFar}
 use Rattle.cert_reader.specs.declared.limits.TheConstants.{LONGEST_LINE, MOST_BYTES}
 use Rattle.cert_reader.proofs.stream.Bytes.next_line.Given as goal
 
 abbrev pub invariant-line : goal.invariant-line
 invariant-line g l = record {
   text : List ℕ;
-  plain : IsPlain text;
-  handed : Hands l.initial.self l.self (g.S.Source.left l.initial.source) (g.S.Source.left l.source) text;
-  kept : l.long ≡ false → l.self.line ≡ text;
-  over : l.long ≡ true → LONGEST_LINE < length text;
+  so_far : KeptSoFar l.initial.self l.self (g.S.Source.left l.initial.source) (g.S.Source.left l.source) l.long text;
   short : length l.self.line ≤ LONGEST_LINE;
   faults : g.S.Source.faults l.source ≡ g.S.Source.faults l.initial.source;
   empty : g.S.Source.empty_reads l.source ≤ g.S.Source.empty_reads l.initial.source;

@@ -2,7 +2,7 @@ use Rattle.std.proofs.Common.{◌≡◌, ◌+◌, ℕ, List, [], ◌∷◌, ◌+
 use Rattle.gate_log.specs.Records.{Stands}
 use Rattle.gate_log.specs.Faults.{IsFaultAfter}
 use Rattle.gate_log.specs.Gate.{BeginsRecord, EndsEarly}
-use Rattle.gate_log.specs.Log.{LogView, IsReading, with_ahead, past, closed}
+use Rattle.gate_log.specs.Log.{LogView, IsReading, with_ahead, past, with_gate_closed}
 use Rattle.gate_log.proofs.Reading.{record_read, end_read, range_read, short_read}
 use Rattle.gate_log.proofs.log.Log.next_body.Goals as goal
 
@@ -13,7 +13,7 @@ returns-in-Closed-clause-end g c told_by secret bodies r shut =
     let ahead = c.fill.new.self.ahead in
     let told = c.fill.ensures.told told_by r.size r.ahead in
     let (more, is) = c.in-Closed.ensures in
-    let version : c.close.new.self.version ≡ log.version = ap (λ (v : LogView). v.version) (c.close.ensures ∙ ap closed c.fill.ensures.same) in
+    let version : c.close.new.self.version ≡ log.version = ap (λ (v : LogView). v.version) (c.close.ensures ∙ ap with_gate_closed c.fill.ensures.same) in
     subst (λ (v : ℕ). Stands v secret bodies (g.D.Disk.seen c.fill.new.disk)) (sym version)
     (subst (Stands log.version secret bodies) (sym (c.fill.ensures.still told_by).1) (end_read file log secret bodies r ahead told more (sym (c.bytes.ensures ∙ ap (λ (v : LogView). v.ahead) c.self-2.view_is) ∙ is)))
 

@@ -1,5 +1,5 @@
 use Rattle.std.proofs.Common.{◌≡◌, ℕ, ◌<◌, List, ◌∷◌, length, true, false, arith, sym, ap, ◌∙◌, subst}
-use Rattle.goods_audit.specs.Domination.{is_open}
+use Rattle.goods_audit.specs.Domination.{leaves_room}
 use Rattle.goods_audit.specs.Paths.{later_ones, to_come}
 use Rattle.goods_audit.specs.declared.paths.Path.{Path}
 use Rattle.goods_audit.proofs.PathLists.{come_down, fewer_later}
@@ -16,7 +16,7 @@ pub returns-then-not-has_room-clause-goes : goal.returns-then-not-has_room-claus
 returns-then-not-has_room-clause-goes c owners whole long =
     let case = c.args.case.now in
     let prefix = c.args.self.now.path.owners.items in
-    let shut : is_open case owners prefix ≡ false = sym (c.has_room.ensures owners prefix whole long c.requires.path.lanes) ∙ c.if-not-has_room.true in
+    let shut : leaves_room case owners prefix ≡ false = sym (c.has_room.ensures owners prefix whole long c.requires.path.lanes) ∙ c.if-not-has_room.true in
     let seen = seen_shut c.longer_prefix_law.ensures.points c.longer_prefix_law.ensures.top case owners prefix (to_come case c.leave.new.self.owners.items) c.requires.some c.requires.path.short shut c.leave.ensures.next in
     let count = seen.0 in
     record { count = omega (arith, count); first = λ all h. seen.1 all c.args.self.now.first h }
@@ -47,7 +47,7 @@ returns-then-len-case-clause-goes c owners whole long =
     let short : length prefix < case.facts.goods = omega (arith, count, test) in
     let come : to_come case prefix ≡ prefix ∷ next =
     come_down case prefix c.requires.some short (omega (arith, some, each)) ∙ ap (λ (xs : List ℕ). prefix ∷ to_come case xs) (sym c.descend.ensures.owners) in
-    let room : is_open case owners prefix ≡ true = sym (c.has_room.ensures owners prefix whole long c.requires.path.lanes) ∙ c.if-not-has_room.false in
+    let room : leaves_room case owners prefix ≡ true = sym (c.has_room.ensures owners prefix whole long c.requires.path.lanes) ∙ c.if-not-has_room.false in
     let seen = seen_short case owners prefix next short room come in
     let one = seen.0 in
     record { count = omega (arith, one); first = λ all h. seen.1 all c.args.self.now.first h }
@@ -70,7 +70,7 @@ returns-clause-goes c owners whole long =
     let short = c.requires.path.short in
     let all_owned : length prefix ≡ case.facts.goods = omega (arith, count, test, short) in
     let come : to_come case prefix ≡ prefix ∷ next = come_whole case prefix c.requires.some all_owned ∙ ap (λ (xs : List (List ℕ)). prefix ∷ xs) (sym is) in
-    let room : is_open case owners prefix ≡ true = sym (c.has_room.ensures owners prefix whole long c.requires.path.lanes) ∙ c.if-not-has_room.false in
+    let room : leaves_room case owners prefix ≡ true = sym (c.has_room.ensures owners prefix whole long c.requires.path.lanes) ∙ c.if-not-has_room.false in
     let one = count_whole case owners prefix next room come in
     let more = c.keep.ensures.openings in
     record {

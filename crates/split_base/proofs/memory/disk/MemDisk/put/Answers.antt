@@ -1,7 +1,7 @@
 use Rattle.std.proofs.Common.{◌≡◌, ◌+◌, ◌-◌, ℕ, List, [], ◌∷◌, length, take, vec_len, sym, ap, arith, ◌∙◌, length-append}
 use Rattle.std.proofs.lemmas.List.{take_all}
 use Rattle.split_base.specs.declared.memory.disk.Call.TheVariants as call
-use Rattle.split_base.specs.Past.{Act, State, DiskState, Wrote, total, written, after_act}
+use Rattle.split_base.specs.Past.{Act, State, DiskState, Wrote, total, after_write, after_act}
 use Rattle.split_base.proofs.Images.{written_fits}
 use Rattle.split_base.specs.Replay.{acts_of, bytes_of}
 use Rattle.split_base.proofs.KeptDisk.{state_push, state_after, bytes_push}
@@ -24,7 +24,7 @@ invariant_of-self c =
     let list : was.list ≡ c.args.self.now.list = ap (λ (d : DiskState). d.list) c.self.view_is in
     let room : was.room ≡ c.args.self.now.room = ap (λ (d : DiskState). d.room) c.self.view_is in
     record {
-      file = c.write_within.ensures.bytes ∙ ap (λ (l : List ℕ). written l c.args.place added) good.file ∙ sym (ap (λ (s : State). s.seen) s);
+      file = c.write_within.ensures.bytes ∙ ap (λ (l : List ℕ). after_write l c.args.place added) good.file ∙ sym (ap (λ (s : State). s.seen) s);
       fits = omega (arith, c.write_within.new.file.ok.0, ap length c.write_within.ensures.bytes, written_fits was.file.items added c.args.place was.room (omega (arith, good.fits, was.file.ok.0)) (omega (arith, c.requires.room, room)));
       room = omega (arith, good.room, c.write_within.ensures.capacity);
       bytes = ap bytes_of c.push_reserved.ensures.items ∙ omega (arith, bytes_push calls (call.Wrote c.args.place (length added)), good.bytes, held);

@@ -1,0 +1,17 @@
+// Lines that are kept until their part of the text is whole.
+ghost use Rattle.std.specs.Prelude.{◌≡◌, ◌<◌, ◌++◌, ◌∷◌, []};
+ghost use Rattle.arrayvec.specs.ArrayVec.{array_vec_len};
+
+use arrayvec::ArrayVec;
+use cert_reader::{LineNumbers, copy_of};
+
+// Keeps a copy of a line behind those that are kept, where there is room.
+pub(crate) fn gather<const ROOM: usize>(
+    lines: &mut ArrayVec<LineNumbers, ROOM>,
+    numbers: &LineNumbers,
+)
+    requires { array_vec_len lines.old < ROOM }
+    ensures { lines.new.items ≡ lines.old.items ++ numbers.now ∷ [] }
+{
+    lines.push(copy_of(numbers));
+}

@@ -1,0 +1,5 @@
+use Rattle.search_workers.specs.Crews.{HasEnded}
+use Rattle.search_workers.proofs.crew.work_parts.Given as goal
+
+abbrev pub invariant-draws : goal.invariant-draws
+invariant-draws g l = HasEnded l.case l.rule l.parts l.worker

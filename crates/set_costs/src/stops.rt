@@ -1,0 +1,10 @@
+// The first stop of a route.
+
+/// Where the first rider gets off, and what the route of the others costs from there, in cents.
+#[derive(Clone, Copy, Default)]
+pub(crate) struct FirstStop {
+    /// The place of the rider.
+    pub(crate) place: u8,
+    /// The cost of the route of the others.
+    pub(crate) rest: u32,
+}
