@@ -132,10 +132,10 @@ impl Host {
     }
 
     // Serves a link on which these requests come, in pieces of that many bytes.
-    pub(crate) fn talk<R: Threads + Sync>(
-        &mut self,
+    pub(crate) fn talk<'a, R: Threads + Sync>(
+        &'a mut self,
         alloc: Global,
-        rt: &R,
+        rt: &'a R,
         round: &[Sent],
         piece: usize,
         fault: Option<Fault>,
