@@ -283,6 +283,32 @@ async function noCertificate() {
   }
 }
 
+const PAIR = 'fairsplit pair 1\nwho 1 2\nshares 1 1/2\ntotal 700\n';
+const NO_PAIRS = ['x', PAIR.replace(' 1/2', ''), PAIR.replace('1/2', '1/0'), PAIR.replace('1/2', '3/2'), PAIR.replace('1/2', 'half'), PAIR.replace('who 1 2', 'who 1 9'), PAIR.replace('who 1 2', 'who 1'),
+  PAIR.replace('total 700', 'total'), PAIR.replace('total', 'totals')];
+
+/** No result of two, and an adjusted winner that is one, that is empty, or that is something else: what is left to do is told with each. */
+async function withoutWinner() {
+  const closed = { ...statusOf('attic-for-two', 1), members: ['Person~1', 'Person~2'], bids: [1, 2] };
+  const nothing = { certificate: [409, '{"code":"step_limit","limit":40}'] };
+  const empty = ['', '\n', ' '].map((text) => [text, 'sent an empty text']);
+  for (const [text, says] of [[PAIR, '700 points'], ...empty, ...NO_PAIRS.map((other) => [other, 'isn’t a text of adjusted winner'])]) {
+    const view = await looked({ ...closed, goods: ['Thing~1', 'Thing~2'] }, { ...nothing, winner: [200, text] });
+    const what = `no result, and ${JSON.stringify(text)} as adjusted winner`;
+    check(`${what}: it is told`, view.text.includes(says), view.text);
+    check(`${what}: what is left`, ['takes more than 40 steps', 'A new round', 'agree on a division of your own'].every((words) => view.text.includes(words)), view.text);
+    same(`${what}: names outside of bdi`, view.outside, []);
+  }
+}
+
+/** A file that the server sends empty is not saved, and that is told. */
+async function emptyFile() {
+  await looked(statusOf('attic-for-two', 1), { ...certified(example('attic-for-two.txt')), report: [200, ''] });
+  const button = root.querySelectorAll('button').find((one) => one.textContent === 'Report');
+  await button.listeners.click({ currentTarget: button });
+  check('an empty file is told', root.textContent.includes('sent an empty file'), root.textContent);
+}
+
 /** Each Copy gives the link of its own line. */
 async function copies() {
   const copied = [];
@@ -341,7 +367,7 @@ async function checkPage() {
       else check(`${name}: the names of the file`, root.textContent.includes('Person~1') && root.textContent.includes(TITLE));
     }
   }
-  for (const [input, says] of [[example('taxi-for-two.report.txt'), 'This is a report'], ['{"a":1}', 'isn’t from fairsplit'], [example('taxi-for-two.txt').replace('fares 750', 'fares 751'), 'No: rule 5']]) {
+  for (const [input, says] of [['', 'There is no text here'], [' \n', 'There is no text here'], [example('taxi-for-two.report.txt'), 'This is a report'], ['{"a":1}', 'isn’t from fairsplit'], [example('taxi-for-two.txt').replace('fares 750', 'fares 751'), 'No: rule 5']]) {
     checkView(root, true);
     root.querySelector('#text').value = input;
     await root.querySelector('button').listeners.click({});
@@ -374,6 +400,8 @@ for (const name of EXAMPLES) {
 }
 await otherBids();
 await noCertificate();
+await withoutWinner();
+await emptyFile();
 winners();
 savedFiles();
 await checkPage();

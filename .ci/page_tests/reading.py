@@ -1,9 +1,10 @@
 """Parts of rung (c): what a screen reader is told of a bid, what stays where somebody forces their own colours upon all pages, and how many clicks a rent
-takes."""
+takes, with how many words to read."""
 import json
+import re
 
 from driver import ELEMENT, KEYS
-from tally import api, check, same, soon, tag
+from tally import TALLY, api, check, same, soon, tag
 
 FLAT = {'kind': 'rent', 'title': 'Mill Road', 'members': ['Ann', 'Ben'], 'rooms': ['Attic', 'Back room'], 'rent': 90000}
 # Headings and controls of the bid, in the order in which a reader meets them: what they are called, by the driver's words for it.
@@ -13,6 +14,17 @@ BID = [
     ('button', 'Rest here: Attic'), ('slider', 'Back room'), ('textbox', 'Back room'), ('button', 'Rest here: Back room'), ('button', 'Scale to total'),
     ('button', 'All to 0'), ('button', 'Send my bid'), ('checkbox', 'Remember this round in this browser'),
 ]
+# How many clicks a rent for three takes at most; what is typed goes from field to field by Enter or Tab.
+MOST_CLICKS = {'organiser': 14, 'member': 3}
+# How many words there are to read on its way at most, in each language: what was measured, rounded up to the next ten.
+MOST_WORDS = {'organiser': {'en': 540, 'de': 500}, 'member': {'en': 730, 'de': 710}}
+# The views of that way, each with something that stands in it.
+VIEWS = {'start': '.kinds', 'form': '#title', 'links': '.links input', 'bid': '#value-0', 'result': '#judges[data-by=both]'}
+WAYS = {'organiser': ('start', 'form', 'links'), 'member': ('bid', 'result')}
+# What is read of a view, without the hint that a table goes on to the right, which depends on the fonts of the machine.
+READABLE = '''const hints = [...document.querySelectorAll("main .more")].filter((e) => e.getClientRects().length);
+return hints.reduce((text, hint) => text.replace(hint.innerText, ""), document.querySelector("main").innerText)'''
+OLD = 'for (const e of document.querySelectorAll(arguments[0])) e.dataset.old = ""'
 UNANSWERED = 'const { fetch } = window; window.fetch = (path, how) => (how?.method === "POST" ? fetch(path, how) : new Promise(() => {}))'
 IN_ORDER = '''return [...document.querySelectorAll(arguments[0])].filter((e) => e.getClientRects().length)'''
 DESCRIBED = '''return (document.querySelector(arguments[0]).getAttribute("aria-describedby") || "").split(" ").map((id) => document.getElementById(id).textContent).filter(Boolean)'''
@@ -110,41 +122,90 @@ def colours_forced(rig, olive, ann, ben):
     check('a result has bars', looked('a result') >= 2)
 
 
-def clicks(rig, olive, ann, ben):
-    """A rent for three takes an organiser at most 14 clicks, and a member 3. What is typed goes from field to field by Enter or Tab."""
-    olive.open(rig.url)
-    olive.one('.kinds')
-    olive.clicks = ann.clicks = 0
-    olive.click('.kind.rent')
-    olive.one('#title')
-    olive.click('#members button.add')
-    olive.click('#title')
-    for words in ('Mill Road', 'Ann', 'Ben', 'Cy', 'Attic', 'Back room', 'Cellar', '900'):
-        olive.keys([*words, KEYS['enter']])
-    olive.press('Create the links')
-    olive.one('.links input')
-    links = olive.values('.links input', 'value')
+def is_word(word):
+    return re.search(r'[^\W\d_]', word)
+
+
+def words(p, view, seen):
+    """Counts into `seen` the words of a view, as it is first shown, in each language: all in its main part but what is folded up. It ends in English."""
+    for code in ('de', 'en'):
+        p.run(OLD, VIEWS[view])
+        p.speak(code)
+        p.until(lambda: p.all(f'html[lang={code}] :is({VIEWS[view]}):not([data-old])'), 30, f'the view {view} does not speak {code}')
+        text = p.until(lambda: p.run(READABLE) == p.run(READABLE) and p.run(READABLE))
+        seen[code, view] = sum(1 for word in text.split() if is_word(word))
+
+
+def measured(clicked, seen):
+    """Compares the clicks and the words with what they may be, and puts them into the last line."""
+    TALLY.told.append('clicks of a rent: ' + ', '.join(f'{who} {n}' for who, n in clicked.items()))
+    for who, n in clicked.items():
+        check(f'the {who} clicks {n} times, above {MOST_CLICKS[who]}', n <= MOST_CLICKS[who])
+    for who, most in MOST_WORDS.items():
+        for code, bound in most.items():
+            counts = {view: seen[code, view] for view in WAYS[who]}
+            whole = sum(counts.values())
+            check(f'the {who} reads {whole} words in {code}, above {bound}: {counts}', whole <= bound)
+            TALLY.told.append(f'words for the {who} in {code}: {whole} ({", ".join(f"{view} {n}" for view, n in counts.items())})')
+
+
+def created(p, start, seen):
+    """The organiser creates the rent. Gives the members' links."""
+    p.open(start)
+    p.run('localStorage.clear(); sessionStorage.clear()')
+    p.reload()
+    p.one('.kinds')
+    words(p, 'start', seen)
+    p.clicks = 0
+    p.click('.kind.rent')
+    p.one('#title')
+    words(p, 'form', seen)
+    p.click('#members button.add')
+    p.click('#title')
+    for typed in ('Mill Road', 'Ann', 'Ben', 'Cy', 'Attic', 'Back room', 'Cellar', '900'):
+        p.keys([*typed, KEYS['enter']])
+    p.press('Create the links')
+    p.one('.links input')
+    words(p, 'links', seen)
+    links = p.values('.links input', 'value')
     for line in range(3):
-        olive.click('.links .row button:first-of-type', line)
-    for link, values in zip(links, (('400', '300'), ('300', '300'), ('200', '300'))):
-        ann.clicks = 0
-        ann.open(link)
-        ann.one('#value-0')
-        ann.click('#value-0')
-        ann.keys([*values[0], KEYS['tab'], KEYS['tab'], KEYS['tab']] if ann.focused()['id'] == 'value-0' else [])
-        same('the next field', ann.focused()['id'], 'value-1')
-        ann.keys(list(values[1]))
-        ann.click('.values button.small', 2)
-        ann.press('Send my bid')
-        ann.has('Your bid is saved', '#message')
-        check(f'a member clicks {ann.clicks} times', ann.clicks <= 3)
+        p.click('.links .row button:first-of-type', line)
+    return links
+
+
+def sent(p, link, values, seen):
+    """A member bids. Gives how many clicks that took; counts words too, if there is somewhere to count them into."""
+    p.open(link)
+    p.one('#value-0')
+    if seen is not None:
+        words(p, 'bid', seen)
+    p.clicks = 0
+    p.click('#value-0')
+    p.keys([*values[0], KEYS['tab'], KEYS['tab'], KEYS['tab']] if p.focused()['id'] == 'value-0' else [])
+    same('the next field', p.focused()['id'], 'value-1')
+    p.keys(list(values[1]))
+    p.click('.values button.small', 2)
+    p.press('Send my bid')
+    p.has('Your bid is saved', '#message')
+    return p.clicks
+
+
+def clicks(rig, olive, ann, ben):
+    """A rent for three: how many clicks it takes, and how many words there are to read."""
+    seen = {}
+    links = created(olive, rig.url, seen)
+    bids = (('400', '300'), ('300', '300'), ('200', '300'))
+    member = max(sent(ann, link, values, None if at else seen) for at, (link, values) in enumerate(zip(links, bids)))
     olive.run('document.dispatchEvent(new Event("visibilitychange"))')
     olive.until(lambda: olive.enabled('Close the round and'), 60, 'close is not offered')
     olive.press('Close the round and')
     olive.accept()
     olive.clicks += 1
     olive.one('#verdict', 60)
-    check(f'the organiser clicks {olive.clicks} times', olive.clicks <= 14)
+    ann.open(links[0])
+    ann.one(VIEWS['result'], 60)
+    words(ann, 'result', seen)
+    measured({'organiser': olive.clicks, 'member': member}, seen)
 
 
 READING = [read_aloud, own_bid, colours_forced, clicks]

@@ -714,6 +714,9 @@ def greatest(rig, olive, ann, ben):
         shots(ann, f'A-greatest-{case["kind"]}')
 
 
+BROKEN = 'return [...document.querySelectorAll(arguments[0])].filter((e) => e.getClientRects().length !== 1).map((e) => e.innerText)'
+
+
 def german(rig, olive, ann, ben):
     """A browser that wants German gets it, and long words fit."""
     hanna = rig.engine.browser(True, 'de-DE')
@@ -728,7 +731,14 @@ def german(rig, olive, ann, ben):
             hanna.has('zu berichtigen')
             look_at(hanna, f'the form of {kind} in German')
             shots(hanna, f'B-form-{kind}-german')
-        made = api(rig, 'instances', body={'kind': 'rent', 'title': 'WG Mühlstraße', 'members': ['Änne', 'Jörg'], 'rooms': ['Dachkammer', 'Arbeitszimmer'], 'rent': 123456, 'deadline': soon(86400), 'tag': tag()})
+        creation = {'kind': 'rent', 'title': 'WG Mühlstraße', 'members': ['Änne', 'Jörg'], 'rooms': ['Dachkammer', 'Arbeitszimmer'], 'rent': 123456, 'deadline': soon(86400), 'tag': tag()}
+        made = api(rig, 'instances', body=creation)
+        hanna.open(f'{rig.url}#{made["id"]}.{made["organiser"]}.EUR.{creation["tag"]}')
+        for code, words in (('fr', 'C’est moi'), ('pl', 'To ja'), ('de', 'Das bin ich')):
+            hanna.one('.me')
+            hanna.speak(code)
+            hanna.has(words)
+            same(f'links that break in the middle, in {code}', hanna.run(BROKEN, '.me'), [])
         hanna.open(f'{rig.url}#{made["id"]}.{made["keys"][0]}.EUR')
         hanna.has('1.234,56')
         bid(hanna, ['1234,56', '0'])
@@ -828,7 +838,7 @@ def main():
     left, requests, seconds = play(asked)
     late = f'; no time was left for {", ".join(left)}' if left else ''
     print(f'{asked.group or "rounds"} in {ENGINES[asked.engine].name}: {TALLY.right} right, {TALLY.wrong} wrong, contrast of {TALLY.texts} texts, {requests} requests, '
-          f'{seconds:.0f} seconds{late}')
+          f'{seconds:.0f} seconds{"".join(f"; {told}" for told in TALLY.told)}{late}')
     sys.exit(TALLY.wrong > 0 or bool(left))
 
 

@@ -19,6 +19,9 @@ class Tally:
     shots = None
     picture = False
 
+    def __init__(self):
+        self.told = []  # what else the last line says
+
     def check(self, what, held, more=''):
         if held:
             self.right += 1

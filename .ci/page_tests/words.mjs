@@ -51,6 +51,17 @@ for (const [code, wanted] of Object.entries(POINTS)) {
 }
 same('points in Polish', [5, 12, 22, 25, 101, 104, 1000].map((n) => text('points', { n })),
   ['5 punktów', '12 punktów', '22 punkty', '25 punktów', '101 punktów', '104 punkty', '1000 punktów']);
+
+// A trip from the start, whose word has an article: no preposition stands before it on its own. And what is wrong with a trip stands behind a colon as this language writes it.
+const { Ways } = await import(`${JS}/ways.js`);
+const FIRST = { en: 'From the start to X', de: 'Vom Start nach X', es: 'Del inicio a X', fr: 'Du départ à X', it: 'Dalla partenza a X', pl: 'Przejazd: start → X' };
+for (const [code, wanted] of Object.entries(FIRST)) {
+  await learn(code);
+  await learnMore();
+  same(`a trip from the start in ${code}`, Ways.prototype.way.call({ places: { called: () => 'X' } }, 0, 0), wanted);
+  same(`that it cost something else, in ${code}`, /\b(?:de|à|a|da) (?:el|le|la)\b/i.exec(text('differ.legFirst', { to: 'X', then: '1', now: '2' })), null);
+  same(`the arrows of the table in ${code} stay with their words`, / [↓→]/.test(text('form.fromTo')), false);
+}
 await learn('xx');
 same('a language that is not there', document.documentElement.lang, 'en');
 

@@ -40,18 +40,30 @@ async function endless(view, limit) {
     await proposalCard(view)];
 }
 
-/** For two: adjusted winner as the server tells it; null where it tells none. */
+/** What a text of adjusted winner says of two members and these goods: shares, total and who; null where it is no such
+    text. */
+function readPair(written, { members, goods }) {
+  const row = (word) => written.split('\n').find((line) => line.startsWith(`${word} `))?.split(' ').slice(1) ?? [];
+  const isPart = ({ n, d }) => d > 0n && n >= 0n && n <= d;
+  try {
+    const [shares, [total]] = [row('shares').map(toFrac), row('total').map(toFrac)];
+    const who = row('who').map(Number);
+    const isWhole = shares.length === goods.length && shares.every(isPart) && total.d > 0n
+      && who.length === 2 && who.every((member) => members[member - 1] !== undefined);
+    return isWhole ? { shares, total, who } : null;
+  } catch { return null; }
+}
+
+/** For two: adjusted winner as the server tells it; null where it refuses to tell any. */
 async function twoWay({ round, path, link }) {
-  let winner;
-  try { winner = await getText(`${path}/winner`, link.key); } catch { return null; }
-  const row = (word) => winner.split('\n').find((line) => line.startsWith(`${word} `)).split(' ').slice(1);
+  let written;
+  try { written = await getText(`${path}/winner`, link.key); } catch { return null; }
+  const told = readPair(written, round);
+  if (!told) return card(t('winner.title'), p(t(written.trim() ? 'winner.other' : 'winner.empty')));
   const file = `round-${link.id}-winner.txt`;
-  const save = h('p', { class: 'row' }, action({ click: () => download(file, winner) }, t('files.winner')),
+  const save = h('p', { class: 'row' }, action({ click: () => download(file, written) }, t('files.winner')),
     t('winner.check', { command: h('kbd', {}, `fairsplit checkwinner < ${file}`) }));
-  return winnerCard({
-    shares: row('shares').map(toFrac), total: toFrac(row('total')[0]), who: row('who').map(Number),
-    members: round.members, things: round.goods,
-  }, [p(t('winner.word')), save], true);
+  return winnerCard({ ...told, members: round.members, things: round.goods }, [p(t('winner.word')), save], true);
 }
 
 /** What there is to show for a refusal of a certificate; null where it says nothing of the round. */

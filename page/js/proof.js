@@ -99,8 +99,9 @@ export function differenceText({ what, then, now, from, to }, { kind, members, t
   }[what];
   if (!show) return t(`differ.${what}`);
   const given = { then: h('strong', {}, show(then)), now: h('strong', {}, show(now)) };
-  const trip = what === 'leg' && { from: from ? name(things[from - 1]) : t('form.origin'), to: name(things[to]) };
-  return t(`differ.${what}`, { ...given, ...trip });
+  if (what !== 'leg') return t(`differ.${what}`, given);
+  const trip = { ...given, to: name(things[to]) };
+  return from ? t('differ.leg', { ...trip, from: name(things[from - 1]) }) : t('differ.legFirst', trip);
 }
 
 /** The bid that the certificate lists for whoever looks. */

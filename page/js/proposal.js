@@ -48,18 +48,18 @@ class Proposal {
   points() { return this.cells.map((row) => row.map((cell) => whole(cell.value))); }
   owner() { return this.owners.map((select) => Number(select.value)); }
 
-  /** What is wrong with the points, or ''. */
+  /** What is wrong with the points, or null. */
   fault(points) {
     const bad = points.findIndex((row) => row.some(Number.isNaN) || sum(row) !== LIMITS.points);
-    if (bad < 0) return '';
+    if (bad < 0) return null;
     const has = sum(points[bad].map((value) => value || 0));
-    return text('none.pointsFault', { name: this.people[bad], all: LIMITS.points, has });
+    return t('none.pointsFault', { name: name(this.people[bad]), all: LIMITS.points, has });
   }
 
   look() {
     const points = this.points();
     const fault = this.fault(points);
-    this.wrong.textContent = fault;
+    fill(this.wrong, fault);
     this.save.disabled = Boolean(fault);
     fill(this.found, !fault && this.told(weighed(points, this.owner())));
   }

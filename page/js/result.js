@@ -71,9 +71,11 @@ function files(certificate, view, { kind, bids, you }) {
   const fetched = (label, what) => action({ click: async (event) => {
     const button = event.currentTarget;
     button.disabled = true;
-    try { download(`round-${link.id}-${what}.txt`, await textOf(what)); } catch (refused) {
-      button.after(box('bad', sentence(refused)));
-    }
+    try {
+      const written = await textOf(what);
+      if (written) download(`round-${link.id}-${what}.txt`, written);
+      else button.after(box('bad', t('files.empty')));
+    } catch (refused) { button.after(box('bad', sentence(refused))); }
     button.disabled = false;
   } }, t(label));
   return card(t('files.title'), p(t('files.whose')), h('p', { class: 'row' },

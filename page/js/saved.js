@@ -12,6 +12,7 @@ export const savedFile = ({ title, members, things }, certificate) => (
 /** What a text holds that somebody opened or pasted: { certificate }, with { names } where it is a saved file; where it
     is neither, { fault }, the key of a sentence. */
 export function opened(text) {
+  if (!text.trim()) return { fault: 'check.empty' };
   const bare = text.replace(/^\uFEFF/, '').replace(/^(?:[ \t]*\n)+/, '').replace(/\s*$/, '\n');
   if (/^(rent|goods|fares) [^\n]*\n(members|players|riders) /.test(bare)) return { fault: 'check.isReport' };
   if (/^audit (goods|fares) /.test(bare)) return { fault: 'check.isAudit' };

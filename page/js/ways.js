@@ -33,8 +33,8 @@ export class Ways {
   }
 
   way(row, to) {
-    const from = row ? this.places.called(row - 1) : text('form.origin');
-    return text('form.way', { from, to: this.places.called(to) });
+    const place = { to: this.places.called(to) };
+    return row ? text('form.way', { ...place, from: this.places.called(row - 1) }) : text('form.wayFirst', place);
   }
 
   cellAt(row, to) { return this.grid.querySelector(`#legs-${row}-${to}`); }
@@ -116,7 +116,7 @@ export class Ways {
     let first = '';
     this.eachCell((row, to) => {
       const says = shown(`legs-${row}-${to}`);
-      if (says) first ||= `${this.way(row, to)}: ${says}`;
+      if (says) first ||= text('titles.member', { title: this.way(row, to), name: says });
       if (says) this.cellAt(row, to).setAttribute('aria-invalid', 'true');
       else this.cellAt(row, to).removeAttribute('aria-invalid');
     });

@@ -37,7 +37,7 @@ export const words = {
     round: 'Eine neue Runde', roundHow: 'Ein Tippen erstellt eine Runde mit denselben Personen und Gegenständen, die in einer Woche endet. Schick dann allen den neuen Link: Er hat einen Knopf, der die alten Punkte noch einmal bietet, auf Vielfache von 50 gerundet. Damit ist eine Antwort viel wahrscheinlicher.',
     roundAsk: 'Bitte die Person, die diese Runde erstellt hat, um eine neue. Dein neuer Link hat einen Knopf, der deine alten Punkte noch einmal bietet, auf Vielfache von 50 gerundet. Damit ist eine Antwort viel wahrscheinlicher.',
   },
-  files: { title: 'Dateien', whose: 'Das Urteil oben gilt dem Zertifikat. Die anderen Dateien sind nur, was der Server sagt: Davon wurde hier nichts geprüft.', report: 'Bericht', certificate: 'Zertifikat', audit: 'Prüfbericht', winner: 'Adjusted Winner', print: 'Drucken' },
+  files: { title: 'Dateien', whose: 'Das Urteil oben gilt dem Zertifikat. Die anderen Dateien sind nur, was der Server sagt: Davon wurde hier nichts geprüft.', report: 'Bericht', certificate: 'Zertifikat', audit: 'Prüfbericht', winner: 'Adjusted Winner', print: 'Drucken', empty: 'Der Server hat eine leere Datei geschickt, also wurde nichts gespeichert. Versuch es gleich noch einmal, oder sag denen Bescheid, die den Server betreiben.' },
   unchecked: { title: 'Was der Server sagt' },
   judge: {
     proved: 'So urteilt ein Programm, dessen Richtigkeit bewiesen ist. Es lief hier, in deinem Browser.',
@@ -87,6 +87,7 @@ export const words = {
   winner: {
     title: 'Oder einen Gegenstand teilen: Adjusted Winner', how: 'Lässt sich ein Gegenstand verkaufen oder abwechselnd nutzen, können beide {points} Punkte haben (Brams und Taylor 1996).', table: 'Wer wie viel von jedem Gegenstand bekommt',
     computed: 'Diese Seite hat das aus den Geboten im Zertifikat berechnet.', word: 'Das sagt nur der Server. Davon wurde hier nichts geprüft.', check: 'Zum Prüfen: {command}',
+    empty: 'Der Server hat dafür einen leeren Text geschickt, also gibt es nichts zu zeigen.', other: 'Was der Server geschickt hat, ist kein Text von Adjusted Winner für diese Gegenstände. Darum wird es nicht gezeigt.',
   },
   proof: {
     title: 'Prüf es selbst', what: 'Im Zertifikat stehen alle Gebote, das Ergebnis und die Zahlen, die zeigen, dass es das beste ist. Du musst dem Server nicht vertrauen:',
@@ -106,6 +107,7 @@ export const words = {
     things: 'Geteilt wurde vor dem Schließen {then}. Jetzt nennt der Server {now}.', you: 'Dieser Link gehörte vor dem Schließen {then}. Jetzt nennt der Server {now}.',
     rent: 'Die Miete war vor dem Schließen {then}. Im Zertifikat steht {now}.', flag: 'Der Grundpreis war vor dem Schließen {then}. Im Zertifikat steht {now}.',
     leg: 'Die Strecke von {from} nach {to} kostete vor dem Schließen {then}. Im Zertifikat steht {now}.',
+    legFirst: 'Die Strecke vom Start nach {to} kostete vor dem Schließen {then}. Im Zertifikat steht {now}.',
     bid: 'Dein letztes Gebot aus diesem Browser war {then}. Im Zertifikat steht {now}. Hast du von einem anderen Gerät geboten?', noBid: 'kein Gebot',
     other: 'Das Zertifikat gehört zu einer anderen Runde als der, die dieser Browser vor dem Schließen gesehen hat.', fit: 'Die Namen, die der Server sendet, passen nicht zu diesem Zertifikat. Darum stehen unten nur Nummern.',
   },

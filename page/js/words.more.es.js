@@ -37,7 +37,7 @@ export const words = {
     round: 'Una ronda nueva', roundHow: 'Con un toque se crea una ronda con las mismas personas y los mismos objetos, que termina dentro de una semana. Envía a cada persona su nuevo enlace: tiene un botón que repite su oferta anterior, redondeada a múltiplos de 50. Así es mucho más probable que haya respuesta.',
     roundAsk: 'Pide a la persona que creó esta ronda que la haga de nuevo. Tu nuevo enlace tiene un botón que repite tu oferta anterior, redondeada a múltiplos de 50. Así es mucho más probable que haya respuesta.',
   },
-  files: { title: 'Archivos', whose: 'El veredicto de arriba es sobre el certificado. Los demás archivos son solo lo que dice el servidor: aquí no se ha comprobado nada de ellos.', report: 'Informe', certificate: 'Certificado', audit: 'Examen', winner: 'Adjusted winner', print: 'Imprimir' },
+  files: { title: 'Archivos', whose: 'El veredicto de arriba es sobre el certificado. Los demás archivos son solo lo que dice el servidor: aquí no se ha comprobado nada de ellos.', report: 'Informe', certificate: 'Certificado', audit: 'Examen', winner: 'Adjusted winner', print: 'Imprimir', empty: 'El servidor ha enviado un archivo vacío, así que no se ha guardado nada. Vuelve a intentarlo dentro de un momento o avisa a quienes llevan el servidor.' },
   unchecked: { title: 'Lo que dice el servidor' },
   judge: {
     proved: 'Este es el veredicto de un programa cuya corrección está demostrada. Se ha ejecutado aquí, en tu navegador.',
@@ -75,6 +75,7 @@ export const words = {
   winner: {
     title: 'O dividir un solo objeto: adjusted winner', how: 'Si un objeto se puede vender o usar por turnos, ambas personas pueden tener {points} puntos (Brams y Taylor 1996).', table: 'Quién recibe cuánto de cada objeto',
     computed: 'Esta página lo ha calculado a partir de las ofertas del certificado.', word: 'Esto es solo lo que dice el servidor. Aquí no se ha comprobado nada de ello.', check: 'Para comprobarlo: {command}',
+    empty: 'El servidor ha enviado un texto vacío para esto, así que no hay nada que mostrar.', other: 'Lo que ha enviado el servidor no es un texto de adjusted winner para estos objetos, así que no se muestra.',
   },
   proof: {
     title: 'Compruébalo tú', what: 'El certificado contiene todas las ofertas, el resultado y las cifras que muestran que es el mejor. No tienes que fiarte del servidor:',
@@ -106,6 +107,7 @@ export const words = {
     things: 'Antes del cierre se repartía {then}. Ahora el servidor dice {now}.', you: 'Antes del cierre, este enlace era de {then}. Ahora el servidor dice {now}.',
     rent: 'Antes del cierre, el alquiler era {then}. El certificado dice {now}.', flag: 'Antes del cierre, la tarifa fija era {then}. El certificado dice {now}.',
     leg: 'Antes del cierre, el trayecto de {from} a {to} costaba {then}. El certificado dice {now}.',
+    legFirst: 'Antes del cierre, el trayecto del inicio a {to} costaba {then}. El certificado dice {now}.',
     bid: 'Tu última oferta desde este navegador fue {then}. El certificado dice {now}. ¿Hiciste una oferta desde otro dispositivo?', noBid: 'ninguna oferta',
     other: 'El certificado pertenece a otra ronda, no a la que este navegador vio antes del cierre.', fit: 'Los nombres que envía el servidor no encajan con este certificado, así que abajo solo hay números.',
   },

@@ -37,7 +37,7 @@ export const words = {
     round: 'Un nouveau partage', roundHow: 'D’un geste, tu crées un partage avec les mêmes personnes et les mêmes objets, qui se termine dans une semaine. Envoie à chaque personne son nouveau lien : il a un bouton qui refait l’ancienne offre, arrondie à des multiples de 50. Vous avez alors bien plus de chances d’obtenir une réponse.',
     roundAsk: 'Demande à la personne qui a créé ce partage de le refaire. Ton nouveau lien a un bouton qui refait ton ancienne offre, arrondie à des multiples de 50. Vous avez alors bien plus de chances d’obtenir une réponse.',
   },
-  files: { title: 'Fichiers', whose: 'Le verdict ci-dessus porte sur le certificat. Les autres fichiers ne sont que ce que dit le serveur : rien n’en a été vérifié ici.', report: 'Rapport', certificate: 'Certificat', audit: 'Examen', winner: 'Adjusted winner', print: 'Imprimer' },
+  files: { title: 'Fichiers', whose: 'Le verdict ci-dessus porte sur le certificat. Les autres fichiers ne sont que ce que dit le serveur : rien n’en a été vérifié ici.', report: 'Rapport', certificate: 'Certificat', audit: 'Examen', winner: 'Adjusted winner', print: 'Imprimer', empty: 'Le serveur a envoyé un fichier vide : rien n’a donc été enregistré. Réessaie dans un instant, ou préviens les personnes qui gèrent le serveur.' },
   unchecked: { title: 'Ce que dit le serveur' },
   judge: {
     proved: 'C’est le verdict d’un programme prouvé correct. Il a tourné ici, dans ton navigateur.',
@@ -75,6 +75,7 @@ export const words = {
   winner: {
     title: 'Ou partager un seul objet : adjusted winner', how: 'Si un objet peut être vendu ou utilisé à tour de rôle, vous pouvez avoir {points} points chacun (Brams et Taylor 1996).', table: 'Qui obtient quelle part de chaque objet',
     computed: 'Cette page l’a calculé à partir des offres du certificat.', word: 'Ce n’est que ce que dit le serveur. Rien n’en a été vérifié ici.', check: 'Pour le vérifier : {command}',
+    empty: 'Le serveur a envoyé un texte vide à ce sujet : il n’y a donc rien à montrer.', other: 'Ce que le serveur a envoyé n’est pas un texte de l’adjusted winner pour ces objets : il n’est donc pas montré.',
   },
   proof: {
     title: 'Vérifie toi-même', what: 'Le certificat contient toutes les offres, le résultat et les nombres qui montrent que c’est le meilleur. Tu n’as pas besoin de faire confiance au serveur :',
@@ -86,7 +87,7 @@ export const words = {
   },
   rules: {
     rent: {
-      1: 'Le cas est valable : la somme des valeurs de chaque personne est le loyer.', 2: 'Chaque personne a une chambre.', 3: 'Aucune chambre ne vaut plus pour quelqu’un que ne le permettent les nombres duaux…', 4: '… et la chambre de chaque personne les atteint : aucune autre répartition ne vaut plus au total.',
+      1: 'Le cas est valable : la somme des valeurs de chaque personne est le loyer.', 2: 'Chaque personne a une chambre.', 3: 'Aucune chambre ne vaut plus pour quelqu’un que ne le permettent les variables duales…', 4: '… et la chambre de chaque personne les atteint : aucune autre répartition ne vaut plus au total.',
       5: 'Les chaînes d’envie sont assez longues…', 6: '… et pas plus longues qu’une certaine chaîne.', 7: 'Les prix favorisent le plus possible la personne la moins satisfaite.',
     },
     goods: { 1: 'Le cas est valable : la somme des points de chaque personne est 1000.', 2: 'Chaque objet revient à quelqu’un.', 3: 'L’arbre de toutes les répartitions est complet.', 4: 'Rien sous une branche coupée n’est meilleur.', 5: 'Aucune répartition complète n’est meilleure.', 6: 'L’arbre aboutit à cette répartition.' },
@@ -106,6 +107,7 @@ export const words = {
     things: 'Avant la clôture, on partageait {then}. Maintenant, le serveur dit {now}.', you: 'Avant la clôture, ce lien appartenait à {then}. Maintenant, le serveur dit {now}.',
     rent: 'Avant la clôture, le loyer était de {then}. Le certificat dit {now}.', flag: 'Avant la clôture, la prise en charge était de {then}. Le certificat dit {now}.',
     leg: 'Avant la clôture, le trajet de {from} à {to} coûtait {then}. Le certificat dit {now}.',
+    legFirst: 'Avant la clôture, le trajet du départ à {to} coûtait {then}. Le certificat dit {now}.',
     bid: 'Ta dernière offre depuis ce navigateur était {then}. Le certificat dit {now}. As-tu fait une offre depuis un autre appareil ?', noBid: 'aucune offre',
     other: 'Le certificat appartient à un autre partage que celui que ce navigateur a vu avant la clôture.', fit: 'Les noms envoyés par le serveur ne vont pas avec ce certificat : il n’y a donc que des numéros ci-dessous.',
   },

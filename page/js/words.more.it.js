@@ -37,7 +37,7 @@ export const words = {
     round: 'Una nuova ripartizione', roundHow: 'Con un tocco si crea una ripartizione con le stesse persone e gli stessi oggetti, che finisce tra una settimana. Invia a ogni persona il suo nuovo link: ha un pulsante che ripete la vecchia offerta, arrotondata a multipli di 50. Così è molto più probabile avere una risposta.',
     roundAsk: 'Chiedi a chi ha creato questa ripartizione di rifarla. Il tuo nuovo link ha un pulsante che ripete la tua vecchia offerta, arrotondata a multipli di 50. Così è molto più probabile avere una risposta.',
   },
-  files: { title: 'File', whose: 'Il verdetto qui sopra riguarda il certificato. Gli altri file sono solo quello che dice il server: qui non ne è stato verificato nulla.', report: 'Rapporto', certificate: 'Certificato', audit: 'Esame', winner: 'Adjusted winner', print: 'Stampa' },
+  files: { title: 'File', whose: 'Il verdetto qui sopra riguarda il certificato. Gli altri file sono solo quello che dice il server: qui non ne è stato verificato nulla.', report: 'Rapporto', certificate: 'Certificato', audit: 'Esame', winner: 'Adjusted winner', print: 'Stampa', empty: 'Il server ha inviato un file vuoto, quindi non è stato salvato nulla. Riprova tra un momento, o avvisa chi gestisce il server.' },
   unchecked: { title: 'Quello che dice il server' },
   judge: {
     proved: 'Questo è il verdetto di un programma la cui correttezza è dimostrata. È stato eseguito qui, nel tuo browser.',
@@ -75,6 +75,7 @@ export const words = {
   winner: {
     title: 'Oppure dividere un solo oggetto: adjusted winner', how: 'Se un oggetto si può vendere o usare a turno, entrambi potete avere {points} punti (Brams e Taylor 1996).', table: 'Chi riceve quanto di ogni oggetto',
     computed: 'Questa pagina lo ha calcolato dalle offerte del certificato.', word: 'È solo quello che dice il server. Qui non ne è stato verificato nulla.', check: 'Per verificarlo: {command}',
+    empty: 'Per questo il server ha inviato un testo vuoto, quindi non c’è nulla da mostrare.', other: 'Quello che ha inviato il server non è un testo di adjusted winner per questi oggetti, quindi non viene mostrato.',
   },
   proof: {
     title: 'Verificalo tu', what: 'Il certificato elenca tutte le offerte, il risultato e i numeri che mostrano che è il migliore. Non devi fidarti del server:',
@@ -106,6 +107,7 @@ export const words = {
     things: 'Prima della chiusura si divideva {then}. Ora il server dice {now}.', you: 'Prima della chiusura questo link era di {then}. Ora il server dice {now}.',
     rent: 'Prima della chiusura l’affitto era {then}. Il certificato dice {now}.', flag: 'Prima della chiusura la quota fissa era {then}. Il certificato dice {now}.',
     leg: 'Prima della chiusura il tragitto da {from} a {to} costava {then}. Il certificato dice {now}.',
+    legFirst: 'Prima della chiusura il tragitto dalla partenza a {to} costava {then}. Il certificato dice {now}.',
     bid: 'La tua ultima offerta da questo browser era {then}. Il certificato dice {now}. Hai fatto un’offerta da un altro dispositivo?', noBid: 'nessuna offerta',
     other: 'Il certificato appartiene a un’altra ripartizione, non a quella che questo browser ha visto prima della chiusura.', fit: 'I nomi inviati dal server non corrispondono a questo certificato, quindi qui sotto ci sono solo numeri.',
   },

@@ -37,7 +37,7 @@ export const words = {
     round: 'A new round', roundHow: 'One tap makes a round with the same people and items, which ends in a week. Send everyone their new link: it has a button that bids their old points again, rounded to multiples of 50. Then you are far more likely to get an answer.',
     roundAsk: 'Ask the person who created this round to make it again. Your new link has a button that bids your old points again, rounded to multiples of 50. Then you are far more likely to get an answer.',
   },
-  files: { title: 'Files', whose: 'The verdict above is about the certificate. The other files are only what the server says: none of them was checked here.', report: 'Report', certificate: 'Certificate', audit: 'Audit', winner: 'Adjusted winner', print: 'Print' },
+  files: { title: 'Files', whose: 'The verdict above is about the certificate. The other files are only what the server says: none of them was checked here.', report: 'Report', certificate: 'Certificate', audit: 'Audit', winner: 'Adjusted winner', print: 'Print', empty: 'The server sent an empty file, so nothing was saved. Try again in a moment, or tell the people who run the server.' },
   unchecked: { title: 'What the server says' },
   judge: {
     proved: 'This is the verdict of a program that is proved correct. It ran here, in your browser.',
@@ -87,6 +87,7 @@ export const words = {
   winner: {
     title: 'Or split one item: adjusted winner', how: 'If one item can be sold or shared over time, both of you can have {points} points (Brams and Taylor 1996).', table: 'Who gets how much of each item',
     computed: 'This page worked it out from the bids in the certificate.', word: 'This is only what the server says. None of it was checked here.', check: 'To check it: {command}',
+    empty: 'The server sent an empty text for this, so there is nothing to show.', other: 'What the server sent isn’t a text of adjusted winner for these items, so it isn’t shown.',
   },
   proof: {
     title: 'Check it yourself', what: 'The certificate lists every bid, the result, and the numbers that show it’s the best one. You don’t have to trust the server:',
@@ -106,6 +107,7 @@ export const words = {
     things: 'What you divided was {then} before the close. Now the server says {now}.', you: 'This link belonged to {then} before the close. Now the server says {now}.',
     rent: 'The rent was {then} before the close. The certificate says {now}.', flag: 'The base fare was {then} before the close. The certificate says {now}.',
     leg: 'The trip from {from} to {to} cost {then} before the close. The certificate says {now}.',
+    legFirst: 'The trip from the start to {to} cost {then} before the close. The certificate says {now}.',
     bid: 'Your last bid from this browser was {then}. The certificate says {now}. Did you bid from another device?', noBid: 'no bid',
     other: 'The certificate belongs to another round than the one this browser saw before the close.', fit: 'The names that the server sends don’t fit this certificate, so there are only numbers below.',
   },

@@ -37,7 +37,7 @@ export const words = {
     round: 'Nowa runda', roundHow: 'Jedno stuknięcie tworzy rundę z tymi samymi osobami i rzeczami, która kończy się za tydzień. Wyślij każdej osobie jej nowy link: jest w nim przycisk, który powtarza dawną ofertę w zaokrągleniu do wielokrotności 50. Wtedy szansa na odpowiedź jest dużo większa.',
     roundAsk: 'Poproś osobę, która utworzyła tę rundę, żeby utworzyła ją jeszcze raz. W twoim nowym linku jest przycisk, który powtarza dawną ofertę w zaokrągleniu do wielokrotności 50. Wtedy szansa na odpowiedź jest dużo większa.',
   },
-  files: { title: 'Pliki', whose: 'Werdykt powyżej dotyczy certyfikatu. Pozostałe pliki to tylko to, co mówi serwer: nic z nich nie zostało tu sprawdzone.', report: 'Raport', certificate: 'Certyfikat', audit: 'Ocena', winner: 'Adjusted winner', print: 'Drukuj' },
+  files: { title: 'Pliki', whose: 'Werdykt powyżej dotyczy certyfikatu. Pozostałe pliki to tylko to, co mówi serwer: nic z nich nie zostało tu sprawdzone.', report: 'Raport', certificate: 'Certyfikat', audit: 'Ocena', winner: 'Adjusted winner', print: 'Drukuj', empty: 'Serwer przysłał pusty plik, więc nic nie zostało zapisane. Spróbuj ponownie za chwilę albo powiadom tych, którzy prowadzą serwer.' },
   unchecked: { title: 'Co mówi serwer' },
   judge: {
     proved: 'To werdykt programu, którego poprawność jest udowodniona. Działał tutaj, w twojej przeglądarce.',
@@ -75,13 +75,14 @@ export const words = {
   winner: {
     title: 'Albo podzielić jedną rzecz: adjusted winner', how: 'Jeśli jedną rzecz można sprzedać albo używać na zmianę, obie osoby mogą mieć po {points} pkt (Brams i Taylor 1996).', table: 'Kto ile dostaje z każdej rzeczy',
     computed: 'Ta strona obliczyła to z ofert w certyfikacie.', word: 'Tak mówi tylko serwer. Nic z tego nie zostało tu sprawdzone.', check: 'Żeby to sprawdzić: {command}',
+    empty: 'Serwer przysłał w tym miejscu pusty tekst, więc nie ma czego pokazać.', other: 'To, co przysłał serwer, nie jest tekstem adjusted winner dla tych rzeczy, więc nie jest pokazywane.',
   },
   proof: {
     title: 'Sprawdź to samodzielnie', what: 'Certyfikat zawiera wszystkie oferty, wynik i liczby, które pokazują, że jest on najlepszy. Nie musisz ufać serwerowi:',
     download: 'Zapisz certyfikat i nazwy w jednym pliku.', downloadButton: 'Pobierz',
     file: 'Otwórz ten plik na stronie sprawdzającej. {link}: działa bez sieci. Jest w niej udowodniony program. Jeszcze lepiej weź tę stronę od kogoś, komu ufasz.',
     judge: 'Albo zapisz poniżej sam certyfikat i daj go do oceny na własnym komputerze programowi {program}: {command}. Udowodniono, że pisze on {yes} tylko przy najlepszym podziale podanych ofert.',
-    printed: 'Zobacz, czy twoja oferta jest tam taka, jak została wysłana: w certyfikacie jest {bid}.', printedNone: 'Zobaczcie, czy każda oferta jest tam taka, jak została wysłana.',
+    printed: 'Zobacz, czy twoja oferta jest tam taka, jak została wysłana: w certyfikacie jest {bid}.', printedNone: 'Zobacz, czy każda oferta jest tam taka, jak została wysłana.',
     here: 'Co zostało sprawdzone w tej przeglądarce', hereHow: 'Wszystko powyżej obliczono z certyfikatu. Werdykt wydał udowodniony program; poniżej jest drugie sprawdzenie, przez skrypt. *Strona wokół nich nie jest udowodniona*, a przyszła z tej samej maszyny co wynik: serwer, który kłamie, mógłby wysłać stronę, która kłamie.',
   },
   rules: {
@@ -106,6 +107,7 @@ export const words = {
     things: 'Przed zamknięciem do podziału było: {then}. Teraz serwer podaje: {now}.', you: 'Przed zamknięciem ten link należał do osoby: {then}. Teraz serwer podaje: {now}.',
     rent: 'Przed zamknięciem czynsz wynosił {then}. W certyfikacie jest {now}.', flag: 'Przed zamknięciem opłata początkowa wynosiła {then}. W certyfikacie jest {now}.',
     leg: 'Przed zamknięciem przejazd {from} → {to} kosztował {then}. W certyfikacie jest {now}.',
+    legFirst: 'Przed zamknięciem przejazd start → {to} kosztował {then}. W certyfikacie jest {now}.',
     bid: 'Twoja ostatnia oferta z tej przeglądarki to {then}. W certyfikacie jest {now}. Czy była też oferta z innego urządzenia?', noBid: 'brak oferty',
     other: 'Certyfikat należy do innej rundy niż ta, którą ta przeglądarka widziała przed zamknięciem.', fit: 'Nazwy przysłane przez serwer nie pasują do tego certyfikatu, więc poniżej są tylko numery.',
   },

@@ -1,4 +1,4 @@
--- The words of a command, by the arguments that the program was started with.
+-- How the words of a command follow from the arguments that the program was started with.
 use Rattle.std.specs.Prelude.{◌≡◌, ◌<◌, ◌≤◌, ◌⊎◌, ℕ, List, [], All, drop, get_or, length, Option, Some, None}
 use Rattle.std.specs.Str.{IsUtf8}
 

@@ -7,24 +7,24 @@ use std::alloc::Global;
 use std::env::FillError;
 use std::rt::Env;
 
-/// The arguments of a program by place, from 0: its own path comes first.
+/// The arguments of a program by place, from 0. Its own path comes first.
 pub trait Arguments {
-    /// All of them; `None` if the object doesn't tell them.
+    /// All of them; `None` if the object doesn't reveal them.
     ghost told: { Self → Option (List (List ℕ)) };
 
     /// The bytes of the argument at a place, or none after the last.
     ///
-    /// `NoMemory` comes if there was no memory for the bytes.
+    /// `NoMemory` means that there was no memory for the bytes.
     fn argument(&self, alloc: Global, place: usize) -> Result<Option<Vec<u8>>, NoMemory>
         ensures { IfOk result (λ found.
             IfSome (told self.now) (λ all.
             IsArgument all place (option_map (λ bytes. bytes.items) found))) };
 }
 
-/// The most bytes of an argument that are asked for first.
+/// How many bytes of an argument are asked for at first.
 const FIRST_ROOM: usize = 256;
 
-/// The arguments in an environment, which doesn't tell them.
+/// The arguments in an environment, which doesn't reveal them.
 #[derive(Drop)]
 pub struct Started<E> {
     environment: E,

@@ -7,7 +7,8 @@ use split_base::limits::LAST_MOMENT;
 use split_base::{Clock, Failed};
 use std::time;
 
-/// The system's time of day as a clock, in whole seconds since 1970. A time before 1970 or after the year 9999 is a failed call.
+/// The system's time of day as a clock, in whole seconds since 1970. If the time is before 1970 or after the year 9999, the call
+/// fails.
 #[derive(Drop)]
 pub struct SystemClock<'r, C> {
     clock: &'r C,
@@ -40,7 +41,7 @@ impl<'r, C: time::Clock> Clock for SystemClock<'r, C> {
     }
 }
 
-// The second of the system's clock, if it is one that a date can tell.
+// The current second of the system's clock, if a date can express it.
 fn moment_of<C: time::Clock>(clock: &C) -> Option<u64>
     ensures { IfSome result (λ moment. moment ≤ LAST_MOMENT) }
 {

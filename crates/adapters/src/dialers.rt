@@ -1,4 +1,4 @@
-// A dialer of this machine's ports.
+// A dialer for the TCP ports of this machine.
 ghost use Rattle.std.specs.Prelude.{◌≡◌, None};
 
 use crate::counts::fault;
@@ -18,7 +18,8 @@ pub struct TcpDialer<'r, R> {
 }
 
 impl<'r, R: Net + Clock> TcpDialer<'r, R> {
-    /// A dialer that has had no fault yet. Its links have these limits, and a call waits no longer for an answer than a link's may.
+    /// A dialer that has had no fault yet. Its links have these limits, and a call to dial waits for an answer no longer than one
+    /// read or write of a link may.
     pub fn new(system: &'r R, limits: LinkLimits) -> Self
         ensures { result.faults ≡ 0 }
     {

@@ -8,14 +8,14 @@ use arrayvec::ArrayVec;
 use split_base::{Disk, Failed};
 use std::fs::{File, Files};
 
-/// Bytes that were written at a place since the last good sync.
+/// Bytes that were written at a place since the last successful sync.
 #[derive(Default, Drop)]
 struct Piece {
     place: u64,
     bytes: ArrayVec<u8, LONGEST_PIECE>,
 }
 
-/// Whether the folder holds the file's name for good.
+/// Whether the file's name in the folder is stable.
 #[derive(Clone, Copy, PartialEq, Eq)]
 enum FolderSync {
     Due,
@@ -23,35 +23,35 @@ enum FolderSync {
     Lost,
 }
 
-/// How far an append has come: a piece at the file's end, a sync, the byte in front of the piece, and a sync, with no other call
-/// between them.
+/// How far an append has come. An append writes a piece at the file's end, syncs, writes the byte in front of the piece, and
+/// syncs, with no other call in between.
 #[derive(Clone, Copy, PartialEq, Eq)]
 enum Append {
     Idle,
-    /// The piece behind this byte was written, and waits for its sync alone.
+    /// The piece after this byte has been written, and only its sync is missing.
     Written { gate: u64 },
-    /// The piece behind this byte is stable.
+    /// The piece after this byte is stable.
     Stable { gate: u64 },
 }
 
-/// A file of a folder as a disk.
+/// A file in a folder, as a disk.
 ///
-/// The first call opens the file, creates it empty where there is none, and takes its exclusive lock without waiting. Where that
-/// fails, as with a lock that another process holds, the call has failed, and the next call tries again. The file stays open and
-/// locked for as long as the adapter lives. A file that it creates is for its owner alone.
+/// The first call opens the file, creating an empty one if there is none, and takes its exclusive lock without waiting. If that
+/// fails, for example because another process holds the lock, the call fails, and the next call tries again. The file stays open
+/// and locked for as long as the adapter lives. Only its owner may use a file that it creates.
 ///
-/// Another program may delete, move, replace or cut the file all the same. So a sync fails where the path does not lead to the
-/// file that is open, and so does a write after a good sync, also where the file has not the length that it had when it was last
-/// measured or written here. No other file is opened for it: the calls succeed again where the path leads to it again.
+/// Another program may still delete, move, replace or cut the file. So a sync fails if the path doesn't lead to the open file,
+/// and so does a write after a successful sync, which also fails if the file no longer has the length that it had when it was
+/// last measured or written here. No other file is opened in its place: calls succeed again once the path leads to it again.
 ///
-/// Within an append the path is not looked at: its first write and its last sync do so. An append is a piece at the end of a file
-/// that isn't empty, a sync, a write of the byte in front of that piece, and a sync. That byte tells whether the piece counts, so
-/// nothing is acknowledged before the last sync. The length is looked at before that byte too.
+/// In the middle of an append the path is not looked at: only its first write and its last sync do that. An append is a piece at
+/// the end of a file that isn't empty, a sync, a write of the byte in front of that piece, and a sync. That byte decides whether
+/// the piece counts, so nothing is acknowledged before the last sync. The length is checked before that byte is written, too.
 ///
 /// A sync makes the whole file stable, and the first one the folder too. The system may take bytes for stored that a failed sync
-/// has lost. So what was written since the last good sync is kept, `MOST_PIECES` pieces of at most `LONGEST_PIECE` bytes, and the
-/// sync after a failed one writes it again before it syncs once more. A write for which there is no place among these fails.
-/// Where the folder's own sync has failed, each later sync fails.
+/// has lost. So what was written since the last successful sync is kept, in up to `MOST_PIECES` pieces of at most `LONGEST_PIECE`
+/// bytes, and the sync after a failed one writes it again before it syncs. A write that doesn't fit among these pieces fails.
+/// Once the folder's own sync has failed, every later sync fails.
 #[derive(Drop)]
 pub struct JournalFile<'r, R> {
     files: &'r R,
@@ -66,7 +66,7 @@ pub struct JournalFile<'r, R> {
 }
 
 impl<'r, R: Files<File = File>> JournalFile<'r, R> {
-    /// The file at a path, which is in this folder. Nothing is opened yet, and no fault has come.
+    /// The file at this path, which is in this folder. Nothing is opened yet, and there has been no fault.
     pub fn new(files: &'r R, path: &'r str, folder: &'r str) -> Self
         ensures { result.faults ≡ 0 }
     {
@@ -90,7 +90,7 @@ impl<'r, R: Files<File = File>> JournalFile<'r, R> {
         self.faults
     }
 
-    // Opens and locks the file where it is not open yet, and tells whether it is.
+    // Opens and locks the file if it is not open yet, and says whether it is open now.
     fn opens(&mut self) -> bool
         ensures count { self.new.faults ≡ self.old.faults }
     {
@@ -100,7 +100,7 @@ impl<'r, R: Files<File = File>> JournalFile<'r, R> {
         self.held.is_some()
     }
 
-    // How far an append had come before this call, which goes on from there or ends it.
+    // How far an append had come before this call, which continues or ends it.
     fn take_append(&mut self) -> Append
         ensures count { self.new.faults ≡ self.old.faults }
     {
@@ -109,7 +109,7 @@ impl<'r, R: Files<File = File>> JournalFile<'r, R> {
         append
     }
 
-    // Without a count of the fault, which `size` adds.
+    // Does not count its fault: `size` does that.
     fn size_now(&mut self) -> Option<u64>
         ensures count { self.new.faults ≡ self.old.faults }
         ensures least { IfSome result (λ n. n ≤ 2 ^ 63) }
@@ -124,7 +124,7 @@ impl<'r, R: Files<File = File>> JournalFile<'r, R> {
         held.size()
     }
 
-    // Without a count of the fault, which `read_at` adds. No place after the greatest one is read.
+    // Does not count its fault: `read_at` does that. Nothing is read past the greatest place.
     fn read_now(&mut self, place: u64, into: &mut [u8]) -> Option<usize>
         ensures count { self.new.faults ≡ self.old.faults }
         ensures size { IfSome result (λ n. n ≤ length into.old) }
@@ -145,7 +145,7 @@ impl<'r, R: Files<File = File>> JournalFile<'r, R> {
         held.read_full(place, &mut into[..room])
     }
 
-    // Without a count of the fault, which `write_at` adds. What was written is kept until the next good sync.
+    // Does not count its fault: `write_at` does that. What was written is kept until the next successful sync.
     fn write_now(&mut self, place: u64, bytes: &[u8]) -> Option<()>
         ensures count { self.new.faults ≡ self.old.faults }
         ensures least { IsSome result → place + length bytes.now ≤ 2 ^ 63 }
@@ -180,8 +180,7 @@ impl<'r, R: Files<File = File>> JournalFile<'r, R> {
         Some(())
     }
 
-    // Without a count of the fault, which `sync` adds. After a failed sync, the pieces are written again before the
-    // next one.
+    // Does not count its fault: `sync` does that. After a failed sync, the pieces are written again before the next one.
     fn sync_now(&mut self) -> Option<()>
         ensures count { self.new.faults ≡ self.old.faults }
     {
@@ -272,7 +271,7 @@ impl<'r, R: Files<File = File>> Disk for JournalFile<'r, R> {
     ghost seen_is_image = { λ disk honest. absurd honest };
 }
 
-// Writes each piece again, in order, and tells whether all were written.
+// Writes each piece again, in order, and says whether all were written.
 fn writes_again(held: &mut HeldFile, pieces: &[Piece]) -> bool {
     for piece in pieces {
         if held.write_front(piece.place, &piece.bytes) < piece.bytes.len() {
@@ -282,7 +281,7 @@ fn writes_again(held: &mut HeldFile, pieces: &[Piece]) -> bool {
     true
 }
 
-// Syncs a folder, and tells whether that went well.
+// Syncs a folder, and says whether that worked.
 fn is_synced<R: Files<File = File>>(files: &R, folder: &str) -> bool {
     match File::open(files, folder) {
         Ok(folder) => folder.sync_all().is_ok(),

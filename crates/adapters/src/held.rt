@@ -6,7 +6,7 @@ use std::fs::{File, Files, Metadata, OpenOptions};
 use std::io::{Seek, SeekFrom};
 use std::os::unix::fs::{FileExt, MetadataExt, OpenOptionsExt};
 
-/// A file that is open and locked. No other file has its device and inode while it is open.
+/// A file that is open and locked. While it is open, no other file has the same device and inode.
 #[derive(Drop)]
 pub(crate) struct HeldFile {
     file: File,
@@ -16,7 +16,8 @@ pub(crate) struct HeldFile {
 }
 
 impl HeldFile {
-    // Opens the file at a path, creates it empty and only for its owner if there is none, and takes its lock without waiting.
+    // Opens the file at a path and takes its lock without waiting. If there is no file, it creates an empty one that only its
+    // owner may use.
     pub(crate) fn open<R: Files<File = File>>(files: &R, path: &str) -> Option<Self> {
         let opened = OpenOptions::new()
             .read(true)
@@ -41,7 +42,7 @@ impl HeldFile {
         })
     }
 
-    // Whether this is the file of which the system tells that.
+    // Whether this is the file that the metadata describes.
     fn is(&self, found: &Metadata) -> bool {
         found.dev() == self.device && found.ino() == self.inode
     }
@@ -83,7 +84,7 @@ impl HeldFile {
         }
     }
 
-    // Reads up to the buffer's end or the file's, and tells how many bytes; nothing where a read failed.
+    // Reads up to the end of the buffer or of the file, and returns how many bytes; nothing if a read failed.
     pub(crate) fn read_full(&self, place: u64, into: &mut [u8]) -> Option<usize>
         ensures { IfSome result (λ n. n ≤ length into.old) }
     {
@@ -104,7 +105,7 @@ impl HeldFile {
         Some(done)
     }
 
-    // Writes the bytes at the place, up to a write that fails or takes nothing, and tells how many.
+    // Writes the bytes at the place until all are written or a write fails or takes nothing, and returns how many were written.
     pub(crate) fn write_front(&mut self, place: u64, bytes: &[u8]) -> usize
         ensures { result ≤ length bytes.now }
     {
@@ -127,7 +128,7 @@ impl HeldFile {
         done
     }
 
-    // Makes the whole file stable, and tells whether that went well.
+    // Makes the whole file stable, and says whether that went well.
     pub(crate) fn sync(&self) -> bool {
         self.file.sync_all().is_ok()
     }

@@ -1,10 +1,10 @@
 //! The real outside: streams, arguments, the journal's file, a TCP dialer, and the clock. It also keeps files and sockets from the three
 //! standard descriptors.
 //!
-//! Each call that fails counts as one fault, and no other does. They tell nothing of what a real
-//! file, socket, clock or stream holds, so nothing on crashes is proved of a real disk. After how long a link fails is a limit of this
-//! crate, of which no clause speaks. That a sync after a failed one writes again what waits is shown by no test, since
-//! a device that loses nothing can't show it.
+//! Each call that fails counts as one fault, and no other does. The adapters reveal nothing about what a real file, socket, clock or
+//! stream holds, so nothing is proved about crashes of a real disk. How long it takes until a link fails is a limit of this crate that
+//! no clause mentions. No test shows that a sync after a failed one writes the waiting bytes again, since a device that loses nothing
+//! can't show it.
 #![tactic(auto)]
 
 mod arguments;

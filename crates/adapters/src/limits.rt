@@ -1,13 +1,13 @@
 // Limits of the adapters over the real outside.
 use std::time::Duration;
 
-/// The most bytes of a file, and the greatest place after its last byte.
+/// The most bytes that a file may have, and so the greatest place after its last byte.
 pub const MOST_FILE_BYTES: u64 = 1 << 63;
 
-/// The most bytes of one piece that is kept until the next good sync. No write of a journal is longer.
+/// The most bytes in one piece that is kept until the next successful sync. No write of a journal is longer.
 pub const LONGEST_PIECE: usize = 4_101;
 
-/// The most pieces that are kept until the next good sync. A journal writes one or two between two syncs.
+/// The most pieces that are kept until the next successful sync. A journal writes one or two between two syncs.
 pub const MOST_PIECES: usize = 2;
 
 /// The mode of a journal that is created: only its owner may read and write it, since it holds the secret of the host.
@@ -19,10 +19,10 @@ pub const CALL_SECONDS: u64 = 60;
 /// How long a link may last in all, in seconds.
 pub const LINK_SECONDS: u64 = 600;
 
-/// How long a client that is closed has to close its end, in seconds.
+/// How long the client has to close its end once a link is closed, in seconds.
 pub const CLOSING_SECONDS: u64 = 1;
 
-/// The limits of time of a link.
+/// The time limits of a link.
 #[derive(Clone, Copy, Debug)]
 pub struct LinkLimits {
     /// How long one read or write may wait.

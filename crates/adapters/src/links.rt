@@ -10,9 +10,9 @@ use std::io::{Read, Write};
 use std::net::{OpenStream, Shutdown};
 use std::time::{Clock, Duration, Instant};
 
-/// A TCP connection with limits of time. It tells none of its bytes.
+/// A TCP connection with time limits. It reveals none of its bytes.
 ///
-/// A read or a write that waits longer than one call may, and each after the time of the whole link is over, is a failed call.
+/// A read or a write fails if it waits longer than one call may, and every one fails once the time of the whole link is over.
 #[derive(Drop)]
 pub struct TcpLink<'r, S, C> {
     stream: S,
@@ -24,9 +24,10 @@ pub struct TcpLink<'r, S, C> {
 }
 
 impl<'r, S: Read + Write + OpenStream + Drop, C: Clock> TcpLink<'r, S, C> {
-    // The link over this connection, whose time begins now. Small writes go out at once.
+    // A link over this connection, whose time begins now. Small writes go out at once.
     //
-    // If the clock or an option of the connection fails, as when the client has gone already, each call of the link fails.
+    // If the clock or an option of the connection fails, for example because the client has already gone, every call of the link
+    // fails.
     pub(crate) fn new(stream: S, clock: &'r C, limits: LinkLimits) -> Self
         ensures reads { result.read_faults ≡ 0 }
         ensures writes { result.write_faults ≡ 0 }
@@ -53,7 +54,7 @@ impl<'r, S: Read + Write + OpenStream + Drop, C: Clock> TcpLink<'r, S, C> {
         self.read_faults > 0 || self.write_faults > 0
     }
 
-    // Whether the link's time isn't over. If less is left of it than one call may take, the next call may take that much.
+    // Whether the link still has time. If less is left than one call may take, the next call may take only that long.
     fn goes_on(&self) -> bool {
         let Some(begun) = self.begun else {
             return false;
@@ -68,7 +69,7 @@ impl<'r, S: Read + Write + OpenStream + Drop, C: Clock> TcpLink<'r, S, C> {
         }
     }
 
-    // Without a count of the fault, which `read` adds.
+    // Does not count its fault: `read` does that.
     fn read_now(&mut self, into: &mut [u8]) -> Option<usize>
         ensures size { IfSome result (λ n. n ≤ length into.new) }
         ensures reads { self.new.read_faults ≡ self.old.read_faults }
@@ -80,7 +81,7 @@ impl<'r, S: Read + Write + OpenStream + Drop, C: Clock> TcpLink<'r, S, C> {
         self.stream.read(into).ok()
     }
 
-    // A write that takes nothing of a piece has failed.
+    // A write that takes none of a piece has failed.
     fn write_now(&mut self, piece: &[u8]) -> Option<usize>
         ensures size { IfSome result (λ n.
             (n ≤ length piece.now) × (0 < length piece.now → 0 < n)) }
@@ -96,10 +97,10 @@ impl<'r, S: Read + Write + OpenStream + Drop, C: Clock> TcpLink<'r, S, C> {
         }
     }
 
-    // Tells the client that no more comes, and then waits for it to close, dropping what it still sends, for a short time in all.
+    // Tells the client that nothing more will come, and then waits a short time for it to close, dropping what it still sends.
     //
-    // A connection that is closed while bytes of the client are unread may be reset, and the client may lose the last reply (RFC
-    // 9112, section 9.6). A link that has had a fault is closed at once.
+    // A connection that is closed while bytes from the client are unread may be reset, and the client may lose the last reply
+    // (RFC 9112, section 9.6). A link that has had a fault is closed at once.
     pub(crate) fn close(self) {
         if self.has_failed() {
             return;
@@ -145,12 +146,12 @@ impl<'r, S: Read + Write + OpenStream + Drop, C: Clock> Link for TcpLink<'r, S, 
     ghost sink_beside = { λ link. refl };
 }
 
-// Limits how long a read or a write of the connection may wait, and tells whether that was done.
+// Limits how long a read or a write of the connection may wait, and says whether that worked.
 fn is_limited<S: OpenStream>(stream: &S, most: Duration) -> bool {
     stream.set_read_timeout(Some(most)).is_ok() && stream.set_write_timeout(Some(most)).is_ok()
 }
 
-// Reads to the end of what the client sends, for no longer than this.
+// Reads to the end of what the client sends, but for no longer than this.
 fn drop_rest<S: Read + Drop, C: Clock>(mut stream: S, clock: &C, most: Duration) {
     let Ok(begun) = Instant::now(clock) else {
         return;

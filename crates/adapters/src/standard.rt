@@ -3,17 +3,17 @@ use split_base::Failed;
 use std::fs::{File, Files, OpenOptions};
 use std::os::fd::AsRawFd;
 
-/// The device that gives nothing to a reader, and takes all from a writer.
+/// The device that gives readers nothing and takes everything that is written.
 const NULL_DEVICE: &str = "/dev/null";
 
 /// The descriptor of the standard input.
 const STANDARD_INPUT: i32 = 0;
 
-/// Descriptors 0, 1 and 2, taken for as long as this lives: by the streams that the program was started with, or by the null
+/// Descriptors 0, 1 and 2, which are taken for as long as this lives, by the streams that the program was started with or by the null
 /// device.
 ///
-/// A program may be started with some of them closed. The system gives the lowest free number to what is opened next, so that
-/// what goes to the standard output would go into a file that took its number. So a program takes the three before it opens
+/// A program may be started with some of them closed. The system gives the lowest free number to whatever is opened next, so what is
+/// written to the standard output could end up in a file that took its number. That is why a program takes all three before it opens
 /// anything else.
 #[derive(Drop)]
 pub struct StandardDescriptors {
@@ -25,10 +25,10 @@ pub struct StandardDescriptors {
 impl StandardDescriptors {
     /// Opens the null device three times, which takes whichever of the three descriptors are free.
     ///
-    /// What takes the place of the input is open only for writing, and what takes that of an output only for reading. So a read of a closed
-    /// input fails, and so does a write to a closed output.
+    /// What replaces the input is open only for writing, and what replaces an output is open only for reading. So reading from a closed
+    /// input fails, and so does writing to a closed output.
     ///
-    /// `Failed` comes if the null device can't be opened.
+    /// `Failed` means that the null device can't be opened.
     pub fn take<R: Files<File = File>>(files: &R) -> Result<Self, Failed> {
         Ok(StandardDescriptors {
             _first: in_place_of_input(files)?,
@@ -38,7 +38,7 @@ impl StandardDescriptors {
     }
 }
 
-// The null device, to be written where it takes the place of the standard input, and otherwise to be read.
+// Opens the null device, for writing if it replaces the standard input, and otherwise for reading.
 fn in_place_of_input<R: Files<File = File>>(files: &R) -> Result<File, Failed> {
     let written = OpenOptions::new()
         .write(true)
@@ -51,7 +51,7 @@ fn in_place_of_input<R: Files<File = File>>(files: &R) -> Result<File, Failed> {
     null_device(files)
 }
 
-// The null device, to be read.
+// Opens the null device for reading.
 fn null_device<R: Files<File = File>>(files: &R) -> Result<File, Failed> {
     File::open(files, NULL_DEVICE).map_err(|_| Failed)
 }

@@ -1,4 +1,4 @@
-// A reader as a source and a writer as a sink: each failed call of theirs is counted as a fault.
+// Makes a reader a source and a writer a sink: each of their failed calls is counted as a fault.
 ghost use Rattle.std.specs.Prelude.{◌≡◌, ◌≤◌};
 ghost use Rattle.split_base.specs.Faults.{HasRisen, counted};
 
@@ -6,7 +6,7 @@ use crate::counts::fault;
 use split_base::{Failed, Sink, Source};
 use std::io::{Read, Write};
 
-/// A reader as a source. It tells what is left if the reader does.
+/// A reader as a source. It reveals what is left if the reader does.
 #[derive(Drop)]
 pub struct Reading<R> {
     inner: R,
@@ -42,7 +42,7 @@ impl<R: Read> Source for Reading<R> {
     }
 }
 
-/// A writer as a sink. It tells what was written if the writer does.
+/// A writer as a sink. It reveals what was written if the writer does.
 #[derive(Drop)]
 pub struct Writing<W> {
     inner: W,
@@ -70,7 +70,7 @@ impl<W: Write> Sink for Writing<W> {
 
     ghost faults = { λ sink. sink.faults };
 
-    // A writer that takes nothing of a piece has failed too.
+    // A writer that takes none of a piece has failed too.
     fn write(&mut self, piece: &[u8]) -> Result<usize, Failed> {
         match self.inner.write(piece) {
             Ok(count) if count > 0 || piece.is_empty() => Ok(count),

@@ -1,4 +1,4 @@
-// The words of a command.
+// Makes the words of a command from the program's arguments.
 ghost use Rattle.std.specs.Prelude.{IfOk, IfSome, map, string_bytes};
 ghost use Rattle.adapters.specs.Words.{IsWords};
 
@@ -7,9 +7,9 @@ use split_base::NoMemory;
 use std::alloc::Global;
 
 /// The words of a command: all arguments after the program's own path, in order. If one of
-/// those is no UTF-8 there are no words at all. The program's own path may be any bytes.
+/// those isn't UTF-8, there are no words at all. The program's own path may be any bytes.
 ///
-/// `NoMemory` comes if there was no memory for the words.
+/// `NoMemory` means that there was no memory for the words.
 pub fn words_of<A: Arguments>(alloc: Global, arguments: &A) -> Result<Vec<String>, NoMemory>
     ensures { IfOk result (λ words.
         IfSome (A.told arguments.now) (λ all. IsWords all (map string_bytes words.items))) }

@@ -1,4 +1,4 @@
--- What the solver answers.
+-- What the solver of adjusted winner answers.
 use Rattle.std.specs.Prelude.{◌≡◌, ℕ, pos, List, [], ◌∷◌}
 use Rattle.std.specs.List.{AllZip}
 use Rattle.bid_rules.specs.declared.goods.GoodsCase.{GoodsCase}

@@ -1,4 +1,4 @@
--- How far the solver is with moving goods, by the good that moved last.
+-- How far the solver has come with moving goods, by the good that moved last.
 use Rattle.std.specs.Prelude.{◌≡◌, ℕ, ◌+◌, ◌<◌, ◌≤◌, List}
 use Rattle.bid_rules.specs.declared.goods.GoodsCase.{GoodsCase}
 use Rattle.bid_rules.specs.Goods.{points}

@@ -1,4 +1,4 @@
-// What holds of the players' shares by adjusted winner, for all cases: each law is the contract of a function that does nothing.
+// Laws about the players' shares by adjusted winner, which hold for all cases. Each is the contract of a function that does nothing.
 ghost use Rattle.std.specs.Prelude.{◌≡◌, ℕ, List, map};
 ghost use Rattle.bid_rules.specs.declared.goods.GoodsCase.{GoodsCase};
 ghost use Rattle.bid_rules.specs.Goods.{IsValidGoodsCase, player_count};
@@ -14,7 +14,8 @@ ghost use Rattle.bid_rules.specs.declared.limits.TheConstants.{PAIR};
 use split_frac::value_law;
 use winner_definition::{one_winner_law, parts_law, procedure_law, share_law, winner_law};
 
-/// The answer is the division by the rule. Its shares, total and weights show it, and it is equitable, envy-free and efficient, with at most one good split.
+/// The answer is the division by the rule. Its shares, total and weights show that, and it is equitable, envy-free and efficient, with at most one good
+/// split.
 pub fn answer_law()
     ensures winner { (case : GoodsCase) (answer : Winner) (winner : HasWinner case answer)
         → IsWinner case winner.parts winner.held winner.first winner.second }
@@ -38,7 +39,7 @@ pub fn answer_law()
     winner_law();
 }
 
-/// A case has one answer: two have the same shares, weights and total.
+/// A case has only one answer: any two have the same shares, weights and total.
 pub fn one_answer_law()
     ensures shares { (case : GoodsCase) (answer other : Winner) → HasWinner case answer
         → HasWinner case other → answer.shares.items ≡ other.shares.items }
@@ -54,7 +55,7 @@ pub fn one_answer_law()
     winner_law();
 }
 
-/// A case has one text.
+/// A case has only one text.
 pub fn winner_text_law()
     ensures { (case : GoodsCase) (text other : List ℕ) → IsWinnerText case text
         → IsWinnerText case other → text ≡ other }

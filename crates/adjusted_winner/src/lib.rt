@@ -1,8 +1,9 @@
 //! Adjusted winner between two players (Brams and Taylor 1996), equitable, envy-free and efficient,
 //! and its text.
 //!
-//! It takes no memory. A case has at most one winner and one text. The text counts no members and
-//! has no limit, so it prints the case with as many as there may be (`winner_lines_law`).
+//! It takes no memory. A case has at most one winner and one text. The text says neither how many
+//! members there are nor a limit, so it prints the case with as many as there may be
+//! (`winner_lines_law`).
 #![tactic(auto)]
 
 mod laws;

@@ -35,7 +35,7 @@ pub(crate) fn lesser_points(case: &GoodsCase, good: u8) -> u32
     case.points(1, good).min(case.points(2, good))
 }
 
-// Who has the good at first: the player who gives it more points, ties to player 1.
+// Who has the good at first: the player who gives it more points, or player 1 if both give it the same.
 pub(crate) fn first_owner(case: &GoodsCase, good: u8) -> u8
     requires case { IsValidGoodsCase case.now }
     requires two { player_count case.now ≡ PAIR }
@@ -76,7 +76,7 @@ pub(crate) fn moves_before(case: &GoodsCase, good: u8, other: u8) -> bool
     here < there || (here == there && good < other)
 }
 
-// Whether the player has given the good up, if the last that they gave up is `last`, or none if that is 0.
+// Whether the player has given the good up, if the last one that they gave up is `last` (0 for none).
 fn is_gone(case: &GoodsCase, player: u8, last: u8, good: u8) -> bool
     requires case { IsValidGoodsCase case.now }
     requires two { player_count case.now ≡ PAIR }
@@ -149,7 +149,8 @@ fn next_of(case: &GoodsCase, player: u8, last: u8, next: u8, count: u8) -> u8
     next
 }
 
-// The first good that the player may give up and has not, in the order in which they move, or 0.
+// The first good, in the order in which they move, that the player may give up and has not given up yet, or 0 if
+// there is none.
 fn next_good(case: &GoodsCase, player: u8, last: u8) -> u8
     requires case { IsValidGoodsCase case.now }
     requires two { player_count case.now ≡ PAIR }
@@ -163,7 +164,7 @@ fn next_good(case: &GoodsCase, player: u8, last: u8) -> u8
     next
 }
 
-/// The last good that moves, and what the richer and the poorer have before it does.
+/// The last good that moves, and what the richer and the poorer player have before it does.
 #[derive(Clone, Copy)]
 pub(crate) struct Last {
     /// The good.

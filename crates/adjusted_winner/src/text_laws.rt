@@ -1,4 +1,4 @@
-// What holds of the text of adjusted winner, for all cases of two players: each law is the contract of a function that does nothing.
+// Laws about the text of adjusted winner, which hold for all cases of two players. Each is the contract of a function that does nothing.
 ghost use Rattle.std.specs.Prelude.{◌≡◌, ◌≤◌, ℕ, List, length};
 ghost use Rattle.adjusted_winner.specs.Texts.{IsWinnerText};
 ghost use Rattle.adjusted_winner.specs.declared.winner.Winner.{Winner};
@@ -18,8 +18,8 @@ use winner_definition::{
     next_to_move_law, one_winner_law, parts_law, printed_law, procedure_law, winner_law,
 };
 
-/// The text of the winner is the text of a pair. It says the case, of the most members and steps that there may be, and the winner's shares, weights and total;
-/// all its rules hold, so that the verdict on it is yes. It has at most 4,000,000 bytes, and a case has one.
+/// The text of the winner is the text of a pair. It gives the case, with as many members and steps as there may be, and the winner's shares, weights and total;
+/// all its rules hold, so the verdict on it is yes. It has at most 4,000,000 bytes, and a case has only one such text.
 pub fn winner_lines_law()
     ensures case { (case : GoodsCase) (winner : Winner)
         → printed_case (winner_view case winner) ≡ with_most case }

@@ -22,13 +22,13 @@ use winner_definition::{last_good_law, next_to_move_law};
 pub struct Winner {
     /// Player 1's share of each good.
     pub shares: ArrayVec<Frac, ITEM_ROOM>,
-    /// By player the weights of points by which each good lies where it is worth most.
+    /// For each player, the weight of their points; under these weights each good is where it is worth the most.
     pub weights: [u32; 2],
     /// What each player has.
     pub total: Frac,
 }
 
-// So many of a number of parts.
+// This many parts out of a number of equal ones.
 fn fraction(number: u32, parts: u32) -> Frac
     requires low { 1 ≤ parts }
     requires high { parts ≤ 2 * WHOLE_POINTS }
@@ -58,7 +58,7 @@ fn given_up(case: &GoodsCase, parts: u32, last: u8, moved: u32, good: u8) -> u32
     0
 }
 
-// Player 1's parts of a good then.
+// Player 1's parts of a good at that point.
 fn share_after(case: &GoodsCase, parts: u32, last: u8, moved: u32, good: u8) -> u32
     requires case { IsValidGoodsCase case.now }
     requires two { player_count case.now ≡ PAIR }
@@ -77,7 +77,7 @@ fn share_after(case: &GoodsCase, parts: u32, last: u8, moved: u32, good: u8) -> 
     }
 }
 
-// Player 1's shares then.
+// Player 1's shares at that point.
 fn shares_after(case: &GoodsCase, parts: u32, last: u8, moved: u32) -> ArrayVec<Frac, ITEM_ROOM>
     requires case { IsValidGoodsCase case.now }
     requires two { player_count case.now ≡ PAIR }

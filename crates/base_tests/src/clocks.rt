@@ -25,7 +25,8 @@ impl time::Clock for Standing {
     }
 }
 
-// A moment after the last one that a date can tell is a fault, as is a clock that fails.
+// A moment after the last one that a date can express is a fault, as is a clock that
+// fails.
 #[test]
 fn tells_whole_seconds(rt: HostRuntime) {
     let cases = [

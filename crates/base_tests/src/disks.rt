@@ -46,7 +46,7 @@ fn failing(disk: &mut MemDisk) -> [bool; 4] {
 #[test]
 fn calls_fail_where_told(rt: HostRuntime) {
     let alloc = rt.alloc();
-    // The failing calls, that at which the disk stops, and what fails.
+    // The calls that fail, the call at which the disk stops, and what fails.
     let cases: [(&[u64], Option<u64>, [bool; 4]); 4] = [
         (&[1], None, [true, false, false, false]),
         (&[2, 4], None, [false, true, false, true]),

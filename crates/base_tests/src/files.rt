@@ -99,7 +99,7 @@ fn what_can_not_be_synced_waits(rt: HostRuntime) {
     assert!(rt; null.faults() == 3);
 }
 
-// Cuts a file, and tells whether that went well.
+// Cuts a file, and says whether that went well.
 fn is_cut(rt: HostRuntime, path: &str, length: u64) -> bool {
     match OpenOptions::new().write(true).open(&rt, path) {
         Ok(file) => file.set_len(length).is_ok(),

@@ -76,8 +76,8 @@ fn append(rt: &impl Abort, alloc: Global, disk: &mut MemDisk) -> Result<(), LogF
     log.append(disk, b"one")
 }
 
-// Makes a journal and appends to it on a disk that stops at this call, and keeps so many bytes of what no sync followed. Making the journal takes three
-// calls, reading it three more, and appending four. A stop at the last leaves the record or doesn't.
+// Makes a journal and appends to it on a disk that stops at this call, and keeps this many bytes of what no sync followed. Making the journal takes
+// three calls, reading it three more, and appending four. A stop at the last leaves the record or doesn't.
 fn assert_kept(rt: &impl Abort, alloc: Global, stop: u64, keep: usize) {
     let mut disk = disk_of(rt, alloc, b"", &[], Some(stop));
     let made = create_log(&mut disk, &SECRET);
@@ -103,7 +103,7 @@ fn a_record_is_kept_or_left_out(rt: HostRuntime) {
     }
 }
 
-// Each append goes behind the record before it, and a journal that exists is never made anew.
+// Each append goes behind the record before it, and a journal that exists is never made again.
 #[test]
 fn records_stand_behind_one_another(rt: HostRuntime) {
     let alloc = rt.alloc();

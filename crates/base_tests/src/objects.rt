@@ -40,7 +40,7 @@ pub(crate) fn disk_of(
     MemDisk::new(alloc, bytes, ROOM, fails, stop).expect(rt, "no memory")
 }
 
-// What a crash leaves that keeps so many bytes of the later writes.
+// What a crash leaves that keeps this many bytes of the later writes.
 pub(crate) fn crashed(rt: &impl Abort, alloc: Global, disk: MemDisk, keep: usize) -> MemDisk {
     assert!(rt; disk.bytes().len() <= ROOM);
     disk.crash(alloc, keep, ROOM).expect(rt, "no memory")

@@ -17,7 +17,7 @@ cost_by case from set rider = leg case.facts from (place_of case rider) + route_
 abbrev pub entry_by : FareCase → (ℕ → ℕ → ℕ) → ℕ → ℕ → ℕ → ℕ
 entry_by case entry at set rider = leg case.facts (start_of case at) (place_of case rider) + entry rider (without set rider)
 
--- the table of what routes cost, by departure (0 is the origin, another number that rider's place) and by the number of the set
+-- the table of what routes cost, by departure (0 for the origin, any other number for that rider's place) and by the number of the set
 abbrev pub costs_from : FareCase → ℕ → ℕ → ℕ
 costs_from case at set = route_cost case (start_of case at) (riders_in set)
 
@@ -28,8 +28,8 @@ pub record IsDeparture (n at set : ℕ) : Type 0 where
   pub known : at ≤ n
   pub outside : Contains (riders_in set) at → ⊥
 
--- each entry of the table is the least, over the riders of the set, of the leg to the rider and the entry for the others from there, and the entry of
--- no riders is 0
+-- each entry of the table is the least, over the riders of the set, of the leg to that rider plus the entry for the others from there, and the entry
+-- for no riders is 0
 pub record AreEntries (case : FareCase) (n : ℕ) (entry : ℕ → ℕ → ℕ) : Type 0 where
   pub none : (at : ℕ) → entry at 0 ≡ 0
   pub each : (at set : ℕ) → IsDeparture n at set → entry at set ≡ least (map (entry_by case entry at set) (riders_in set))

@@ -2,7 +2,7 @@
 use Rattle.std.specs.Prelude.{[], ◌∷◌}
 use Rattle.bid_rules.specs.declared.cases.FareCase.{FareCase}
 
--- two riders to two places: 10.00 and 15.00 from the origin, 7.00 from the first place to the second and 9.00 back, and a flag fall of 3.00
+-- two riders to two places: 10.00 and 15.00 from the origin, 7.00 from the first place to the second, 9.00 back, and a flag fall of 3.00
 abbrev pub two_places : FareCase
 two_places = record {
   facts = record { members = 2; places = 2; flag = 300; legs = record { items = (record { items = 1000 ∷ 1500 ∷ [] }) ∷ (record { items = 0 ∷ 700 ∷ [] }) ∷ (record { items = 900 ∷ 0 ∷ [] }) ∷ [] } };

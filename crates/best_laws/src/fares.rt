@@ -1,4 +1,4 @@
-// What holds of the definitions, for all cases: each law is the contract of a function that does nothing.
+// Laws about the definitions of fares, which hold for all cases. Each is the contract of a function that does nothing.
 ghost use Rattle.std.specs.Prelude.{◌≡◌, ◌≢◌, ℕ, pos, ◌+◌, ◌-◌, ◌*◌, ◌^◌, ◌*ℤ◌, ◌<◌, ◌≤◌, ◌↔◌, List, [], ◌∷◌, length, map, All, AllPairs, Contains, slice_index, slice_index_or, unsigned_abs};
 ghost use Rattle.std.specs.Int.{bit_at};
 ghost use Rattle.std.specs.List.{AllZip, filter, range_with_len};
@@ -17,7 +17,7 @@ ghost use Rattle.best_laws.specs.WorkedFares.{one_place, two_places};
 
 use bid_rules::leg_place_law;
 
-/// The listed orders of a list are its permutations. None is listed twice if the elements differ, and there are n! of them.
+/// The orders listed for a list are its permutations. If the elements differ, none is listed twice, and there are n! of them.
 pub fn orders_law()
     ensures listed { (xs ys : List ℕ) → Contains (all_orders xs) ys ↔ IsPermutation xs ys }
     ensures once { (xs : List ℕ) → AllPairs ◌≢◌ xs → AllPairs ◌≢◌ (all_orders xs) }
@@ -45,10 +45,10 @@ pub fn route_cost_law()
     leg_place_law();
 }
 
-/// Sets of riders and their numbers belong together: the riders of a set rise, and are those whose bit is set; a set is the sum
-/// of 2^(i-1) over its riders i; and each rising list of riders of 1 to n is the riders of one number, which is below 2^n.
-/// A list of riders, each once, in any order, is a permutation of the riders of the set of its number. A valid case has no more
-/// riders than there may be, and a set of them no more than they.
+/// Sets of riders and numbers correspond: the riders of a set come in rising order, and are those whose bit is set; a set is the
+/// sum of 2^(i-1) over its riders i; and each rising list of riders of 1 to n is the riders of one number, which is below 2^n. A
+/// list of riders, each once, in any order, is a permutation of the riders of the set of its number. A valid case has no more
+/// riders than the limit allows, and a set of them has no more than the case.
 pub fn coalition_law()
     ensures rising { (set : ℕ) → IsStrictlyIncreasing (riders_in set) }
     ensures bits { (set rider : ℕ) → Contains (riders_in set) rider
@@ -78,10 +78,10 @@ pub fn without_rider_law()
         → ¬ Contains (riders_in (without set rider)) rider }
 {}
 
-/// Who gets off first: what a route of a set of riders costs from a place is the least, over each rider who may get off first, of
-/// the leg to that rider's place and the cost of the route from there of the set without the rider. Nobody's route costs 0.
+/// Who gets off first: what the route of a set of riders costs from a place is the least, over all riders who may get off first, of
+/// the leg to that rider's place plus what the route of the others costs from there. The route of nobody costs 0.
 ///
-/// A table whose entries keep this holds what the routes cost, and what the routes cost keeps it.
+/// A table whose entries satisfy this holds what the routes cost, and what the routes cost satisfies it.
 pub fn route_set_law()
     ensures none { (case : FareCase) (from : ℕ) → route_cost case from (riders_in 0) ≡ 0 }
     ensures recurrence { (case : FareCase) (from set : ℕ) → 0 < set
@@ -97,8 +97,9 @@ pub fn route_set_law()
 {}
 
 /// Who comes last: the sum of a rider's marginal costs over all orders of a set is the sum, over each rider of the set who may come
-/// last, of the sum over the orders of the set without that rider, and if the rider itself comes last, of what the rider adds to
-/// the others, once for each of their orders. Over all riders it is what the rider's fare is the mean of.
+/// last, of the sum over the orders of the set without that rider; if it is the rider in question who comes last, it is what this
+/// rider adds to the others, once for each of their orders. For the set of all riders, this is the sum of which the rider's fare is
+/// the mean.
 pub fn marginal_set_law()
     ensures recurrence { (case : FareCase) (rider set : ℕ) → Contains (riders_in set) rider
         → marginal_sum case rider (riders_in set)
@@ -113,8 +114,8 @@ pub fn marginal_set_law()
     route_cost_law();
 }
 
-/// The least route: going forward from the origin, each time to the lowest rider that attains the entry, gives the cheapest order
-/// of all riders that is least as a list, and that order goes no other way.
+/// The least route: going on from the origin, each time to the lowest rider who attains the entry, gives the cheapest order of all
+/// riders that is least as a list, and that order goes this way at every step.
 pub fn lowest_route_law()
     ensures least { (case : FareCase) (entry : ℕ → ℕ → ℕ) (route : List ℕ)
         → AreEntries case (length case.at.items) entry
@@ -125,9 +126,9 @@ pub fn lowest_route_law()
         → IsLowestRoute case entry 0 (2 ^ length case.at.items - 1) route }
 {}
 
-/// Best fares sum to the cost of all riders, riders to one place pay the same, and a case has one best division.
+/// Best fares sum to the cost of all riders, riders to the same place pay the same, and a case has just one best division.
 ///
-/// The first two are efficiency, and symmetry for riders to one place (Shapley 1953).
+/// The first two are efficiency, and symmetry for riders to the same place (Shapley 1953).
 pub fn best_fares_law()
     ensures total { (case : FareCase) (fares : List Fraction) (route : List ℕ)
         → FareBest case fares route
@@ -143,7 +144,7 @@ pub fn best_fares_law()
         → AllZip HasSameValue fares others }
 {}
 
-/// The definitions on two worked cases, which are valid: what each coalition costs, and the best fares and route.
+/// The definitions applied to two worked cases, which are valid: what each coalition costs, and the best fares and route.
 pub fn worked_fares_law()
     ensures two_places_valid { IsValidFareCase two_places }
     ensures two_places_costs { map (coalition_cost two_places)

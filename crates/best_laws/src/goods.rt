@@ -1,4 +1,4 @@
-// What holds of the definitions of goods, for all cases: each law is the contract of a function that does nothing.
+// Laws about the definitions of goods, which hold for all cases. Each is the contract of a function that does nothing.
 ghost use Rattle.std.specs.Prelude.{◌≡◌, ◌≤◌, ◌↔◌, ℕ, List, [], ◌∷◌, true};
 ghost use Rattle.std.specs.declared.cmp.Ordering.TheVariants.{Less, Greater};
 ghost use Rattle.bid_rules.specs.contracts.pair.PairOrd.TheImpl.{ghosts};
@@ -10,8 +10,8 @@ ghost use Rattle.bid_rules.specs.declared.limits.TheConstants.{MOST_MEMBERS};
 ghost use Rattle.best_laws.specs.MaximumWelfare.{HasMaximumWelfare};
 ghost use Rattle.best_laws.specs.WorkedGoods.{contested_good, two_players};
 
-/// A case has at most one best allocation, which is one of maximum Nash welfare. An allocation that dominates another has the greater welfare,
-/// so none dominates one of maximum Nash welfare: it is Pareto-optimal (Caragiannis and others 2016).
+/// A case has at most one best allocation, which is one of maximum Nash welfare. An allocation that dominates another has greater welfare, so
+/// no allocation dominates one of maximum Nash welfare: that one is Pareto-optimal (Caragiannis and others 2016).
 pub fn best_goods_law()
     ensures one_allocation { (case : GoodsCase) (owners others : List ℕ) → GoodsBest case owners
         → GoodsBest case others → others ≡ owners }
@@ -26,8 +26,8 @@ pub fn best_goods_law()
         → ⊥ }
 {}
 
-/// Pairs of welfare have one order: the definitions say what the comparisons of `Pair` answer, and so do the tests by which definitions
-/// count and choose.
+/// There is only one order on pairs of welfare: the comparisons of `Pair`, the definitions, and the tests by which definitions count and
+/// choose all agree.
 pub fn pair_order_law()
     ensures less { (a b : Pair) → ghosts.cmp a b ≡ Less ↔ IsLess a b }
     ensures at_most { (a b : Pair) → (ghosts.cmp a b ≡ Greater → ⊥) ↔ IsAtMost a b }
@@ -49,7 +49,7 @@ pub fn players_law()
         → GoodsBest (with_members case members) owners ↔ GoodsBest case owners }
 {}
 
-/// The definitions on two worked cases, which are valid: the search order, the best owners, their pair and who has each good.
+/// The definitions applied to two worked cases, which are valid: the search order, the best owners, their pair and who has each good.
 pub fn worked_goods_law()
     ensures two_players_valid { IsValidGoodsCase two_players }
     ensures two_players_order { order_of two_players ≡ 1 ∷ 2 ∷ [] }

@@ -1,11 +1,11 @@
 //! What follows, for all cases, from the definitions of the best division of rents, goods and
 //! fares.
 //!
-//! Each law is the contract of a function that does nothing. Solvers and checkers cite them.
+//! Each law is the contract of a function that does nothing. Solvers and checkers rely on them.
 //!
-//! They say in other words what best means, so that nobody has to trust the form of one definition:
-//! prices are compared over every denominator, allocations with all allocations, and routes with
-//! all orders.
+//! They say in other words what "best" means, so that nobody has to trust the wording of a single
+//! definition: prices are compared over every denominator, allocations with all allocations, and
+//! routes with all orders.
 #![tactic(auto)]
 
 mod fares;

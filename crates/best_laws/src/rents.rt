@@ -1,4 +1,4 @@
-// What holds of the definitions of rent, for all cases: each law is the contract of a function that does nothing.
+// Laws about the definitions of rents, which hold for all cases. Each is the contract of a function that does nothing.
 ghost use Rattle.std.specs.Prelude.{◌≡◌, ◌≢◌, ℕ, ℤ, pos, ◌+◌, ◌*◌, ◌<◌, ◌≤◌, ◌+ℤ◌, ◌-ℤ◌, ◌*ℤ◌, ◌≤ℤ◌, ◌↔◌, List, length, All, Contains, slice_index};
 ghost use Rattle.std.specs.List.{AllZip, range_with_len};
 ghost use Rattle.std.specs.List.Sorted.{IsPermutation};
@@ -12,8 +12,8 @@ ghost use Rattle.bid_rules.specs.Walks.{AreGreatestWeights, AreRanks, AreShownRa
 
 use bid_rules::rent_value_law;
 
-/// The rooms of envy-free prices have the greatest welfare. With every other assignment that has it, the prices stay
-/// envy-free and each member's utility stays (Gal, Mash, Procaccia and Zick 2016).
+/// Rooms with envy-free prices have the greatest welfare. Under any other assignment with that welfare, the prices are still
+/// envy-free and each member's utility stays the same (Gal, Mash, Procaccia and Zick 2016).
 pub fn envy_free_law()
     ensures welfare { (case : RentCase) (k : ℕ) (rooms : List ℕ) (prices : List ℤ)
         → IsPricedAssignment case k rooms prices → IsEnvyFree case k rooms prices
@@ -30,9 +30,9 @@ pub fn envy_free_law()
         → utility case k others prices member ≡ utility case k rooms prices member }
 {}
 
-/// At envy-free prices each utility is at least another one and the step from there, over any assignment of greatest welfare. So
-/// it is at least the least one and the weight of a walk that ends at the member, and the sum over the members bounds the least
-/// utility.
+/// At envy-free prices each utility is at least any other one plus the step from there, over any assignment of greatest welfare.
+/// So it is at least the least utility plus the weight of any walk that ends at the member, and the sum of this over the members
+/// bounds the least utility.
 pub fn least_utility_law()
     ensures step { (case : RentCase) (k : ℕ) (rooms best : List ℕ) (prices : List ℤ)
         → IsPricedAssignment case k rooms prices → IsEnvyFree case k rooms prices
@@ -56,8 +56,7 @@ pub fn least_utility_law()
         ≤ℤ (pos k *ℤ least_in_parts case best walks) }
 {}
 
-/// At envy-free prices no utility is below 0, and the least one is at most the rent. Each price is at most the rent, of either
-/// sign.
+/// At envy-free prices no utility is below 0, and the least one is at most the rent. No price is further from 0 than the rent.
 pub fn price_range_law()
     ensures utilities { (case : RentCase) (k : ℕ) (rooms : List ℕ) (prices : List ℤ)
         → IsValidRentCase case → IsPricedAssignment case k rooms prices
@@ -77,7 +76,7 @@ pub fn price_range_law()
     rent_value_law();
 }
 
-/// A list of n numbers that contains each of 1 to n is a permutation of them, and the other way round.
+/// A list of n numbers that contains each of 1 to n is a permutation of them, and vice versa.
 pub fn permutation_law()
     ensures { (n : ℕ) (numbers : List ℕ) → IsPermutation (range_with_len 1 n) numbers
         ↔ (length numbers ≡ n)
@@ -99,8 +98,8 @@ pub fn assignment_law()
         → slice_index rooms member ≡ slice_index rooms other → member ≡ other }
 {}
 
-/// Dual numbers show the greatest sum of keys, and those by member leave one list by room. The assignment that has the greatest
-/// sum is the only one, has the greatest welfare, and is the first list among those of that welfare.
+/// Dual numbers show that a sum of keys is the greatest, and those of the members determine those of the rooms. The assignment
+/// that has the greatest sum is the only one, has the greatest welfare, and is the first list among those of that welfare.
 pub fn key_law()
     ensures dual { (case : RentCase) (rooms : List ℕ) (left right : List ℤ)
         → IsAssignment case rooms → AreDualNumbers case rooms left right
@@ -116,9 +115,9 @@ pub fn key_law()
         → IsFirstOfItsWelfare case rooms }
 {}
 
-/// Weights are the greatest ones of walks exactly if they are 0 or more, some walk attains each, and no step exceeds them.
-/// Ranks that lead back to a weight of 0 show that each is attained. The least numbers of steps of such walks lead back so.
-/// Greatest weights are one list, and so are their least numbers of steps.
+/// Weights are those of the longest walks exactly when they are 0 or more, some walk attains each of them, and no step exceeds
+/// them. Ranks that lead back to a weight of 0 show that each is attained. The least numbers of steps of such walks lead back so.
+/// There is only one list of greatest weights, and one of their least numbers of steps.
 pub fn walk_law()
     ensures shown { (n : ℕ) (step : ℕ → ℕ → ℤ) (weights : List ℤ) → AreShownWeights n step weights
         ↔ AreGreatestWeights n step weights }
@@ -134,8 +133,9 @@ pub fn walk_law()
         → AreRanks n step weights ranks → AreRanks n step weights other → other ≡ ranks }
 {}
 
-/// What shows the best answer: the greatest sum of keys, walks over the values that are attained and that no step exceeds, and
-/// the prices of the formula. Its least utility is that of the formula, which is at most the rent, of either sign.
+/// What shows that an answer is the best: it has the greatest sum of keys, its walks over the values are attained and exceeded by
+/// no step, and its prices are those of the formula. Its least utility is that of the formula, which is no further from 0 than
+/// the rent.
 pub fn shown_rent_law()
     ensures best { (case : RentCase) (rooms : List ℕ) (walks : List ℤ) (prices : List Fraction)
         → 1 ≤ room_count case → HasGreatestKeySum case rooms
@@ -157,14 +157,15 @@ pub fn shown_rent_law()
     rent_value_law();
 }
 
-/// Prices of the formula are in whole n-ths, by room.
+/// The prices of the formula, by room, are whole n-ths of a cent.
 pub fn formula_law()
     ensures { (case : RentCase) (rooms : List ℕ) (walks : List ℤ) (prices : List Fraction)
         → IsAssignment case rooms → AreMaximinPrices case rooms walks prices
         → HasFormulaParts case rooms walks prices }
 {}
 
-/// Two best priced assignments of a case have one list of rooms and the same prices, which sum to the rent by room and by member.
+/// Two best priced assignments of a case have the same list of rooms and the same prices, which sum to the rent whether they are
+/// added by room or by member.
 pub fn best_rent_law()
     ensures one_assignment { (case : RentCase) (rooms others : List ℕ)
         (prices other : List Fraction) → RentBest case rooms prices → RentBest case others other
@@ -180,16 +181,16 @@ pub fn best_rent_law()
         → IsQuotient (sum_of_fractions (prices_by_member rooms prices)) (pos case.facts.rent) 1 }
 {}
 
-/// Numbers by vertex that each step respects leave no cycle of a positive weight: a walk weighs no more than the difference of
-/// the numbers at its ends.
+/// If each vertex has a number that every step respects, no cycle has a positive weight: a walk weighs no more than the
+/// difference between the numbers at its ends.
 pub fn potential_law()
     ensures { (n : ℕ) (step : ℕ → ℕ → ℤ) (number : ℕ → ℤ)
         → ((from to : ℕ) → from < n → to < n → step from to ≤ℤ (number to -ℤ number from))
         → HasNoPositiveCycle n step }
 {}
 
-/// Numbers by member and by room that bound every value, and that some assignment reaches, show that over the values no cycle
-/// of any assignment of greatest welfare has a positive weight.
+/// Numbers by member and by room that bound every value, and that some assignment reaches, show that for any assignment of
+/// greatest welfare, no cycle over the values has a positive weight.
 pub fn value_cycle_law()
     ensures { (case : RentCase) (rooms others : List ℕ) (left right : ℕ → ℤ)
         → HasGreatestWelfare case rooms → IsAssignment case others

@@ -23,16 +23,17 @@ fraction_cmp a b = int_cmp (a.0 *ℤ pos b.1) (b.0 *ℤ pos a.1)
 abbrev pub amount_at : List Fraction → ℕ → Fraction
 amount_at amounts place = slice_index_or amounts place (pos 0, 1)
 
--- a place comes before another for a cent left over: its remainder is greater, or the remainders are equal and it is the lower place
+-- a place comes before another when a leftover cent is given out: its remainder is greater, or the remainders are equal and it is
+-- the lower place
 unfoldable pub comes_before : List Fraction → ℕ → ℕ → Bool
 comes_before amounts place other =
     is_lt (ordering_then (fraction_cmp (remainder_of (amount_at amounts other)) (remainder_of (amount_at amounts place))) (nat_cmp place other))
 
--- how many places come before a place for a cent left over
+-- how many places come before this one when a leftover cent is given out
 abbrev pub places_before : List Fraction → ℕ → ℕ
 places_before amounts place = count_by (λ other. comes_before amounts other place) (range_with_len 0 (length amounts))
 
--- the cents left over: the whole less the sum of the floors
+-- how many cents are left over: the whole less the sum of the floors
 abbrev pub cents_left : List Fraction → ℤ → ℤ
 cents_left amounts whole = whole -ℤ total floor_of amounts
 

@@ -1,4 +1,4 @@
--- Tests of whether facts and bids are checked, so that a definition can go by them.
+-- Tests of whether facts and bids are checked, in a form that definitions can compute with.
 use Rattle.std.specs.Prelude.{ℕ, ◌+◌, Bool, false, ◌&&◌, ◌==◌, nat_le, List, ◌∷◌, length, sum}
 use Rattle.std.specs.List.{list_all, range_with_len}
 use Rattle.bid_rules.specs.declared.fares.Fares.{Fares}
@@ -15,11 +15,11 @@ use Rattle.bid_rules.specs.Facts.{leg, legs_in_order}
 abbrev pub is_between : ℕ → ℕ → ℕ → Bool
 is_between low high n = nat_le low n && nat_le n high
 
--- there are so many values, and they sum to the whole
+-- there are this many values, and they sum to the whole
 abbrev pub is_spread : ℕ → ℕ → List ℕ → Bool
 is_spread items whole values = (length values == items) && (sum values == whole)
 
--- the facts on a rent have no fault
+-- the facts about a rent have no fault
 abbrev pub passes_rent : Rent → Bool
 passes_rent rent = is_between FEWEST_MEMBERS MOST_MEMBERS rent.members && is_between 1 MOST_RENT rent.rent
 
@@ -27,7 +27,7 @@ passes_rent rent = is_between FEWEST_MEMBERS MOST_MEMBERS rent.members && is_bet
 abbrev pub has_counts : Goods → Bool
 has_counts goods = is_between FEWEST_MEMBERS MOST_MEMBERS goods.members && is_between 1 MOST_GOODS goods.goods
 
--- the facts on goods have no fault
+-- the facts about goods have no fault
 abbrev pub passes_goods : Goods → Bool
 passes_goods goods = has_counts goods && is_between 1 MOST_STEPS goods.limit
 
@@ -39,7 +39,7 @@ has_table fares = (length fares.legs.items == fares.places + 1) && list_all (λ 
 abbrev pub has_shape : Fares → Bool
 has_shape fares = is_between FEWEST_MEMBERS MOST_RIDERS fares.members && is_between 1 MOST_PLACES fares.places && has_table fares
 
--- the facts on fares have no fault
+-- the facts about fares have no fault
 abbrev pub passes_fares : Fares → Bool
 passes_fares fares =
     has_shape fares && list_all (λ cents. nat_le cents MOST_FARE_CENTS) (fares.flag ∷ legs_in_order fares)

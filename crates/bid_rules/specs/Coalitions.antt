@@ -9,7 +9,8 @@ use Rattle.bid_rules.specs.Fares.{place_of}
 abbrev pub has_rider : ℕ → ℕ → Bool
 has_rider set rider = bit_at set (rider - 1) == 1
 
--- the riders of a set in rising order, each of whom has a number at most that of the set
+-- the riders of a set in rising order; none of them has a greater number than the set
+-- itself
 unfoldable pub riders_in : ℕ → List ℕ
 riders_in set = filter (has_rider set) (range_with_len 1 set)
 

@@ -6,7 +6,7 @@ use Rattle.bid_rules.specs.Facts.{IsFaultOfFares}
 use Rattle.bid_rules.specs.Goods.{IsFaultOfGoods}
 use Rattle.bid_rules.specs.Rent.{IsFaultOfRent}
 
--- the first fault of facts, by their kind
+-- the first fault of facts, by the rule of their kind
 abbrev pub IsFaultOfFacts : Facts → BidFault → Type 0
 IsFaultOfFacts (facts.Rent rent) = IsFaultOfRent rent
 IsFaultOfFacts (facts.Goods goods) = IsFaultOfGoods goods

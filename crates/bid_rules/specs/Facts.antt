@@ -1,4 +1,4 @@
--- Checked facts and bids, the first fault of others, and the cases that they make.
+-- Which facts and bids are checked, the first fault of those that aren't, and the cases that checked ones make.
 use Rattle.std.specs.Prelude.{◌≡◌, ◌≢◌, ℕ, ◌+◌, ◌-◌, ◌<◌, ◌≤◌, List, [], ◌∷◌, length, All, flat_map, slice_index, slice_index_or, ⊤, Bool, if◌then◌else◌, is_some, is_none, sum, IsNone, IsSome, Option, Some, None, Result, Ok, Err}
 use Rattle.std.specs.List.{filter_map, enumerate_from, list_all}
 use Rattle.std.specs.List.Sorted.{IsStrictlyIncreasing}
@@ -60,13 +60,14 @@ pub record IsFirstOwnLeg (facts : Fares) (place : ℕ) : Type 0 where
 abbrev pub AreWithinLimit : Fares → Type 0
 AreWithinLimit facts = All (λ cents. cents ≤ MOST_FARE_CENTS) (facts.flag ∷ legs_in_order facts)
 
--- facts on fares without a fault: their shape is right, all cents are within the limit, and no place has a leg to itself
+-- facts about fares without a fault: their shape is right, all amounts are within the limit, and each place's leg to itself costs 0
 pub record IsCheckedFares (facts : Fares) : Type 0 where
   pub shape : HasShape facts
   pub cents : AreWithinLimit facts
   pub own_legs : (p : ℕ) → 1 ≤ p → p ≤ facts.places → leg facts p p ≡ 0
 
--- the first fault of facts on fares, in the order of these cases, where place 0 is the flag fall and the next places are the legs, row by row
+-- the first fault of facts about fares, in the order of these cases; place 0 is the flag fall, and the places after it are the legs, row by
+-- row
 abbrev pub IsFaultOfFares : Fares → BidFault → Type 0
 IsFaultOfFares facts fault.Count = HasShape facts → ⊥
 IsFaultOfFares facts (fault.Range place) = HasShape facts × IsFirstAboveLimit (facts.flag ∷ legs_in_order facts) place
@@ -79,7 +80,7 @@ IsCheckedFacts (facts.Rent rent) = IsCheckedRent rent
 IsCheckedFacts (facts.Goods goods) = IsCheckedGoods goods
 IsCheckedFacts (facts.Fares fares) = IsCheckedFares fares
 
--- how many members the facts name
+-- the number of members that the facts give
 abbrev pub member_count : Facts → ℕ
 member_count (facts.Rent rent) = rent.members
 member_count (facts.Goods goods) = goods.members
@@ -89,7 +90,7 @@ member_count (facts.Fares fares) = fares.members
 abbrev pub IsSpread : ℕ → ℕ → List ℕ → Type 0
 IsSpread items whole values = (length values ≡ items) × (sum values ≡ whole)
 
--- the first fault of values that should sum to the whole, one for each item, in the order of these cases
+-- the first fault, in the order of these cases, of values that should have one entry for each item and sum to the whole
 abbrev pub IsFaultOfSpread : ℕ → ℕ → List ℕ → BidFault → Type 0
 IsFaultOfSpread items whole values fault.Count = length values ≢ items
 IsFaultOfSpread items whole values (fault.Sum got) = (length values ≡ items) × (got ≡ sum values) × (sum values ≢ whole)
@@ -101,7 +102,7 @@ abbrev pub Spreads : ℕ → ℕ → Bid → Type 0
 Spreads items whole (bid.Values values) = IsSpread items whole values.items
 Spreads items whole (bid.Place place) = ⊥
 
--- the first fault of a bid that should give one value for each item, with the whole as their sum
+-- the first fault of a bid that should give one value for each item, and these should sum to the whole
 abbrev pub IsFaultOfSpreading : ℕ → ℕ → Bid → BidFault → Type 0
 IsFaultOfSpreading items whole (bid.Values values) other = IsFaultOfSpread items whole values.items other
 IsFaultOfSpreading items whole (bid.Place place) fault.Count = ⊤
@@ -111,7 +112,7 @@ IsFaultOfSpreading items whole (bid.Place place) other = ⊥
 abbrev pub AreValuesOf : Rent → Bid → Type 0
 AreValuesOf rent given = Spreads rent.members rent.rent given
 
--- the bid gives points for each good, which sum to the whole points
+-- the bid gives points to each good, and they sum to the total that each player spreads
 abbrev pub ArePointsOf : Goods → Bid → Type 0
 ArePointsOf goods given = Spreads goods.goods WHOLE_POINTS given
 
@@ -174,7 +175,7 @@ goods_case facts bids = record {
 abbrev pub members_missing : List (Option Bid) → Missing
 members_missing bids = record { members = record { items = members_where is_none bids } }
 
--- bids are missing: on a rent if any member has none, on goods and fares if nobody has bid
+-- bids are missing: for a rent if any member has none, for goods and fares if nobody has bid
 abbrev pub AreMissing : Facts → List (Option Bid) → Type 0
 AreMissing (facts.Rent rent) bids = All (λ bid. IsSome bid) bids → ⊥
 AreMissing (facts.Goods goods) bids = All (λ bid. IsNone bid) bids

@@ -1,9 +1,10 @@
--- The greatest numbers to which fares lead, made from the limits.
+-- The greatest numbers that fares can lead to, computed from the limits.
 use Rattle.std.specs.Prelude.{ℕ, ◌+◌, ◌*◌}
 use Rattle.bid_rules.specs.declared.limits.TheConstants.{MOST_FARE_CENTS, MOST_RIDERS}
 use Rattle.bid_rules.specs.Orders.{factorial}
 
--- the greatest cost of all riders in cents: the flag fall, and a leg for each
+-- the greatest cost of all riders together, in cents: the flag fall, and a leg for
+-- each rider
 abbrev pub most_cost : ℕ
 most_cost = MOST_FARE_CENTS * (MOST_RIDERS + 1)
 

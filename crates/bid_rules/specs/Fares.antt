@@ -22,7 +22,7 @@ abbrev pub legs_along : FareCase → ℕ → List ℕ → ℕ
 legs_along case from [] = 0
 legs_along case from (rider ∷ riders) = leg case.facts from (place_of case rider) + legs_along case (place_of case rider) riders
 
--- the least of some numbers, and 0 of none
+-- the least of some numbers, or 0 if there are none
 abbrev pub least : List ℕ → ℕ
 least numbers = fold min (slice_index numbers 0) numbers
 
@@ -39,7 +39,7 @@ coalition_cost case (rider ∷ riders) = case.facts.flag + route_cost case 0 (ri
 abbrev pub riders_before : ℕ → List ℕ → List ℕ
 riders_before rider order = take_while (λ other. not (other == rider)) order
 
--- what a rider adds to the cost in an order: the cost of the riders up to this one, less the cost of those before
+-- what a rider adds to the cost when the riders join in this order: the cost of the riders up to this one, less the cost of those before
 unfoldable pub marginal_cost : FareCase → ℕ → List ℕ → ℤ
 marginal_cost case rider order = pos (coalition_cost case (riders_before rider order ++ rider ∷ [])) -ℤ pos (coalition_cost case (riders_before rider order))
 
@@ -47,16 +47,16 @@ marginal_cost case rider order = pos (coalition_cost case (riders_before rider o
 abbrev pub sum_of_marginal_costs : FareCase → ℕ → ℤ
 sum_of_marginal_costs case rider = fold ◌+ℤ◌ (pos 0) (map (marginal_cost case rider) (orders (riders_of case)))
 
--- the route: an order of all riders with the least sum of legs, and the first list of those that have it
+-- the route: an order of all riders with the least sum of legs, and the first of these orders as a list
 pub record IsLeastRoute (case : FareCase) (route : List ℕ) : Type 0 where
   -- an order of all riders
   pub order : Contains (orders (riders_of case)) route
   pub cheapest : legs_along case 0 route ≡ route_cost case 0 (riders_of case)
-  -- no cheapest order is an earlier list
+  -- no order that is as cheap comes earlier as a list
   pub first : All (λ other. legs_along case 0 other ≡ route_cost case 0 (riders_of case) → slice_cmp nat_cmp other route ≢ Less) (orders (riders_of case))
 
 -- the best division of a shared fare: each rider pays the mean of what the rider adds to the cost over all n! orders, which is the Shapley value
--- (Shapley 1953), and they go by the first cheapest route
+-- (Shapley 1953), and they take the first of the cheapest routes
 pub record FareBest (case : FareCase) (fares : List Fraction) (route : List ℕ) : Type 0 where
   pub mean : AllZip (λ rider fare. IsQuotient fare (sum_of_marginal_costs case rider) (factorial (length case.at.items))) (riders_of case) fares
   pub least_route : IsLeastRoute case route

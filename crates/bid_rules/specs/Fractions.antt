@@ -9,7 +9,7 @@ Fraction = ℤ × ℕ
 abbrev pub IsQuotient : Fraction → ℤ → ℕ → Type 0
 IsQuotient fraction whole parts = (0 < fraction.1) × (fraction.0 *ℤ pos parts ≡ whole *ℤ pos fraction.1)
 
--- the two fractions have one value: their cross products are equal
+-- the two fractions have the same value: their cross products are equal
 abbrev pub HasSameValue : Fraction → Fraction → Type 0
 HasSameValue a b = a.0 *ℤ pos b.1 ≡ b.0 *ℤ pos a.1
 

@@ -21,19 +21,19 @@ HasCounts facts = (FEWEST_MEMBERS ≤ facts.members) × (facts.members ≤ MOST_
 abbrev pub HasLimit : Goods → Type 0
 HasLimit facts = (1 ≤ facts.limit) × (facts.limit ≤ MOST_STEPS)
 
--- facts on goods without a fault
+-- facts about goods without a fault
 pub record IsCheckedGoods (facts : Goods) : Type 0 where
   pub counts : HasCounts facts
   pub steps : HasLimit facts
 
--- the first fault of facts on goods, in the order of these cases
+-- the first fault of facts about goods, in the order of these cases
 abbrev pub IsFaultOfGoods : Goods → BidFault → Type 0
 IsFaultOfGoods facts fault.Count = HasCounts facts → ⊥
 IsFaultOfGoods facts (fault.Range place) = HasCounts facts × (place ≡ 0) × (HasLimit facts → ⊥)
 IsFaultOfGoods facts (fault.Place place) = ⊥
 IsFaultOfGoods facts (fault.Sum got) = ⊥
 
--- a valid case of goods: checked facts, and players in rising order of member, each with points for every good that sum to the whole points
+-- a valid case of goods: checked facts, and players in rising order of member, each of whom spreads all their points over the goods
 pub record IsValidGoodsCase (case : GoodsCase) : Type 0 where
   pub facts : IsCheckedGoods case.facts
   pub rising : IsStrictlyIncreasing case.who.items
@@ -51,11 +51,11 @@ player_count case = length case.values.items
 abbrev pub points : GoodsCase → ℕ → ℕ → ℕ
 points case player good = slice_index (slice_index_or case.values.items (player - 1) (record { items = [] })).items (good - 1)
 
--- the greatest points that any player gives the good
+-- the most points that any player gives the good
 abbrev pub greatest_points : GoodsCase → ℕ → ℕ
 greatest_points case good = fold max 0 (map (λ row. slice_index row.items (good - 1)) case.values.items)
 
--- a good put into a list of goods, before the first whose greatest points are no more than its own
+-- a good inserted into a list of goods, before the first good whose greatest points are no more than its own
 abbrev pub put_in : GoodsCase → ℕ → List ℕ → List ℕ
 put_in case good [] = good ∷ []
 put_in case good (other ∷ others) =

@@ -1,4 +1,4 @@
--- Keys of members and rooms, whose greatest sum is that of the first assignment of greatest welfare, and dual numbers that show it.
+-- Keys of members and rooms: the assignment with the greatest sum of keys is the first one of greatest welfare, and dual numbers show that it is.
 use Rattle.std.specs.Prelude.{◌≡◌, ◌≢◌, ℕ, ℤ, pos, ◌-◌, ◌*◌, ◌^◌, ◌<◌, ◌≤◌, ◌+ℤ◌, ◌-ℤ◌, ◌*ℤ◌, ◌≤ℤ◌, List, length, slice_index}
 use Rattle.std.specs.Cmp.Lexicographic.{slice_cmp}
 use Rattle.std.specs.Ordering.{nat_cmp}
@@ -7,8 +7,8 @@ use Rattle.bid_rules.specs.declared.rents.RentCase.{RentCase}
 use Rattle.bid_rules.specs.Rent.{IsAssignment, price_of, room_count, sum_over_members, value, welfare}
 use Rattle.bid_rules.specs.Walks.{weight_at}
 
--- the key of a member, by place from 0, and a room, numbered from 1: the value times n^n, less a digit to the base n that counts against high rooms
--- of early members
+-- the key of a member, by place from 0, and a room, numbered from 1: the value times n^n, less a digit in base n that counts against giving high
+-- rooms to early members
 abbrev pub key : RentCase → ℕ → ℕ → ℤ
 key case member room = pos (room_count case ^ room_count case) *ℤ value case member room -ℤ pos ((room - 1) * room_count case ^ (room_count case - 1 - member))
 

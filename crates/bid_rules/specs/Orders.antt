@@ -2,7 +2,7 @@
 use Rattle.std.specs.Prelude.{ℕ, ◌+◌, ◌*◌, suc, zero, List, [], ◌∷◌, length, map, flat_map, insert}
 use Rattle.std.specs.List.{range_with_len}
 
--- an element put into a list at each place, from the first to the one past the last
+-- an element inserted into a list at each place, from the first to the one past the last
 abbrev pub insertions : {X : Type 0} → X → List X → List (List X)
 insertions x xs = map (λ place. insert xs place x) (range_with_len 0 (length xs + 1))
 

@@ -24,15 +24,15 @@ IsLess a b = (a.count < b.count) ⊎ ((a.count ≡ b.count) × (a.product < b.pr
 abbrev pub IsAtMost : Pair → Pair → Type 0
 IsAtMost a b = (a.count < b.count) ⊎ ((a.count ≡ b.count) × (a.product ≤ b.product))
 
--- a test whether the first pair is smaller
+-- a test of whether the first pair is smaller
 abbrev pub is_less : Pair → Pair → Bool
 is_less a b = nat_lt a.count b.count || (a.count == b.count && nat_lt a.product b.product)
 
--- a test whether the first pair is not greater
+-- a test of whether the first pair is not greater
 abbrev pub is_at_most : Pair → Pair → Bool
 is_at_most a b = nat_lt a.count b.count || (a.count == b.count && nat_le a.product b.product)
 
--- a test whether the pair is greater than another, if there is another
+-- a test of whether the pair is greater than another, if there is another
 abbrev pub is_above : Option Pair → Pair → Bool
 is_above None b = true
 is_above (Some a) b = is_less a b

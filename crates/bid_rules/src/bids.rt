@@ -27,21 +27,21 @@ pub enum Bid {
     Place(u8),
 }
 
-/// The first thing wrong with facts or with a bid.
+/// The first thing that is wrong with facts or with a bid.
 #[derive(Clone, Copy, Debug, PartialEq, Eq)]
 pub enum BidFault {
-    /// A count is outside its limits, a list is too short or too long, or the bid is not of the kind of the facts.
+    /// A count is outside its limits, a list is too short or too long, or the bid is of another kind than the facts.
     Count,
-    /// The values of a bid sum to this number, and not to the rent or to the whole points.
+    /// The values of a bid sum to this number instead of to the rent or to 1000 points.
     Sum { got: u64 },
     /// A number is outside its limits: the one at this place, in the order of the facts.
     Range { place: u32 },
-    /// A place, from 1, is at fault: a bid names it and the facts have no such place, or its leg to itself is not 0.
+    /// A place, from 1, is at fault: a bid names it though the facts have no such place, or its leg to itself is not 0.
     Place { place: u32 },
 }
 
-/// Whether the facts are within their limits, or their first fault, by the rule of their kind: that of `check_rent`, `check_goods`
-/// or `check_fares`.
+/// Whether the facts are within their limits, or else their first fault. The rule depends on their kind and is that of
+/// `check_rent`, `check_goods` or `check_fares`.
 pub fn check_facts(facts: &Facts) -> Result<(), BidFault>
     ensures fault { MatchResult result (λ _. IsCheckedFacts facts.now) (IsFaultOfFacts facts.now) }
     ensures accepted { IsOk result ↔ IsCheckedFacts facts.now }
@@ -53,7 +53,7 @@ pub fn check_facts(facts: &Facts) -> Result<(), BidFault>
     }
 }
 
-/// Whether the facts, which are checked, allow the bid, or the bid's first fault.
+/// Whether the checked facts allow the bid, or else the bid's first fault.
 ///
 /// On a rent it is `Count` if the bid is not one value for each room, otherwise `Sum` with their sum if that is not the rent.
 /// On goods it is `Count` if the bid is not one value for each good, otherwise `Sum` with their sum if that is not 1000.

@@ -1,11 +1,13 @@
-// What holds of the cases that facts and bids make: the contract of a function that does nothing.
+// A law about the cases that facts and bids make. It is the contract of a function that does
+// nothing.
 ghost use Rattle.std.specs.Prelude.{◌≡◌, List, Option, Ok, length, All, IfSome};
 ghost use Rattle.bid_rules.specs.declared.bids.Bid.{Bid};
 ghost use Rattle.bid_rules.specs.declared.bids.Facts.{Facts};
 ghost use Rattle.bid_rules.specs.declared.cases.Case.{Case};
 ghost use Rattle.bid_rules.specs.Facts.{IsCheckedBid, IsCheckedFacts, IsValidCase, case_of, facts_of, member_count};
 
-/// The case that facts and bids make has these facts. It is valid if facts and bids are checked.
+/// The case that facts and bids make has the same facts, and it is valid if the facts and the bids
+/// are checked.
 pub fn case_law()
     ensures facts { (facts : Facts) (bids : List (Option Bid)) (case : Case)
         → case_of facts bids ≡ Ok case → facts_of case ≡ facts }

@@ -10,7 +10,7 @@ use crate::limits::{MEMBER_ROOM, MemberList, RIDER_ROOM, RiderList, ValueTable, 
 use crate::{Bid, Facts, Fares, Goods, GoodsCase, Rent, RentCase, check_fares};
 use arrayvec::ArrayVec;
 
-/// A shared fare of the members who bid. They are its riders, numbered from 1 in the order of `who`.
+/// A fare shared by the members who have bid. They are its riders, numbered from 1 in the order of `who`.
 #[derive(Debug, Drop, PartialEq, Eq)]
 pub struct FareCase {
     /// What the flag fall and the legs cost, in cents.
@@ -45,17 +45,18 @@ pub enum Case {
     Fares(FareCase),
 }
 
-/// Bids are missing, so that there is no case.
+/// Bids are missing, so there is no case.
 #[derive(Debug, Drop, PartialEq, Eq)]
 pub struct Missing {
     /// The members without a bid, numbered from 1, in rising order.
     pub members: MemberList,
 }
 
-/// The case that checked facts and checked bids make. The bids are by member, `None` if one has not bid.
+/// The case that checked facts and checked bids make. There is an entry in `bids` for each member, which is `None` if the
+/// member has not bid.
 ///
-/// On a rent all members must bid: if any has not, there is no case. On goods the members who bid are the players, on fares the
-/// riders: there is no case only if nobody has bid. The error lists the members without a bid.
+/// For a rent, all members must bid: if anyone has not, there is no case. For goods the members who bid are the players, and
+/// for fares they are the riders, so there is no case only if nobody has bid. The error lists the members without a bid.
 pub fn make_case(facts: &Facts, bids: &[Option<Bid>]) -> Result<Case, Missing>
     requires facts { IsCheckedFacts facts.now }
     requires count { length bids.now ≡ member_count facts.now }
@@ -74,7 +75,7 @@ pub fn make_case(facts: &Facts, bids: &[Option<Bid>]) -> Result<Case, Missing>
     }
 }
 
-// A rent needs a bid of every member.
+// A rent needs a bid from every member.
 fn has_all_bids(bids: &[Option<Bid>]) -> bool
     ensures value { result ≡ list_all is_some bids.now }
     ensures all { IsTrue result ↔ All (λ bid. IsSome bid) bids.now }
@@ -119,20 +120,9 @@ fn copied_values(bid: &Option<Bid>) -> Option<Values>
     ensures { result ≡ values_given bid.now }
 {
     match bid {
-        Some(Bid::Values(values)) => Some(same_values(values)),
+        Some(Bid::Values(values)) => Some(ArrayVec::try_from(values.as_slice()).unwrap()),
         _ => None,
     }
-}
-
-// The same values once more.
-fn same_values(values: &Values) -> Values
-    ensures { result ≡ values.now }
-{
-    let mut copy = ArrayVec::new();
-    for value in values.as_slice() {
-        copy.push(*value);
-    }
-    copy
 }
 
 // Without any bid there is nothing to divide.

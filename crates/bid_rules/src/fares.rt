@@ -5,8 +5,7 @@ ghost use Rattle.bid_rules.specs.Facts.{HasShape, HasTable, IsCheckedFares, IsFa
 
 use crate::BidFault;
 use crate::limits::{
-    FEWEST_MEMBERS, LEG_ROW_ROOM, LegRow, Legs, MOST_FARE_CENTS, MOST_PLACES, MOST_RIDERS,
-    PLACE_ROOM,
+    FEWEST_MEMBERS, LEG_ROW_ROOM, Legs, MOST_FARE_CENTS, MOST_PLACES, MOST_RIDERS, PLACE_ROOM,
 };
 use arrayvec::ArrayVec;
 
@@ -37,14 +36,14 @@ impl Fares {
         self.legs[from as usize][to as usize - 1]
     }
 
-    /// The same facts once more.
+    /// A copy of the facts.
     pub fn copied(&self) -> Fares
         requires { IsCheckedFares self.now }
         ensures { result ≡ self.now }
     {
         let mut legs = ArrayVec::new();
         for row in self.legs.as_slice() {
-            legs.push(copied_row(row.as_slice()));
+            legs.push(ArrayVec::try_from(row.as_slice()).unwrap());
         }
         Fares {
             members: self.members,
@@ -53,18 +52,6 @@ impl Fares {
             legs,
         }
     }
-}
-
-// Fares are copied row by row.
-fn copied_row(row: &[u32]) -> LegRow
-    requires { length row.now ≤ PLACE_ROOM }
-    ensures { result.items ≡ row.now }
-{
-    let mut copy = ArrayVec::new();
-    for cents in row {
-        copy.push(*cents);
-    }
-    copy
 }
 
 // The counts and the table are tested before any amount, because the amounts are read by place.
@@ -124,7 +111,7 @@ fn first_own_leg(facts: &Fares) -> Option<u8>
     None
 }
 
-/// Whether the facts are within the limits, or the first fault in this order:
+/// Whether the facts are within the limits, or else the first fault in this order:
 ///
 /// - `Count` if there are not 2 to 10 members, or not 1 to 12 places, or the legs are not `places + 1` rows of `places` legs;
 /// - `Range` with place 0 if the flag fall is above 1,000,000;
@@ -155,7 +142,8 @@ pub fn check_fares(facts: &Fares) -> Result<(), BidFault>
     Ok(())
 }
 
-/// The place of a leg in a fault: the flag fall has place 0, and the legs come after it, row by row. No leg is above the limit.
+/// The place of a leg in a fault: the flag fall has place 0, and the legs come after it, row by row. If the facts are within
+/// the limit, so is every leg.
 pub fn leg_place_law()
     ensures place { (facts : Fares) (row column : ℕ) → HasTable facts → row ≤ facts.places
         → column < facts.places

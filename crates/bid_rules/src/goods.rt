@@ -36,7 +36,7 @@ pub struct GoodsCase {
 
 impl GoodsCase {
     /// Whether the facts are within their limits, the players are members in rising order, at least one, and each gives points
-    /// for every good, 1000 in sum.
+    /// to every good, 1000 in total.
     pub fn is_valid(&self) -> bool
         ensures { IsTrue result ↔ IsValidGoodsCase self.now }
     {
@@ -64,14 +64,14 @@ impl GoodsCase {
     }
 }
 
-// Whether a player gives points for each good, which sum to the whole points.
+// Whether a player gives points to every good, which sum to 1000.
 fn gives_all_points(goods: u8, row: &Values) -> bool
     ensures { IsTrue result ↔ IsSpread goods WHOLE_POINTS row.now.items }
 {
     check_spread(goods, WHOLE_POINTS, row.as_slice()).is_ok()
 }
 
-// Whether there are some numbers of members, in rising order.
+// Whether the list is not empty and holds numbers of members in rising order.
 pub(crate) fn are_members(members: u8, who: &[u8]) -> bool
     ensures { IsTrue result
         ↔ IsStrictlyIncreasing who.now × All (λ member. (1 ≤ member) × (member ≤ members)) who.now
@@ -92,7 +92,7 @@ fn rises(numbers: &[u8]) -> bool
     true
 }
 
-/// Whether the facts are within the limits, or their first fault.
+/// Whether the facts are within the limits, or else their first fault.
 ///
 /// `Count` if there are not 2 to 12 members and 1 to 24 goods, otherwise `Range` with place 0 if the limit is not 1 to 200,000.
 pub fn check_goods(facts: &Goods) -> Result<(), BidFault>

@@ -1,8 +1,8 @@
 //! Facts, bids and cases, the rules that they keep, and what a best division of a case is.
 //!
-//! Facts and bids are accepted exactly if their rules hold, and otherwise have a first fault with its
-//! number. Checked facts and bids make a valid case, or bids are missing (`make_case`). The
-//! definitions of best cite no solver.
+//! Facts and bids are accepted exactly when their rules hold, and otherwise have a first fault,
+//! with its number. Checked facts and bids make a valid case, or bids are missing (`make_case`).
+//! The definitions of "best" don't mention any solver.
 #![tactic(auto)]
 
 mod bids;

@@ -1,4 +1,5 @@
-// The limits of facts, bids and names, and the tables that they size. Each number is here and nowhere else.
+// The limits of facts, bids and names, and the types of the tables that they size. Each of these numbers
+// stands only here.
 use arrayvec::ArrayVec;
 
 /// The fewest members who can share something.
@@ -9,21 +10,21 @@ pub const MOST_MEMBERS: u8 = 12;
 pub const MOST_RIDERS: u8 = 10;
 /// The most places at which riders get off.
 pub const MOST_PLACES: u8 = 12;
-/// The most goods.
+/// The most goods that a case can have.
 pub const MOST_GOODS: u8 = 24;
 /// How many players share goods by adjusted winner.
 pub const PAIR: u8 = 2;
 /// The greatest rent, in cents.
 pub const MOST_RENT: u32 = 10_000_000;
-/// No exact amount of cents, a price, a fare or a utility, is further from 0.
+/// The farthest from 0 that any exact amount in cents lies, whether it is a price, a fare or a utility.
 pub const MOST_AMOUNT: u64 = 1_000_000_000_000;
 /// The greatest flag fall and the greatest leg, in cents.
 pub const MOST_FARE_CENTS: u32 = 1_000_000;
-/// The points that each player spreads over the goods.
+/// How many points each player spreads over the goods.
 pub const WHOLE_POINTS: u32 = 1000;
 /// The most steps that a search for the best allocation of goods may be allowed.
 pub const MOST_STEPS: u32 = 200_000;
-/// The steps that it is allowed if a case names no limit.
+/// The number of steps that a search is allowed if the case names no limit.
 pub const USUAL_STEPS: u32 = 100_000;
 /// The length of the longest name or title, in bytes.
 pub const LONGEST_NAME: usize = 40;

@@ -16,7 +16,7 @@ pub struct Rent {
     pub rent: u32,
 }
 
-/// A case of rent: its facts, and what each member would pay for each room.
+/// A rent to be shared: its facts, and what each member would pay for each room.
 ///
 /// The values are in cents, by member and by room. Each member's values sum to the rent.
 #[derive(Debug, Drop, PartialEq, Eq)]
@@ -56,7 +56,7 @@ impl RentCase {
     }
 }
 
-/// Whether the facts are within their limits, or their first fault.
+/// Whether the facts are within their limits, or else their first fault.
 ///
 /// `Count` if there are not 2 to 12 members, otherwise `Range` with place 0 if the rent is not 1 to 10,000,000 cents.
 pub fn check_rent(facts: &Rent) -> Result<(), BidFault>

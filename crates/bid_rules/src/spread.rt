@@ -1,11 +1,12 @@
-// Values that one member spreads over rooms or goods: whether they sum to the whole.
+// Checks the values that one member spreads over rooms or goods, which have to sum to the whole.
 ghost use Rattle.std.specs.Prelude.{◌≡◌, ◌≤◌, ◌↔◌, length, sum, IsOk, MatchResult};
 ghost use Rattle.bid_rules.specs.Facts.{IsFaultOfSpread, IsSpread};
 
 use crate::BidFault;
 use crate::limits::ITEM_ROOM;
 
-// Whether there is a value for each of so many items and they sum to the whole, or their first fault.
+// Whether there is a value for each of this many items and they sum to the whole, or else their first
+// fault.
 //
 // `Count` if there is not a value for each item, otherwise `Sum` with their sum if that is not the whole.
 pub(crate) fn check_spread(items: u8, whole: u32, values: &[u32]) -> Result<(), BidFault>

@@ -1,4 +1,4 @@
-// What the creation of an instance says, and the rules that it keeps.
+// What the creation of an instance says, and whether it keeps its rules.
 ghost use Rattle.std.specs.Prelude.{◌≡◌, ◌↔◌, length, map, All, IsTrue};
 ghost use Rattle.bid_rules.specs.Facts.{member_count};
 ghost use Rattle.body_fields.specs.Creations.{IsCheckedCreation, creation_view, item_count, text};
@@ -14,7 +14,7 @@ use bid_rules::{Facts, check_facts};
 /// (U+0000 to U+001F and U+007F).
 pub type Name = ArrayString<LONGEST_NAME>;
 
-/// The text by which a repeated creation is known: 16 to 64 digits, lower-case letters and hyphens.
+/// The text by which a repeated creation is recognised: 16 to 64 digits, lower-case letters and hyphens.
 pub type Tag = ArrayString<LONGEST_TAG>;
 
 /// What the creation of an instance says.
@@ -30,7 +30,7 @@ pub struct Creation {
     pub facts: Facts,
     /// The second, since 1970, at which bidding ends.
     pub deadline: u64,
-    /// The organiser's text by which a repeated creation is known.
+    /// The organiser's text by which a repeated creation is recognised.
     pub tag: Tag,
 }
 
@@ -47,14 +47,14 @@ impl Creation {
     }
 }
 
-// The rule for one name, for a whole list.
+// Whether each name in a list keeps the rule for names.
 fn each_is_name(names: &[Name]) -> bool
     ensures { IsTrue result ↔ All (λ name. IsName (text name)) names.now }
 {
     names.iter().all(|name| is_name(name.as_str()))
 }
 
-// The same in terms of the names' texts, as the rule of a creation says it.
+// The same, stated in terms of the names' texts, as the rule of a creation does.
 fn are_names(names: &[Name]) -> bool
     ensures { IsTrue result ↔ All IsName (map text names.now) }
 {
@@ -82,7 +82,7 @@ fn has_counts(creation: &Creation) -> bool
         && creation.items.len() == item_count(&creation.facts)
 }
 
-// Whatever people read or type has to keep the rules for names and tags.
+// Whether everything that people read or type keeps the rules for names and tags.
 fn has_texts(creation: &Creation) -> bool
     ensures { IsTrue result
         ↔ IsName (text creation.now.title) × All IsName (map text creation.now.members.items)

@@ -4,13 +4,13 @@ ghost use Rattle.body_fields.specs.Fields.{field_text};
 
 /// A field of a body.
 ///
-/// Those of a creation or of a case come first, in the order in which they are tested: each kind has `Kind`, `Title` and `Members`,
-/// then a rent has `Rooms` and `Rent`, goods have `Goods` and `Limit`, and fares have `Places`, `Flag` and `Legs`. A creation
-/// ends with `Deadline` and `Tag`, a case with `Bids`, after which a proposal has `Owners`. A bid has `Turn`, and then `Values` or `Place`; a withdrawal has `Turn`. A whole
-/// number is one that is written as one: `1.0`, `1e2` and `-0` are none, and neither is 2^64.
+/// Those of a creation or of a case come first, in the order in which they are tested: each kind has `Kind`, `Title` and `Members`, then a rent has `Rooms` and `Rent`,
+/// goods have `Goods` and `Limit`, and fares have `Places`, `Flag` and `Legs`. A creation ends with `Deadline` and `Tag`, a case with `Bids`, after which a proposal has
+/// `Owners`. A bid has `Turn`, and then `Values` or `Place`; a withdrawal has `Turn`. A whole number has to be written as one: `1.0`, `1e2` and `-0` don't count, and
+/// neither does 2^64.
 #[derive(Clone, Copy, Debug, PartialEq, Eq)]
 pub enum FieldName {
-    /// The text `rent`, `goods` or `fares`, in a body that is an object.
+    /// The text `rent`, `goods` or `fares`, in a body that is a JSON object.
     Kind,
     /// A name.
     Title,
@@ -22,7 +22,7 @@ pub enum FieldName {
     Rent,
     /// A list of the goods' names.
     Goods,
-    /// The most steps that a search may take. The field may be missing, and then the usual limit holds; `null` is not missing.
+    /// The most steps that a search may take. If the field is missing, the usual limit holds; `null` does not count as missing.
     Limit,
     /// A list of the places' names.
     Places,
@@ -36,9 +36,9 @@ pub enum FieldName {
     Tag,
     /// A list with an entry per member, in the order of the members: `null`, or the member's bid.
     Bids,
-    /// A list with an entry per good: the number of the member who is to own it, one who has bid.
+    /// A list with an entry per good: the number of the member who is to own it, who must have bid.
     Owners,
-    /// A whole number: which turn of the member this is.
+    /// A whole number, which says which of the member's turns this is.
     Turn,
     /// What each room is worth to the member in cents, or each good in points.
     Values,
@@ -76,7 +76,7 @@ impl FieldName {
 /// What is wrong with a body.
 #[derive(Clone, Copy, Debug, PartialEq, Eq)]
 pub enum BodyFault {
-    /// It is no JSON text.
+    /// It is not a JSON text.
     Json,
     /// The field of this name breaks its rule, and none before it does.
     Field { name: FieldName },

@@ -1,7 +1,7 @@
 //! The fields of the bodies of cases, creations and bids, by name, and the small rules that their
 //! reader and the host share.
 //!
-//! Each of its tests answers yes exactly if the rule holds.
+//! Each of its tests says yes exactly when the rule holds.
 #![tactic(auto)]
 
 mod bodies;

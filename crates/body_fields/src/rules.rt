@@ -9,7 +9,7 @@ use crate::limits::{LONGEST_TAG, SHORTEST_TAG};
 use bid_rules::limits::LONGEST_NAME;
 use bid_rules::{Bid, Facts, check_bid};
 
-// No control character of ASCII.
+// Whether the byte is not an ASCII control character.
 fn is_plain(byte: u8) -> bool
     ensures { result ≡ is_plain byte }
 {
@@ -23,7 +23,7 @@ fn has_plain_bytes(text: &str) -> bool
     text.as_bytes().iter().all(|byte| is_plain(*byte))
 }
 
-/// Whether the text is a name: 1 to 40 bytes without control characters of ASCII.
+/// Whether the text is a name: 1 to 40 bytes without ASCII control characters.
 pub fn is_name(text: &str) -> bool
     ensures { result ≡ is_name text.now }
 {
@@ -31,21 +31,22 @@ pub fn is_name(text: &str) -> bool
     has_length && has_plain_bytes(text)
 }
 
-// A digit in ASCII.
+// Whether the byte is an ASCII digit.
 fn is_digit(byte: u8) -> bool
     ensures { result ≡ nat_le 48 byte && nat_le byte 57 }
 {
     48 <= byte && byte <= 57
 }
 
-// A small letter in ASCII.
+// Whether the byte is a lower-case ASCII letter.
 fn is_lower_case(byte: u8) -> bool
     ensures { result ≡ nat_le 97 byte && nat_le byte 122 }
 {
     97 <= byte && byte <= 122
 }
 
-// Small letters, digits and hyphens have one spelling everywhere.
+// Whether the byte may be in a tag: lower-case letters, digits and hyphens are spelled the same
+// everywhere.
 fn is_tag_byte(byte: u8) -> bool
     ensures { result ≡ is_tag_byte byte }
 {

@@ -162,9 +162,9 @@ kinds_once kind.Goods kind.Fares same = absurd (omega arith)
 kinds_once kind.Fares kind.Rent same = absurd (omega arith)
 kinds_once kind.Fares kind.Goods same = absurd (omega arith)
 
--- a number that tells the kind of a text tells that of its lines
-pub told_lines : (number : ℕ) (counts : Counts) (lines : Lines) → TellsKind number counts → number ≡ kind_number (kind_of_lines lines) → kind_of counts ≡ Some (kind_of_lines lines)
-told_lines number counts lines tells is = tells.1 ∙ ap Some (kinds_once tells.0 (kind_of_lines lines) (sym tells.2 ∙ is))
+-- the kind that a text tells is that of its lines
+pub told_lines : (told : Kind) (counts : Counts) (lines : Lines) → TellsKind (kind_number told) counts → kind_of_lines lines ≡ told → kind_of counts ≡ Some (kind_of_lines lines)
+told_lines told counts lines tells is = tells.1 ∙ ap Some (kinds_once tells.0 (kind_of_lines lines) (sym tells.2 ∙ ap kind_number (sym is)))
 
 -- a line was read: the text goes on after it
 pub line_goes : (lines : Lines) (a b : Reading) (said rest : List Said) (last : Said) (taken : List ℕ) → KnowsLines said lines → kind_of a.counts ≡ Some (kind_of_lines lines) → 2 ≤ a.lines → length said ≡ a.lines

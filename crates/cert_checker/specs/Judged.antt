@@ -1,4 +1,4 @@
--- What a judge says of certificate text, and what a yes shows.
+-- What a judge says about certificate text, and what a yes shows.
 use Rattle.std.specs.Prelude.{◌≡◌, ℕ, ◌<◌, ◌≤◌, List, length, Option, Result, Ok, Err}
 use Rattle.std.specs.Io.KnownBytes.{IsAtEnd}
 use Rattle.bid_rules.specs.Facts.{IsValidFareCase}
@@ -69,7 +69,7 @@ IsJudged bytes (No number) = BreaksRule bytes number
 abbrev pub HasNoVerdict : List ℕ → Type 0
 HasNoVerdict bytes = (verdict : Verdict) → IsJudged bytes verdict → ⊥
 
--- the bytes are no certificate text
+-- the bytes are not certificate text
 abbrev pub IsNoText : List ℕ → Type 0
 IsNoText bytes = (counts : Counts) (said : List Said) → IsText bytes counts said → ⊥
 
@@ -86,7 +86,8 @@ pub record PrintsBest (bytes : List ℕ) : Type 0 where
   pub is_text : IsText bytes (counts_of view) (said_of view)
   pub best : IsBest view
 
--- the bytes taken from the source are certificate text, the answer is the verdict on them, and the source has ended; or the answer is why they are no text
+-- the bytes taken from the source are certificate text, the answer is the verdict on them, and the source has ended; or the answer is why they are not
+-- certificate text
 abbrev pub IsJudgement : Option (List ℕ) → List ℕ → Result Verdict TextEnd → Type 0
 IsJudgement left taken (Ok verdict) = IsJudged taken verdict × (length taken ≤ MOST_BYTES) × IsAtEnd left
 IsJudgement left taken (Err end) = IsEnd end left taken

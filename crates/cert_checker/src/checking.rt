@@ -1,4 +1,4 @@
-// The verdict on a certificate that was read.
+// Gives the verdict on a certificate that has been read.
 ghost use Rattle.std.specs.Prelude.{◌≡◌, ℕ, List};
 ghost use Rattle.cert_checker.specs.Judged.{GivesVerdict, IsBest, IsJudged};
 ghost use Rattle.cert_reader.specs.Text.{IsText};
@@ -13,8 +13,8 @@ use goods_rules::{end_goods, goods_certificate_law, start_goods, take_mark};
 use rent_rules::{check_rent, rent_certificate_law};
 use rule_verdicts::Verdict;
 
-/// Whether all rules of its kind hold for the certificate, or the first that does not. This is the verdict that `judge` gives on the bytes from which the
-/// certificate was read. It takes no memory.
+/// Whether all rules of its kind hold for the certificate, or else the first that does not. This is the verdict that `judge` gives on the bytes from
+/// which the certificate was read. It takes no memory.
 ///
 /// The program judges bytes as they come; this is for a caller who has read the certificate already, by `read_certificate`.
 pub fn check(certificate: &Certificate) -> Verdict

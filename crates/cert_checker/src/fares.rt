@@ -1,4 +1,4 @@
-// The lines of a certificate of fares: those of the head are gathered, those of the sets are judged as they come.
+// Takes the lines of a certificate of fares: those of the head are gathered, and those of the sets are judged as they come.
 ghost use Rattle.std.specs.Prelude.{◌≡◌, ◌+◌, ◌-◌, ◌<◌, ◌++◌, ◌∷◌, [], List, length, map, IsTrue, ◌↔◌};
 ghost use Rattle.split_frac.specs.Frac.{fraction_of};
 ghost use Rattle.cert_reader.specs.Gathered.{Gathered, line_said};
@@ -59,8 +59,8 @@ impl FaresLines {
         FaresLines::Head(HeadLines::new())
     }
 
-    // Takes a line of the head, and begins with the sets if it was the last. The state of the sets is large, so it is made here and not where each line is
-    // taken.
+    // Takes a line of the head, and begins with the sets if it was the last. The state of the sets is large, so it is made here rather than where each
+    // line is taken.
     #[inline(never)]
     fn take_head(&mut self, numbers: &LineNumbers)
         requires head { HasNoTable self.old }

@@ -1,11 +1,12 @@
-// Lines that are kept until their part of the text is whole.
+// Keeps lines until their part of the text is complete.
 ghost use Rattle.std.specs.Prelude.{◌≡◌, ◌<◌, ◌++◌, ◌∷◌, []};
 ghost use Rattle.arrayvec.specs.ArrayVec.{array_vec_len};
 
 use arrayvec::ArrayVec;
 use cert_reader::{LineNumbers, copy_of};
 
-// Keeps a copy of a line behind those that are kept, where there is room.
+// Keeps a copy of a line after those that are already kept, if there is
+// room.
 pub(crate) fn gather<const ROOM: usize>(
     lines: &mut ArrayVec<LineNumbers, ROOM>,
     numbers: &LineNumbers,

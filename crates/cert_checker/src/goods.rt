@@ -1,4 +1,5 @@
-// The lines of a certificate of goods: those before the tree are gathered, the marks of the tree are judged as they come.
+// Takes the lines of a certificate of goods: those before the tree are gathered, and the marks of the tree are judged as
+// they come.
 ghost use Rattle.std.specs.Prelude.{◌≡◌, ℕ, ◌++◌, ◌∷◌, [], List, map};
 ghost use Rattle.cert_checker.specs.FaresLines.{front_said};
 ghost use Rattle.cert_checker.specs.GoodsLines.{GoodsGoOn, HasNoTree, IsAtGoods, IsWholeGoods, before_tree};
@@ -19,10 +20,10 @@ use cert_reader::places::{
     GOODS_COUNT, GOODS_LIMIT, GOODS_TREE, GOODS_VALUES, GOODS_WHO, KIND_LINES,
 };
 use cert_reader::{LineNumbers, number_at, row_at, rows_of};
-use goods_rules::{GoodsState, PrintedRow, end_goods, start_goods, take_mark};
-use rule_verdicts::Verdict;
+use goods_rules::{GoodsState, end_goods, start_goods, take_mark};
+use rule_verdicts::{PrintedRow, Verdict};
 
-/// The lines before the tree that are no row of values: `players`, `goods`, `limit`, `who`, `owners` and `steps`.
+/// The lines before the tree that are not rows of values: `players`, `goods`, `limit`, `who`, `owners` and `steps`.
 const FIXED_LINES: usize = GOODS_VALUES - KIND_LINES + GOODS_TREE;
 /// The most lines before the tree.
 const HEAD_LINES: usize = FIXED_LINES + MEMBER_ROOM;
@@ -63,7 +64,8 @@ impl GoodsLines {
         }
     }
 
-    // Takes the first mark of the tree. The state of the tree is large, so it is made here and not where each mark is taken.
+    // Takes the first mark of the tree. The state of the tree is large, so it is made here rather than where each mark is
+    // taken.
     #[inline(never)]
     fn begin_tree(&mut self, mark: u8)
         requires head { HasNoTree self.old }

@@ -1,4 +1,4 @@
-// The verdict on text from a source.
+// Reads certificate text from a source, and gives the verdict on it.
 ghost use Rattle.std.specs.Prelude.{◌≡◌, ℕ, ◌++◌, List, ◌≤◌, IsErrOf, OnOk, Ok};
 ghost use Rattle.std.specs.Io.KnownBytes.{Consumes};
 ghost use Rattle.cert_checker.specs.Judged.{IsCertificate, IsJudgement, PrintsBest};
@@ -14,12 +14,13 @@ use cert_reader::{LineNumbers, Part, Pieces, ReadEnd, TextEnd, read_answer, text
 use rule_verdicts::Verdict;
 use split_base::Source;
 
-/// Reads certificate text to the end of the input, in one pass and in fixed memory, and judges it: whether all rules of its kind hold, or the first
-/// that does not. Once a read has met the end it does not read again.
+/// Reads certificate text to the end of the input, in one pass and in fixed memory, and judges it: whether all rules of its kind hold, or else the
+/// first that does not. Once a read has met the end, it does not read again.
 ///
-/// - `NotText` comes exactly where the input has at most 4,000,000 bytes and is no certificate text, with its first broken line. It was read to its end.
-/// - `TooLong` comes exactly where it has more, whatever its lines. 4,000,001 bytes were read.
-/// - `ReadFault` comes only where the source's count of faults has risen, and at once: the failed read is not tried again.
+/// - `NotText` is returned exactly when the input has at most 4,000,000 bytes and is not certificate text, with its first broken line. It was read to
+///   its end.
+/// - `TooLong` is returned exactly when it has more, whatever its lines. 4,000,001 bytes were read.
+/// - `ReadFault` is returned only if the source's count of faults has risen, and at once: the failed read is not tried again.
 pub fn judge_text<S: Source>(source: &mut S) -> Result<Verdict, TextEnd>
     ensures judged { (taken : List ℕ) × Consumes (S.left source.old) (S.left source.new) taken
         × IsJudgement (S.left source.new) taken result }
@@ -62,8 +63,8 @@ pub fn judge_text<S: Source>(source: &mut S) -> Result<Verdict, TextEnd>
     }
 }
 
-/// Judges certificate text as `judge_text` does, and answers with the reasons of a reader that keeps what it reads. `NoMemory` never comes.
-/// The program asks `judge_text`; this is for a caller who handles the ends of `read_certificate` and wants the same ones here.
+/// Judges certificate text as `judge_text` does, and answers with the reasons of a reader that keeps what it reads. `NoMemory` is never returned. The
+/// program asks `judge_text`; this is for a caller who handles the ends of `read_certificate` and wants the same ones here.
 pub fn judge<S: Source>(source: &mut S) -> Result<Verdict, ReadEnd>
     ensures judged { (taken : List ℕ) × Consumes (S.left source.old) (S.left source.new) taken
         × OfAnswer (IsJudgement (S.left source.new) taken) result }
@@ -83,7 +84,7 @@ pub fn judge<S: Source>(source: &mut S) -> Result<Verdict, ReadEnd>
     read_answer(judge_text(source))
 }
 
-// Takes the other marks of a tree that is being read, to the end of its line. Each mark is read alone, without what a line needs.
+// Takes the remaining marks of a tree that is being read, to the end of its line. Each mark is read by itself, without the room that a line needs.
 fn take_marks<S: Source>(
     pieces: &mut Pieces,
     source: &mut S,

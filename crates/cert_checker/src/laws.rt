@@ -1,4 +1,4 @@
-// What callers may rely on about the verdict on a certificate: each law is the contract of a function that only calls other laws.
+// Laws about the verdict on a certificate that callers may rely on. Each is the contract of a function that only calls other laws.
 ghost use Rattle.std.specs.Prelude.{◌≡◌, ◌↔◌, ℕ, List, length, true};
 ghost use Rattle.bid_rules.specs.declared.goods.GoodsCase.{GoodsCase};
 ghost use Rattle.bid_rules.specs.Goods.{IsValidGoodsCase, pair_of};
@@ -21,9 +21,9 @@ use goods_rules::goods_certificate_law;
 use nash_bounds::{bound_law, open_prefixes_law, whole_list_law};
 use rent_rules::rent_certificate_law;
 
-/// Bytes have at most one verdict, and none if they have a broken line. Certificate text has a verdict, that of its rules, yes or no; bytes without a verdict
-/// are no text. For a certificate that was read, this is what `check` says. Text whose rules all hold is a certificate, and a certificate prints a valid case
-/// and its best division: rooms and prices, owners, or fares and a route.
+/// Bytes have at most one verdict, and none if they have a broken line. Certificate text has a verdict, the yes or no of its rules; bytes without a verdict
+/// aren't certificate text. For a certificate that was read, this is what `check` says. Text whose rules all hold is a certificate, and a certificate prints
+/// a valid case and its best division: rooms and prices, owners, or fares and a route.
 pub fn certificate_verdict_law()
     ensures one { (bytes : List ℕ) (verdict other : Verdict) → IsJudged bytes verdict
         → IsJudged bytes other → other ≡ verdict }
@@ -48,10 +48,10 @@ pub fn certificate_verdict_law()
     fares_certificate_law();
 }
 
-/// What the fourth and the fifth rule of goods ask, with the bound by its definition. The rules say it by a function: a node may be left out exactly if the
-/// greatest pair of any list that the node allows is less than the answer's pair, or is the same and the node's owners come later than the answer's first
-/// ones. So the rules hold exactly if the marks are one tree whose `-` are all allowed by that definition, where goods are still to give or where
-/// all are given. If all are given, the greatest pair is that of the allocation itself.
+/// What the fourth and the fifth rule of goods ask, in terms of the bound's definition. The rules themselves say it by a function: a node may be left out
+/// exactly when the greatest pair of any list that the node allows is less than the answer's pair, or is the same and the node's owners come later than the
+/// answer's first ones. So the rules hold exactly when the marks are one tree whose `-` are all allowed by that definition, whether goods are still to be
+/// given or all are given. If all are given, the greatest pair is that of the allocation itself.
 pub fn goods_leaves_law()
     ensures stands { (case : GoodsCase) (answer owners : List ℕ) → IsValidGoodsCase case
         → may_be_left case answer owners ≡ true ↔ MayStand case answer owners }

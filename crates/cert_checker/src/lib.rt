@@ -1,8 +1,7 @@
 //! The judge of certificates: one pass, in fixed memory. A yes is enough to show that the printed division is best.
 //!
-//! Bytes have one verdict at most, and none if they have a broken line
-//! (`certificate_verdict_law`). It takes no allocator. The cuts of a tree are judged by what a
-//! bound means (`goods_leaves_law`).
+//! Bytes have at most one verdict, and none if they have a broken line (`certificate_verdict_law`). It takes no
+//! allocator. The cuts of a tree are judged by what a bound means (`goods_leaves_law`).
 #![tactic(auto)]
 
 mod checking;

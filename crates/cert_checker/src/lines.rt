@@ -1,13 +1,11 @@
 // The lines of a text as they come, kind by kind.
 ghost use Rattle.std.specs.Prelude.{◌≡◌, ◌++◌, ◌∷◌, [], List, map};
 ghost use Rattle.split_frac.specs.Frac.{fraction_of};
-ghost use Rattle.cert_reader.specs.Kinds.{kind_number};
 ghost use Rattle.cert_reader.specs.Text.{Numbers, Said};
 ghost use Rattle.cert_reader.specs.Views.{says};
 ghost use Rattle.cert_checker.specs.FaresLines.{front_said};
 ghost use Rattle.cert_checker.specs.Lines.{GivesOf, GoesOn, KnowsLines, MarkGoesOn, kind_of_lines};
 ghost use Rattle.cert_reader.specs.Reading.{with_mark};
-ghost use Rattle.cert_reader.specs.declared.kinds.Kind.{Kind};
 
 use crate::fares::FaresLines;
 use crate::goods::GoodsLines;
@@ -15,7 +13,7 @@ use crate::rent::RentLines;
 use cert_reader::{Kind, LineNumbers};
 use rule_verdicts::Verdict;
 
-/// What the judge knows of a text after some of its lines.
+/// What the judge knows about a text after some of its lines.
 #[derive(Drop)]
 pub(crate) enum Lines {
     /// Of kind rent.
@@ -27,17 +25,15 @@ pub(crate) enum Lines {
 }
 
 impl Lines {
-    // After the two lines that say the kind, by the number of the kind.
-    pub(crate) fn new(number: u8) -> Lines
-        requires { (kind : Kind) × (number ≡ kind_number kind) }
-        ensures kind { number ≡ kind_number (kind_of_lines result) }
+    // After the two lines that say the kind.
+    pub(crate) fn new(kind: Kind) -> Lines
+        ensures kind { kind_of_lines result ≡ kind }
         ensures knows { KnowsLines (front_said []) result }
     {
-        match Kind::of_number(number) {
-            Some(Kind::Rent) => Lines::Rent(RentLines::new()),
-            Some(Kind::Goods) => Lines::Goods(GoodsLines::new()),
-            Some(Kind::Fares) => Lines::Fares(FaresLines::new()),
-            None => unreachable!(),
+        match kind {
+            Kind::Rent => Lines::Rent(RentLines::new()),
+            Kind::Goods => Lines::Goods(GoodsLines::new()),
+            Kind::Fares => Lines::Fares(FaresLines::new()),
         }
     }
 
@@ -71,7 +67,7 @@ impl Lines {
         }
     }
 
-    // The verdict, once only the last line, `end`, is still to come.
+    // The verdict, when only the last line, `end`, is still to come.
     pub(crate) fn verdict(&self) -> Verdict
         requires { (said : List Said) × GoesOn self.now said (says [] ∷ []) }
         ensures { (said : List Said) (goes : GoesOn self.now said (says [] ∷ []))

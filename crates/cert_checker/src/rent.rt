@@ -1,4 +1,4 @@
-// The lines of a certificate of a rent, which are gathered and judged together.
+// Takes the lines of a certificate of a rent, which are gathered and judged together.
 ghost use Rattle.std.specs.Prelude.{◌≡◌, ◌-◌, ◌<◌, ◌++◌, ◌∷◌, [], length};
 ghost use Rattle.cert_reader.specs.declared.forms.Counts.TheVariants as count;
 ghost use Rattle.cert_reader.specs.Forms.{AreCounts, rent_forms};
@@ -15,7 +15,7 @@ use cert_reader::{LineNumbers, rent_text};
 use rent_rules::check_rent;
 use rule_verdicts::Verdict;
 
-/// The lines that are no row of values: `members`, `rent`, and six lists after the values.
+/// The lines that aren't rows of values: `members`, `rent`, and six lists after the values.
 const LIST_LINES: usize = RENT_VALUES - KIND_LINES + RENT_END;
 /// The most lines between the two that say the kind and `end`.
 const RENT_LINES: usize = LIST_LINES + MEMBER_ROOM;

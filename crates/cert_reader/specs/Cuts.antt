@@ -1,4 +1,4 @@
--- How bytes are cut: before the first byte of a kind, and into lines without their LF.
+-- How bytes are cut before the first byte of some value, and into lines without their LF.
 use Rattle.std.specs.Prelude.{◌≡◌, ◌≢◌, ℕ, ◌<◌, ◌≤◌, List, ◌++◌, length, slice_index}
 use Rattle.bid_rules.specs.Fractions.{Fraction}
 use Rattle.split_frac.specs.Texts.{numbers_text}

@@ -55,8 +55,8 @@ AgreeUpTo k (Pair goods) b = ⊥
 AgreeUpTo k a (Pair goods) = ⊥
 AgreeUpTo k a b = k ≤ KIND_LINE
 
--- how many ways the line at a place leaves open once the lines before it are known: one a kind on the line of the kind, one for each number that a count may be
--- on the line of that count, and else one
+-- how many possibilities the line at a place leaves open once the lines before it are known: on the line of the kind one for each kind, on the line of a count
+-- one for each number that the count may be, and otherwise just one
 abbrev pub choice_count : ℕ → Counts → ℕ
 choice_count index (Pair goods) = if index == PAIR_GOODS then MOST_GOODS else 1
 choice_count index (Rent n) = if index == KIND_LINE then KINDS else if index == RENT_MEMBERS then MOST_MEMBERS else 1
@@ -69,7 +69,7 @@ least_of zero = Rent 1
 least_of (suc zero) = Goods 1 1
 least_of (suc (suc choice)) = Fares 1 1
 
--- the counts that each of these ways gives; a count that no line has fixed yet is the least
+-- the counts that each of these possibilities gives; a count that no line has fixed yet is the least
 abbrev pub choice_of : ℕ → Counts → ℕ → Counts
 choice_of index (Pair goods) choice = if index == PAIR_GOODS then Pair (choice + 1) else Pair goods
 choice_of index (Rent n) choice = if index == KIND_LINE then least_of choice else if index == RENT_MEMBERS then Rent (choice + 1) else Rent n
@@ -78,7 +78,7 @@ choice_of index (Goods n goods) choice =
 choice_of index (Fares n places) choice =
     if index == KIND_LINE then least_of choice else if index == FARES_RIDERS then Fares (choice + 1) 1 else if index == FARES_PLACES then Fares n (choice + 1) else Fares n places
 
--- the bytes begin with no line that may come at this place after the lines that fixed what is known
+-- the bytes don't begin with any line that may come at this place after the lines that fixed what is known
 abbrev pub HasNoLine : ℕ → Counts → List ℕ → Type 0
 HasNoLine index known bytes = (counts : Counts) (said : Said) (more : List ℕ) → AreInRange counts → AgreeUpTo index known counts → index < length (forms_of counts)
     → CanSay (form_in counts index) said → bytes ≡ said_text (form_in counts index) said ++ more → ⊥

@@ -31,7 +31,7 @@ pair_view text = record {
   total = fraction_of text.total;
 }
 
--- the bytes taken from the source are the text of a pair, the answer is what it says, and the source has ended; or the answer is why they are none
+-- the bytes taken from the source are the text of a pair, the answer is what it says, and the source has ended; or the answer is why they are not
 abbrev pub IsReadPair : Option (List ℕ) → List ℕ → Result PairText TextEnd → Type 0
 IsReadPair left taken (Ok text) = IsPairText taken (pair_view text) × (length taken ≤ MOST_BYTES) × IsAtEnd left
 IsReadPair left taken (Err end) = IsEndOf Pairs end left taken

@@ -1,4 +1,4 @@
--- How far a text was read, and what each answer says of the bytes taken from the source.
+-- How far a text has been read, and what each answer says about the bytes taken from the source.
 use Rattle.std.specs.Prelude.{◌≡◌, ℕ, pos, ◌+◌, ◌-◌, ◌<◌, ◌≤◌, List, [], ◌∷◌, ◌++◌, length, map, take, Bool, cond, Option, Some, None, Result, Ok, Err, ⊤}
 use Rattle.std.specs.Io.KnownBytes.{Consumes, IsAtEnd}
 use Rattle.split_frac.specs.Frac.{fraction_of}
@@ -11,7 +11,7 @@ use Rattle.cert_reader.specs.declared.pieces.Piece.TheVariants.{Done, Kind, Line
 use Rattle.cert_reader.specs.declared.pieces.Part.{Part}
 use Rattle.cert_reader.specs.declared.pieces.Part.TheVariants as part
 use Rattle.cert_reader.specs.Forms.{AreCountsOf, Certificates, Series, Tree, forms_of}
-use Rattle.cert_reader.specs.Kinds.{TellsKind}
+use Rattle.cert_reader.specs.Kinds.{TellsKind, kind_number}
 use Rattle.cert_reader.specs.Gathered.{Gathered}
 use Rattle.cert_reader.specs.Order.{AgreeUpTo, form_in}
 use Rattle.cert_reader.specs.Stream.{ends_after}
@@ -55,7 +55,7 @@ with_mark [] mark = Marks (mark ∷ []) ∷ []
 with_mark (Marks marks ∷ []) mark = Marks (marks ++ mark ∷ []) ∷ []
 with_mark (line ∷ lines) mark = line ∷ with_mark lines mark
 
--- the last of these many lines is a tree
+-- the last of this many lines is a tree
 abbrev pub EndsInTree : ℕ → Counts → Type 0
 EndsInTree lines counts = (0 < lines) × (form_in counts (lines - 1) ≡ Tree)
 
@@ -63,13 +63,13 @@ EndsInTree lines counts = (0 < lines) × (form_in counts (lines - 1) ≡ Tree)
 abbrev pub HasLineToCome : Reading → Type 0
 HasLineToCome reading = reading.lines < length (forms_of reading.counts)
 
--- why the bytes taken from the source are no text of the series: a first broken line, one byte too many, or a failed read
+-- why the bytes taken from the source aren't a text of the series: a first broken line, one byte too many, or a failed read
 abbrev pub IsEndOf : Series → TextEnd → Option (List ℕ) → List ℕ → Type 0
 IsEndOf series (NotText line) left taken = IsBrokenTextOf series taken line × (length taken ≤ MOST_BYTES) × IsAtEnd left
 IsEndOf series TooLong left taken = length taken ≡ MOST_BYTES + 1
 IsEndOf series ReadFault left taken = length taken ≤ MOST_BYTES
 
--- why the bytes taken from the source are no certificate
+-- why the bytes taken from the source aren't a certificate
 abbrev pub IsEnd : TextEnd → Option (List ℕ) → List ℕ → Type 0
 IsEnd end left taken = IsEndOf Certificates end left taken
 
@@ -92,7 +92,7 @@ IsPiece old new left taken said (Mark mark) = (0 < old.lines) × (new.counts ≡
 IsPiece old new left taken said Done =
     (old.lines + 1 ≡ length (forms_of new.counts)) × AgreeUpTo old.lines old.counts new.counts × IsText taken new.counts (said ++ says [] ∷ []) × (length taken ≤ MOST_BYTES) × IsAtEnd left
 
--- what the source's count of reads that gave nothing is at most after a piece: one more if the text is done, since the end was met, and otherwise the
+-- the most that the source's count of reads that gave nothing can be after a piece: one more if the text is done, since the end was met, and otherwise the
 -- same
 abbrev pub ends_by_piece : ℕ → Result Piece TextEnd → ℕ
 ends_by_piece before (Ok (Kind kind)) = before
@@ -101,7 +101,7 @@ ends_by_piece before (Ok (Mark mark)) = before
 ends_by_piece before (Ok Done) = before + 1
 ends_by_piece before (Err stop) = ends_after before stop
 
--- the answer is the next piece, or why the bytes are no certificate
+-- the answer is the next piece, or why the bytes aren't a certificate
 abbrev pub IsAnswer : Reading → Reading → Option (List ℕ) → List ℕ → List Said → Result Piece TextEnd → Type 0
 IsAnswer old new left taken said (Ok piece) = IsPiece old new left taken said piece
 IsAnswer old new left taken said (Err end) = IsEnd end left taken
@@ -111,9 +111,9 @@ abbrev pub left_in : Gathered → Result ⊤ TextEnd → Result Gathered TextEnd
 left_in numbers (Ok done) = Ok numbers
 left_in numbers (Err end) = Err end
 
--- the piece that a part of a text is, with the numbers that a line has left in a buffer
+-- the piece that a part of a text is, with the numbers that a line has left in a buffer, and with the number of a kind
 abbrev pub piece_of : Part → Gathered → Piece
-piece_of (part.Kind kind) numbers = Kind kind
+piece_of (part.Kind kind) numbers = Kind (kind_number kind)
 piece_of part.Line numbers = Line numbers
 piece_of (part.Mark mark) numbers = Mark mark
 piece_of part.Done numbers = Done

@@ -1,4 +1,4 @@
--- The sets of riders, and what the line of each has.
+-- The sets of riders, and what stands in the line of each.
 use Rattle.std.specs.Prelude.{ℕ, ◌-◌, ◌^◌, not, List, ◌∷◌, length, map}
 use Rattle.std.specs.List.{filter, range_with_len}
 use Rattle.bid_rules.specs.Coalitions.{has_rider}
@@ -7,7 +7,7 @@ use Rattle.bid_rules.specs.Coalitions.{has_rider}
 abbrev pub starts : ℕ → ℕ → List ℕ
 starts n set = 0 ∷ filter (λ rider. not (has_rider set rider)) (range_with_len 1 n)
 
--- all sets of n riders but the empty one
+-- all sets of n riders except the empty one
 abbrev pub sets_of : ℕ → List ℕ
 sets_of n = range_with_len 1 (2 ^ n - 1)
 

@@ -51,8 +51,8 @@ ends_met (NotText line) = 1
 ends_met ReadFault = 0
 ends_met TooLong = 0
 
--- what the source's count of reads that gave nothing is at most after this reason to stop. A count that is higher by one at most tells that nothing was read
--- once the end was met
+-- the most that the source's count of reads that gave nothing can be when the reading stops for this reason. If the count is higher by at most one, nothing was
+-- read once the end was met
 abbrev pub ends_after : ℕ → TextEnd → ℕ
 ends_after before stop = before + ends_met stop
 

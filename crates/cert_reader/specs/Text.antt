@@ -1,4 +1,4 @@
--- Texts: lines of their forms with what they say; and the first broken line of bytes that are no text.
+-- Texts: lines of their forms with what they say; and the first broken line of bytes that aren't a text.
 use Rattle.std.specs.Prelude.{◌≡◌, ◌≢◌, ℕ, ℤ, pos, ◌<◌, ◌≤◌, ◌⊎◌, List, [], ◌∷◌, ◌++◌, length, map, take, All, IfSome}
 use Rattle.bid_rules.specs.Fractions.{Fraction}
 use Rattle.split_frac.specs.Texts.{line, numbers_text}
@@ -77,7 +77,8 @@ pub record HasFrontOf (series : Series) (bytes : List ℕ) (k : ℕ) : Type 0 wh
   pub rest : List ℕ
   pub front : bytes ≡ text_of (take k (forms_of counts)) (take k said) ++ rest
 
--- the bytes are no text of the series, and k is the least number of first lines with which no text of the series begins
+-- the bytes aren't a text of the series, and k is the least number of first lines with which no text of the series
+-- begins
 pub record IsBrokenTextOf (series : Series) (bytes : List ℕ) (k : ℕ) : Type 0 where
   pub no_text : (counts : Counts) (said : List Said) → IsTextOf series bytes counts said → ⊥
   pub broken : HasFrontOf series bytes k → ⊥
@@ -87,6 +88,6 @@ pub record IsBrokenTextOf (series : Series) (bytes : List ℕ) (k : ℕ) : Type 
 abbrev pub IsText : List ℕ → Counts → List Said → Type 0
 IsText bytes counts said = IsTextOf Certificates bytes counts said
 
--- the bytes are no certificate text, and this is their first broken line
+-- the bytes aren't certificate text, and this is their first broken line
 abbrev pub IsBrokenText : List ℕ → ℕ → Type 0
 IsBrokenText bytes k = IsBrokenTextOf Certificates bytes k

@@ -1,4 +1,4 @@
--- The words with which lines begin.
+-- The spelling of the words with which lines begin.
 use Rattle.std.specs.Prelude.{ℕ, List, codes}
 use Rattle.cert_reader.specs.declared.forms.Word.{Word}
 use Rattle.cert_reader.specs.declared.forms.Word.TheVariants as word

@@ -1,4 +1,4 @@
-// A certificate from its lines.
+// Builds a certificate from its lines.
 ghost use Rattle.std.specs.Prelude.{◌≡◌, ℕ, ◌≤◌, IfOk, length};
 ghost use Rattle.cert_reader.specs.declared.forms.Counts.{Counts};
 ghost use Rattle.cert_reader.specs.declared.forms.Counts.TheVariants as count;
@@ -75,7 +75,7 @@ pub(crate) fn goods_text(players: u8, goods: u8, lines: &[LineNumbers], marks: V
     }
 }
 
-// The certificate of fares from its lines, without the two that say the kind and without `end`. It takes memory only for the table.
+// The certificate of fares from its lines, without the two that say the kind and without `end`. Memory is taken only for the table.
 pub(crate) fn fares_text(
     alloc: Global,
     riders: u8,
@@ -111,7 +111,7 @@ pub(crate) fn fares_text(
     })
 }
 
-// The certificate from its lines, without the two that say the kind and without `end`. The marks of the tree of goods come apart.
+// The certificate from its lines, without the two that say the kind and without `end`. The marks of the tree of goods come separately.
 pub(crate) fn certificate_of(
     alloc: Global,
     counts: Counts,
@@ -129,10 +129,9 @@ pub(crate) fn certificate_of(
         Counts::Goods { players, goods } => Ok(Certificate::Goods(goods_text(
             players, goods, lines, marks,
         ))),
-        Counts::Fares { riders, places } => match fares_text(alloc, riders, places, lines) {
-            Ok(text) => Ok(Certificate::Fares(text)),
-            Err(NoMemory) => Err(NoMemory),
-        },
+        Counts::Fares { riders, places } => Ok(Certificate::Fares(fares_text(
+            alloc, riders, places, lines,
+        )?)),
         Counts::Pair { .. } => unreachable!(),
     }
 }

@@ -1,4 +1,4 @@
-// What a certificate says.
+// The types that hold what a certificate says.
 ghost use Rattle.std.specs.Prelude.{◌≡◌, ◌+◌, ◌≤◌, All, length};
 ghost use Rattle.std.proofs.Props.{props};
 ghost use Rattle.bid_rules.specs.declared.limits.TheConstants.{MOST_GOODS, MOST_PLACES};
@@ -19,9 +19,10 @@ pub enum Certificate {
     Fares(FaresText),
 }
 
-/// What a certificate of a rent says. Lists are by member, `right` and `prices` by room.
+/// What a certificate of a rent says. Lists are by member, except that `right` and `prices` are by room.
 ///
-/// There are as many members as rooms, 1 to 12. The numbers have at most 25 digits, and the fractions denominators up to 4294967295.
+/// There are 1 to 12 members and as many rooms. The numbers have at most 25 digits, and the fractions have denominators up to
+/// 4294967295.
 #[derive(Debug, Drop)]
 pub struct RentText {
     pub rent: i128,
@@ -79,7 +80,8 @@ pub struct GoodsText {
 
 /// What a certificate of fares says: the legs from the origin and from each place, by place, and lists by rider.
 ///
-/// There are 1 to 12 places and 1 to 10 riders. The numbers have at most 25 digits, and the fractions denominators up to 4294967295.
+/// There are 1 to 12 places and 1 to 10 riders. The numbers have at most 25 digits, and the fractions have denominators up to
+/// 4294967295.
 #[derive(Debug, Drop)]
 pub struct FaresText {
     pub places: u8,

@@ -1,4 +1,4 @@
-// Why reading ends without a text.
+// The reasons why reading ends without a text.
 ghost use Rattle.std.specs.Prelude.{◌≡◌, IfOk, IsErrOf, Ok};
 ghost use Rattle.cert_reader.specs.Ends.{read_answer};
 
@@ -7,7 +7,8 @@ ghost use Rattle.cert_reader.specs.Ends.{read_answer};
 pub enum TextEnd {
     /// The input has at most 4,000,000 bytes and is no such text. It was read to its end.
     NotText {
-        /// The first broken line, counted from 1: the least number of first lines with which no such text begins.
+        /// The first broken line, counted from 1: the least number of lines from the front with which no such text
+        /// begins.
         line: u32,
     },
     /// A read failed. It was not tried again.
@@ -19,9 +20,10 @@ pub enum TextEnd {
 /// Why a reader that keeps what it reads found no text.
 #[derive(Clone, Copy, Debug, PartialEq, Eq)]
 pub enum ReadEnd {
-    /// The input has at most 4,000,000 bytes and is no certificate text. It was read to its end.
+    /// The input has at most 4,000,000 bytes and is not certificate text. It was read to its end.
     NotText {
-        /// The first broken line, counted from 1: the least number of first lines with which no certificate text begins.
+        /// The first broken line, counted from 1: the least number of lines from the front with which no certificate
+        /// text begins.
         line: u32,
     },
     /// A read failed. It was not tried again.

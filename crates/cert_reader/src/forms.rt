@@ -1,4 +1,4 @@
-// The words of lines and their forms, and what the lines at the head of a text count.
+// The words of lines, the forms of lines, and the counts that the first lines of a text give.
 ghost use Rattle.std.specs.Prelude.{◌≡◌};
 ghost use Rattle.cert_reader.specs.Words.{word_text};
 
@@ -96,7 +96,7 @@ pub struct LineForm {
     pub whole: bool,
 }
 
-/// What the first lines of a text count. They fix which lines follow.
+/// What the first lines of a text count, which fixes the lines that follow.
 #[derive(Clone, Copy, Debug, PartialEq, Eq)]
 pub enum Counts {
     /// A text of kind rent.

@@ -1,4 +1,4 @@
-// What callers may rest on: the statements of a function whose body does nothing.
+// Laws about texts that callers may rely on. Each is the contract of a function that does nothing.
 ghost use Rattle.std.specs.Prelude.{◌≡◌, ◌≤◌, ℕ, List, ◌+◌, ◌++◌, length};
 ghost use Rattle.cert_reader.specs.declared.certificate.Certificate.{Certificate};
 ghost use Rattle.cert_reader.specs.declared.forms.Counts.{Counts};
@@ -12,8 +12,8 @@ ghost use Rattle.cert_reader.specs.Text.{CanSayAll, IsBrokenText, IsBrokenTextOf
 ghost use Rattle.cert_reader.specs.Views.{CertificateView, counts_of, marks_of, said_of, view_of};
 
 /// A text has one meaning: its counts and what its lines say are unique, and two certificates with this text are the same, and so are two views that have all
-/// rows. No text has a broken line. Other bytes have exactly one first broken line. What was read of a text so far can be completed. Without the marks of a tree
-/// a text is short.
+/// rows. No text has a broken line. Other bytes have exactly one first broken line. What has been read of a text so far can be completed to a whole text.
+/// Without the marks of a tree a text is short.
 pub fn text_law()
     ensures once { (bytes : List ℕ) (counts other : Counts) (said more : List Said)
         → IsText bytes counts said → IsText bytes other more → (other ≡ counts) × (more ≡ said) }
@@ -37,7 +37,7 @@ pub fn text_law()
 {}
 
 /// The text of a pair has one meaning: two views with this text are the same. No such text has a broken line. Other bytes have exactly one first broken line.
-/// The text is short, and it is no certificate text.
+/// The text is short, and it isn't certificate text.
 pub fn pair_law()
     ensures once { (bytes : List ℕ) (view other : PairView) → IsPairText bytes view
         → IsPairText bytes other → other ≡ view }

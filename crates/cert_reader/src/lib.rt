@@ -1,9 +1,9 @@
 //! The text of certificates and of adjusted winner: what it says, and the first broken line of
 //! other bytes.
 //!
-//! `next_piece` reads from any source in fixed memory. It answers `NotText` exactly if the bytes
-//! are no text, with the first broken line, and `TooLong` after one byte more than a text may have.
-//! A text has one meaning (`text_law`, `pair_law`).
+//! `next_piece` reads from any source in fixed memory. It answers `NotText` exactly when the bytes
+//! aren't a text, with the first broken line, and `TooLong` after one byte more than a text may
+//! have. A text has one meaning (`text_law`, `pair_law`).
 #![tactic(auto)]
 
 mod building;

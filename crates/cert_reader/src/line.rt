@@ -1,4 +1,4 @@
-// One line of certificate text.
+// Reads one line of certificate text.
 ghost use Rattle.std.specs.Prelude.{◌≡◌, ℕ, pos, List, ◌++◌, ◌+◌, ◌<◌, ◌≤◌, ◌↔◌, All, length, map, IsTrue, MatchOption};
 ghost use Rattle.std.specs.Bool.{MatchBool};
 ghost use Rattle.arrayvec.specs.ArrayVec.{array_vec_len};
@@ -69,7 +69,7 @@ fn is_whole(number: Frac, value: u64) -> bool
     number.num == i128::from(value) && number.den == 1
 }
 
-// Reads so many numbers, to the end of the line.
+// Reads this many numbers, to the end of the line.
 fn push_numbers(rest: &[u8], count: usize, whole: bool, numbers: &mut LineNumbers) -> bool
     requires { array_vec_len numbers.old + count ≤ MOST_NUMBERS }
     ensures { MatchBool result

@@ -1,4 +1,4 @@
-// Numbers as certificate text writes them.
+// Reads numbers as they are written in certificate text.
 ghost use Rattle.std.specs.Prelude.{◌≡◌, ℕ, ℤ, negsuc, ◌-◌, ◌+◌, ◌^◌, ◌<◌, ◌≤◌, MatchOption, unsigned_abs, false};
 ghost use Rattle.std.specs.Fmt.{decimal, signed_decimal};
 ghost use Rattle.std.specs.Int.{IsGcd};
@@ -38,7 +38,7 @@ fn read_digits(token: &[u8]) -> Option<u128>
     Some(value)
 }
 
-// The same, above 0.
+// The same, if it is above 0.
 fn read_positive(token: &[u8]) -> Option<u128>
     ensures { MatchOption result
         ((n : ℕ) → 0 < n → n < 10 ^ MOST_DIGITS → token.now ≡ decimal n → ⊥)
@@ -87,7 +87,7 @@ fn negative(size: u128) -> i128
     -(size as i128)
 }
 
-// The first place of the byte, or the length if it has none.
+// The first place at which the byte stands, or the length if it isn't there.
 pub(crate) fn front_len(bytes: &[u8], stop: u8) -> usize
     ensures { IsFront stop bytes.now result }
 {

@@ -24,7 +24,7 @@ use crate::places::{
 };
 use bid_rules::limits::{MOST_GOODS, MOST_MEMBERS, MOST_PLACES, MOST_RIDERS, PAIR};
 
-/// From how many places the routes of a set of riders may start. The line of the set has a cost for each.
+/// How many places the routes of a set of riders may start from. The line of the set has a cost for each.
 pub fn start_count(riders: u8, set: u32) -> usize
     requires { riders ≤ MOST_RIDERS }
     ensures value { result ≡ length (starts riders set) }
@@ -203,7 +203,7 @@ fn fares_tail_form(riders: u8, index: usize) -> LineForm
     }
 }
 
-/// How many sets of riders there are, without the empty one.
+/// How many sets of riders there are, not counting the empty one.
 pub fn set_count(riders: u8) -> u32
     requires { riders ≤ MOST_RIDERS }
     ensures { result ≡ 2 ^ riders - 1 }
@@ -308,7 +308,7 @@ pub(crate) fn line_count(counts: Counts) -> usize
     }
 }
 
-// How many ways the line at a place leaves open once the lines before it are known.
+// How many possibilities the line at a place leaves open once the lines before it are known.
 fn choices(index: usize, known: Counts) -> u8
     ensures value { result ≡ choice_count index known }
     ensures small { result ≤ MOST_CHOICES }
@@ -342,7 +342,7 @@ fn chosen_kind(choice: u8) -> Counts
     }
 }
 
-// The counts that one of the ways gives.
+// The counts that one of these possibilities gives.
 fn chosen(index: usize, known: Counts, choice: u8) -> Counts
     requires { choice < MOST_CHOICES }
     ensures { result ≡ choice_of index known choice }
@@ -373,7 +373,7 @@ fn chosen(index: usize, known: Counts, choice: u8) -> Counts
     }
 }
 
-// Whether the line has the form of its place. If so, these are its numbers.
+// The numbers of the line, if it has the form of its place.
 fn read_at(line: &[u8], index: usize, counts: Counts, numbers: &mut LineNumbers) -> bool
     requires counts { AreInRange counts }
     requires index { index < length (forms_of counts) }

@@ -9,10 +9,10 @@ use arrayvec::ArrayVec;
 use bid_rules::limits::{ITEM_ROOM, PAIR_ROOM};
 use split_frac::Frac;
 
-/// What the text of a pair says: two players, their points by player and good, what of each good goes to player 1, the weights of the two, and the points that
-/// each gets. Whether it shows a fair division is for its rules to say.
+/// What the text of a pair says: two players, their points by player and good, how much of each good goes to player 1, the weights of the two, and the points
+/// that each gets. Its rules decide whether it shows a fair division.
 ///
-/// There are 1 to 24 goods. The numbers have at most 25 digits, and the fractions denominators up to 4294967295.
+/// There are 1 to 24 goods. The numbers have at most 25 digits, and the fractions have denominators up to 4294967295.
 #[derive(Debug, Drop)]
 pub struct PairText {
     pub goods: u8,

@@ -1,4 +1,4 @@
-// The text of a pair from its lines.
+// Builds what the text of a pair says from its lines.
 ghost use Rattle.std.specs.Prelude.{◌≡◌, ◌≤◌, [], ◌∷◌, ◌++◌, map};
 ghost use Rattle.cert_reader.specs.declared.forms.Counts.TheVariants as count;
 ghost use Rattle.cert_reader.specs.Forms.{AreInRange, pair_forms};
@@ -12,7 +12,7 @@ use crate::pair::PairText;
 use crate::places::{PAIR_SHARES, PAIR_TOTAL, PAIR_VALUES, PAIR_WEIGHTS, PAIR_WHO};
 use crate::rows::{fraction_at, fractions_at, row_at, rows_of};
 
-// The text of a pair whose lines before `end` were read.
+// What the text of a pair says, once its lines before `end` have been read.
 pub(crate) fn pair_text(goods: u8, lines: &[LineNumbers]) -> PairText
     requires goods { AreInRange (count.Pair goods) }
     requires lines { CanSayAll (pair_forms goods) (map line_said lines.now ++ says [] ∷ []) }

@@ -1,4 +1,4 @@
-// The text of a pair, read line by line from a source.
+// Reads the text of a pair line by line from a source.
 ghost use Rattle.std.specs.Prelude.{◌≡◌, ◌↔◌, ◌+◌, ◌<◌, ◌≤◌, [], ℕ, List, length, IsErrOf, IsTrue, OnOk};
 ghost use Rattle.std.specs.Io.KnownBytes.{Consumes};
 ghost use Rattle.split_base.specs.Faults.{HasRisen};
@@ -43,7 +43,7 @@ impl Model for PairLines {
 }
 
 impl PairLines {
-    // Nothing was read yet.
+    // Nothing has been read yet.
     fn new() -> Self
         ensures read { IsReadOf Pairs result [] [] }
         ensures start { result.lines ≡ 0 }
@@ -63,7 +63,7 @@ impl PairLines {
         (self.lines as usize) < line_count(self.counts)
     }
 
-    // How many goods there are, as far as the lines say it.
+    // How many goods there are, as far as the lines say so.
     fn goods(&self) -> u8
         ensures { self.now.counts ≡ count.Pair result }
     {
@@ -128,9 +128,10 @@ impl PairLines {
 
 /// Reads the text of a pair, and gives what it says. It takes no memory.
 ///
-/// - `NotText` comes exactly if the input has at most 4,000,000 bytes and is not the text of a pair, with its first broken line. It was read to its end.
-/// - `TooLong` comes exactly if it has more, whatever its lines. 4,000,001 bytes were read.
-/// - `ReadFault` comes only if the source's count of faults has risen, and at once: the failed read is not tried again.
+/// - `NotText` is returned exactly when the input has at most 4,000,000 bytes and is not the text of a pair, with its first broken line. It was read to
+///   its end.
+/// - `TooLong` is returned exactly when it has more, whatever its lines. 4,000,001 bytes were read.
+/// - `ReadFault` is returned only if the source's count of faults has risen, and at once: the failed read is not tried again.
 pub fn read_pair<S: Source>(source: &mut S) -> Result<PairText, TextEnd>
     ensures read { (taken : List ℕ) × Consumes (S.left source.old) (S.left source.new) taken
         × IsReadPair (S.left source.new) taken result }

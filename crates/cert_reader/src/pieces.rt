@@ -1,4 +1,4 @@
-// A certificate text in pieces, as it is read from a source.
+// Reads a certificate text from a source, piece by piece.
 ghost use Rattle.std.specs.Prelude.{◌≡◌, ◌↔◌, ◌+◌, ◌<◌, ◌≤◌, [], ℕ, List, length, map, IfOk, IsErrOf, IsTrue, OnOk, Ok, None, Some, false, true};
 ghost use Rattle.split_base.specs.Faults.{HasRisen};
 ghost use Rattle.split_frac.specs.Frac.{fraction_of};
@@ -44,13 +44,13 @@ pub enum Piece {
     Done,
 }
 
-/// A piece of a certificate text, where the numbers of a line lie in a buffer of the caller.
+/// A piece of a certificate text, where the numbers of a line are in a buffer of the caller's.
 #[derive(Clone, Copy, Debug, PartialEq, Eq)]
 pub enum Part {
     /// The kind, which the first two lines say.
     Kind {
-        /// 1 for a rent, 2 for goods, 3 for fares.
-        kind: u8,
+        /// What the certificate divides.
+        kind: Kind,
     },
     /// A later line of numbers, which are in the buffer. The line of a set of riders begins with the number of the set.
     Line,
@@ -63,17 +63,18 @@ pub enum Part {
     Done,
 }
 
-// The answer as a piece that holds its numbers itself.
+// The answer as a piece that holds its numbers itself, and tells the kind by its number.
 fn with_numbers(answer: Result<Part, TextEnd>, numbers: LineNumbers) -> Result<Piece, TextEnd>
     ensures same { result ≡ with_numbers answer numbers }
     ensures fault { IsErrOf result TextEnd.ReadFault → IsErrOf answer TextEnd.ReadFault }
 {
-    match answer {
-        Err(end) => Err(end),
-        Ok(Part::Kind { kind }) => Ok(Piece::Kind { kind }),
-        Ok(Part::Line) => Ok(Piece::Line { numbers }),
-        Ok(Part::Mark { mark }) => Ok(Piece::Mark { mark }),
-        Ok(Part::Done) => Ok(Piece::Done),
+    match answer? {
+        Part::Kind { kind } => Ok(Piece::Kind {
+            kind: kind.number(),
+        }),
+        Part::Line => Ok(Piece::Line { numbers }),
+        Part::Mark { mark } => Ok(Piece::Mark { mark }),
+        Part::Done => Ok(Piece::Done),
     }
 }
 
@@ -99,7 +100,7 @@ impl Model for Pieces {
 }
 
 impl Pieces {
-    /// Nothing was read yet.
+    /// Nothing has been read yet.
     pub fn new() -> Self
         ensures read { IsRead result [] [] }
         ensures start { result.lines ≡ 0 }
@@ -113,7 +114,7 @@ impl Pieces {
         }
     }
 
-    // Whether no line was read yet.
+    // Whether no line has been read yet.
     fn is_new(&self) -> bool
         ensures { IsTrue result ↔ self.now.lines ≡ 0 }
     {
@@ -142,7 +143,7 @@ impl Pieces {
         is_tree(self.counts, self.lines as usize)
     }
 
-    // The kind, as far as it was read.
+    // The kind, if it has been read.
     fn kind(&self) -> Kind
         ensures { kind_of self.now.counts ≡ Some result }
     {
@@ -154,14 +155,14 @@ impl Pieces {
         }
     }
 
-    // What the lines so far count.
+    // The counts that the lines so far give.
     pub(crate) fn counts(&self) -> Counts
         ensures { result ≡ self.now.counts }
     {
         self.counts
     }
 
-    // Takes the next line of numbers, where one of a text may follow, and leaves them in the buffer.
+    // Takes the next line of numbers, if a text may go on with one, and leaves the numbers in the buffer.
     fn next_line<S: Source>(
         &mut self,
         source: &mut S,
@@ -247,9 +248,7 @@ impl Pieces {
             Err(end) => Err(end),
             Ok(()) => match self.next_line(source, numbers) {
                 Err(end) => Err(end),
-                Ok(()) => Ok(Part::Kind {
-                    kind: self.kind().number(),
-                }),
+                Ok(()) => Ok(Part::Kind { kind: self.kind() }),
             },
         }
     }
@@ -284,9 +283,9 @@ impl Pieces {
 
     /// The next character of the tree that is being read, or `None` at the end of its line. It takes no memory.
     ///
-    /// A reader of long trees calls it in place of `next`, whose piece has room for a line of numbers.
+    /// A reader of long trees calls this instead of `next`, whose piece has room for a whole line of numbers.
     ///
-    /// - `NotText`, `TooLong` and `ReadFault` come as in `next`.
+    /// - `NotText`, `TooLong` and `ReadFault` are returned as by `next`.
     pub fn next_in_tree<S: Source>(&mut self, source: &mut S) -> Result<Option<u8>, TextEnd>
         requires { self.old.in_tree ≡ true }
         ensures mark { ReadsOn self.old (S.left source.old) (S.left source.new)
@@ -360,11 +359,11 @@ impl Pieces {
         }
     }
 
-    /// The next part of the text. It is the next piece, but the numbers of a line are left in the buffer. What was in the buffer is lost.
+    /// The next part of the text. This is the next piece, except that the numbers of a line are left in the buffer, whose earlier contents are lost.
     ///
-    /// A reader of many lines calls it in place of `next_piece`, whose pieces have room for a line of numbers each.
+    /// A reader of many lines calls this instead of `next_piece`, whose pieces each have room for a line of numbers.
     ///
-    /// - `NotText`, `TooLong` and `ReadFault` come as in `next_piece`.
+    /// - `NotText`, `TooLong` and `ReadFault` are returned as by `next_piece`.
     pub fn next_part<S: Source>(
         &mut self,
         source: &mut S,
@@ -403,11 +402,12 @@ impl Pieces {
     /// The next piece of the text. It takes no memory.
     ///
     /// The kind comes first. Then each line gives one piece, with its numbers. The tree of goods gives one piece for each of its characters. The last line,
-    /// `end`, gives none: `Done` comes when it was read and the input has ended. After `Done` or a refusal there are no more pieces.
+    /// `end`, gives none: `Done` is returned once it has been read and the input has ended. After `Done` or a refusal there are no more pieces.
     ///
-    /// - `NotText` comes exactly where the input has at most 4,000,000 bytes and is no certificate text, with its first broken line. It was read to its end.
-    /// - `TooLong` comes exactly where it has more, whatever its lines. 4,000,001 bytes were read.
-    /// - `ReadFault` comes only where the source's count of faults has risen, and at once: the failed read is not tried again.
+    /// - `NotText` is returned exactly when the input has at most 4,000,000 bytes and is not certificate text, with its first broken line. It was read to
+    ///   its end.
+    /// - `TooLong` is returned exactly when it has more, whatever its lines. 4,000,001 bytes were read.
+    /// - `ReadFault` is returned only if the source's count of faults has risen, and at once: the failed read is not tried again.
     pub fn next_piece<S: Source>(&mut self, source: &mut S) -> Result<Piece, TextEnd>
         requires { HasLineToCome self.old }
         ensures piece { ReadsOn self.old (S.left source.old) (S.left source.new)
@@ -428,7 +428,7 @@ impl Pieces {
         with_numbers(answer, numbers)
     }
 
-    /// The next piece of the text, as `next_piece` gives it. `NoMemory` never comes.
+    /// The next piece of the text, as `next_piece` gives it. `NoMemory` is never returned.
     pub fn next<S: Source>(&mut self, source: &mut S) -> Result<Piece, ReadEnd>
         requires { HasLineToCome self.old }
         ensures piece { ReadsOn self.old (S.left source.old) (S.left source.new)

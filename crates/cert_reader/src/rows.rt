@@ -1,4 +1,4 @@
-// The numbers of lines as rows of whole numbers or of fractions.
+// Turns the numbers of lines into rows of whole numbers or of fractions.
 ghost use Rattle.std.specs.Prelude.{◌≡◌, ℕ, ◌<◌, ◌≤◌, [], ◌∷◌, ◌++◌, All, OnOk, drop, flat_map, length, map, true};
 ghost use Rattle.split_frac.specs.Frac.{fraction_of};
 ghost use Rattle.cert_reader.specs.Gathered.{line_said, numbers_at};
@@ -13,7 +13,7 @@ use arrayvec::ArrayVec;
 use split_base::NoMemory;
 use split_frac::Frac;
 
-/// A row of the whole numbers of a line that has no others.
+/// A row of the numbers of a line, all of which are whole.
 pub fn whole_row<const N: usize>(numbers: &[Frac]) -> ArrayVec<i128, N>
     requires room { length numbers.now ≤ N }
     requires whole { All (IsNumber true) (map fraction_of numbers.now) }
@@ -65,11 +65,7 @@ fn fraction_row<const N: usize>(numbers: &[Frac]) -> ArrayVec<Frac, N>
     requires { length numbers.now ≤ N }
     ensures { result.items ≡ numbers.now }
 {
-    let mut row = ArrayVec::new();
-    for number in numbers {
-        row.push(*number);
-    }
-    row
+    ArrayVec::try_from(numbers).unwrap()
 }
 
 /// The numbers of a line once more.
@@ -98,7 +94,7 @@ fn first_number(numbers: &[Frac]) -> i128
     numbers[0].num
 }
 
-/// The number of a line of one whole number.
+/// The number of a line that has one whole number.
 pub fn number_at(lines: &[LineNumbers], index: usize) -> i128
     requires index { index < length lines.now }
     requires one { length (numbers_at lines.now index) ≡ 1 }
@@ -117,7 +113,7 @@ fn first_fraction(numbers: &[Frac]) -> Frac
     numbers[0]
 }
 
-// The fraction of a line of one.
+// The fraction of a line that has one.
 pub(crate) fn fraction_at(lines: &[LineNumbers], index: usize) -> Frac
     requires index { index < length lines.now }
     requires one { length (numbers_at lines.now index) ≡ 1 }
@@ -126,7 +122,7 @@ pub(crate) fn fraction_at(lines: &[LineNumbers], index: usize) -> Frac
     first_fraction(&lines[index])
 }
 
-// Appends the numbers of a line after its first.
+// Appends the numbers of a line except its first.
 fn push_row(table: &mut Vec<i128>, numbers: &[Frac]) -> Result<(), NoMemory>
     requires some { 1 ≤ length numbers.now }
     requires room { length numbers.now ≤ MOST_NUMBERS }
@@ -142,7 +138,7 @@ fn push_row(table: &mut Vec<i128>, numbers: &[Frac]) -> Result<(), NoMemory>
     }
 }
 
-// Appends the numbers of these lines, each without its first.
+// Appends the numbers of these lines, leaving out the first of each.
 pub(crate) fn push_rows(table: &mut Vec<i128>, lines: &[LineNumbers]) -> Result<(), NoMemory>
     requires some { All (λ line. 1 ≤ length line.items) lines.now }
     requires whole { All (λ line. All (IsNumber true) (map fraction_of line.items)) lines.now }

@@ -1,4 +1,4 @@
-// Takes one line of a text from a source, and ends where the bytes stop being text.
+// Takes one line of a text from a source, and ends the reading if the bytes stop being text.
 ghost use Rattle.std.specs.Prelude.{◌≡◌, ◌+◌, ◌<◌, ◌≤◌, ◌∷◌, ◌++◌, ℕ, List, length, IsErrOf, Err};
 ghost use Rattle.split_base.specs.Faults.{HasRisen};
 ghost use Rattle.cert_reader.specs.Forms.{AreInRange, Tree, forms_of};
@@ -33,8 +33,8 @@ pub(crate) fn refuse<S: Source>(bytes: &mut Bytes, source: &mut S, line: u32) ->
     }
 }
 
-// Takes the next line of numbers if it may come at its place. Gives counts with which it may, and leaves its numbers in the buffer. If it may not, reads on
-// to the end.
+// Takes the next line of numbers if it may come at its place. Gives counts under which it may, and leaves its numbers in the buffer. If it may not come
+// there, reads on to the end.
 pub(crate) fn next_settled<S: Source>(
     bytes: &mut Bytes,
     source: &mut S,

@@ -1,4 +1,4 @@
-// The bytes of a source one by one, and its lines, in fixed memory.
+// Gives the bytes of a source one by one, and its lines, in fixed memory.
 ghost use Rattle.std.specs.Prelude.{◌≡◌, ℕ, List, ◌+◌, ◌<◌, ◌≤◌, length, IfOk, IfErr, IfNone, OnOk, IsErrOf, MatchOption, [], ◌∷◌, option_to_list, ◌++◌, take, drop};
 ghost use Rattle.std.specs.Bool.{MatchBool};
 ghost use Rattle.std.specs.Io.KnownBytes.{Consumes, IsAtEnd};
@@ -31,7 +31,7 @@ pub(crate) enum Front {
     Whole,
     /// Some of them, and then another byte.
     Other,
-    /// Some of them, and then the end.
+    /// Some of them, and then the end of the input.
     Ended,
 }
 
@@ -64,7 +64,7 @@ impl Model for Bytes {
     ghost invariant = { λ s. (s.from ≤ s.to) × (s.to ≤ PIECE_BYTES) × (s.to - s.from ≤ s.total) × (s.total ≤ MOST_BYTES) };
 }
 
-// Adds so many bytes of a piece, from a place on, to a line if there is room.
+// Adds this many bytes of a piece, from a place on, to a line if there is room.
 fn add_part(line: &mut HeldLine, piece: &[u8], from: usize, count: usize) -> bool
     requires { from + count ≤ length piece.now }
     ensures line { MatchBool result
@@ -76,7 +76,7 @@ fn add_part(line: &mut HeldLine, piece: &[u8], from: usize, count: usize) -> boo
 }
 
 impl Bytes {
-    // Nothing was taken yet.
+    // Nothing has been taken yet.
     pub(crate) fn new() -> Self
         ensures { result ≡ record { ahead = []; given = 0; line = [] } }
     {
@@ -156,13 +156,11 @@ impl Bytes {
         ensures count { S.faults source.old ≤ S.faults source.new }
         ensures beside { S.beside source.new ≡ S.beside source.old }
     {
-        match self.take_byte() {
-            Some(byte) => Ok(Some(byte)),
-            None => match self.refill(source) {
-                Ok(()) => Ok(self.take_byte()),
-                Err(stop) => Err(stop),
-            },
+        if let Some(byte) = self.take_byte() {
+            return Ok(Some(byte));
         }
+        self.refill(source)?;
+        Ok(self.take_byte())
     }
 
     // Adds a byte to the line if there is room.
@@ -236,7 +234,7 @@ impl Bytes {
         }
     }
 
-    // Takes these bytes one by one, while they come.
+    // Takes these bytes one by one, for as long as they come next.
     pub(crate) fn take_front<S: Source>(
         &mut self,
         source: &mut S,
@@ -285,10 +283,9 @@ impl Bytes {
         ensures beside { S.beside source.new ≡ S.beside source.old }
     {
         'bytes: loop {
-            match self.next_byte(source) {
-                Err(stop) => return Err(stop),
-                Ok(None) => return Ok(()),
-                Ok(Some(_)) => {}
+            match self.next_byte(source)? {
+                None => return Ok(()),
+                Some(_) => {}
             }
         }
     }

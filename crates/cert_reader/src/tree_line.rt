@@ -1,4 +1,4 @@
-// The line of a tree, character by character from a source.
+// Reads the line of a tree character by character from a source.
 ghost use Rattle.std.specs.Prelude.{◌≡◌, ◌↔◌, ◌≤◌, IsErrOf, IsTrue};
 ghost use Rattle.split_base.specs.Faults.{HasRisen};
 ghost use Rattle.cert_reader.specs.Stream.{ends_before, faults_after_reading, taken_count};
@@ -26,7 +26,8 @@ fn before_marks() -> &'static [u8]
     b"tree "
 }
 
-// Takes the next character of a tree, or the end of its line. Else reads on to the end.
+// Takes the next character of a tree or the end of its line. If neither comes, reads on to the
+// end of the input.
 pub(crate) fn next_mark<S: Source>(
     bytes: &mut Bytes,
     source: &mut S,
@@ -57,7 +58,8 @@ pub(crate) fn next_mark<S: Source>(
     }
 }
 
-// Takes the first character of a tree, with what comes before it. Else reads on to the end.
+// Takes the first character of a tree, with what comes before it. If they don't come, reads on
+// to the end of the input.
 pub(crate) fn first_mark<S: Source>(
     bytes: &mut Bytes,
     source: &mut S,

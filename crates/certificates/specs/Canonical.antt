@@ -16,7 +16,7 @@ use Rattle.certificates.specs.RentLines.{canonical_rent}
 abbrev pub text_saying : CertificateView → List ℕ
 text_saying view = text_of (forms_of (counts_of view)) (said_of view)
 
--- the text that says the case, its division, and the numbers that show the division best
+-- the text that gives the case, its division, and the numbers that show that the division is the best
 abbrev pub canonical_text : Case → Division → List ℕ
 canonical_text (case.Rent rent) (Rent division) = text_saying (OfRent (canonical_rent rent division))
 canonical_text (case.Goods goods) (Goods division) = text_saying (OfGoods (canonical_goods goods division))

@@ -6,8 +6,8 @@ use Rattle.bid_rules.specs.Goods.{player_count}
 use Rattle.cert_reader.specs.declared.marks.TheConstants.{ANSWER_LEAF, INNER_NODE, LEFT_OUT}
 use Rattle.nash_bounds.specs.LeftOut.{may_be_left}
 
--- the tree below some owners, with k goods left to give: `-` if these owners may be left out; else `=` if no good is left, and `+` with the trees
--- below each owner of the next good if one is
+-- the tree below some owners, with k goods left to give: `-` if these owners may be left out; otherwise `=` if no goods are left, and `+` with
+-- the trees below each owner of the next good if some are
 abbrev pub canonical_marks : GoodsCase → List ℕ → ℕ → List ℕ → List ℕ
 canonical_marks case answer zero owners = cond (may_be_left case answer owners) (LEFT_OUT ∷ []) (ANSWER_LEAF ∷ [])
 canonical_marks case answer (suc k) owners = cond (may_be_left case answer owners) (LEFT_OUT ∷ [])

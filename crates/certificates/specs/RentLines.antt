@@ -1,4 +1,4 @@
--- What the canonical certificate of a rent says: the case, the solver's rooms and prices, and the numbers that show them best.
+-- What the canonical certificate of a rent says: the case, the solver's rooms and prices, and the numbers that show that these are the best.
 use Rattle.std.specs.Prelude.{pos, map}
 use Rattle.bid_rules.specs.declared.rents.RentCase.{RentCase}
 use Rattle.rent_maximin.specs.declared.division.RentDivision.{RentDivision}

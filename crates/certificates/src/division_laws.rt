@@ -1,4 +1,4 @@
-// What holds of divisions, for all cases: the law is the contract of a function that does nothing.
+// A law about divisions, which holds for all cases. It is the contract of a function that does nothing.
 ghost use Rattle.std.specs.Prelude.{◌≡◌};
 ghost use Rattle.bid_rules.specs.declared.cases.Case.{Case};
 ghost use Rattle.bid_rules.specs.Facts.{IsValidCase};
@@ -9,8 +9,8 @@ use nash_search::step_count_law;
 use rent_maximin::one_rent_division_law;
 use shapley_core::division_law as fare_division_law;
 
-/// A valid case has one division: two are equal in all that contracts see of them. Contracts see the costs of fares by the
-/// case that these costs are of.
+/// A valid case has only one division: any two are equal in everything that contracts see of them. Contracts see the costs
+/// of fares as the case that they belong to.
 pub fn division_law()
     ensures { (case : Case) (division other : Division) → IsValidCase case
         → IsDivisionOf case division → IsDivisionOf case other → division ≡ other }

@@ -1,4 +1,5 @@
-// What holds of the lines of canonical certificates of fares, for all cases: each law is the contract of a function that does nothing.
+// Laws about the lines of canonical certificates of fares, which hold for all cases. Each is the contract of a function that does
+// nothing.
 ghost use Rattle.std.specs.Prelude.{◌≡◌};
 ghost use Rattle.bid_rules.specs.declared.cases.FareCase.{FareCase};
 ghost use Rattle.bid_rules.specs.declared.limits.TheConstants.{MOST_RIDERS};
@@ -16,7 +17,7 @@ use best_laws::{coalition_law, lowest_route_law, orders_law, route_set_law, with
 use fare_rules::starts_law;
 use shapley_core::members_law;
 
-/// The lines for the solver's division print the case, of the most members that there may be, and keep all rules.
+/// The lines for the solver's division print the case, with the greatest possible number of members, and keep all rules.
 pub fn fare_lines_law()
     ensures case { (case : FareCase) (division : FareDivision)
         → printed_case (canonical_fares case division) ≡ with_members case MOST_RIDERS }

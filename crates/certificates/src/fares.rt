@@ -1,4 +1,4 @@
-// The canonical certificate of fares, in a buffer.
+// Writes the canonical certificate of fares into a buffer.
 ghost use Rattle.std.specs.Prelude.{◌≡◌, ◌++◌, [], ◌∷◌, flat_map, length, map, pos};
 ghost use Rattle.bid_rules.specs.Facts.{IsValidFareCase};
 ghost use Rattle.cert_reader.specs.declared.forms.Word.TheVariants as word;
@@ -93,7 +93,7 @@ pub fn put_fares(
     put_division(text, sets, route, fares)
 }
 
-// The same for the division of the solver, whose costs are in memory of their own.
+// The same for the solver's division, whose costs are in memory of their own.
 pub(crate) fn put_fare_division(text: &mut [u8], case: &FareCase, division: &FareDivision) -> usize
     requires case { IsValidFareCase case.now }
     requires division { IsFareDivision case.now division.now }

@@ -1,4 +1,4 @@
-// The canonical certificate of goods, in a buffer.
+// Writes the canonical certificate of goods into a buffer.
 ghost use Rattle.std.specs.Prelude.{◌≡◌, ◌++◌, [], ◌∷◌, flat_map, map, pos};
 ghost use Rattle.bid_rules.specs.Goods.{IsValidGoodsCase};
 ghost use Rattle.cert_reader.specs.declared.forms.Word.TheVariants as word;
@@ -36,7 +36,7 @@ fn put_head(text: &mut [u8], used: usize, players: u8, facts: &Goods) -> usize
     put_amounts(text, used, Word::Limit, &[facts.limit])
 }
 
-// Puts the line of the members who are the players.
+// Puts the line that lists the members who are the players.
 fn put_who(text: &mut [u8], used: usize, case: &GoodsCase) -> usize
     ensures { Puts (number_line word.Who (wholes (map pos case.now.who.items))) used text.old
         text.new result }

@@ -1,4 +1,5 @@
-// What holds of the lines of canonical certificates of goods, for all cases: each law is the contract of a function that does nothing.
+// Laws about the lines of canonical certificates of goods, which hold for all cases. Each is the contract of a function that does
+// nothing.
 ghost use Rattle.std.specs.Prelude.{◌≡◌, ◌≤◌, ◌+◌, ◌*◌, length, All};
 ghost use Rattle.bid_rules.specs.declared.goods.GoodsCase.{GoodsCase};
 ghost use Rattle.bid_rules.specs.declared.limits.TheConstants.{MOST_MEMBERS, MOST_STEPS};
@@ -17,9 +18,9 @@ ghost use Rattle.rule_verdicts.specs.Verdicts.{IsVerdictOf};
 use best_laws::players_law;
 use nash_bounds::{bound_law, open_prefixes_law, owners_by_good_law, whole_list_law};
 
-/// The lines for the solver's division print the case, of the most members that there may be, and keep all rules. Their tree is that of
-/// the best allocation. It has one mark, and at most as many more for each
-/// player as there are steps and `MOST_SHORTER`. So the text of a certificate with it fits `MOST_BYTES`.
+/// The lines for the solver's division print the case, with the greatest possible number of members, and keep all rules. Their tree is
+/// that of the best allocation. It has one mark, and for each player at most as many more as the steps plus `MOST_SHORTER`. So the text
+/// of a certificate with it fits in `MOST_BYTES`.
 pub fn goods_lines_law()
     ensures case { (case : GoodsCase) (division : GoodsDivision)
         → printed_case (canonical_goods case division) ≡ with_members case MOST_MEMBERS }

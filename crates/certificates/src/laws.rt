@@ -1,4 +1,4 @@
-// What holds of canonical certificates, for all cases: each law is the contract of a function that does nothing.
+// Laws about canonical certificates, which hold for all cases. Each is the contract of a function that does nothing.
 ghost use Rattle.std.specs.Prelude.{◌≡◌, ◌≤◌, ℕ, List, length};
 ghost use Rattle.bid_rules.specs.declared.cases.Case.{Case};
 ghost use Rattle.bid_rules.specs.Facts.{IsValidCase};
@@ -14,8 +14,8 @@ use nash_search::step_count_law;
 use rent_maximin::{division_range_law, one_rent_division_law};
 use shapley_core::division_law;
 
-/// The canonical certificate of a case is certificate text whose rules all hold, so that the verdict on it is yes. It has at most
-/// 4,000,000 bytes, and a case has at most one.
+/// The canonical certificate of a case is certificate text whose rules all hold, so the verdict on it is yes. It has at most
+/// 4,000,000 bytes, and a case has at most one such certificate.
 pub fn certificate_law()
     ensures certificate { (case : Case) (text : List ℕ) → IsValidCase case → IsCanonical case text
         → IsCertificate text }

@@ -1,13 +1,13 @@
 //! The division of a case of any kind, and its canonical certificate, whose lines keep the rules of the checker.
 //!
-//! The canonical certificate has at most 4,000,000 bytes, the judge says yes to it, and a case has
-//! at most one (`certificate_law`). One of goods or fares counts no members, so it prints the case
-//! with as many as there may be. What each member pays of a rent is the cent plan of the members'
-//! exact prices (`rent_pays`).
+//! The canonical certificate has at most 4,000,000 bytes, the judge says yes to it, and a case has at most one
+//! (`certificate_law`). A certificate of goods or fares doesn't say how many members there are, so it prints the
+//! case with as many as there may be. Of a rent, each member pays what the cent plan of the members' exact
+//! prices says (`rent_pays`).
 //!
-//! Lines are put into a slice, and what has no room is only counted (`put_rent`, `put_goods` and
-//! `put_fares`), so the writer takes no memory and can't fail. `write_certificate` takes as much
-//! memory as a text probably needs, and puts a longer one again, into as much as was counted.
+//! Lines are put into a slice, and what doesn't fit is only counted (`put_rent`, `put_goods` and `put_fares`),
+//! so the writer takes no memory and can't fail. `write_certificate` takes as much memory as a text probably
+//! needs, and if the text is longer, puts it again into as much memory as was counted.
 #![tactic(auto)]
 
 mod division;

@@ -1,4 +1,4 @@
-// Lines of a certificate, as they are put into a buffer.
+// Puts the lines of a certificate into a buffer.
 ghost use Rattle.std.specs.Prelude.{◌≡◌, ◌++◌, ◌∷◌, flat_map, map, pos};
 ghost use Rattle.std.specs.Fmt.{decimal, signed_decimal};
 ghost use Rattle.cert_reader.specs.Text.{wholes};
@@ -13,7 +13,7 @@ use cert_reader::Word;
 use itoa::{Buffer, Integer};
 use split_frac::{Frac, number_law};
 
-// Puts a number and a space before it.
+// Puts a number, with a space before it.
 fn put_number<I: Integer>(text: &mut [u8], used: usize, number: I) -> usize
     ensures { Puts (32 ∷ I.text number) used text.old text.new result }
 {
@@ -22,7 +22,7 @@ fn put_number<I: Integer>(text: &mut [u8], used: usize, number: I) -> usize
     put(text, end, buffer.format(number).as_bytes())
 }
 
-// Puts numbers, and a space before each.
+// Puts numbers, with a space before each.
 fn put_spaced<I: Integer>(text: &mut [u8], used: usize, numbers: &[I]) -> usize
     ensures { Puts (with_spaces (map I.text numbers.now)) used text.old text.new result }
 {
@@ -42,7 +42,7 @@ fn put_denominator(text: &mut [u8], used: usize, number: u64) -> usize
     put(text, end, buffer.format(number).as_bytes())
 }
 
-// Puts a fraction and a space before it.
+// Puts a fraction, with a space before it.
 #[tactic(auto, unfolding(split_frac::specs::Frac::pair_text))]
 fn put_fraction(text: &mut [u8], used: usize, number: Frac) -> usize
     ensures { Puts (32 ∷ frac_text number) used text.old text.new result }
@@ -54,7 +54,7 @@ fn put_fraction(text: &mut [u8], used: usize, number: Frac) -> usize
     put_denominator(text, end, number.den)
 }
 
-// Puts fractions, and a space before each.
+// Puts fractions, with a space before each.
 fn put_spaced_fractions(text: &mut [u8], used: usize, numbers: &[Frac]) -> usize
     ensures { Puts (with_spaces (map frac_text numbers.now)) used text.old text.new result }
 {

@@ -1,4 +1,4 @@
-// The tree of the canonical certificate of goods, mark by mark, in a buffer.
+// Writes the tree of the canonical certificate of goods into a buffer, mark by mark.
 ghost use Rattle.std.specs.Prelude.{◌≡◌, ◌-◌, ◌≤◌, [], ◌∷◌, length, false};
 ghost use Rattle.bid_rules.specs.Goods.{IsValidGoodsCase, player_count};
 ghost use Rattle.bid_rules.specs.declared.limits.TheConstants.{MEMBER_ROOM};

@@ -1,4 +1,4 @@
-// The nodes of a tree: owners of the first few goods in the order of the search. The tree leaves out a node below which no allocation is better.
+// The nodes of a tree: owners of the first few goods in search order. The tree leaves out a node below which no allocation is better.
 ghost use Rattle.std.specs.Prelude.{◌≡◌, ℕ, List, ◌<◌, ◌≤◌, ◌++◌, [], ◌∷◌, length, true, false};
 ghost use Rattle.bid_rules.specs.Goods.{AreOwners, IsValidGoodsCase, player_count};
 ghost use Rattle.bid_rules.specs.declared.limits.TheConstants.{MEMBER_ROOM};
@@ -16,7 +16,7 @@ use nash_bounds::{
     LaneTable, Lanes, empty_prefix, give, lanes_of, open_prefixes_law, players, reaches,
 };
 
-/// A node of the tree. There is one, which goes from node to node.
+/// A node of the tree. There is only one value of this type, which moves from node to node.
 #[derive(Drop)]
 pub(crate) struct Node {
     /// The owner, a player from 1, of each of the first few goods in search order.
@@ -43,7 +43,7 @@ pub(crate) fn root_of(case: &GoodsCase) -> Node
 }
 
 impl Node {
-    // What the node's children are judged by.
+    // Everything that the node's children are judged by.
     pub(crate) fn parent(&self, case: &GoodsCase, table: &LaneTable, answer: &Answer) -> Parent
         requires table { IsLaneTable case.now table.now }
         requires answer { IsAnswer case.now answer.now }
@@ -55,7 +55,7 @@ impl Node {
         parent_of(case, table, owners, &self.lanes, self.level, &answer.goal)
     }
 
-    // Goes down to the child whose next good goes to the owner.
+    // Goes down to the child that gives the next good to the owner.
     fn descend(&mut self, case: &GoodsCase, table: &LaneTable, parent: &Parent, owner: u8)
         requires table { IsLaneTable case.now table.now }
         requires open { HasFreeGood case.now self.old.owners.items }
@@ -98,8 +98,8 @@ impl Node {
         !reached.reaches
     }
 
-    // Goes down to the child whose next good goes to the owner, unless the tree may leave it out; whether it did. Most children could not
-    // reach the answer's pair.
+    // Goes down to the child that gives the next good to the owner, unless the tree may leave it out, and says whether it went down. Most
+    // children could not reach the answer's pair.
     pub(crate) fn open_child(
         &mut self,
         case: &GoodsCase,

@@ -1,4 +1,4 @@
-// What members pay of a rent in whole cents.
+// Computes what members pay of a rent, in whole cents.
 ghost use Rattle.std.specs.Prelude.{◌≡◌, ◌≤◌, All, length, map, pos};
 ghost use Rattle.bid_rules.specs.Cents.{cent_plan, prices_by_member};
 ghost use Rattle.bid_rules.specs.Rent.{IsValidRentCase};

@@ -1,4 +1,4 @@
-// The canonical certificate of a rent, in a buffer.
+// Writes the canonical certificate of a rent into a buffer.
 ghost use Rattle.std.specs.Prelude.{◌≡◌, ◌++◌, [], ◌∷◌, map, pos};
 ghost use Rattle.bid_rules.specs.Rent.{IsValidRentCase};
 ghost use Rattle.cert_reader.specs.declared.forms.Word.TheVariants as word;
@@ -31,7 +31,7 @@ fn put_head(text: &mut [u8], used: usize, members: u8, rent: u32) -> usize
     put_amounts(text, used, Word::Rent, &[rent])
 }
 
-// Puts the lines of the rooms and of what shows them best.
+// Puts the lines of the rooms and of what shows that they are the best.
 fn put_rooms(text: &mut [u8], used: usize, division: &RentDivision) -> usize
     ensures { Puts
         (number_line word.Rooms (wholes (map pos division.now.best.rooms.items))
@@ -44,7 +44,7 @@ fn put_rooms(text: &mut [u8], used: usize, division: &RentDivision) -> usize
     put_signed(text, used, Word::Right, division.best.right.as_slice())
 }
 
-// Puts the lines of the prices and of what shows them best, and the last line.
+// Puts the lines of the prices and of what shows that they are the best, and the last line.
 fn put_prices(text: &mut [u8], used: usize, division: &RentDivision) -> usize
     ensures { Puts
         (number_line word.Walks (wholes division.now.walks.weights.items)

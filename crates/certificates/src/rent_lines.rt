@@ -1,4 +1,5 @@
-// What holds of the lines of canonical certificates of rents, for all cases: each law is the contract of a function that does nothing.
+// Laws about the lines of canonical certificates of rents, which hold for all cases. Each is the contract of a function that does
+// nothing.
 ghost use Rattle.std.specs.Prelude.{◌≡◌, ◌<◌, ◌≤◌, ℕ};
 ghost use Rattle.bid_rules.specs.declared.rents.RentCase.{RentCase};
 ghost use Rattle.bid_rules.specs.Rent.{IsValidRentCase};

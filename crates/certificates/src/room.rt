@@ -1,7 +1,7 @@
 // Puts bytes after others in a buffer, if there is room for them.
 ghost use Rattle.certificates.specs.Puts.{Puts};
 
-// Puts some bytes behind the first `used` bytes of a buffer, and answers how many bytes are used then. Bytes that have no room are only
+// Puts some bytes after the first `used` bytes of a buffer, and returns how many bytes are used then. Bytes that don't fit are only
 // counted.
 pub(crate) fn put(text: &mut [u8], used: usize, more: &[u8]) -> usize
     ensures { Puts more.now used text.old text.new result }

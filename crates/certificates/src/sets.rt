@@ -1,4 +1,4 @@
-// The table of a certificate of fares: what the routes of all sets of riders cost.
+// Writes the table of a certificate of fares: what the routes of all sets of riders cost.
 ghost use Rattle.std.specs.Prelude.{◌≡◌, ◌∷◌, ◌<◌, ◌≤◌, ◌^◌, flat_map, length, map, pos};
 ghost use Rattle.bid_rules.specs.declared.limits.TheConstants.{MOST_RIDERS};
 ghost use Rattle.cert_reader.specs.declared.forms.Word.TheVariants as word;
@@ -14,7 +14,7 @@ use cert_reader::Word;
 use fare_rules::{START_ROOM, starts_law, starts_of};
 use set_costs::SetCosts;
 
-/// Room for the number of a set and an entry a start.
+/// Room for the number of a set and an entry for each start.
 const SET_LINE_ROOM: usize = START_ROOM + 1;
 
 // The numbers of the line of a set: its own number, and what its route costs from each of its starts.

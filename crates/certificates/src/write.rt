@@ -1,4 +1,4 @@
-// The canonical certificate of a case of any kind.
+// Writes the canonical certificate of a case of any kind.
 ghost use Rattle.std.specs.Prelude.{◌≡◌, ◌≤◌, length, take, IfOk};
 ghost use Rattle.bid_rules.specs.Facts.{IsValidCase};
 ghost use Rattle.cert_checker.specs.Judged.{IsCertificate};
@@ -20,7 +20,7 @@ use nash_bounds::players;
 use split_base::NoMemory;
 use std::alloc::Global;
 
-// Puts the canonical certificate of a case at the front of the text, and answers its size. If it has no room it is only counted.
+// Puts the canonical certificate of a case at the front of the text, and returns its size. What doesn't fit is only counted.
 fn put_certificate(text: &mut [u8], case: &Case, division: &Division) -> usize
     requires case { IsValidCase case.now }
     requires division { IsDivisionOf case.now division.now }
@@ -37,10 +37,10 @@ fn put_certificate(text: &mut [u8], case: &Case, division: &Division) -> usize
 // How many bytes the line of a set of riders takes in most certificates of fares.
 const LIKELY_SET_LINE: usize = 96;
 
-// How many bytes the lines take beside the marks of a tree: enough for the largest rents and goods.
+// How many bytes the lines take besides the marks of a tree: enough for the largest rents and goods.
 const LIKELY_BESIDE_MARKS: usize = 8_192;
 
-// How many bytes a certificate probably takes. Nothing rests on this guess: a longer text is written once more.
+// How many bytes a certificate probably takes. Nothing depends on this guess: a longer text is written a second time.
 fn likely_size(case: &Case, division: &Division) -> usize {
     let more = match (case, division) {
         (Case::Goods(case), Division::Goods(division)) => {
@@ -52,7 +52,7 @@ fn likely_size(case: &Case, division: &Division) -> usize {
     more.saturating_add(LIKELY_BESIDE_MARKS).min(MOST_BYTES)
 }
 
-// The certificate at the front of so much memory, and its size.
+// The certificate at the front of this much memory, and its size.
 fn write_into(
     alloc: Global,
     case: &Case,
@@ -74,11 +74,11 @@ fn write_into(
     Ok((text, size))
 }
 
-/// The canonical certificate of a case: the case, its division, and the numbers that show the division best (certifying algorithms:
-/// McConnell, Mehlhorn, Näher and Schweitzer 2011). It is written once into memory that is probably enough. Only a text that didn't fit is
-/// written again, into as much as it takes.
+/// The canonical certificate of a case: the case, its division, and the numbers that show that the division is the best (certifying
+/// algorithms: McConnell, Mehlhorn, Näher and Schweitzer 2011). It is written once into memory that is probably enough. Only a text that
+/// didn't fit is written again, into as much as it takes.
 ///
-/// The division is the solver's for that case. `NoMemory` comes only when memory runs out.
+/// The division is the solver's for that case. `NoMemory` is returned only when memory runs out.
 pub fn write_certificate(
     alloc: Global,
     case: &Case,

@@ -3,13 +3,13 @@ use crate::limits::{GIVING_UP_SECONDS, LEAST_PAUSE_MILLIS, MOST_PAUSE_MILLIS};
 use std::io::Error;
 use std::time::Duration;
 
-// All errors of accept(2), as Linux numbers them. Those that have no name here are of the port: EMFILE, ENFILE, ENOBUFS and ENOMEM, which tell
-// that descriptors or memory are lacking, and EBADF, EFAULT, EINVAL and ENOTSOCK, of a listener that is none.
+// All errors of accept(2), as Linux numbers them. The ones not named here concern the port: EMFILE, ENFILE, ENOBUFS and ENOMEM, which mean
+// that descriptors or memory are lacking, and EBADF, EFAULT, EINVAL and ENOTSOCK, which mean that the listener isn't one.
 
-/// Nobody waits.
+/// Nobody is waiting.
 const EAGAIN: i32 = 11;
 
-/// Errors of one client: it has gone, or a rule of the system forbids it; and a signal.
+/// Errors that concern one client (it has gone, or a rule of the system forbids it), and signals.
 const EPERM: i32 = 1;
 
 const EINTR: i32 = 4;
@@ -39,7 +39,7 @@ const EHOSTDOWN: i32 = 112;
 
 const EHOSTUNREACH: i32 = 113;
 
-/// The errors that tell of one client, and not of the port: the next client may do better.
+/// The errors that concern one client and not the port: the next client may do better.
 const OF_A_CLIENT: [i32; 14] = [
     EPERM,
     EINTR,
@@ -60,15 +60,15 @@ const OF_A_CLIENT: [i32; 14] = [
 /// Why there is no connection.
 #[derive(Clone, Copy, Debug, PartialEq, Eq)]
 pub(crate) enum Refusal {
-    /// Nobody waits to be accepted.
+    /// Nobody is waiting to be accepted.
     Nobody,
-    /// One client has gone, or may not come.
+    /// One client has gone or isn't allowed in.
     Client,
     /// The port lacks descriptors or memory, or is broken.
     Port,
 }
 
-// What an error of `accept` tells.
+// What an error of `accept` means.
 pub(crate) fn refusal_of(error: &Error) -> Refusal {
     match error.raw_os_error() {
         Some(EAGAIN) => Refusal::Nobody,
@@ -118,12 +118,12 @@ impl Backoff {
         self.waited = self.waited.saturating_add(self.pause);
     }
 
-    // Whether the pauses that were counted since the last success have lasted so long that the port is given up.
+    // Whether the pauses counted since the last success have lasted so long that the port gives up.
     pub(crate) fn gives_up(&self) -> bool {
         self.waited >= Duration::from_secs(GIVING_UP_SECONDS)
     }
 
-    // How long the pause still lasts.
+    // How much longer the pause lasts.
     pub(crate) fn left(&self, now: Duration) -> Duration {
         self.until.saturating_sub(now)
     }

@@ -3,54 +3,52 @@ ghost use Rattle.std.specs.Prelude.{◌≡◌, ◌≤◌, length, IfSome};
 ghost use Rattle.client_port.specs.Writes.{IsWritten};
 
 use mio::net::TcpStream;
-use split_http::{Framing, MAX_BODY, MAX_HEAD, framing_of};
+use split_http::{Framing, INTERIM, MAX_BODY, MAX_HEAD, framing_of};
 use std::alloc::Global;
 use std::io::{ErrorKind, Read, Write};
 use std::net::Shutdown;
 use std::time::Duration;
 
-/// The most bytes of a client that are read ahead: those of the longest request, and less than one read more.
+/// The most bytes that are read ahead from a client: those of the longest request, and less than one further read.
 const MOST_AHEAD: usize = MAX_HEAD + MAX_BODY as usize;
 
-/// The most reads of one look at a client. What is left then is read at the next look, or is of a client that is closed.
+/// The most reads in one look at a client. What is left after that is read at the next look, or belongs to a client that is
+/// closed.
 const MOST_READS: usize = 16;
 
-/// The most room that a client keeps which has sent nothing further.
+/// The most room that is kept for a client that has sent nothing further.
 const KEPT_ROOM: usize = 4_096;
 
-/// The interim reply, as the host writes it.
-const INTERIM: &[u8] = b"HTTP/1.1 100 Continue\r\n\r\n";
-
-/// What a client is about.
+/// What stage a client is at.
 #[derive(Clone, Copy, Debug, PartialEq, Eq)]
 pub(crate) enum Stage {
     /// Its next request isn't whole, or it hasn't taken the reply to the last one.
     Filling,
     /// It waits for its turn.
     Waiting,
-    /// It is handed out.
+    /// It has been handed out.
     Served,
     /// It is dropped as soon as it has closed its end.
     Closing,
 }
 
-/// Where the request at the front ends.
+/// Where the request at the front of the bytes ends.
 #[derive(Clone, Copy, Debug, PartialEq, Eq)]
 enum End {
     /// That isn't known yet.
     Open,
-    /// Behind so many bytes.
+    /// After this many bytes.
     Behind(usize),
-    /// There is none: the host hears all that has come, and refuses it.
+    /// There is no request: the host hears everything that has come, and refuses it.
     Never,
 }
 
 /// What became of a write.
 #[derive(Clone, Copy, Debug, PartialEq, Eq)]
 pub(crate) enum Written {
-    /// The system, or the client, took so many bytes.
+    /// The system, or the client, took this many bytes.
     Taken(usize),
-    /// It would wait.
+    /// The write would have to wait.
     Full,
     /// The connection has failed.
     Failed,
@@ -78,7 +76,7 @@ pub(crate) struct Client {
 }
 
 impl Client {
-    // A client that has just come. What it has sent wasn't looked at yet.
+    // A client that has just come. What it has sent has not been looked at yet.
     pub(crate) fn new(stream: TcpStream, alloc: Global, now: Duration) -> Client {
         Client {
             stream,
@@ -105,7 +103,7 @@ impl Client {
         self.stage
     }
 
-    // Since when it is in its stage.
+    // When it came to its stage.
     pub(crate) fn since(&self) -> Duration {
         self.since
     }
@@ -120,12 +118,12 @@ impl Client {
         }
     }
 
-    // Whether it wasn't handed out yet.
+    // Whether it has not been handed out yet.
     pub(crate) fn is_fresh(&self) -> bool {
         self.is_fresh
     }
 
-    // Whether no more comes from it.
+    // Whether nothing more will come from it.
     pub(crate) fn has_ended(&self) -> bool {
         self.has_ended
     }
@@ -140,7 +138,7 @@ impl Client {
         self.output.len()
     }
 
-    // Since when.
+    // Since when some bytes have been kept for it without a break.
     pub(crate) fn kept_since(&self) -> Duration {
         self.kept_since
     }
@@ -151,7 +149,7 @@ impl Client {
         self.since = now;
     }
 
-    // Heeds what the system tells of the connection.
+    // Takes note of what the system reports about the connection.
     pub(crate) fn heed(&mut self, is_readable: bool, is_ending: bool, scratch: &mut [u8]) {
         if is_readable || is_ending {
             self.is_readable = true;
@@ -183,7 +181,7 @@ impl Client {
         }
     }
 
-    // Keeps what was read. A read that came short has taken all that was there.
+    // Keeps what was read. A short read has taken all that was there.
     fn take(&mut self, bytes: &[u8], is_short: bool) {
         if is_short && !self.is_ending {
             self.is_readable = false;
@@ -199,8 +197,8 @@ impl Client {
         self.has_failed = true;
     }
 
-    // Whether it may have a turn: its request is whole, or is one that the host refuses, or it sends no more; and it has taken all
-    // that was sent to it. One that asks for an interim reply gets it here, as soon as its head is there.
+    // Whether it may have a turn: its request is whole or is one that the host refuses, or it sends no more; and it has taken
+    // everything that was sent to it. One that asks for an interim reply gets it here, as soon as its head is there.
     pub(crate) fn is_ready(&mut self) -> bool {
         if self.end == End::Open && self.input.len() > self.looked {
             self.look();
@@ -248,7 +246,7 @@ impl Client {
         }
     }
 
-    // Whether no more comes of what has begun, or of a connection that wasn't handed out yet.
+    // Whether nothing more will come of a request that has begun, or from a connection that hasn't been handed out yet.
     fn is_cut(&self) -> bool {
         self.has_ended && (self.is_fresh || !self.input.is_empty())
     }
@@ -259,7 +257,7 @@ impl Client {
         self.is_fresh = false;
     }
 
-    // Where the bytes end that the host may hear.
+    // Where the bytes that the host may hear end.
     fn stop(&self) -> usize {
         match self.end {
             End::Behind(end) => end.min(self.input.len()),
@@ -267,7 +265,7 @@ impl Client {
         }
     }
 
-    // Gives bytes of the current request, as many as are there and fit.
+    // Gives bytes of the current request, as many as there are and as fit.
     pub(crate) fn give(&mut self, into: &mut [u8]) -> usize
         ensures { result ≤ length into.new }
     {
@@ -310,7 +308,7 @@ impl Client {
         self.fill(scratch);
     }
 
-    // Whether this is the interim reply of the host, which the client has already.
+    // Whether this is the host's interim reply, which the client already has.
     pub(crate) fn has_this(&mut self, piece: &[u8]) -> bool {
         if self.has_interim && piece == INTERIM {
             self.has_interim = false;
@@ -372,7 +370,7 @@ impl Client {
         }
     }
 
-    // Sends what is kept, and tells whether nothing is left of it.
+    // Sends what is kept, and says whether all of it has gone out.
     fn sends(&mut self) -> bool {
         for _ in 0..u64::MAX {
             let rest = match self.output.as_slice().get(self.sent..) {
@@ -392,9 +390,9 @@ impl Client {
         false
     }
 
-    // Tells the client that no more comes after what is kept, and drops what it still sends.
+    // Tells the client that nothing more will come after what is kept, and drops what it still sends.
     //
-    // A connection that is closed while bytes of the client are unread may be reset, and the client may lose the last reply (RFC
+    // A connection that is closed while bytes from the client are unread may be reset, and the client may lose the last reply (RFC
     // 9112, section 9.6).
     pub(crate) fn close(&mut self, now: Duration) {
         self.enter(Stage::Closing, now);
@@ -412,7 +410,7 @@ impl Client {
     }
 }
 
-// Drops the first bytes.
+// Removes the first bytes.
 fn drop_front(bytes: &mut Vec<u8>, count: usize) {
     let len = bytes.len();
     if count >= len {

@@ -20,13 +20,13 @@ const READ_ROOM: usize = 16_384;
 /// A turn that the port can hand out.
 #[derive(Clone, Copy, Debug)]
 pub(crate) enum Next {
-    /// That of the client at this place.
+    /// The turn of the client at this place.
     Client(usize),
-    /// That of a client that was dropped before it had one.
+    /// The turn of a client that was dropped before it had one.
     Gone,
 }
 
-/// The clients, each at a place of its own, and the line of those that wait for their turn.
+/// The clients, each at a place of its own, and the line of those waiting for their turn.
 #[derive(Drop)]
 pub(crate) struct Crowd {
     alloc: Global,
@@ -43,7 +43,7 @@ pub(crate) struct Crowd {
 }
 
 impl Crowd {
-    // Nobody yet. There is one place more than clients are kept, for one that comes while none can be dropped.
+    // No clients yet. There is one place more than the number of clients that are kept, for one that comes while none can be dropped.
     pub(crate) fn new(alloc: Global, limits: PortLimits, now: Duration) -> Option<Crowd> {
         let most = limits.clients.saturating_add(1);
         Some(Crowd {
@@ -61,7 +61,7 @@ impl Crowd {
         })
     }
 
-    // One moment for all that happens in a turn of the loop.
+    // The moment that counts for everything in one turn of the loop.
     pub(crate) fn now(&self) -> Duration {
         self.now
     }
@@ -76,17 +76,17 @@ impl Crowd {
         self.is_broken
     }
 
-    // After a fault of the wait or of the clock, no turn is handed out any more.
+    // Called after a fault of the wait or of the clock: no more turns are handed out.
     pub(crate) fn break_off(&mut self) {
         self.is_broken = true;
     }
 
-    // Connections wait to be accepted.
+    // Notes that connections are waiting to be accepted.
     pub(crate) fn knock(&mut self) {
         self.is_knocked = true;
     }
 
-    // How long until connections that wait can be accepted. `None` if none wait, or there is no place for them.
+    // How long until waiting connections can be accepted. `None` if none are waiting or there is no place for them.
     pub(crate) fn admits_in(&self) -> Option<Duration> {
         if !self.is_knocked {
             return None;
@@ -99,7 +99,7 @@ impl Crowd {
         }
     }
 
-    // Whether even the place is taken that is more than clients are kept.
+    // Whether even the extra place is taken.
     fn is_full(&self) -> bool {
         self.clients.len() > self.limits.clients
     }
@@ -135,8 +135,8 @@ impl Crowd {
         self.clients.get_mut(at)
     }
 
-    // Accepts those that have come, as long as there is a place, or a client can be dropped for another. After a failure of the port a client is
-    // dropped, since descriptors may be lacking. If that doesn't help, those that wait are served first.
+    // Accepts the connections that have come, as long as there is a place or a client can be dropped for another. After a failure of the port a
+    // client is dropped, since descriptors may be lacking. If that doesn't help, those that are waiting are served first.
     pub(crate) fn admit_all(&mut self, listener: &TcpListener, registry: &Registry) {
         let mut has_failed = false;
         let mut has_dropped = false;
@@ -165,7 +165,7 @@ impl Crowd {
         }
     }
 
-    // Accepts a connection, or tells why there is none.
+    // Accepts a connection, or says why there is none.
     fn accept(&mut self, listener: &TcpListener, registry: &Registry) -> Option<Refusal> {
         match listener.accept() {
             Ok((stream, _)) => {
@@ -184,7 +184,7 @@ impl Crowd {
         }
     }
 
-    // Leaves the listener alone for a while after a failure of the port. If clients wait for a turn the port is full, and not broken.
+    // Leaves the listener alone for a while after a failure of the port. If clients are waiting for a turn, the port is full rather than broken.
     fn lacks(&mut self) {
         if !self.has_next() {
             self.backoff.count();
@@ -193,7 +193,7 @@ impl Crowd {
         self.is_broken = self.is_broken || self.backoff.gives_up();
     }
 
-    // Takes a client in. If there is one too many the one that has waited longest goes.
+    // Takes a client in. If that is one too many, the one that has waited longest goes.
     fn admit(&mut self, mut stream: TcpStream, registry: &Registry) {
         if self.clients.len() >= self.limits.clients {
             let _ = self.drop_longest();
@@ -210,7 +210,7 @@ impl Crowd {
         self.heed(at, true, false);
     }
 
-    // Heeds what the system tells of a client.
+    // Takes note of what the system reports about a client.
     pub(crate) fn heed(&mut self, at: usize, is_readable: bool, is_ending: bool) {
         if let Some(client) = self.clients.get_mut(at) {
             client.heed(is_readable, is_ending, self.scratch.as_mut_slice());
@@ -218,7 +218,7 @@ impl Crowd {
         }
     }
 
-    // Lets a client go on to its next request, and tells whether that is ready.
+    // Lets a client go on to its next request, and says whether that is ready.
     pub(crate) fn goes_on(&mut self, at: usize) -> bool {
         if let Some(client) = self.clients.get_mut(at) {
             client.go_on(self.scratch.as_mut_slice());
@@ -228,7 +228,7 @@ impl Crowd {
         }
     }
 
-    // Puts a client in line that may have a turn, and drops one that is done with.
+    // Puts a client that may have a turn in line, and drops one that is finished.
     fn settle(&mut self, at: usize) {
         let Some(client) = self.clients.get_mut(at) else {
             return;
@@ -273,7 +273,7 @@ impl Crowd {
         None
     }
 
-    // Drops a client at once. One that had no turn yet is owed one.
+    // Drops a client at once. One that has had no turn yet is still owed one.
     pub(crate) fn drop_client(&mut self, at: usize) {
         if let Some(client) = self.clients.try_remove(at)
             && client.is_fresh()
@@ -282,7 +282,7 @@ impl Crowd {
         }
     }
 
-    // Drops the client that has been longest without a whole request, and tells whether there was one that may be dropped.
+    // Drops the client that has been longest without a whole request, and says whether there was one that may be dropped.
     fn drop_longest(&mut self) -> bool {
         let mut longest = None;
         let mut since = Duration::MAX;
@@ -304,7 +304,7 @@ impl Crowd {
         }
     }
 
-    // Takes a client back whose turn is over and that may make a further request.
+    // Takes back a client whose turn is over and that may make another request.
     pub(crate) fn keep(&mut self, at: usize) {
         let now = self.now;
         if let Some(client) = self.client(at) {
@@ -313,7 +313,7 @@ impl Crowd {
         self.settle(at);
     }
 
-    // Closes a client, whose last reply is sent or kept.
+    // Closes a client whose last reply has been sent or is kept.
     pub(crate) fn close(&mut self, at: usize) {
         let now = self.now;
         if let Some(client) = self.client(at) {
@@ -337,7 +337,8 @@ impl Crowd {
         }
     }
 
-    // Keeps a whole piece for a client. If too much is kept of all, those for whom it was kept longest are dropped.
+    // Keeps a whole piece for a client. If too much is kept for all clients together, those for whom something has been kept longest are
+    // dropped.
     fn keep_piece(&mut self, at: usize, piece: &[u8]) -> Option<usize>
         ensures { IfSome result (λ n. n ≡ length piece.now) }
     {
@@ -367,7 +368,7 @@ impl Crowd {
         kept
     }
 
-    // The client for whom something is kept, since longest.
+    // The client for whom something has been kept longest.
     fn longest_kept(&mut self) -> Option<usize> {
         let mut longest = None;
         let mut since = Duration::MAX;
@@ -383,12 +384,12 @@ impl Crowd {
         longest
     }
 
-    // Whether something is still to be sent, or a client that is closed hasn't closed its end.
+    // Whether something is still to be sent, or some closed client hasn't closed its own end.
     pub(crate) fn is_busy(&self) -> bool {
         self.clients.iter().any(|(_, client)| client.kept() > 0 || client.stage() == Stage::Closing)
     }
 
-    // Drops the clients whose time is over. It looks for them once in a while.
+    // Drops the clients whose time is over. It looks for them only once in a while.
     pub(crate) fn sweep(&mut self) {
         if self.now.saturating_sub(self.swept) < self.limits.closing {
             return;

@@ -1,26 +1,27 @@
-// Limits of a port with many clients.
+// The limits of a port with many clients.
 use adapters::limits::CLOSING_SECONDS;
 use std::time::Duration;
 
 /// The most clients of a port at once.
 pub const MOST_CLIENTS: usize = 1_000;
 
-/// How long a client may stay without a whole request, or take for what is kept for it, in seconds.
+/// How long a client may go without a whole request, or without taking what is kept for it, in seconds.
 pub const IDLE_SECONDS: u64 = 600;
 
-/// How long a client without a whole request is not dropped for another, in milliseconds. The request of one that has just come may be on its way.
+/// For how long a client without a whole request is safe from being dropped for another, in milliseconds. The request of one that has just come
+/// may be on its way.
 pub const GRACE_MILLIS: u64 = 10;
 
-/// For how long clients may hold others between two of their requests, in seconds and in all.
+/// For how long clients may hold others up between two of their requests, in seconds and in total.
 pub const PURSE_SECONDS: u64 = 1;
 
-/// The pause after a first failed call of `accept`, in milliseconds. It is doubled at each further failure in a row.
+/// The pause after a first failed call of `accept`, in milliseconds. It doubles with each further failure in a row.
 pub const LEAST_PAUSE_MILLIS: u64 = 1;
 
 /// The longest such pause, in milliseconds.
 pub const MOST_PAUSE_MILLIS: u64 = 100;
 
-/// After how many seconds of such pauses without one success the port is given up.
+/// After how many seconds of such pauses without a single success the port gives up.
 pub const GIVING_UP_SECONDS: u64 = 10;
 
 /// The most bytes that are kept to be sent to one client. No reply is longer.
@@ -32,19 +33,19 @@ pub const MOST_KEPT_OF_ALL: usize = 16_000_000;
 /// The limits of a port.
 #[derive(Clone, Copy, Debug)]
 pub struct PortLimits {
-    /// The most clients at once. One more drops the one that has been longest without a whole request.
+    /// The most clients at once. If one more comes, the one that has been longest without a whole request is dropped.
     pub clients: usize,
     /// How long a client without a whole request is safe from being dropped for another.
     pub grace: Duration,
-    /// How long a client may stay without a whole request.
+    /// How long a client may go without a whole request.
     pub idle: Duration,
-    /// How long a client that is closed has to close its end.
+    /// How long a closed client has to close its own end.
     pub closing: Duration,
-    /// For how long clients may hold others between two of their requests, in all. A hundredth of the time that passes comes back.
+    /// For how long in total clients may hold others up between two of their requests. It refills by a hundredth of the time that passes.
     pub purse: Duration,
-    /// The most bytes that are kept to be sent to one client. If a reply has more its connection fails.
+    /// The most bytes that are kept to be sent to one client. If a reply has more, its connection fails.
     pub kept_of_one: usize,
-    /// The most bytes that are kept to be sent to all. Beyond them the client is dropped for which some are kept longest.
+    /// The most bytes that are kept to be sent to all clients. Beyond that, the client for which some have been kept longest is dropped.
     pub kept_of_all: usize,
 }
 

@@ -1,4 +1,4 @@
-// A listener with its clients.
+// A listener with its clients, and the one loop that serves them.
 ghost use Rattle.std.specs.Prelude.{◌≡◌, ◌<◌, ◌≤◌, length, IfSome};
 
 use crate::accepts::Backoff;
@@ -16,13 +16,13 @@ use std::time::{Clock, Duration};
 /// How many events one wait takes.
 const MOST_EVENTS: usize = 256;
 
-/// How many looks the end takes at most, if the clock has stopped.
+/// How many looks closing down takes at most, if the clock has stopped.
 const MOST_LOOKS: usize = 100_000;
 
-/// For how long a look at all clients is good, in microseconds.
+/// For how long a look at all clients stays fresh, in microseconds.
 const FRESH_MICROS: u64 = 100;
 
-/// A listener with its clients.
+/// A listener with its clients, and the one loop that serves them.
 #[derive(Drop)]
 pub(crate) struct Pool {
     listener: TcpListener,
@@ -66,7 +66,7 @@ impl Pool {
         })
     }
 
-    // Waits until the system tells of a client, or until the time is over, and heeds what it tells.
+    // Waits until the system reports something about a client or the time is over, and takes note of what it reports.
     pub(crate) fn turn<C: Clock>(&mut self, clock: &C, most: Duration) {
         let begun = self.crowd.now();
         let wait = self.crowd.admits_in().unwrap_or(most).min(most);
@@ -92,7 +92,7 @@ impl Pool {
         self.crowd.sweep();
     }
 
-    // Pauses if a wait ended early and told nothing, as when signals interrupt each of them.
+    // Pauses if a wait ended early without reporting anything, as when signals keep interrupting it.
     fn rest<C: Clock>(&mut self, clock: &C, begun: Duration, wait: Duration) {
         let now = self.crowd.now();
         if self.events.is_empty() && now.saturating_sub(begun) < wait {
@@ -103,7 +103,7 @@ impl Pool {
         }
     }
 
-    // Reads the clock. If it fails no client may hold others, and no pause ends.
+    // Reads the clock. If that fails, no client may hold others up, and no pause ends.
     fn read_clock<C: Clock>(&mut self, clock: &C) {
         match clock.monotonic() {
             Ok(now) => {
@@ -119,7 +119,7 @@ impl Pool {
         }
     }
 
-    // Looks at all clients, if the last look is no longer good.
+    // Looks at all clients, if the last look is no longer fresh.
     fn look<C: Clock>(&mut self, clock: &C) {
         self.read_clock(clock);
         if self.crowd.now().saturating_sub(self.looked) >= Duration::from_micros(FRESH_MICROS) {
@@ -127,7 +127,7 @@ impl Pool {
         }
     }
 
-    // The next turn, for which it waits; nothing if the listener or the system's wait has failed.
+    // Waits for the next turn; gives nothing if the listener or the system's wait has failed.
     pub(crate) fn await_next<C: Clock>(&mut self, clock: &C) -> Option<Next> {
         self.held_since = None;
         self.look(clock);
@@ -143,7 +143,7 @@ impl Pool {
         None
     }
 
-    // How long the client whose turn it is may be waited for. `None` if another client is ready, and nothing is left for a wait.
+    // How long the host may wait for the client whose turn it is. `None` if another client is ready and the purse is empty.
     pub(crate) fn patience(&mut self) -> Option<Duration> {
         if !self.crowd.has_next() {
             return Some(self.limits.closing);
@@ -153,7 +153,7 @@ impl Pool {
         self.purse.left()
     }
 
-    // Takes out of the purse for how long others were held.
+    // Takes out of the purse the time for which others were held up.
     fn spend(&mut self) {
         if let Some(since) = self.held_since {
             self.purse.spend(self.crowd.now().saturating_sub(since));
@@ -180,7 +180,7 @@ impl Pool {
         self.crowd.client(at)
     }
 
-    // Lets a client go on to its next request. If it would not wait for it the others are looked at first.
+    // Lets a client go on to its next request. If there will be no wait for it, the other clients are looked at first.
     pub(crate) fn go_on<C: Clock>(&mut self, at: usize, clock: &C) {
         if self.crowd.goes_on(at) || self.crowd.has_next() {
             self.look(clock);
@@ -194,13 +194,13 @@ impl Pool {
         self.crowd.write(at, piece)
     }
 
-    // Takes a client back whose turn is over and that may make a further request.
+    // Takes back a client whose turn is over and that may make another request.
     pub(crate) fn keep(&mut self, at: usize) {
         self.spend();
         self.crowd.keep(at);
     }
 
-    // Closes a client, whose last reply is sent or kept.
+    // Closes a client whose last reply has been sent or is kept.
     pub(crate) fn close(&mut self, at: usize) {
         self.spend();
         self.crowd.close(at);
@@ -212,7 +212,7 @@ impl Pool {
         self.crowd.drop_client(at);
     }
 
-    // Sends what is kept, and waits for the clients that are closed to close their ends, for a short time in all.
+    // Sends what is kept, and waits for a short time for closed clients to close their own ends.
     pub(crate) fn finish<C: Clock>(&mut self, clock: &C) {
         self.read_clock(clock);
         let end = self.crowd.now().saturating_add(self.limits.closing);

@@ -1,4 +1,4 @@
-// A TCP port of this machine.
+// A TCP port of this machine, which hands out turns of its clients.
 ghost use Rattle.std.specs.Prelude.{◌≡◌, None};
 
 use crate::limits::PortLimits;
@@ -10,8 +10,8 @@ use std::alloc::Global;
 use std::net::Net;
 use std::time::Clock;
 
-/// The TCP ports of 127.0.0.1, which no other machine reaches. It never ends. It reads ahead of all its clients, and hands out turns of
-/// them, the one whose request was whole first before the others. One turn at a time: `accept` fails until the last link was given back.
+/// The TCP ports of 127.0.0.1, which no other machine reaches. It never ends. It reads ahead from all its clients and hands out their turns,
+/// in the order in which their requests became whole. There is one turn at a time: `accept` fails until the last link has been given back.
 #[derive(Drop)]
 pub struct TcpPort<'r, R> {
     alloc: Global,
@@ -24,7 +24,7 @@ pub struct TcpPort<'r, R> {
 }
 
 impl<'r, R: Net + Clock> TcpPort<'r, R> {
-    /// A port that doesn't listen yet, and has had no fault. It takes memory when it listens, and for its clients.
+    /// A port that isn't listening yet and has had no fault. It takes memory when it listens, and for its clients.
     pub fn new(alloc: Global, system: &'r R, limits: PortLimits) -> Self
         ensures faults { result.faults ≡ 0 }
         ensures out { result.out ≡ 0 }
@@ -63,7 +63,8 @@ impl<'r, R: Net + Clock> TcpPort<'r, R> {
         }
     }
 
-    /// Sends what is kept for clients, and waits for those that are closed to close their ends, for a short time in all. No turn may follow.
+    /// Sends what is kept for clients, and waits for a short time for closed clients to close their own ends. There may be no turns after
+    /// this.
     pub fn finish(&mut self)
         ensures { self.new.faults ≡ self.old.faults }
     {

@@ -1,14 +1,14 @@
-// The budget of time, shared by all clients, for which they may hold up others.
+// The time budget, shared by all clients, for holding others up.
 use std::time::Duration;
 
-/// One part in so many of the time that passes comes back.
+/// The purse refills by one part in this many of the time that passes.
 const REFILL: u32 = 100;
 
-/// The least that is waited for, in milliseconds.
+/// The shortest wait that is worth making, in milliseconds.
 const LEAST_MILLIS: u64 = 1;
 
-/// Time that a client may spend while others wait. All clients share it, so that they wait no longer than this in all, however many hold
-/// them. It comes back slowly.
+/// Time that a client may spend while others wait. All clients share it, so that the others wait no longer than this in total, however
+/// many clients hold them up. It refills slowly.
 #[derive(Drop)]
 pub(crate) struct Purse {
     most: Duration,
@@ -26,14 +26,14 @@ impl Purse {
         }
     }
 
-    // Gives back what has come back by now.
+    // Refills the purse up to now.
     pub(crate) fn refill(&mut self, now: Duration) {
         let passed = now.saturating_sub(self.refilled);
         self.refilled = now;
         self.left = self.left.saturating_add(passed / REFILL).min(self.most);
     }
 
-    // Takes time out, as far as it is there.
+    // Takes time out, as far as there is any.
     pub(crate) fn spend(&mut self, time: Duration) {
         self.left = self.left.saturating_sub(time);
     }

@@ -1,4 +1,4 @@
-// A turn of a client as a link.
+// A client's turn, as a link.
 ghost use Rattle.std.specs.Prelude.{◌≡◌, ◌<◌, ◌≤◌, ◌↔◌, length, IfSome, IsTrue, None};
 ghost use Rattle.std.proofs.Common.{refl};
 ghost use Rattle.split_base.specs.Links.{link_faults};
@@ -12,20 +12,20 @@ use std::time::{Clock, Duration};
 /// What a read comes to.
 #[derive(Clone, Copy, Debug, PartialEq, Eq)]
 enum Step {
-    /// Bytes of the current request are there.
+    /// There are bytes of the current request.
     Gives,
     /// The input of the link ends.
     Ends,
     /// The connection has failed, or its time is over.
     Fails,
-    /// It waits, for no longer than this, and looks again.
+    /// It waits for no longer than this, and then looks again.
     Waits(Duration),
 }
 
-/// A turn of a client: one request or several, each of them whole. It tells none of its bytes.
+/// A client's turn: one request or several, each of them whole. It reveals none of its bytes.
 ///
-/// Its input ends if the client has closed its end, and between two requests if another client is ready and the port's time for
-/// waiting is used up. In that case the connection stays, and has another turn when its next request is whole. A client that was dropped
+/// Its input ends if the client has closed its end, and between two requests if another client is ready and the port's time for waiting
+/// is used up. In the second case the connection stays, and has another turn when its next request is whole. A client that was dropped
 /// before it had a turn has one whose calls all fail.
 #[derive(Drop)]
 pub struct TurnLink<'r, C> {
@@ -40,7 +40,7 @@ pub struct TurnLink<'r, C> {
 }
 
 impl<'r, C: Clock> TurnLink<'r, C> {
-    // The turn begins where the loop stands now.
+    // A turn, which begins where the loop stands now.
     pub(crate) fn new(pool: Pool, next: Next, clock: &'r C) -> Self
         ensures reads { result.read_faults ≡ 0 }
         ensures writes { result.write_faults ≡ 0 }
@@ -121,7 +121,7 @@ impl<'r, C: Clock> TurnLink<'r, C> {
         self.step_between(at)
     }
 
-    // Behind the reply to a request, and before the next is whole.
+    // What a read can do after the reply to a request, before the next one is whole.
     fn step_between(&mut self, at: usize) -> Step
         ensures reads { self.new.read_faults ≡ self.old.read_faults }
         ensures writes { self.new.write_faults ≡ self.old.write_faults }

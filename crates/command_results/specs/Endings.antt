@@ -11,7 +11,7 @@ use Rattle.command_results.specs.declared.text.Text.{Text}
 use Rattle.command_results.specs.declared.text.Text.TheVariants.{Kept, Brief}
 use Rattle.split_frac.specs.Texts.{line, word_line}
 
--- that all rules hold
+-- the text that says that all rules hold
 abbrev pub yes_line : List ℕ
 yes_line = codes "yes\n"
 

@@ -1,4 +1,4 @@
--- What a caller with a buffer gets of an ending.
+-- What a caller with a buffer is given of an ending.
 use Rattle.std.specs.Prelude.{◌≡◌, ◌<◌, ◌≤◌, ℕ, List, Result, length, take}
 use Rattle.command_results.specs.Endings.{owed}
 use Rattle.command_results.specs.declared.stop.Stop.{Stop}

@@ -1,4 +1,4 @@
--- What a source and a sink tell before and after a command.
+-- What a source and a sink reveal before and after a command.
 use Rattle.std.specs.Prelude.{◌≡◌, ◌⊎◌, ℕ, ◌+◌, ◌<◌, ◌≤◌, List, Option, length, take}
 use Rattle.std.specs.Io.KnownBytes.{Appends, Consumes, IsAtEnd}
 use Rattle.split_base.specs.Faults.{HasRisen, counted}
@@ -10,7 +10,7 @@ pub record ObjectUse : Type 0 where
   pub faults_before : ℕ
   pub faults_after : ℕ
 
--- what an object tells, by what its trait says of its bytes and faults
+-- what an object reveals, from what its trait says about its bytes and faults
 abbrev pub use_of : {S : Type 0} → (S → Option (List ℕ)) → (S → ℕ) → S → S → ObjectUse
 use_of bytes faults before after = record { bytes_before = bytes before; bytes_after = bytes after; faults_before = faults before; faults_after = faults after }
 
@@ -30,7 +30,7 @@ HasNoFault object = object.faults_after ≡ object.faults_before
 abbrev pub HasOneFault : ObjectUse → Type 0
 HasOneFault object = HasFault object × (object.faults_after ≡ counted object.faults_before)
 
--- the input gave these bytes, at most so many, and then no more were left; no read failed
+-- the input gave these bytes, at most this many, and then no more were left; no read failed
 abbrev pub IsWhole : ℕ → ObjectUse → List ℕ → Type 0
 IsWhole most input bytes = (length bytes ≤ most) × Consumes input.bytes_before input.bytes_after bytes × IsAtEnd input.bytes_after × HasNoFault input
 
@@ -38,11 +38,11 @@ IsWhole most input bytes = (length bytes ≤ most) × Consumes input.bytes_befor
 abbrev pub IsUntouched : ObjectUse → Type 0
 IsUntouched input = (input.bytes_after ≡ input.bytes_before) × HasNoFault input
 
--- the input gave some bytes, at most one more than so many
+-- the input gave some bytes, at most one more than this many
 abbrev pub IsPartRead : ℕ → ObjectUse → Type 0
 IsPartRead most input = (bytes : List ℕ) × (length bytes ≤ most + 1) × Consumes input.bytes_before input.bytes_after bytes
 
--- the input gave one byte more than so many, and no more of it was read; no read failed
+-- the input gave one byte more than this many, and no more of it was read; no read failed
 abbrev pub IsTooLong : ℕ → ObjectUse → Type 0
 IsTooLong most input = (bytes : List ℕ) × (length bytes ≡ most + 1) × Consumes input.bytes_before input.bytes_after bytes × HasNoFault input
 

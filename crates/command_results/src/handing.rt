@@ -1,4 +1,4 @@
-// The status and the text of an ending, for a caller with a buffer, such as one that is not written in Rattle.
+// Hands out the status and the text of an ending to a caller with a buffer, such as one that is not written in Rattle.
 ghost use Rattle.std.specs.Prelude.{◌≡◌, Err, length};
 ghost use Rattle.command_results.specs.Endings.{ending_of, verdict_ending};
 ghost use Rattle.command_results.specs.Handing.{HandsOut, IsCopied};
@@ -6,7 +6,7 @@ ghost use Rattle.command_results.specs.Handing.{HandsOut, IsCopied};
 use crate::stop::Stop;
 use crate::text::Text;
 
-// Copies the words to the front of the buffer if there is room for all of them, and otherwise leaves the buffer as it is. Answers the
+// Copies the words to the front of the buffer if there is room for all of them, and otherwise leaves the buffer as it is. Returns the
 // size of the words.
 fn copy_words(words: &[u8], buffer: &mut [u8]) -> usize
     ensures { IsCopied words.now result buffer.old buffer.new }
@@ -27,8 +27,8 @@ pub fn hand_out_stop(stop: &Stop, buffer: &mut [u8], size: &mut usize) -> u8
     owed.status
 }
 
-/// Hands an ending out: answers its status, and sets `size` to the size of its text, which is copied to the front of the buffer if there
-/// is room for all of it. Otherwise the buffer is left as it is, and the caller can come again with a buffer of that size.
+/// Hands out an ending: returns its status, and sets `size` to the size of its text, which is copied to the front of the buffer if there
+/// is room for all of it. Otherwise the buffer is left as it is, and the caller can call again with a buffer of that size.
 pub fn hand_out(ending: &Result<Text, Stop>, buffer: &mut [u8], size: &mut usize) -> u8
     ensures { HandsOut (ending_of ending.now) result size.new buffer.old buffer.new }
 {

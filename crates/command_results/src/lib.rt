@@ -1,7 +1,7 @@
 //! How a command ends: with its text, or by one of the reasons to stop, each with its status and its line. None of the lines takes memory.
 //!
-//! `owed` gives the status and the line of every ending by one definition. By it a caller with a buffer, such as one that is not written in
-//! Rattle, is handed an ending out.
+//! `owed` gives the status and the line of every ending in one definition. A caller with a buffer, such as one that is not written in
+//! Rattle, is handed endings according to it.
 #![tactic(auto)]
 
 mod handing;

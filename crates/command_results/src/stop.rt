@@ -1,35 +1,37 @@
-// Why a command ends without its text.
+// The reasons why a command ends without its text, with their statuses and lines.
 ghost use Rattle.std.specs.Prelude.{◌≡◌, Err};
 ghost use Rattle.command_results.specs.Endings.{fault_line, owed};
 
 use crate::line::{Line, append, line_of, number_line, void_line};
 use bid_rules::Missing;
 use body_fields::BodyFault;
+use split_base::NoMemory;
 
 /// Why a command ends without its text, except for a failure to write.
 #[derive(Debug, Drop, PartialEq, Eq)]
 pub enum Stop {
     /// The case lacks the bids of these members.
     Void { missing: Missing },
-    /// The case, which is of goods, takes more steps than this limit of the case; or so many prefixes are open in its audit.
+    /// The case, which is of goods, takes more steps than this limit of the case; or this many prefixes are open in its
+    /// audit.
     OverLimit { limit: u32 },
     /// The case doesn't have two players, as adjusted winner needs.
     NotTwo,
-    /// The certificate, or the winner's text, breaks this rule, from 1, and keeps those before it.
+    /// The certificate, or the text of adjusted winner, breaks this rule, counted from 1, and keeps those before it.
     BrokenRule { rule: u8 },
     /// The words match no row of the command table.
     BadWords,
-    /// The input, or the certificate that a host replied with, has more bytes than it may have.
+    /// The input, or the certificate in a host's reply, has more bytes than allowed.
     TooLong,
-    /// The input is no case.
+    /// The input isn't a case.
     BadCase { fault: BodyFault },
-    /// The text is none of its grammar, and this line, from 1, is the first broken one.
+    /// The text doesn't follow its grammar, and this line, counted from 1, is the first broken one.
     BrokenLine { line: u32 },
-    /// What a host replied is no reply that holds a certificate.
+    /// The host's reply doesn't hold a certificate.
     BadReply,
     /// A host replied with this status.
     BadStatus { code: u16 },
-    /// The file is no journal, or not empty if one is made: its first fault is at this place.
+    /// The file isn't a journal, or isn't empty when one is to be made: its first fault is at this place.
     BadJournal { place: u64 },
     /// A read of the input failed.
     ReadFault,
@@ -41,7 +43,18 @@ pub enum Stop {
     NoMemory,
 }
 
-/// What an ending without a text owes.
+impl From<NoMemory> for Stop {
+    ghost use Rattle.std.specs.Prelude.{◌≡◌};
+    ghost use Rattle.command_results.specs.declared.stop.Stop.TheVariants.{NoMemory};
+
+    ghost from_gives = { λ _ stop. stop ≡ NoMemory };
+
+    fn from(_: NoMemory) -> Self {
+        Stop::NoMemory
+    }
+}
+
+/// What an ending without a text owes to its caller.
 #[derive(Drop)]
 pub struct Owed {
     /// The status with which the program ends.
@@ -85,7 +98,7 @@ impl Stop {
 }
 
 impl Owed {
-    // What a command that stops still owes to its caller.
+    // What a command that stops still owes its caller.
     fn new(status: u8, line: Line) -> Self
         ensures { result ≡ record { status = status; line = line } }
     {

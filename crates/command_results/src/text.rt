@@ -1,4 +1,4 @@
-// What a command writes that comes to its text.
+// What a command writes when it ends with its text.
 ghost use Rattle.std.specs.Prelude.{◌≡◌, [], ◌∷◌, codes};
 ghost use Rattle.std.specs.Fmt.{decimal};
 ghost use Rattle.split_frac.specs.Texts.{word_line};
@@ -16,21 +16,21 @@ pub enum Text {
 }
 
 impl Text {
-    /// That all rules hold.
+    /// The text that says that all rules hold.
     pub fn yes() -> Self
         ensures { text_bytes result ≡ yes_line }
     {
         Text::Brief(line_of(b"yes\n"))
     }
 
-    /// Nothing.
+    /// The text of a command that writes nothing.
     pub fn nothing() -> Self
         ensures { text_bytes result ≡ [] }
     {
         Text::Brief(Line::new())
     }
 
-    /// How many links were served.
+    /// The text that says how many links were served.
     pub fn served(count: u64) -> Self
         ensures { text_bytes result ≡ word_line (codes "served") (decimal count ∷ []) }
     {

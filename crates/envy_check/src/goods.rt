@@ -16,10 +16,10 @@ use bid_rules::limits::{MEMBER_ROOM, MOST_GOODS, WHOLE_POINTS};
 pub enum Ef1 {
     /// The player does not envy the other.
     Content,
-    /// The player envies the other, and would not without this good of the other, numbered from 1: the one to which the player
-    /// gives most points, ties to the lower number.
+    /// The player envies the other, but would not if the other lost this good, numbered from 1. It is the one to which the
+    /// player gives the most points, and ties go to the lower number.
     Without { good: u8 },
-    /// The player envies the other, whichever good is taken away.
+    /// The player envies the other, whichever one good is taken away.
     Fails,
 }
 
@@ -34,7 +34,7 @@ impl Default for Ef1 {
     }
 }
 
-/// The points that each player gives the goods of each other, less those that they give their own.
+/// The points that each player gives each other player's goods, less those that they give their own.
 ///
 /// The owners are players by number of the good. Entry (i, j) is above 0 if player i + 1 envies player j + 1.
 pub fn points_table(
@@ -53,7 +53,8 @@ pub fn points_table(
     table
 }
 
-/// For each player and each other, whether they envy, and whether taking one good of the other away ends it.
+/// For each player and each other player, whether the one envies the other, and whether taking one of the other's goods away
+/// ends it.
 ///
 /// The owners are players by number of the good.
 pub fn ef1_table(
@@ -91,7 +92,7 @@ fn points_row(case: &GoodsCase, owners: &[u8], player: u8) -> ArrayVec<i32, MEMB
     row
 }
 
-// For each other player, whether the envy of one ends once a good is taken away (EF1).
+// For each other player, whether one player's envy ends once a good is taken away (EF1).
 fn ef1_row(case: &GoodsCase, owners: &[u8], player: u8) -> ArrayVec<Ef1, MEMBER_ROOM>
     requires case { IsValidGoodsCase case.now }
     requires each { length owners.now ≡ case.now.facts.goods }
@@ -118,7 +119,7 @@ fn envy_in_points(case: &GoodsCase, owners: &[u8], player: u8, other: u8) -> i32
     points_of(case, owners, player, other) as i32 - points_of(case, owners, player, player) as i32
 }
 
-// What taking one good of the other away does to a player's envy.
+// What taking away one of the other's goods does to a player's envy.
 fn ef1_of(case: &GoodsCase, owners: &[u8], player: u8, other: u8) -> Ef1
     requires case { IsValidGoodsCase case.now }
     requires each { length owners.now ≡ case.now.facts.goods }
@@ -176,7 +177,7 @@ fn points_if(case: &GoodsCase, owners: &[u8], player: u8, owner: u8, good: u8) -
     }
 }
 
-// The good of the owner to which the player gives most points, ties to the lower number.
+// The owner's good to which the player gives the most points; ties go to the lower number.
 fn most_valued(case: &GoodsCase, owners: &[u8], player: u8, owner: u8) -> u8
     requires case { IsValidGoodsCase case.now }
     requires each { length owners.now ≡ case.now.facts.goods }
@@ -194,7 +195,8 @@ fn most_valued(case: &GoodsCase, owners: &[u8], player: u8, owner: u8) -> u8
     best
 }
 
-// The next good if the owner has it and the player gives it more points than the best before, which is 0 if there is none.
+// The next good, if the owner has it and the player gives it more points than the best one before, which is 0 if there is
+// none; otherwise that one.
 fn better(case: &GoodsCase, owners: &[u8], player: u8, owner: u8, best: u8, good: u8) -> u8
     requires case { IsValidGoodsCase case.now }
     requires each { length owners.now ≡ case.now.facts.goods }

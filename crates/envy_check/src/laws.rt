@@ -1,4 +1,4 @@
-// What holds of cent plans and of envy over goods, for all cases: each law is the contract of a function that does nothing.
+// Laws about cent plans and about envy over goods, which hold for all cases. Each is the contract of a function that does nothing.
 ghost use Rattle.std.specs.Prelude.{◌≡◌, ◌↔◌, Contains, ℕ, ℤ, pos, negsuc, ◌<◌, ◌≤◌, ◌+ℤ◌, ◌-ℤ◌, ◌≤ℤ◌, List, [], ◌∷◌, slice_index, slice_index_or, ◌*ℤ◌, ◌<ℤ◌, All, count_by, nat_lt, length};
 ghost use Rattle.std.specs.List.{range_with_len};
 ghost use Rattle.bid_rules.specs.declared.goods.GoodsCase.{GoodsCase};
@@ -18,8 +18,8 @@ ghost use Rattle.envy_check.specs.Goods.{EndsEnvy, Envies, IsEf1Table, IsMostVal
 use best_laws::worked_goods_law;
 use nash_bounds::{owners_by_good_law, search_order_law};
 
-/// The floor is the greatest whole number that is not above the amount. As many places get a cent as cents are left over, and a
-/// place that fewer places come before has no smaller remainder.
+/// The floor is the greatest whole number that is not above the amount. As many places get a cent as cents are left over, and a place with
+/// fewer places before it never has a smaller remainder.
 pub fn cent_plan_law()
     ensures floor { (amount : Fraction) → 0 < amount.1
         → ((floor_of amount *ℤ pos amount.1) ≤ℤ amount.0)
@@ -55,8 +55,7 @@ pub fn worked_plans_law()
         ≡ pos 267 ∷ negsuc 32 ∷ pos 66 ∷ [] }
 {}
 
-/// Taking the good away to which a player gives most points ends their envy exactly if taking some good of the other away
-/// does.
+/// Taking away the other's good to which a player gives the most points ends that player's envy exactly when taking away some good does.
 pub fn ef1_law()
     ensures { (case : GoodsCase) (owners : List ℕ) (player other best : ℕ)
         → IsMostValued case player (goods_of owners other) best
@@ -66,7 +65,7 @@ pub fn ef1_law()
 {}
 
 /// An allocation of maximum Nash welfare is envy-free up to one good (Caragiannis and others 2016, theorem 3.2): a player who envies another
-/// stops once that good of the other's is taken away to which they give most points. So its table of answers has no `Fails`.
+/// stops once the other loses the good to which they give the most points. So its table of answers has no `Fails`.
 pub fn one_good_law()
     ensures up_to_one_good { (case : GoodsCase) (owners : List ℕ) → HasMaximumWelfare case owners
         → IsEnvyFreeUpToOneGood case (owners_by_good case owners) }
@@ -78,9 +77,10 @@ pub fn one_good_law()
     owners_by_good_law();
 }
 
-/// The definitions on a worked case: with the best owners, one of the two players who want only the contested good envies the other, until it
-/// is taken away. If the first player has both goods, the third envies past one good. The product over all three is 0 there as in each
-/// allocation, so it is by the count of players with points that this is no maximum welfare.
+/// The definitions applied to a worked case: with the best owners, one of the two players who want only the contested good envies the other,
+/// until it is taken away. If the first player has both goods, the third player's envy remains after any one good is taken away. The product
+/// over all three is 0 in that allocation, as in every other, so it is the count of players with points that keeps its welfare from being the
+/// maximum.
 pub fn worked_envy_law()
     ensures envy { Envies contested_good (1 ∷ 3 ∷ []) 2 1 }
     ensures ended { EndsEnvy contested_good (1 ∷ 3 ∷ []) 2 1 1 }

@@ -1,9 +1,9 @@
 //! Who envies whom: envy tables of rents and cent plans, and envy over goods.
 //!
-//! An entry of an envy table is exact, in whatever parts the prices are whole. A cent plan sums to
-//! the total and is less than a cent away from each amount, and under it nobody envies by more than
-//! one cent (`cent_envy_law`). An allocation of maximum Nash welfare is envy-free up to one good,
-//! even if the case is not valid (`one_good_law`).
+//! An entry of an envy table is exact, whatever common denominator the prices have. A cent plan
+//! sums to the total and is less than a cent away from each amount, and under it nobody envies
+//! anyone by more than one cent (`cent_envy_law`). An allocation of maximum Nash welfare is
+//! envy-free up to one good, even if the case is not valid (`one_good_law`).
 #![tactic(auto)]
 
 mod cents;

@@ -16,7 +16,7 @@ IsRentField members rent Rent = IsFromTo FEWEST_MEMBERS MOST_MEMBERS members × 
 IsRentField members rent Bids = IsFromTo FEWEST_MEMBERS MOST_MEMBERS members × IsFromTo 1 MOST_RENT rent
 IsRentField members rent other = ⊥
 
--- of goods: the goods, the limit, or the bids, to which it belongs who has made them
+-- of goods: the goods, the limit, or the bids, which include who has made them
 abbrev pub IsGoodsField : ℕ → ℕ → FieldName → Type 0
 IsGoodsField goods limit Goods = IsFromTo 1 MOST_GOODS goods → ⊥
 IsGoodsField goods limit Limit = IsFromTo 1 MOST_GOODS goods × (IsFromTo 1 MOST_STEPS limit → ⊥)

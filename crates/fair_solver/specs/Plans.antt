@@ -22,13 +22,13 @@ IsFarePlan case plan = (fares : List Fraction) × (route : List ℕ) × FareBest
 abbrev pub AreCopied : List ℤ → ℕ → List ℤ → List ℤ → Type 0
 AreCopied plan size before after = (size ≡ length plan) × (length plan ≤ length before → take size after ≡ plan) × (length before < length plan → after ≡ before)
 
--- the numbers are a valid rent, and what each member pays is handed out; or they are none, and the field is named
+-- the numbers are a valid rent, and what each member pays is handed out; or they are not, and the field is named
 abbrev pub IsRentPlanReply : ℕ → ℕ → List ℕ → ℕ → ℕ → List ℤ → List ℤ → List ℕ → List ℕ → Type 0
 IsRentPlanReply members rent values status size before after text_before text_after =
     ((status ≡ 0) × AreRent members rent values × ((plan : List ℤ) × IsRentPlan (rent_in members rent values) plan × AreCopied plan size before after) × (text_after ≡ text_before))
     ⊎ ((AreRent members rent values → ⊥) × Refuses (IsRentField members rent) status size text_before text_after × (after ≡ before))
 
--- the numbers are a valid fare, and what each rider pays is handed out; or they are none, and the field is named
+-- the numbers are a valid fare, and what each rider pays is handed out; or they are not, and the field is named
 abbrev pub IsFarePlanReply : ℕ → ℕ → List ℕ → List ℕ → List ℕ → ℕ → ℕ → List ℤ → List ℤ → List ℕ → List ℕ → Type 0
 IsFarePlanReply places flag legs who at status size before after text_before text_after =
     ((status ≡ 0) × AreFare places flag legs who at × ((plan : List ℤ) × IsFarePlan (fare_in places flag legs who at) plan × AreCopied plan size before after) × (text_after ≡ text_before))

@@ -19,7 +19,7 @@ HandsCertificate case size before after = (text : List ℕ) × IsCanonical case 
 abbrev pub Refuses : (FieldName → Type 0) → ℕ → ℕ → List ℕ → List ℕ → Type 0
 Refuses is_field status size before after = (field : FieldName) × is_field field × HandsOut (Err (BadCase (Field field))) status size before after
 
--- the numbers are a valid rent, and its certificate is handed out; or they are none, and the field is named
+-- the numbers are a valid rent, and its certificate is handed out; or they are not, and the field is named
 abbrev pub IsRentReply : ℕ → ℕ → List ℕ → ℕ → ℕ → List ℕ → List ℕ → Type 0
 IsRentReply members rent values status size before after =
     ((status ≡ 0) × AreRent members rent values × HandsCertificate (Rent (rent_in members rent values)) size before after)
@@ -33,7 +33,7 @@ IsGoodsReply goods limit who values status size before after =
     ⊎ ((AreGoods goods limit who values × IsOverLimit (goods_in goods limit who values) (record { limit = limit }) × HandsOut (Err (OverLimit limit)) status size before after)
     ⊎ ((AreGoods goods limit who values → ⊥) × Refuses (IsGoodsField goods limit) status size before after))
 
--- the numbers are a valid fare, and its certificate is handed out; or they are none, and the field is named
+-- the numbers are a valid fare, and its certificate is handed out; or they are not, and the field is named
 abbrev pub IsFareReply : ℕ → ℕ → List ℕ → List ℕ → List ℕ → ℕ → ℕ → List ℕ → List ℕ → Type 0
 IsFareReply places flag legs who at status size before after =
     ((status ≡ 0) × AreFare places flag legs who at × HandsCertificate (Fares (fare_in places flag legs who at)) size before after)

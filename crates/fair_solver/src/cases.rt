@@ -4,7 +4,7 @@ ghost use Rattle.bid_rules.specs.declared.limits.TheConstants.{MOST_GOODS, MOST_
 ghost use Rattle.fair_solver.specs.Cases.{AreFare, AreGoods, AreRent, HasLegs, HasRiders, facts_in, fare_in, goods_in, rent_in, with_riders};
 ghost use Rattle.fair_solver.specs.Fields.{IsFareField, IsGoodsField, IsRentField};
 
-use crate::rows::{leg_rows, members_of, riders_of, value_rows};
+use crate::rows::{leg_rows, list_of, value_rows};
 use bid_rules::limits::{
     FEWEST_MEMBERS, MOST_FARE_CENTS, MOST_GOODS, MOST_MEMBERS, MOST_PLACES, MOST_RENT, MOST_RIDERS,
     MOST_STEPS,
@@ -88,7 +88,7 @@ fn goods_with(goods: u8, limit: u32, who: &[u8], values: &[u32]) -> Option<Goods
             goods,
             limit,
         },
-        who: members_of(who),
+        who: list_of(who),
         values: value_rows(who.len(), usize::from(goods), values),
     };
     if case.is_valid() { Some(case) } else { None }
@@ -158,8 +158,8 @@ fn fare_with(facts: Fares, who: &[u8], at: &[u8]) -> Option<FareCase>
     }
     let case = FareCase {
         facts,
-        who: riders_of(who),
-        at: riders_of(at),
+        who: list_of(who),
+        at: list_of(at),
     };
     if case.is_valid() { Some(case) } else { None }
 }

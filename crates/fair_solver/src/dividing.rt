@@ -1,4 +1,4 @@
-// A fare divided in fixed memory.
+// Divides a fare in fixed memory.
 ghost use Rattle.std.specs.Prelude.{◌≡◌, All, length, map};
 ghost use Rattle.bid_rules.specs.declared.cases.Case.TheVariants.{Fares};
 ghost use Rattle.bid_rules.specs.Facts.{IsValidFareCase};
@@ -22,7 +22,7 @@ use shapley_core::{FareList, fares_of};
 /// What routes of sets of riders cost, row by row.
 type Rows = ArrayVec<Row, SET_ROOM>;
 
-/// What the riders pay, and how they go.
+/// What the riders pay, and the route that they take.
 #[derive(Drop)]
 pub(crate) struct Shares {
     /// The exact fares in cents, by rider.

@@ -3,14 +3,14 @@
 //!
 //! Each function takes the numbers of a case and a buffer. If they are a valid case, and the step limit of goods suffices, the status is 0,
 //! and `size` is set to the size of the case's canonical certificate. It stands at the front of the buffer if there is room for all of it;
-//! otherwise the front may be written, and the caller can come again with a buffer of that size. Otherwise the status and the line are those
-//! of the command line: 3 and the field that is refused, or 1 and the step limit.
+//! otherwise the front may have been written, and the caller can call again with a buffer of that size. Otherwise the status and the line are
+//! those of the command line: 3 and the field that is refused, or 1 and the step limit.
 //!
-//! What each pays in whole cents, which no certificate says, is handed out as numbers: `fair_rent_cents` by member and `fair_fares_cents` by
-//! rider. Then `size` is how many amounts there are, and the text is left as it was.
+//! What each person pays in whole cents, which no certificate says, is handed out as numbers: `fair_rent_cents` by member and
+//! `fair_fares_cents` by rider. Then `size` is how many amounts there are, and the text is left as it was.
 //!
-//! To C a slice is a pointer and a count. No pointer may be null, and no two pieces of memory may overlap. No function keeps anything, takes a
-//! handle or starts a thread.
+//! To C, a slice is a pointer and a count. No pointer may be null, and no two pieces of memory may overlap. No function keeps anything, takes
+//! a handle or starts a thread.
 #![tactic(auto)]
 
 ghost use Rattle.fair_solver.specs.Plans.{IsFarePlanReply, IsRentPlanReply};

@@ -1,4 +1,4 @@
-// What members and riders pay in whole cents, handed out as numbers.
+// Hands out what members and riders pay in whole cents, as numbers.
 ghost use Rattle.bid_rules.specs.Facts.{IsValidFareCase};
 ghost use Rattle.bid_rules.specs.Rent.{IsValidRentCase};
 ghost use Rattle.fair_solver.specs.Plans.{AreCopied, IsFarePlan, IsRentPlan};
@@ -40,7 +40,7 @@ pub(crate) fn fare_plan(case: &FareCase) -> Cents
     cent_plan(shares.fares.as_slice(), i64::from(total))
 }
 
-// Copies amounts to the front of a list if there is room for all of them, and otherwise leaves the list as it is. Answers how many
+// Copies amounts to the front of a list if there is room for all of them, and otherwise leaves the list as it is. Returns how many
 // amounts there are.
 pub(crate) fn copy_amounts(amounts: &[i64], list: &mut [i64]) -> usize
     ensures { AreCopied amounts.now result list.old list.new }

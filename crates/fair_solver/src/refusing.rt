@@ -1,4 +1,4 @@
-// Why numbers have no certificate, as the command line says it.
+// Says why numbers have no certificate, in the words of the command line.
 ghost use Rattle.std.specs.Prelude.{Err};
 ghost use Rattle.body_fields.specs.declared.fields.BodyFault.TheVariants.{Field};
 ghost use Rattle.command_results.specs.Handing.{HandsOut};

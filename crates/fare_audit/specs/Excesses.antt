@@ -11,7 +11,7 @@ use Rattle.split_frac.specs.Frac.{HasValue}
 use Rattle.fare_audit.specs.declared.audit.FareAudit.{FareAudit}
 use Rattle.fare_audit.specs.declared.audit.Worst.{Worst}
 
--- how many groups of riders there are: all sets but the empty one
+-- how many groups of riders there are: all sets except the empty one
 abbrev pub group_count : FareCase → ℕ
 group_count case = 2 ^ length case.at.items - 1
 
@@ -35,7 +35,7 @@ excess_of case fares set = less_whole (sum_of_fractions (map (fare_of fares) (ri
 abbrev pub overpays : FareCase → List Fraction → ℕ → Bool
 overpays case fares set = is_positive (excess_of case fares set).0
 
--- the number is that of a group
+-- this is the number of a group
 abbrev pub IsGroup : FareCase → ℕ → Type 0
 IsGroup case set = (1 ≤ set) × (set ≤ group_count case)
 

@@ -14,7 +14,7 @@ use Rattle.fare_audit.specs.declared.audit.Worst.{Worst}
 abbrev pub members_in : List ℕ → ℕ → List ℕ
 members_in who set = map (λ rider. slice_index who (rider - 1)) (riders_in set)
 
--- the line that says how many groups overpay, of how many
+-- the line that says how many groups overpay, out of how many
 abbrev pub groups_line : ℕ → ℕ → List ℕ
 groups_line groups all = line_of (codes "groups " ∷ decimal groups ∷ codes " of " ∷ decimal all ∷ [])
 

@@ -30,22 +30,22 @@ pub struct Worst {
 pub struct FareAudit {
     /// How many groups pay more than a ride of their own would cost.
     pub groups: u32,
-    /// The group that overpays most, of equals the one with the lowest number; `None` exactly where no group overpays.
+    /// The group that overpays most, or among equals the one with the lowest number; `None` exactly when no group overpays.
     pub worst: Option<Worst>,
 }
 
-/// What was found of some groups, in parts.
+/// What has been found about some groups, in parts.
 #[derive(Drop)]
 struct Tally {
     /// How many overpay.
     groups: u32,
-    /// The first group of the greatest excess, or 0 where none overpays.
+    /// The first group with the greatest excess, or 0 if none overpays.
     set: u16,
     /// The greatest excess, or 0.
     most: i128,
 }
 
-// What is found of all groups, in parts.
+// What is found about all groups, in parts.
 fn tally_of(costs: &Costs, parts: &[i128], denominator: u64) -> Tally
     requires small { All IsSmallPart parts.now }
     requires count { length parts.now ≡ length costs.now.at.items }
@@ -96,8 +96,8 @@ fn worst_of(set: u16, most: i128, denominator: u64) -> Option<Worst>
     })
 }
 
-/// Whether groups of riders pay more than a ride of their own would cost: of each set of riders but the empty one, the sum of their fares
-/// less the cost of the set (the excess of a coalition, Davis and Maschler 1965).
+/// Whether groups of riders pay more than a ride of their own would cost: for each set of riders except the empty one, the sum of their
+/// fares less the cost of the set (the excess of a coalition, Davis and Maschler 1965).
 ///
 /// The division is the solver's for the case. It takes no memory.
 pub fn audit_fares(case: &FareCase, division: &FareDivision) -> FareAudit

@@ -1,4 +1,5 @@
-// What holds of audits of fares, for all cases: each law is the contract of a function that does nothing.
+// Laws about audits of fares, which hold for all cases. Each is the contract of a function that does
+// nothing.
 ghost use Rattle.std.specs.Prelude.{◌≡◌, ℕ, pos, List, map, IsTrue};
 ghost use Rattle.bid_rules.specs.declared.cases.FareCase.{FareCase};
 ghost use Rattle.bid_rules.specs.Fares.{FareBest};
@@ -27,7 +28,8 @@ pub fn all_riders_law()
     coalition_law();
 }
 
-/// Fares have one audit, and since a case has one division by the solver, it has one text under a title.
+/// Fares have only one audit, and since the solver gives a case only one division, it has only one text
+/// under a given title.
 pub fn one_audit_law()
     ensures audit { (case : FareCase) (fares : List Frac) (audit other : FareAudit)
         → IsFareAudit case (map fraction_of fares) audit

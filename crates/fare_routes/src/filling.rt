@@ -1,17 +1,17 @@
-// The table of a case, filled in the order of the numbers of its sets, so that each set comes after its parts.
+// Fills the table of a case in the order of the sets' numbers, so that each set comes after its subsets.
 ghost use Rattle.std.specs.Prelude.{◌≡◌, map, IfOk};
 ghost use Rattle.bid_rules.specs.Facts.{IsValidFareCase};
 ghost use Rattle.set_costs.specs.Table.{HoldsCosts};
 
-use crate::riders::copied;
 use crate::table::Costs;
 use best_laws::coalition_law;
 use bid_rules::FareCase;
+use bid_rules::limits::RiderList;
 use set_costs::{Row, next_row, rows_law};
 use split_base::NoMemory;
 use std::alloc::Global;
 
-// The rows of all sets of riders, by their numbers, in memory that is taken once.
+// The rows of all sets of riders, by their numbers, in memory that is taken all at once.
 fn rows(alloc: Global, case: &FareCase) -> Result<Vec<Row>, NoMemory>
     requires { IsValidFareCase case.now }
     ensures { IfOk result (λ rows. HoldsCosts case.now (map (λ row. row.items) rows.items)) }
@@ -30,21 +30,22 @@ fn rows(alloc: Global, case: &FareCase) -> Result<Vec<Row>, NoMemory>
     Ok(rows)
 }
 
-// The same case once more, to be kept beside its costs.
+// A copy of the case, to be kept beside its costs.
 fn copied_case(case: &FareCase) -> FareCase
     requires { IsValidFareCase case.now }
     ensures { result ≡ case.now }
 {
     FareCase {
         facts: case.facts.copied(),
-        who: copied(case.who.as_slice()),
-        at: copied(case.at.as_slice()),
+        who: RiderList::try_from(case.who.as_slice()).unwrap(),
+        at: RiderList::try_from(case.at.as_slice()).unwrap(),
     }
 }
 
 /// What each coalition of a valid case costs, for 1 to 10 riders.
 ///
-/// It takes about `n^2 * 2^n` steps for n riders, and memory once. `NoMemory` comes only if memory runs out.
+/// It takes about `n^2 * 2^n` steps for n riders, and takes memory just once. `NoMemory` is returned only if
+/// memory runs out.
 pub fn costs(alloc: Global, case: &FareCase) -> Result<Costs, NoMemory>
     requires { IsValidFareCase case.now }
     ensures { IfOk result (λ costs. costs ≡ case.now) }

@@ -38,8 +38,8 @@ impl Costs {
         SetCosts::new(&self.case, &self.rows)
     }
 
-    /// The least sum of legs in cents that starts at the origin, for `at` 0, or at the place of rider `at`, and ends every rider
-    /// of the set at their place, in some order. The rider `at` is not in the set.
+    /// The least sum of legs in cents that starts at the origin, for `at` 0, or at the place of rider `at`, and brings every
+    /// rider of the set to their place, in some order. The rider `at` is not in the set.
     pub fn entry(&self, at: u8, set: u16) -> u32
         requires at { at ≤ length self.now.at.items }
         requires set { set < 2 ^ length self.now.at.items }
@@ -59,7 +59,7 @@ impl Costs {
         self.borrowed().cost_of(set)
     }
 
-    /// Of the cheapest orders of all riders, the least as a list, in numbers of riders.
+    /// The least, as a list of rider numbers, of the cheapest orders of all riders.
     pub fn route(&self) -> RiderList
         ensures { IsLeastRoute self.now result.items }
     {

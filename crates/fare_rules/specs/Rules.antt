@@ -1,4 +1,4 @@
--- The five rules that a certificate of fares keeps: they show its fares and route best (Shapley 1953).
+-- The five rules that a certificate of fares keeps. They show that its fares and route are the best (Shapley 1953).
 use Rattle.std.specs.Prelude.{ℕ, pos, ◌-◌, ◌^◌, ◌≤ℤ◌, List, [], ◌∷◌, length, All}
 use Rattle.std.specs.List.{AllZip, range_with_len}
 use Rattle.std.specs.List.Sorted.{IsPermutation}
@@ -12,8 +12,8 @@ use Rattle.cert_reader.specs.Layout.{FaresView}
 use Rattle.fare_rules.specs.Printed.{printed_case, printed_route}
 use Rattle.rule_verdicts.specs.Verdicts.{rule_at}
 
--- rule 1: the printed numbers are 0 or more, and they are a valid case: the flag fall and the legs in range, no cost from a place to itself, and members up to
--- 10 in rising order, each with a place
+-- rule 1: the printed numbers are 0 or more, and they form a valid case: the flag fall and the legs in range, no cost from a place to itself, and members from
+-- 1 to 10 in rising order, each with a place
 pub record HasCase (view : FaresView) : Type 0 where
   pub flag : pos 0 ≤ℤ view.flag
   pub legs : All (λ row. All (λ cents. pos 0 ≤ℤ cents) row) view.legs

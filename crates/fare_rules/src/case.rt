@@ -1,4 +1,4 @@
-// The case that the head of a certificate prints.
+// Reads the case that the head of a certificate prints.
 ghost use Rattle.std.specs.Prelude.{◌≡◌, pos, ◌≤◌, ◌≤ℤ◌, All, MatchOption, length, map, unsigned_abs};
 ghost use Rattle.fare_rules.specs.Head.{head_of};
 ghost use Rattle.fare_rules.specs.Rules.{HasCase};
@@ -15,7 +15,7 @@ use rule_verdicts::{members_between, rows_of_amounts};
 /// A row of printed legs.
 pub type PrintedRow = ArrayVec<i128, PLACE_ROOM>;
 
-// The facts that the head prints, where each number of cents is one that a case can have.
+// The facts that the head prints, if each number of cents is one that a case can have.
 fn facts_of(places: u8, flag: i128, legs: &[PrintedRow]) -> Option<Fares>
     requires { length legs.now ≤ LEG_ROW_ROOM }
     ensures { MatchOption result

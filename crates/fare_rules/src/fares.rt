@@ -1,4 +1,4 @@
-// Whether printed fares are the means of marginal costs over all orders (Shapley 1953).
+// Checks whether printed fares are the means of marginal costs over all orders (Shapley 1953).
 ghost use Rattle.std.specs.Prelude.{◌≡◌, pos, ◌*ℤ◌, ◌*◌, ◌+◌, ◌^◌, ◌<◌, ◌≤◌, ◌↔◌, length, map, All, IsTrue, unsigned_abs};
 ghost use Rattle.std.specs.List.{AllZip};
 ghost use Rattle.bid_rules.specs.Fares.{riders_of, sum_of_marginal_costs};

@@ -1,4 +1,4 @@
-// What the rules give.
+// Laws about what the rules of fares show. Each is the contract of a function that only calls other laws.
 ghost use Rattle.std.specs.Prelude.{◌≡◌, ℕ, ◌≤◌, All, Contains};
 ghost use Rattle.bid_rules.specs.Coalitions.{riders_in};
 ghost use Rattle.bid_rules.specs.Facts.{IsValidFareCase};

@@ -1,5 +1,5 @@
-//! The five rules of a certificate of fares, judged line by line in fixed memory. Where all hold, the printed fares are the Shapley
-//! value and the printed route is the least of the cheapest.
+//! The five rules of a certificate of fares, judged line by line in fixed memory. If all of them hold, the printed fares are the
+//! Shapley value and the printed route is the least of the cheapest ones.
 //!
 //! That is `fares_certificate_law`. Each place of departure of a set of riders is among its starts
 //! (`starts_law`).

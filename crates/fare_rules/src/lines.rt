@@ -1,4 +1,4 @@
-// The starts of a set of riders, and what its line must say.
+// The starts of a set of riders, and whether its line says what it must.
 ghost use Rattle.std.specs.Prelude.{◌≡◌, ◌+◌, ◌^◌, ◌<◌, ◌≤◌, ◌↔◌, pos, length, map, IsTrue, slice_index};
 ghost use Rattle.cert_reader.specs.Sets.{starts};
 

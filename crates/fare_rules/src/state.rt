@@ -26,10 +26,11 @@ use split_frac::Frac;
 /// What routes of sets of riders cost, row by row.
 type Rows = ArrayVec<Row, SET_ROOM>;
 
-/// How far the judge of a certificate of fares is, after the head and some lines of sets.
+/// How far the judge of a certificate of fares has come, after the head and some lines of sets.
 #[derive(Drop)]
 pub enum FaresState {
-    /// A rule is broken: the first, since the head prints no valid case, or the second, since a line so far is not as it must be.
+    /// A rule is broken: the first, because the head prints no valid case, or the second, because some line so far is not as it
+    /// must be.
     Broken {
         /// The rule, from 1.
         rule: u8,
@@ -43,8 +44,8 @@ pub enum FaresState {
     },
 }
 
-/// Begins with the head of a certificate: the number of places, the flag fall, the legs from the origin and from each place, and by
-/// rider the member and the place.
+/// Begins with the head of a certificate: the number of places, the flag fall, the legs from the origin and from each place, and
+/// for each rider the member and the place.
 pub fn start_fares(
     places: u8,
     flag: i128,
@@ -69,7 +70,7 @@ pub fn start_fares(
     FaresState::Filling { case, rows }
 }
 
-// Adds the row of the next set, and answers whether the line is as it must be.
+// Adds the row of the next set, and says whether the line is as it must be.
 fn push_row(case: &FareCase, rows: &mut Rows, line: &[i128]) -> bool
     requires lists { ListsCosts case.now (map (λ row. row.items) rows.old.items) }
     requires more { length rows.old.items < 2 ^ length case.now.at.items }
@@ -86,7 +87,7 @@ fn push_row(case: &FareCase, rows: &mut Rows, line: &[i128]) -> bool
     is_kept
 }
 
-// Takes the line of the next set, and answers whether it is as it must be. If all sets have had their lines, it does nothing.
+// Takes the line of the next set, and says whether it is as it must be. If all sets have had their lines, it does nothing.
 fn fill(case: &FareCase, rows: &mut Rows, line: &[i128]) -> bool
     requires { ListsCosts case.now (map (λ row. row.items) rows.old.items) }
     ensures lists { ListsCosts case.now (map (λ row. row.items) rows.new.items) }

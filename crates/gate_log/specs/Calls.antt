@@ -21,7 +21,7 @@ IsReasonAt place Disk = Unit {0}
 IsReasonAt place (NotALog at) = at ≡ place
 IsReasonAt place NoMemory = Unit {0}
 
--- the answer if the file has its first fault at this place: it is told, unless a call of the disk failed or memory ran out
+-- the answer if the file has its first fault at this place: that place, unless a call of the disk failed or memory ran out
 abbrev pub TellsFault : {T : Type 0} → ℕ → Result T LogFault → Type 0
 TellsFault place (Ok value) = ⊥
 TellsFault place (Err fault) = IsReasonAt place fault

@@ -34,8 +34,8 @@ abbrev pub IsRun : List (List ℕ) → List ℕ → Type 0
 IsRun [] bytes = bytes ≡ []
 IsRun (body ∷ bodies) bytes = (gate : ℕ) × (more : List ℕ) × (gate ≢ 0) × IsBody body × (bytes ≡ entry gate body ++ more) × IsRun bodies more
 
--- The file has this version, this secret and these bodies: the header, their records, and a closed gate after them.
--- What comes after that gate plays no role.
+-- The file has this version, this secret and these bodies: the header, their records, and a closed gate after them. What comes after
+-- that gate doesn't matter.
 pub record Stands (version : ℕ) (secret : List ℕ) (bodies : List (List ℕ)) (file : List ℕ) : Type 0 where
   pub gate : ℕ
   pub run : List ℕ
@@ -65,7 +65,7 @@ pub record Begins (version : ℕ) (secret : List ℕ) (bodies : List (List ℕ))
 abbrev pub place_after : List (List ℕ) → ℕ
 place_after bodies = FIRST_GATE + sum_by (λ body. FRONT_SIZE + length body) bodies
 
--- the file has the bodies, with one more or without it
+-- the file has these bodies, with or without one more
 abbrev pub IsBeforeOrAfter : ℕ → List ℕ → List (List ℕ) → List ℕ → List ℕ → Type 0
 IsBeforeOrAfter version secret bodies body file = Stands version secret bodies file ⊎ Stands version secret (bodies ++ body ∷ []) file
 

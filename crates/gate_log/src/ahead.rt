@@ -1,4 +1,4 @@
-// What was read ahead of a journal.
+// The bytes of a journal that were read ahead.
 ghost use Rattle.std.specs.Prelude.{◌≡◌, ◌≤◌, ◌↔◌, ◌+◌, ◌-◌, ◌^◌, ◌++◌, [], length, take, drop, OnOk, OnErr};
 ghost use Rattle.split_base.specs.Faults.{HasCause, IsCounted};
 ghost use Rattle.split_base.specs.Disk.{Rests};
@@ -31,7 +31,7 @@ impl Ahead {
         }
     }
 
-    // An append changes the file, so what was read ahead is read anew.
+    // An append changes the file, so what was read ahead is read again.
     pub(crate) fn clear(&mut self)
         ensures { bytes_of self.new ≡ [] }
     {
@@ -46,7 +46,7 @@ impl Ahead {
         &self.piece[self.from..self.to]
     }
 
-    // These bytes were understood and aren't looked at again.
+    // Passes these bytes, which were understood and aren't looked at again.
     pub(crate) fn pass(&mut self, count: usize)
         requires { count ≤ length (bytes_of self.old) }
         ensures { bytes_of self.new ≡ drop count (bytes_of self.old) }
@@ -65,8 +65,8 @@ impl Ahead {
         self.to = to - from;
     }
 
-    // Reads on after what was read ahead from the place on, as much as there is room for. After a fault the
-    // same is there.
+    // Reads on after the bytes that were read ahead from this place, as far as there is room. A fault
+    // leaves what was there before.
     pub(crate) fn read_on<D: Disk>(&mut self, disk: &mut D, place: u64) -> Result<(), Failed>
         requires { place + length (bytes_of self.old) ≤ 2 ^ 63 }
         ensures cause { HasCause (D.faults disk.old) (D.faults disk.new) result }

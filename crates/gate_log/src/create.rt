@@ -1,4 +1,4 @@
-// Making an empty journal.
+// Makes an empty journal.
 ghost use Rattle.std.specs.Prelude.{◌≡◌, ◌≢◌, ◌<◌, ◌≤◌, ◌↔◌, ◌+◌, ◌++◌, [], ◌∷◌, List, ℕ, length, OnOk, IsErr, Err};
 ghost use Rattle.split_base.specs.Faults.{HasCause, HasRisen};
 ghost use Rattle.split_base.specs.Disk.{Only, Rests};
@@ -13,10 +13,11 @@ use split_base::{Disk, write_synced};
 
 /// Makes an empty journal of version 2 with this secret, in an empty file. It takes no memory.
 ///
-/// - `Disk` comes only if the disk's count of faults has risen, by one.
-/// - `NotALog` comes exactly if the file isn't empty, with place 0.
+/// - `Disk` is returned only if the disk's count of faults has risen, by one.
+/// - `NotALog` is returned exactly when the file isn't empty, with place 0.
 ///
-/// No byte of a file that isn't empty changes, whatever the answer. What a crash leaves of an empty file before it has answered Ok isn't promised.
+/// No byte of a file that isn't empty changes, whatever the answer. Nothing is promised about what a crash leaves of an empty file before the call
+/// has answered Ok.
 pub fn create_log<D: Disk>(disk: &mut D, secret: &[u8; SECRET_SIZE]) -> Result<(), LogFault>
     ensures count { D.faults disk.old ≤ D.faults disk.new }
     ensures disk { result ≡ Err LogFault.Disk → HasRisen (D.faults disk.old) (D.faults disk.new) }

@@ -1,14 +1,14 @@
-// Why a call on a journal refused.
+// The reasons why a call on a journal refuses.
 ghost use Rattle.std.specs.Prelude.{◌≡◌};
 
 use split_base::{Failed, NoMemory};
 
-/// Why a call on a journal refused.
+/// The reasons why a call on a journal refuses.
 #[derive(Clone, Copy, Debug, PartialEq, Eq)]
 pub enum LogFault {
-    /// A call of the disk failed. The log isn't used again after it; the file is opened anew.
+    /// A call of the disk failed. The log isn't used again after it; the file is reopened.
     Disk,
-    /// At this place, in bytes from 0, the file has its first fault.
+    /// The file has its first fault at this place, in bytes from 0.
     NotALog { place: u64 },
     /// There was no memory.
     NoMemory,

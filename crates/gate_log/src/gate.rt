@@ -1,4 +1,4 @@
-// What is at a gate, as far as it was read ahead.
+// Finds out what is at a gate, as far as it was read ahead.
 ghost use Rattle.std.specs.Prelude.{◌≡◌};
 ghost use Rattle.gate_log.specs.Gate.{Shows};
 
@@ -16,8 +16,8 @@ pub(crate) enum AtGate {
     Short,
 }
 
-// A length that no body has is told apart from a record that isn't all there yet: the first is damage, the second needs
-// more bytes.
+// Tells a length that no body can have apart from a record that isn't all there yet: the first is damage, and the
+// second needs more bytes.
 pub(crate) fn look(ahead: &[u8]) -> AtGate
     ensures { Shows ahead.now result }
 {

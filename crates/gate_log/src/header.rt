@@ -1,5 +1,5 @@
-// The header of a journal: the start line, the secret, the version gate, and the gate of the first
-// record.
+// Makes and reads the header of a journal: the start line, the secret, the version gate, and the
+// gate of the first record.
 ghost use Rattle.std.specs.Prelude.{◌≡◌, ◌++◌, ◌∷◌, [], ℕ, List, IfOk, IfErr, IfSome, IfNone, take, length, ◌≤◌};
 ghost use Rattle.gate_log.specs.Records.{header, start_line};
 ghost use Rattle.gate_log.specs.Faults.{IsHeaderFault, IsLineFault};

@@ -1,10 +1,10 @@
-// What holds of every file.
+// Laws about what a journal's file means, which hold for every file.
 ghost use Rattle.std.specs.Prelude.{◌≡◌, ◌⊎◌, ◌<◌, ◌^◌, [], ℕ, List, All, length};
 ghost use Rattle.gate_log.specs.Records.{Stands, Begins, BeginWith, place_after};
 ghost use Rattle.gate_log.specs.Faults.{GoesOn, HasMeaning, IsFault, IsFaultAfter, IsHeaderFault};
 
-/// A file has one meaning: a journal of one version, one secret and one list of bodies, or no
-/// journal, with its first fault at one place.
+/// A file has exactly one meaning: it is a journal with one version, one secret and one list of
+/// bodies, or it isn't a journal and has its first fault at one place.
 pub fn journal_law()
     ensures one_meaning { (v w : ℕ) (secret word : List ℕ) (bodies others : List (List ℕ))
         (file : List ℕ) → Stands v secret bodies file → Stands w word others file
@@ -15,10 +15,10 @@ pub fn journal_law()
     ensures meaning { (file : List ℕ) → All (λ b. b < 2 ^ 8) file → HasMeaning file }
 {}
 
-/// What a file begins with goes together: a journal, and a file with a fault after its records,
-/// begins with these and with no others, and a file that begins with records has a whole header.
-/// A file begins with a header or has a fault there; and after the records with which it begins it
-/// ends as a journal, has a fault, or goes on with a record more.
+/// What a file begins with fits together: a journal, and likewise a file with a fault after its
+/// records, begins with its own records and with no others, and a file that begins with records
+/// has a whole header. A file begins with a header or has a fault there; and after the records
+/// that it begins with, it ends as a journal, has a fault, or goes on with one more record.
 pub fn beginning_law()
     ensures stands { (v : ℕ) (secret : List ℕ) (bodies : List (List ℕ)) (file : List ℕ)
         → Stands v secret bodies file → Begins v secret bodies file }

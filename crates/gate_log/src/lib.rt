@@ -1,9 +1,9 @@
 //! A journal in one file: a header with a secret, and records that begin at a gate. A crash at any
 //! moment leaves the records that were kept so far, with or without the one that is being appended.
 //!
-//! Every file has one list of bodies or one first fault, whose place is told (`journal_law`). An
+//! Every file has one list of bodies or one first fault, whose place is given (`journal_law`). An
 //! append is two writes, each with a sync, and no other call that changes a byte. A call refuses only
-//! if one call of the disk failed, if the file is at fault, or if memory runs out.
+//! if a call of the disk failed, if the file has a fault, or if memory runs out.
 #![tactic(auto)]
 
 mod ahead;

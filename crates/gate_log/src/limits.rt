@@ -11,7 +11,7 @@ pub const SECRET_SIZE: usize = 32;
 /// The size of a gate.
 pub const GATE_SIZE: usize = 1;
 
-/// The size of the number that tells the length of a body.
+/// The size of the number that gives the length of a body.
 pub const LENGTH_SIZE: usize = 4;
 
 /// The size of what comes before a body: the gate of its record, and its length.

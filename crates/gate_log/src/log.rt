@@ -50,11 +50,11 @@ impl Log {
     /// with the first records. It gives the log at the gate of the first record, and the secret.
     /// It takes no memory.
     ///
-    /// - `Disk` comes only if the disk's count of faults has risen.
-    /// - `NotALog` comes exactly if the header has a fault, with the place of its first.
+    /// - `Disk` is returned only if the disk's count of faults has risen.
+    /// - `NotALog` is returned exactly when the header has a fault, with the place of its first.
     ///
-    /// No failed call of the disk is tried again: after `Disk` the count has risen by one, and otherwise not
-    /// at all.
+    /// No failed call of the disk is tried again: after `Disk` the count has risen by one, and otherwise it has not
+    /// risen.
     pub fn start<D: Disk>(disk: &mut D) -> Result<(Self, [u8; SECRET_SIZE]), LogFault>
         ensures count { D.faults disk.old ≤ D.faults disk.new }
         ensures disk { result ≡ Err LogFault.Disk
@@ -113,14 +113,14 @@ impl Log {
         self.place
     }
 
-    /// Gives the body of the record at the log's place in `body` and moves past it, or answers
-    /// false exactly if the gate there is closed; the log is at its end then.
+    /// Gives the body of the record at the log's place in `body` and moves past it, or answers false exactly when the
+    /// gate there is closed, in which case the log is at its end.
     ///
-    /// - `Disk` comes only if the disk's count of faults has risen.
-    /// - `NotALog` comes exactly if the record there has a fault, with the place of the fault.
+    /// - `Disk` is returned only if the disk's count of faults has risen.
+    /// - `NotALog` is returned exactly when the record there has a fault, with the place of the fault.
     ///
-    /// It takes no memory. A refusal leaves the log at its gate. After `Disk` the disk's count has
-    /// risen by one, and otherwise not at all.
+    /// It takes no memory. A refusal leaves the log at its gate. After `Disk` the disk's count has risen by one;
+    /// otherwise it has not risen.
     pub fn next_body<D: Disk>(&mut self, disk: &mut D, body: &mut Body) -> Result<bool, LogFault>
         ensures no_memory { result ≢ Err LogFault.NoMemory }
         ensures count { D.faults disk.old ≤ D.faults disk.new }
@@ -181,15 +181,15 @@ impl Log {
         }
     }
 
-    /// Gives the body of the record at the log's place in `body` and moves past it, or answers
-    /// false exactly if the gate there is closed; the log is at its end then.
+    /// Gives the body of the record at the log's place in `body` and moves past it, or answers false exactly when the
+    /// gate there is closed, in which case the log is at its end.
     ///
-    /// - `Disk` comes only if the disk's count of faults has risen.
-    /// - `NotALog` comes exactly if the record there has a fault, with the place of the fault.
-    /// - `NoMemory` comes when there is no memory for the body. `body` may hold anything then.
+    /// - `Disk` is returned only if the disk's count of faults has risen.
+    /// - `NotALog` is returned exactly when the record there has a fault, with the place of the fault.
+    /// - `NoMemory` is returned when there is no memory for the body. In that case `body` may hold anything.
     ///
-    /// A refusal leaves the log at its gate, so after `NoMemory` the call can be made again. After
-    /// `Disk` the disk's count has risen by one, and otherwise not at all.
+    /// A refusal leaves the log at its gate, so after `NoMemory` the call can be made again. After `Disk` the disk's
+    /// count has risen by one; otherwise it has not risen.
     pub fn next<D: Disk>(&mut self, disk: &mut D, body: &mut Vec<u8>) -> Result<bool, LogFault>
         ensures count { D.faults disk.old ≤ D.faults disk.new }
         ensures disk { result ≡ Err LogFault.Disk
@@ -238,12 +238,12 @@ impl Log {
         Ok(more)
     }
 
-    /// Appends a record with this body: four calls of the disk, which write the length, the body and
-    /// a closed gate after the log's gate, sync, open the gate, and sync. At `Ok` it is acknowledged,
-    /// and the log is at its end again. It takes no memory.
+    /// Appends a record with this body: four calls of the disk, which write the length, the body and a closed gate
+    /// after the log's gate, sync, open the gate, and sync. With `Ok` the record is acknowledged, and the log is at
+    /// its end again. It takes no memory.
     ///
-    /// `Disk` comes only if the disk's count of faults has risen, by one: a call that fails is not
-    /// tried again. The file holds the body or does not then, and the log is not at its end: the file is opened anew.
+    /// `Disk` is returned only if the disk's count of faults has risen, by one: a call that fails is not tried again.
+    /// The file may then hold the body or not, and the log is not at its end: the file is reopened.
     pub fn append<D: Disk>(&mut self, disk: &mut D, body: &[u8]) -> Result<(), LogFault>
         requires at_end { IsTrue self.old.at_end }
         requires body { IsBody body.now }
@@ -269,7 +269,7 @@ impl Log {
             → LeavesOnly D.moment D.left_since disk.old disk.new
             (MayBeAppending (D.images disk.old) self.old.place body.now (D.seen disk.old)) }
 
-        // At any moment of it each image has the bodies from before it, with the new one or without it.
+        // At any moment of the call, each image has the bodies from before it, with or without the new one.
         ensures any_moment { D.is_honest disk.old → (secret : List ℕ) (bodies : List (List ℕ))
             → IsLogOf (D.images disk.old) self.old secret bodies
             → LeavesOnly D.moment D.left_since disk.old disk.new
@@ -289,11 +289,11 @@ impl Log {
         Ok(())
     }
 
-    /// Raises a journal of version 1 to version 2: two calls of the disk, which change byte 48 and
-    /// nothing else. At `Ok` the log is of version 2, at its end as before. It takes no memory.
+    /// Raises a journal of version 1 to version 2: two calls of the disk, which change byte 48 and nothing else.
+    /// After `Ok` the log is of version 2, and at its end as before. It takes no memory.
     ///
-    /// `Disk` comes only if the disk's count of faults has risen, by one. The file has either version
-    /// then, and the log is not at its end: the file is opened anew.
+    /// `Disk` is returned only if the disk's count of faults has risen, by one. The file may then have either
+    /// version, and the log is not at its end: the file is reopened.
     pub fn raise<D: Disk>(&mut self, disk: &mut D) -> Result<(), LogFault>
         requires at_end { IsTrue self.old.at_end }
         requires version { self.old.version ≡ 1 }

@@ -31,7 +31,7 @@ prefixes case = flat_map (λ owner. below (player_count case) (case.facts.goods 
 abbrev pub open_count : GoodsCase → List ℕ → ℕ
 open_count case owners = count_by (leaves_room case owners) (prefixes case)
 
--- of all allocations that dominate this one, the first in the order of the search
+-- the first, in the order of the search, of all allocations that dominate this one
 pub record IsLeastDominating (case : GoodsCase) (owners others : List ℕ) : Type 0 where
   pub allocation : IsAllocation case others
   pub dominates : Dominates case others owners

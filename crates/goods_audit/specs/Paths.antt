@@ -45,7 +45,7 @@ abbrev pub IsFirst : GoodsCase → List ℕ → List (List ℕ) → List (List �
 IsFirst case owners all rest None = found_in case owners all ≡ found_in case owners rest
 IsFirst case owners all rest (Some first) = (more : List (List ℕ)) × (found_in case owners all ≡ first.items ∷ more)
 
--- a step of the search loses nothing: what was seen and what is still to come are together as before
+-- a step of the search loses nothing: together, what has been seen and what is still to come stay the same
 pub record LosesNothing (case : GoodsCase) (owners : List ℕ) (old new : Walk) : Type 0 where
   pub count : old.openings + count_by (leaves_room case owners) (to_come case old.path.owners.items) ≡ new.openings + count_by (leaves_room case owners) (to_come case new.path.owners.items)
   pub first : (all : List (List ℕ)) → IsFirst case owners all (to_come case old.path.owners.items) old.first → IsFirst case owners all (to_come case new.path.owners.items) new.first

@@ -59,7 +59,7 @@ audit_lines given case owners better pair table =
 abbrev pub answers : List (ArrayVec Ef1 MEMBER_ROOM (Unit {0})) → List (List Ef1)
 answers table = map (λ row. row.items) table
 
--- the text is the audit of these owners, beside an allocation that dominates them if one is given; both are in the order of the goods
+-- the text is the audit of these owners, together with an allocation that dominates them if one is given; both are in the order of the goods
 abbrev pub IsAuditText : NamesData → GoodsCase → List ℕ → Option (List ℕ) → List ℕ → Type 0
 IsAuditText given case owners better text =
     (table : List (ArrayVec Ef1 MEMBER_ROOM (Unit {0}))) × IsEf1Table case owners table

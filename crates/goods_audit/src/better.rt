@@ -1,4 +1,4 @@
-// Whether there is a better division: the first allocation that gives every player at least as many points, and someone more.
+// Finds out whether there is a better division: the first allocation that gives every player at least as many points, and someone more.
 ghost use Rattle.std.specs.Prelude.{◌≡◌, ◌<◌, ◌↔◌, [], ◌∷◌, length, IfErr, IfOk, IsErr};
 ghost use Rattle.bid_rules.specs.Goods.{AreOwners, IsAllocation, IsValidGoodsCase, in_search_order};
 ghost use Rattle.nash_bounds.specs.Lanes.{IsLanes};
@@ -46,11 +46,11 @@ fn first_path(case: &GoodsCase, table: &PointTable) -> Path
     }
 }
 
-/// The least allocation, as a list of owners in search order, that dominates the division: it gives every player at least as many points
-/// and one player more. `None` if there is none: then the division is Pareto-optimal.
+/// The least allocation, as a list of owners in search order, that dominates the division: it gives every player at least as many
+/// points, and some player more. `None` if there is none: then the division is Pareto-optimal.
 ///
-/// Owners are players by number of the good, in the answer too. `OverLimit` comes exactly if more prefixes of allocations than the
-/// case's limit leave room for one that dominates. No memory is taken.
+/// Owners are players by number of the good, in the answer too. `OverLimit` is returned exactly when more prefixes of allocations than
+/// the case's limit leave room for one that dominates. No memory is taken.
 pub fn dominating(
     case: &GoodsCase,
     owners: &[u8],

@@ -1,4 +1,4 @@
-// The lines that say who envies whom past one good.
+// Writes the lines that say whose envy of whom remains after any one good is taken away.
 ghost use Rattle.std.specs.Prelude.{◌≡◌, ◌≤◌, ◌++◌, length, All, OnOk, Some, string_bytes};
 ghost use Rattle.std.proofs.Props.{props};
 ghost use Rattle.bid_rules.specs.Goods.{IsValidGoodsCase, player_count};
@@ -31,7 +31,7 @@ impl fmt::Display for Answer {
     }
 }
 
-/// The answers on envy up to one good, with the case whose players they are of.
+/// The answers on envy up to one good, with the case whose players they are about.
 #[derive(Drop)]
 pub(crate) struct EnvyLines<'a> {
     pub(crate) case: &'a GoodsCase,
@@ -63,7 +63,7 @@ impl EnvyLines<'_> {
         push_line(lines, format_args!("envy {envier} {envied}: {answer}"))
     }
 
-    // Appends the lines of a player and each other.
+    // Appends a line for a player and each other player.
     fn push_others(&self, lines: &mut String, player: u8) -> Result<(), NoMemory>
         requires low { 1 ≤ player }
         requires high { player ≤ player_count self.now.case.now }
@@ -78,7 +78,7 @@ impl EnvyLines<'_> {
         Ok(())
     }
 
-    // Appends the lines of all players and each other.
+    // Appends a line for each player and each other player.
     pub(crate) fn push_all(&self, lines: &mut String) -> Result<(), NoMemory>
         ensures { OnOk result (string_bytes lines.new
             ≡ string_bytes lines.old

@@ -1,4 +1,4 @@
-// What holds of audits, for all cases: each law is the contract of a function that does nothing.
+// Laws about audits of goods, which hold for all cases. Each is the contract of a function that does nothing.
 ghost use Rattle.std.specs.Prelude.{◌≡◌, ℕ, List, Option, None};
 ghost use Rattle.std.specs.Option.{option_map};
 ghost use Rattle.bid_rules.specs.declared.goods.GoodsCase.{GoodsCase};
@@ -15,8 +15,8 @@ use envy_check::one_good_law;
 use nash_bounds::owners_by_good_law;
 use nash_search::step_count_law;
 
-/// Over the best division the audit says that nothing dominates it, which is true, and of nobody that envy goes past one good (Caragiannis
-/// and others 2016).
+/// About the best division, the audit says that nothing dominates it, which is true, and it says of nobody that their envy goes past one
+/// good (Caragiannis and others 2016).
 pub fn fair_audit_law()
     ensures fair { (given : NamesData) (case : GoodsCase) (owners text : List ℕ)
         → AreBestOwners case owners → IsAuditText given case owners None text
@@ -29,8 +29,9 @@ pub fn fair_audit_law()
     owners_by_good_law();
 }
 
-/// Since a case has one division by the solver, it has one audit under the names of its members and goods: there is one answer on each two
-/// players. And so have any owners, if it tells the least division that dominates theirs, or that none does.
+/// Since the solver gives a case only one division, it has only one audit under the names of its members and goods: there is one answer
+/// for each two players. The same is true of any owners, if the audit gives the least division that dominates theirs, or says that there
+/// is none.
 pub fn one_goods_audit_law()
     ensures division { (given : NamesData) (case : GoodsCase) (division others : GoodsDivision)
         (text other : List ℕ) → IsGoodsDivision case division → IsGoodsDivision case others

@@ -1,10 +1,9 @@
 //! The audit of a division of goods: whether another allocation dominates it, and who envies another past one good. The division is
 //! the published one or a proposal.
 //!
-//! `dominating` gives the least allocation that dominates, as a list of owners in search order, or
-//! says that there is none. It refuses exactly if more prefixes leave room than the limit, and
-//! takes no memory. Of the best division an audit says that nothing dominates it and that no envy
-//! goes past one good (`fair_audit_law`).
+//! `dominating` gives the least allocation that dominates, as a list of owners in search order, or says that there is none. It
+//! refuses exactly when more prefixes leave room than the limit, and takes no memory. About the best division an audit says that
+//! nothing dominates it and that no envy goes past one good (`fair_audit_law`).
 #![tactic(auto)]
 
 mod better;

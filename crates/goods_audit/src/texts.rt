@@ -104,7 +104,7 @@ fn audit_of(
 /// (Budish 2011), and an allocation that dominates it, if one is given. Lines end with LF.
 ///
 /// The owners are players, in the order of the goods, and so are the better ones. There is a name for each member of the case. `NoMemory`
-/// comes only when memory runs out.
+/// is returned only when memory runs out.
 pub fn named_audit(
     alloc: Global,
     names: &Names<'_>,
@@ -137,8 +137,8 @@ pub fn named_audit(
 
 /// The audit of a division of the case that an input makes.
 ///
-/// The lists of the input have the counts of its facts, the facts and bids have no fault, and the case is the one that they make.
-/// The owners are players, in the order of the goods, and so are the better ones. `NoMemory` comes only when memory runs out.
+/// The lists of the input have the counts of its facts, the facts and bids have no fault, and the case is the one that they make. The
+/// owners are players, in the order of the goods, and so are the better ones. `NoMemory` is returned only when memory runs out.
 pub fn audit_text(
     alloc: Global,
     input: &CaseInput,
@@ -157,18 +157,14 @@ pub fn audit_text(
         (option_map (λ others. others.now) better.entry) text.items) }
 {
     case_law();
-    let names = Names {
-        title: &input.title,
-        members: &input.members,
-        items: &input.items,
-    };
+    let names = Names::new(&input.title, &input.members, &input.items);
     named_audit(alloc, &names, case, owners, better)
 }
 
 /// The audit of the best division of a case of goods, as it is published: it says that nothing dominates the division, which is true, and
 /// that nobody's envy goes past one good.
 ///
-/// There is a name for each member of the case, and the division is the solver's for it. `NoMemory` comes only when memory runs out.
+/// There is a name for each member of the case, and the division is the solver's for it. `NoMemory` is returned only when memory runs out.
 pub fn division_audit(
     alloc: Global,
     names: &Names<'_>,

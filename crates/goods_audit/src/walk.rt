@@ -58,17 +58,15 @@ fn first_of(
     if let Some(list) = first {
         return Some(list);
     }
-    let mut list = ArrayVec::new();
-    list.try_extend_from_slice(owners).unwrap();
-    Some(list)
+    Some(ArrayVec::try_from(owners).unwrap())
 }
 
 /// A search on a path, along which the prefixes are seen in rising order.
 #[derive(Drop)]
 pub(crate) struct Walk {
-    /// The prefix that is seen next; none once no good has an owner.
+    /// The prefix that is seen next; there is none once no good has an owner.
     pub(crate) path: Path,
-    /// How many of those that were seen leave room.
+    /// How many of the prefixes seen so far leave room.
     pub(crate) openings: u32,
     /// The first allocation that was found, in search order.
     pub(crate) first: Option<ArrayVec<u8, ITEM_ROOM>>,

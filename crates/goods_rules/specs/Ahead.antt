@@ -21,7 +21,7 @@ FinishesBehind leaf players goods (owner ∷ up) marks =
 abbrev pub FinishesAt : (List ℕ → ℕ → Type 0) → ℕ → ℕ → List ℕ → List ℕ → Type 0
 FinishesAt leaf players goods up marks = (rest : List ℕ) × Subtree leaf players (goods - length up) (reverse up) marks rest × FinishesBehind leaf players goods up rest
 
--- these marks finish the tree: none if it was read whole, else those from the node of these owners on
+-- these marks finish the tree: none if it has all been read, and otherwise those from the node of these owners on
 abbrev pub FinishesTree : (List ℕ → ℕ → Type 0) → ℕ → ℕ → Bool → List ℕ → List ℕ → Type 0
 FinishesTree leaf players goods true owners marks = marks ≡ []
 FinishesTree leaf players goods false owners marks = FinishesAt leaf players goods (reverse owners) marks

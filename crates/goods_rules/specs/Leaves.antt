@@ -11,7 +11,7 @@ abbrev pub AnyLeaf : List ℕ → ℕ → Type 0
 AnyLeaf owners mark = Unit {0}
 
 -- from a node with this many goods still to give, whose subtree begins the marks, these owners lead to a leaf with this mark: no owner leads to the node itself,
--- and otherwise the first owner names a child, whose subtree comes behind those of the children before it, and the others lead on from there
+-- and otherwise the first owner names a child, whose subtree comes after those of the children before it, and the others lead on from there
 abbrev pub LeadsToLeaf : ℕ → List ℕ → ℕ → List ℕ → ℕ → Type 0
 LeadsToLeaf players [] goods [] leaf = ⊥
 LeadsToLeaf players [] goods (mark ∷ marks) leaf = (mark ≡ leaf) × (mark ≢ INNER_NODE)
@@ -29,7 +29,7 @@ HasLeaf case marks owners leaf = LeadsToLeaf (player_count case) owners case.fac
 abbrev pub IsLeafMark : GoodsCase → List ℕ → ℕ → Type 0
 IsLeafMark case owners mark = ((mark ≡ LEFT_OUT) × (length owners ≤ case.facts.goods)) ⊎ ((mark ≡ ANSWER_LEAF) × (length owners ≡ case.facts.goods))
 
--- exactly one leaf of the tree has owners with which the allocation begins
+-- the allocation begins with the owners of exactly one leaf of the tree
 pub record BeginsWithOneLeaf (case : GoodsCase) (marks allocation : List ℕ) : Type 0 where
   pub front : List ℕ
   pub rest : List ℕ

@@ -1,4 +1,4 @@
--- The six rules that a certificate of goods keeps: they show its owners best (Caragiannis and others 2016).
+-- The six rules that a certificate of goods keeps. They show that its owners are the best (Caragiannis and others 2016).
 use Rattle.std.specs.Prelude.{◌≡◌, ℕ, zero, suc, pos, ◌<◌, ◌≤◌, ◌≤ℤ◌, List, [], ◌∷◌, length, All, true}
 use Rattle.bid_rules.specs.declared.goods.GoodsCase.{GoodsCase}
 use Rattle.bid_rules.specs.Goods.{IsValidGoodsCase, player_count}
@@ -9,8 +9,8 @@ use Rattle.goods_rules.specs.Printed.{printed_answer, printed_case}
 use Rattle.goods_rules.specs.Tree.{IsTree}
 use Rattle.rule_verdicts.specs.Verdicts.{rule_at}
 
--- rule 1: the printed numbers are 0 or more, and they are a valid case: a limit in range, members up to 12 in rising order, and points of each player that sum
--- to 1000
+-- rule 1: the printed numbers are 0 or more, and they are a valid case: a limit in range, members from 1 to 12 in rising order, and for each player points
+-- that sum to 1000
 pub record HasCase (view : GoodsView) : Type 0 where
   pub limit : pos 0 ≤ℤ view.limit
   pub who : All (λ member. pos 0 ≤ℤ member) view.who

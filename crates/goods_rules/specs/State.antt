@@ -15,8 +15,8 @@ abbrev pub IsState : GoodsState → Type 0
 IsState (Broken rule) = Unit {0}
 IsState (Walking answer walk) = IsGoodsAnswer answer × IsWalk answer.case answer.goal.pair walk
 
--- the printed case and answer are these, and for each rule: it holds of a whole tree that begins with the marks taken exactly if it holds so far and the marks
--- to come finish the tree under it
+-- the printed case and answer are these, and for each rule: it holds of a whole tree that begins with the marks taken exactly when it holds so far and the
+-- marks to come finish the tree under it
 pub record IsWalked (view : GoodsView) (taken : List ℕ) (answer : Answer) (walk : Walk) : Type 0 where
   pub case : HasCase view
   pub owners : HasOwners view
@@ -29,7 +29,7 @@ abbrev pub StandsFor : GoodsView → List ℕ → GoodsState → Type 0
 StandsFor view taken (Broken rule) = ((rule ≡ 1) × (HasCase view → ⊥)) ⊎ ((rule ≡ 2) × HasCase view × (HasOwners view → ⊥))
 StandsFor view taken (Walking answer walk) = IsWalked view taken answer walk
 
--- what a walk that took all marks says of the rule with this number
+-- what a walk that has taken all marks says about the rule with this number
 abbrev pub walk_rule : Walk → ℕ → Type 0
 walk_rule walk zero = Unit {0}
 walk_rule walk (suc zero) = Unit {0}

@@ -9,8 +9,8 @@ abbrev pub Children : (List ℕ → List ℕ → List ℕ → Type 0) → List �
 Children subtree prefix [] marks rest = rest ≡ marks
 Children subtree prefix (owner ∷ owners) marks rest = (middle : List ℕ) × subtree (prefix ++ owner ∷ []) marks middle × Children subtree prefix owners middle rest
 
--- the subtree of a prefix is at the front of the marks, and the rest follows. It is a leaf, of which the rule on leaves holds: a `-`, or where all goods are
--- given a `=`; or where goods are still to give, a `+` and the subtrees of its children, by the owner of the next good
+-- the subtree of a prefix is at the front of the marks, and the rest follows. It is a leaf that satisfies the rule on leaves, which is a `-`, or a `=` if
+-- all goods are given; or, if goods are still to be given, it is a `+` and the subtrees of its children, in the order of the next good's owners
 abbrev pub Subtree : (List ℕ → ℕ → Type 0) → ℕ → ℕ → List ℕ → List ℕ → List ℕ → Type 0
 Subtree leaf players zero prefix [] rest = ⊥
 Subtree leaf players zero prefix (mark ∷ marks) rest = ((mark ≡ LEFT_OUT) ⊎ (mark ≡ ANSWER_LEAF)) × leaf prefix mark × (rest ≡ marks)

@@ -1,4 +1,4 @@
-// What the leaves of the tree are judged by: the printed allocation of a valid case.
+// What the leaves of the tree are judged by: a valid case and its printed allocation.
 ghost use Rattle.std.specs.Prelude.{◌≡◌, ◌≤◌, length};
 ghost use Rattle.bid_rules.specs.Goods.{AreOwners, IsAllocation, IsValidGoodsCase, in_search_order, pair_of};
 ghost use Rattle.goods_rules.specs.Path.{IsGoodsAnswer};
@@ -16,7 +16,7 @@ use nash_bounds::{
 };
 use std::cmp::Ordering;
 
-/// A valid case and an allocation, with what prefixes are judged by.
+/// A valid case and an allocation, with everything that prefixes are judged by.
 #[derive(Drop)]
 pub struct Answer {
     /// The case.

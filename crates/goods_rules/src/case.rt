@@ -1,16 +1,13 @@
-// The case and the owners that a certificate prints.
+// Reads the case and the owners that a certificate prints.
 ghost use Rattle.std.specs.Prelude.{◌≡◌, ℤ, ℕ, pos, ◌≤◌, ◌≤ℤ◌, List, All, MatchOption, length, map, unsigned_abs};
 ghost use Rattle.bid_rules.specs.declared.limits.TheConstants.{ITEM_ROOM, MEMBER_ROOM};
 ghost use Rattle.goods_rules.specs.Printed.{printed_case};
 ghost use Rattle.goods_rules.specs.Rules.{HasCase};
 
 use arrayvec::ArrayVec;
-use bid_rules::limits::{ITEM_ROOM, MOST_MEMBERS, MOST_STEPS, WHOLE_POINTS};
-use bid_rules::{Goods, GoodsCase};
-use rule_verdicts::{members_between, rows_of_amounts};
-
-/// A row of printed points, by good.
-pub type PrintedRow = ArrayVec<i128, ITEM_ROOM>;
+use bid_rules::GoodsCase;
+use bid_rules::limits::{ITEM_ROOM, MOST_STEPS};
+use rule_verdicts::{PrintedRow, members_between, printed_goods};
 
 // The printed case, if it is valid.
 pub(crate) fn case_of(
@@ -59,23 +56,10 @@ pub(crate) fn case_of(
     if limit < 0 || limit > i128::from(MOST_STEPS) {
         return None;
     }
-    let Some(members) = members_between(who, 0, MOST_MEMBERS) else {
+    let Some(case) = printed_goods(goods, limit as u32, who, values) else {
         return None;
     };
-    let Some(points) = rows_of_amounts(values, WHOLE_POINTS) else {
-        return None;
-    };
-    let facts = Goods {
-        members: MOST_MEMBERS,
-        goods,
-        limit: limit as u32,
-    };
-    let case = GoodsCase {
-        facts,
-        who: members,
-        values: points,
-    };
-    if case.is_valid() { Some(case) } else { None }
+    Some(case)
 }
 
 // The owner of each good, if each is one of this many players.

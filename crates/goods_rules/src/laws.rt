@@ -1,4 +1,4 @@
-// What the rules give.
+// Laws about what the rules of goods show. Each is the contract of a function that only calls other laws.
 ghost use Rattle.std.specs.Prelude.{◌≡◌, ◌↔◌, ℕ, List};
 ghost use Rattle.bid_rules.specs.Goods.{GoodsBest, IsAllocation, IsValidGoodsCase, owners_by_good};
 ghost use Rattle.cert_reader.specs.declared.marks.TheConstants.{ANSWER_LEAF};
@@ -30,9 +30,9 @@ pub fn goods_certificate_law()
     owners_by_good_law();
 }
 
-/// The leaves of a tree of marks, and what the rules on the tree ask of them. If the marks are one tree, each allocation begins with exactly one leaf, and each
-/// leaf is a `-`, or a `=` where all goods are given. Rules 4, 5 and 6 hold exactly if the marks are one tree and what the rule asks holds of each leaf; for
-/// rule 6 that is that a `=` is the answer. If all rules hold, the answer has its leaf, with a `=`, and no other leaf has one.
+/// What the leaves of a tree of marks are, and what the rules on the tree ask of them. If the marks are one tree, each allocation begins with exactly one leaf,
+/// and each leaf is a `-`, or a `=` where all goods are given. Rules 4, 5 and 6 hold exactly when the marks are one tree and what the rule asks holds of each
+/// leaf; rule 6 asks that a `=` is the answer. If all rules hold, the answer has its own leaf, with a `=`, and no other leaf has a `=`.
 pub fn goods_tree_law()
     ensures one { (view : GoodsView) (allocation : List ℕ) → goods_rule view 3
         → IsAllocation (printed_case view) allocation

@@ -1,8 +1,8 @@
 //! The six rules of a certificate of goods, judged mark by mark in fixed memory. If all hold, the printed owners have the greatest
-//! Nash welfare (Caragiannis and others 2016), the first of equals.
+//! Nash welfare (Caragiannis and others 2016), and come first among equals.
 //!
-//! That is `goods_certificate_law`; `goods_tree_law` says what the leaves of the tree are. `parent_of`
-//! gives what the children of a node are judged by, of a tree that is read or written.
+//! That is `goods_certificate_law`; `goods_tree_law` says what the leaves of the tree are. `parent_of` gives what the children of
+//! a node are judged by, both when a tree is read and when one is written.
 #![tactic(auto)]
 
 mod answer;
@@ -14,7 +14,6 @@ mod state;
 mod walk;
 
 pub use answer::Answer;
-pub use case::PrintedRow;
 pub use laws::{goods_certificate_law, goods_tree_law};
 pub use parent::{Parent, parent_of};
 pub use path::Path;

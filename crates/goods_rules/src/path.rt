@@ -51,7 +51,7 @@ impl Path {
         lanes
     }
 
-    // A level near that of the node's bound, by the node's lanes if it is the root.
+    // A level near that of the node's bound; for the root it comes from the node's lanes.
     fn level(&self, answer: &Answer, lanes: &Lanes) -> u32
         requires answer { IsGoodsAnswer answer.now }
         requires path { IsPath answer.now.case answer.now.goal.pair self.now }
@@ -95,7 +95,7 @@ impl Path {
         self.owners.push(1);
     }
 
-    // Goes to the next sibling of a child, if it has one; whether it did.
+    // Goes to the next sibling of a child, if there is one, and says whether it did.
     fn to_sibling(&mut self, players: u8) -> bool
         requires child { 0 < length self.old.owners.items }
         requires players { players ≤ MEMBER_ROOM }
@@ -131,8 +131,8 @@ impl Path {
         self.parents.truncate(self.owners.len());
     }
 
-    // Leaves a node whose subtree was read whole: goes to the next sibling, of it or of the nearest node above that has one. Whether there
-    // is none.
+    // Leaves a node whose subtree has been read: goes to its next sibling, or to that of the nearest node above that has one. Says whether
+    // there is no such sibling.
     #[inline(never)]
     fn climb_up(&mut self, players: u8) -> bool
         requires players { players ≤ MEMBER_ROOM }
@@ -154,7 +154,7 @@ impl Path {
         true
     }
 
-    // The same. Most nodes have a sibling, and no node above is then left.
+    // The same, but faster for most nodes: they have a sibling, so no node above has to be left.
     pub(crate) fn climb(&mut self, players: u8) -> bool
         requires players { players ≤ MEMBER_ROOM }
         ensures path { (case : GoodsCase) (pair : Pair) → player_count case ≡ players
@@ -175,7 +175,7 @@ impl Path {
         self.climb_up(players)
     }
 
-    // Whether the node is a child who could not reach the answer's pair, and so may be left out.
+    // Whether the node is a child that could not reach the answer's pair, and so may be left out.
     pub(crate) fn is_far(&self, answer: &Answer) -> bool
         requires answer { IsGoodsAnswer answer.now }
         requires path { IsPath answer.now.case answer.now.goal.pair self.now }

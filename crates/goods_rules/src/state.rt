@@ -7,14 +7,14 @@ ghost use Rattle.goods_rules.specs.State.{IsState, StandsFor, walk_rule};
 ghost use Rattle.rule_verdicts.specs.Verdicts.{IsVerdict, IsVerdictOf};
 
 use crate::answer::{Answer, answer_of};
-use crate::case::{PrintedRow, case_of, owners_of};
+use crate::case::{case_of, owners_of};
 use crate::walk::Walk;
-use rule_verdicts::Verdict;
+use rule_verdicts::{PrintedRow, Verdict};
 
-/// How far the judge of a certificate of goods is, after the lines before the tree and some of its marks.
+/// How far the judge of a certificate of goods has come, after the lines before the tree and some of its marks.
 #[derive(Drop)]
 pub enum GoodsState {
-    /// A rule is broken: the first, since no valid case is printed, or the second, since some good has no owner.
+    /// A rule is broken: the first, because no valid case is printed, or the second, because some good has no owner.
     Broken {
         /// The rule, from 1.
         rule: u8,
@@ -23,7 +23,7 @@ pub enum GoodsState {
     Walking {
         /// What the leaves are judged by.
         answer: Answer,
-        /// How far the walk through the tree is.
+        /// How far the walk through the tree has come.
         walk: Walk,
     },
 }
@@ -82,7 +82,7 @@ pub fn take_mark(state: &mut GoodsState, mark: u8)
     }
 }
 
-// The verdict on the tree once no mark is to come.
+// The verdict on the tree once no more marks will come.
 fn verdict_of(walk: &Walk) -> Verdict
     ensures { IsVerdict (walk_rule walk.now) 6 result }
 {
@@ -101,7 +101,7 @@ fn verdict_of(walk: &Walk) -> Verdict
     Verdict::Yes
 }
 
-/// The verdict, once all marks were taken.
+/// The verdict, once all marks have been taken.
 pub fn end_goods(state: &GoodsState) -> Verdict
     ensures { (view : GoodsView) → StandsFor view view.marks state.now
         → IsVerdictOf (rules_of_goods view) result }

@@ -24,12 +24,12 @@ pub struct Kept {
     pub answer: bool,
 }
 
-/// How far a walk through the tree is.
+/// How far a walk through the tree has come.
 #[derive(Drop)]
 pub struct Walk {
     /// The path to the node that comes next.
     pub path: Path,
-    /// Whether the whole tree was read.
+    /// Whether the whole tree has been read.
     pub whole: bool,
     /// Which rules hold so far.
     pub kept: Kept,
@@ -79,7 +79,7 @@ impl Walk {
         }
     }
 
-    // Whether a mark can come where the walk is.
+    // Whether this mark can come where the walk is.
     fn fits(&self, goods: u8, mark: u8) -> bool
         ensures { IsTrue result ↔ CanStand goods self.now.whole self.now.path.owners.items mark }
     {
@@ -95,7 +95,7 @@ impl Walk {
         }
     }
 
-    // No tree goes on like this.
+    // The walk after a mark with which no tree can go on.
     fn give_up(&mut self)
         ensures path { self.new.path ≡ self.old.path }
         ensures whole { self.new.whole ≡ self.old.whole }
@@ -130,7 +130,8 @@ impl Walk {
         self.whole = self.path.climb(players(&answer.case));
     }
 
-    // Takes one mark. Most are of children who are left out and could not reach the answer's pair, which changes nothing that is kept.
+    // Takes one mark. Most marks are for children that are left out and could not reach the answer's pair, and these change nothing
+    // that is kept.
     pub(crate) fn take(&mut self, answer: &Answer, mark: u8)
         requires answer { IsGoodsAnswer answer.now }
         requires walk { IsWalk answer.now.case answer.now.goal.pair self.old }

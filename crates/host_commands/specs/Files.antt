@@ -20,12 +20,12 @@ use Rattle.split_base.specs.Faults.{HasRisen, counted}
 abbrev pub FailedOnce : ℕ → ℕ → Type 0
 FailedOnce before now = HasRisen before now × (now ≡ counted before)
 
--- no byte of the file changed, at no moment, and nothing was written
+-- no byte of the file changed at any moment, and nothing was written
 pub record LeavesFile {D : Type 0} (d : Ghosts D) (disk after : D) : Type 0 where
   pub rests : Rests d.seen d.images d.moment d.left_since disk after
   pub no_write : d.moment after ≡ d.moment disk
 
--- the disk tells its bytes as before, and they are the same
+-- the disk reveals its bytes as before, and they are the same
 pub record IsSameFile {D : Type 0} (d : Ghosts D) (disk after : D) : Type 0 where
   pub tells : d.tells after
   pub same : d.seen after ≡ d.seen disk
@@ -39,8 +39,8 @@ pub record IsMade {D : Type 0} (d : Ghosts D) (disk after : D) (secret : List �
   pub one : Only (d.seen after) (d.images after)
   pub calls : d.moment after ≡ d.moment disk + 2
 
--- A journal is made of an empty file, and nothing is written out; or the file isn't empty, which is told with place 0; or a call of the disk
--- failed. A file with bytes stays as it is, whatever the ending.
+-- A journal is made of an empty file, and nothing is written out; or the file isn't empty, which is reported with place 0; or a call of the disk failed. A file with bytes
+-- stays as it is, whatever the ending.
 pub data Makes {D : Type 0} (d : Ghosts D) (disk after : D) (secret : List ℕ) (ending : Result (List ℕ) Stop) : Type 0 where
   made : ending ≡ Ok [] → d.faults after ≡ d.faults disk → (d.tells disk → length (d.seen disk) ≡ 0) → (d.is_honest disk → IsMade d disk after secret)
       → Makes d disk after secret ending
@@ -49,15 +49,15 @@ pub data Makes {D : Type 0} (d : Ghosts D) (disk after : D) (secret : List ℕ) 
   failed : ending ≡ Err stop.StoreFault → FailedOnce (d.faults disk) (d.faults after) → (d.tells disk → 0 < length (d.seen disk) → IsSameFile d disk after)
       → (d.is_honest disk → 0 < length (d.seen disk) → LeavesFile d disk after) → Makes d disk after secret ending
 
--- why a command ends that could not make or open its file
+-- why a command that could not make or open its file ends
 abbrev pub stop_of : LogFault → Stop
 stop_of fault.Disk = stop.StoreFault
 stop_of (fault.NotALog place) = stop.BadJournal place
 stop_of fault.NoMemory = stop.NoMemory
 
--- The file of a host is opened, or why it isn't: a call of the disk failed; the file is no journal, which is told with the place of its first fault
--- exactly where the disk tells bytes that have one; or there was no memory. No byte but the version gate may be torn, and after the last two no byte changed. What was a file of
--- a state before is one at each moment, and after.
+-- The file of a host is opened, or why it isn't: a call of the disk failed; the file isn't a journal, which is reported with the place of its first fault exactly when the disk
+-- reveals bytes that have one; or there was no memory. No byte but the version gate may be torn, and after the last two no byte changed. What was a file of a state before is
+-- one at each moment, and after.
 pub record Opens {D : Type 0} (d : Ghosts D) (disk after : D) (answer : Result Serving LogFault) : Type 0 where
   pub opened : IfOk answer (Opened d disk after)
   pub count : d.faults disk ≤ d.faults after
@@ -76,7 +76,7 @@ pub record Opens {D : Type 0} (d : Ghosts D) (disk after : D) (answer : Result S
 abbrev pub state_of : {D : Type 0} {d : Ghosts D} {disk after : D} {serving : Serving} → Opened d disk after serving → State
 state_of opened = ready_with opened.secret opened.kept
 
--- The file is opened and the instances of its host are told; or it isn't; or there was no memory for the rows.
+-- The file is opened and the instances of its host are reported; or it isn't; or there was no memory for the rows.
 pub data Dumps {D : Type 0} (d : Ghosts D) (disk after : D) (ending : Result (List ℕ) Stop) : Type 0 where
   dumped : (serving : Serving) (opens : Opens d disk after (Ok serving)) → ending ≡ Ok (dump_text (host_in (state_of opens.opened))) → Dumps d disk after ending
   no_rows : (serving : Serving) → Opens d disk after (Ok serving) → ending ≡ Err stop.NoMemory → Dumps d disk after ending

@@ -40,8 +40,8 @@ pub record HoldsState {D : Type 0} (d : Ghosts D) (disk : D) (s : State) : Type 
 -- that the disk is honest holds of every disk.
 pub record Headline {D P L C : Type 0} (d : Ghosts D) (p : PortSide P L) (tells : LinkTells L) (c : ClockSide C) (disk : D) (begun : D × State) (after : D)
     (port port_after : P) (clock clock_after : C) (number : ℕ) : Type 0 where
-  -- for every list of connections, bytes and clock moments: so many links, the first that were to come, each as it was handed out and as it was
-  -- given back where there was a place for it, and the answers of the clock
+  -- for every list of connections, bytes and clock moments: this many links, the first that were to come, each as it was handed out and as it was given
+  -- back where there was a place for it, and the answers of the clock
   pub links : List (L × L)
   pub answers : List (Option ℕ)
   pub count : length links ≡ number
@@ -63,11 +63,11 @@ pub record Headline {D P L C : Type 0} (d : Ghosts D) (p : PortSide P L) (tells 
   pub last : ended.0 ≡ after
   pub holds : HoldsState d after ended.1
   -- Each request is answered at one state: the one before it, or the one that the file of a waiting host gives when it is opened. All that `IsHandled`
-  -- says of the request is said of that state. The request changes it by at most one event, which one step of the machine makes. It has the reply of
-  -- that step, or a refusal of its path or method; or it is told that memory ran out, for a body that is read or a result that is published; or that a
-  -- call of the disk failed in it; or that its file is no journal, which is never so on an honest disk. One that is refused changes nothing, except by
-  -- the Close of an instance whose deadline has passed, or its own event waits. Bids are sealed: of a status, an own bid and a close, on an instance that
-  -- isn't closed, the reply tells no more than what its caller may know, or a fault of the store. A bid or a withdrawal that is made was sent under its
+  -- says of the request is said of that state. The request changes it by at most one event, which one step of the machine makes. It has the reply of that
+  -- step, or a refusal of its path or method; or it is told that memory ran out, for a body that is read or a result that is published; or that a call of
+  -- the disk failed in it; or that its file isn't a journal, which is never so on an honest disk. One that is refused changes nothing, except by the
+  -- Close of an instance whose deadline has passed, or its own event waits. Bids are sealed: of a status, an own bid and a close, on an instance that
+  -- isn't closed, the reply says no more than what its caller may know, or a fault of the store. A bid or a withdrawal that is made was sent under its
   -- member's key. In all the machine takes these steps in order, from these same states, and no others
   pub states : List State
   pub handled : AreHandled d run states

@@ -27,7 +27,7 @@ use Rattle.split_http.specs.declared.routes.Route.{Route}
 use Rattle.split_http.specs.Places.{IsRouted}
 use Rattle.rule_verdicts.specs.declared.verdict.Verdict.TheVariants.{Yes}
 
--- the request asks what is published of an instance: this
+-- the request asks for this to be published of an instance
 abbrev pub AsksFor : {W : Type 0} → Exchange W → What → Type 0
 AsksFor x asked = (route : Route) × IsRouted x.head.verb x.head.path (Ok route) × (command_of route.place route.id x.head.key x.body ≡ To route.id x.head.key (asks.Publish asked))
 
@@ -47,8 +47,9 @@ IsBestDivision (case.Goods goods) (divided.Goods division) = HasBestOwners goods
 IsBestDivision (case.Fares fares) (divided.Fares division) = FareBest fares (map fraction_of division.fares.items) division.route.items
 IsBestDivision one division = ⊥
 
--- What is told is the best division of the case that the instance's facts and kept bids make, by the text of what is asked; `solver` has the numbers
--- that show it best. The case is valid, and the checker says yes to its canonical certificate, which prints a valid case and its best division.
+-- What is published is the best division of the case that the instance's facts and kept bids make, by the text of what is asked; `solver` has the
+-- numbers that show that it is the best. The case is valid, and the checker says yes to its canonical certificate, which prints a valid case and its
+-- best division.
 pub record TellsBestOf (i : InstanceView) (asked : What) (told : ContentView) : Type 0 where
   pub one : Case
   pub division : Division
@@ -59,8 +60,8 @@ pub record TellsBestOf (i : InstanceView) (asked : What) (told : ContentView) : 
   pub text : IsPublished asked (case_data i) one division told
   pub certificate : (text : List ℕ) → IsCanonical one text → IsJudged text Yes × PrintsBest text
 
--- What the reply tells is published of the instance that the request names, as it is after the request: closed, so that its bids are the last ones.
--- It is the one thing that may be told of it: so neither the number of workers nor their order changes it.
+-- What the reply says is published of the instance that the request names, as it is after the request: closed, so that its bids are the last ones.
+-- It is the only thing that may be published of it, so neither the number of workers nor their order changes it.
 pub record Publishes {D : Type 0} (x : Exchange (D × State)) (asked : What) : Type 0 where
   pub route : Route
   pub i : InstanceView

@@ -16,7 +16,7 @@ use Rattle.host_commands.specs.Files.{state_of}
 use Rattle.host_commands.specs.Links.{LinksAnswered}
 use Rattle.host_commands.specs.Serves.{RunEnds, Serves, ServesOpened}
 
--- two links that tell the same bytes to come, and the same bytes that were written to them
+-- two links that reveal the same bytes to come, and the same bytes that were written to them
 pub record StartAlike {L : Type 0} (tells : LinkTells L) (one other : L) : Type 0 where
   pub ahead : List ℕ
   pub behind : List ℕ
@@ -56,8 +56,8 @@ abbrev pub AreDone : {L W : Type 0} (service : Service W) (tells : LinkTells L) 
 AreDone service tells [] answers w new run = Unit {0}
 AreDone service tells (l ∷ links) answers w new (now, later, mid, is, served, others) = IsDone served.ending × AreDone service tells links later mid new others
 
--- These links were served, each as it was handed out and as it was given back, at these answers of the clock, and their number is told. No call of the disk,
--- the port or a link failed, and memory sufficed.
+-- These links were served, each as it was handed out and as it was given back, at these answers of the clock, and their number is reported. No call of the
+-- disk, the port or a link failed, and memory sufficed.
 abbrev pub HasServed : {D P L C : Type 0} {d : Ghosts D} {p : PortSide P L} {tells : LinkTells L} {c : ClockSide C} {disk after : D} {port port_after : P} {clock clock_after : C} {port_number count : ℕ}
     {ending : Result (List ℕ) Stop} → Serves d p tells c disk after port port_after clock clock_after port_number count ending → List (L × L) → List (Option ℕ) → Type 0
 HasServed {D} {P} {L} {C} {d} {p} {tells} {c} {disk} {after} (Serves.opened serving between opens asked (ServesOpened.ran heard listens number runs (RunEnds.told is still most few))) links answers =

@@ -30,18 +30,18 @@ pub record Listens {P L : Type 0} (p : PortSide P L) (number : ℕ) (port heard 
   pub still : p.faults heard ≡ p.faults port
   pub none : HasNoLink p port heard
 
--- so many links were served
+-- this many links were served
 abbrev pub served_line : ℕ → List ℕ
 served_line number = word_line (codes "served") (decimal number ∷ [])
 
--- The run of the host over so many links of the port, in order, from this disk and state on, at the answers of the clock. Each link is given
+-- The run of the host over this many links of the port, in order, starting from this disk and state, with these answers of the clock. Each link is given
 -- back, and the serving is then in the state that the last one left.
 pub record Runs {D P L C : Type 0} (d : Ghosts D) (p : PortSide P L) (tells : LinkTells L) (c : ClockSide C) (w : D × State) (after : D) (port port_after : P) (clock clock_after : C) (number : ℕ) : Type 0 where
   pub serving : Serving
   pub served : PortServed (host_service d) tells (p.to_come port) (p.to_come port_after) (p.given_back port) (p.given_back port_after) (p.places port)
       (ClockRun c.gives c.faults clock clock_after) (StandsAt d serving after) w number
 
--- How the run ends: so many links as asked were served, or fewer, but only if no more links come, and their number is told; or the port failed to
+-- How the run ends: as many links as asked were served, or fewer, but only if no more links come, and their number is reported; or the port failed to
 -- hand out one more of as many as were asked.
 pub data RunEnds {P L : Type 0} (p : PortSide P L) (port port_after : P) (count number : ℕ) (ending : Result (List ℕ) Stop) : Type 0 where
   told : ending ≡ Ok (served_line number) → p.faults port_after ≡ p.faults port → number ≤ count → (number < count → p.has_ended port_after) → RunEnds p port port_after count number ending
@@ -67,12 +67,12 @@ pub data Serves {D P L C : Type 0} (d : Ghosts D) (p : PortSide P L) (tells : Li
       → ServesOpened d p tells c (between, state_of opens.opened) after port port_after clock clock_after port_number count ending
       → Serves d p tells c disk after port port_after clock clock_after port_number count ending
 
--- the file was not opened: its disk failed, it is no journal, or there was no memory
+-- the file was not opened: its disk failed, it is not a journal, or there was no memory
 abbrev pub IsUnopened : Result (List ℕ) Stop → Type 0
 IsUnopened ending = (why : LogFault) × (ending ≡ Err (stop_of why))
 
--- The file was opened, and so many links were served: the port listened, and then the run ended as `RunEnds` says; or it failed to listen, handed out no
--- link, and the number is 0.
+-- The file was opened, and this many links were served: the port listened, and then the run ended as `RunEnds` says; or it failed to listen, handed out
+-- no link, and the number is 0.
 pub data IsOpened {P L : Type 0} (p : PortSide P L) (port_number : ℕ) (port port_after : P) (count number : ℕ) (ending : Result (List ℕ) Stop) : Type 0 where
   ran : (heard : P) → Listens p port_number port heard → RunEnds p heard port_after count number ending → IsOpened p port_number port port_after count number ending
   deaf : ending ≡ Err stop.PortFault → FailedOnce (p.faults port) (p.faults port_after) → HasNoLink p port port_after → number ≡ 0

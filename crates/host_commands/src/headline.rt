@@ -1,4 +1,4 @@
-// The main theorem, as the contract of a function that does nothing.
+// States the main theorem, as the contract of a function that does nothing.
 ghost use Rattle.std.specs.Prelude.{◌≡◌, ◌⊎◌, ℕ, List, Ok, Result};
 ghost use Rattle.command_results.specs.declared.stop.Stop.{Stop};
 ghost use Rattle.serving.specs.Served.{tells_of};
@@ -22,9 +22,9 @@ use split_base::{Clock, Disk, Port};
 /// published division is best for its rule among all divisions of the bids kept, least among equals and the same for every number of workers, its
 /// printed certificate passes the checker, and a crash at any moment leaves a prefix of the commands holding each acknowledged one.
 ///
-/// It holds of whatever `serve_port` says of a file, a port and a clock, once the file was opened: where it tells how many links were served, of
-/// these, and then no call of the port failed; else of those that were served until the port failed, which are none where it failed to listen. Where
-/// the file was not opened, neither the port nor the clock was called.
+/// It holds of any run of `serve_port` over a file, a port and a clock, once the file has been opened. If the text says how many links were served,
+/// it holds of these, and no call of the port failed; otherwise it holds of those that were served until the port failed, of which there are none if
+/// it failed to listen. If the file was not opened, neither the port nor the clock was called.
 pub fn headline_law<D: Disk, P: Port, C: Clock>()
     ensures told { (disk after : D) (port port_after : P) (clock clock_after : C)
         (port_number count : ℕ) (text : List ℕ)

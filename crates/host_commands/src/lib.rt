@@ -1,8 +1,7 @@
 //! What `init`, `dump` and `serve` do with file, port and clock, and the law over a whole run.
 //!
 //! `make` leaves a journal of 50 bytes by two calls that write or sync, or a filled file as it was.
-//! `serve_port` makes the routes, opens the file, listens and serves, and calls nothing before its
-//! turn.
+//! `serve_port` makes the routes, opens the file, listens and serves, in that order.
 #![tactic(auto)]
 
 mod dumping;

@@ -1,4 +1,4 @@
-// Serving the links of a port from the file of a host.
+// Serves the links of a port from the file of a host.
 ghost use Rattle.std.specs.Prelude.{◌≡◌, ◌≤◌, ◌↔◌};
 ghost use Rattle.command_results.specs.Endings.{ending_of};
 ghost use Rattle.host_journal.specs.States.{State};
@@ -13,23 +13,23 @@ use host_journal::Serving;
 use requests::Tools;
 use search_workers::{Means, Workers};
 use serving::serve;
-use split_base::{Clock, Disk, Failed, Gate, NoMemory, Port};
+use split_base::{Clock, Disk, Failed, Gate, Port};
 use split_http::Routes;
 use split_solve::{KeptSearches, Solver};
 use std::thread::Threads;
 
-/// Opens the file of a host, listens at the port of this number, and serves `count` links, or fewer only where no link comes any more. The text
-/// tells how many were served. Each link is given back, whatever its end, before the port is asked for the next one, and the port is not asked again once it has
-/// answered that none comes. So it must have no link out at the start, and must not have answered that yet.
+/// Opens the file of a host, listens at the port with this number, and serves `count` links, or fewer only if no more links come. The text says how many were
+/// served. Each link is given back, whatever its end, before the port is asked for the next one, and the port is not asked again once it has answered that no
+/// more come. So it must have no link out at the start, and must not have answered that yet.
 ///
-/// - `BadJournal` comes exactly where the file is no journal, with the place of its first fault.
-/// - `StoreFault` comes only where the disk's count of faults has risen, by one, in the opening. A fault of the disk within a request is that
-///   request's reply, and no stop.
-/// - `PortFault` comes only where the port's count of faults has risen, by one: it failed to listen, or to hand out one more link.
-/// - `NoMemory` comes only where memory runs out, and only before the port listens.
+/// - `BadJournal` is returned exactly when the file is not a journal, with the place of its first fault.
+/// - `StoreFault` is returned only if the disk's count of faults has risen, by one, in the opening. A fault of the disk within a request is reported in that
+///   request's reply and doesn't stop the command.
+/// - `PortFault` is returned only if the port's count of faults has risen, by one: it failed to listen, or to hand out one more link.
+/// - `NoMemory` is returned only where memory runs out, and only before the port listens.
 ///
-/// No other stop comes. Before the file is opened neither the port nor the clock is called. Goods are searched by the workers, and the last
-/// searches are kept, so that a closed round is not searched for each request. Neither changes what is written.
+/// There are no other stops. Before the file is opened neither the port nor the clock is called. Goods are searched by the workers, and the last searches are
+/// kept, so that a closed round is not searched for each request. Neither changes what is written.
 pub fn serve_port<D: Disk, P: Port, C: Clock, R: Threads + Sync, G: Gate + Sync>(
     means: &Means<'_, R, G>,
     workers: Workers,
@@ -49,24 +49,22 @@ pub fn serve_port<D: Disk, P: Port, C: Clock, R: Threads + Sync, G: Gate + Sync>
     ensures port { P.faults port.old ≤ P.faults port.new }
     ensures clock { C.faults clock.old ≤ C.faults clock.new }
 {
-    match Routes::new(means.alloc) {
-        Err(NoMemory) => Err(Stop::NoMemory),
-        Ok(routes) => match open_file(means.alloc, disk) {
-            Err(fault) => Err(stop_of(fault)),
-            Ok(serving) => {
-                let mut searches = KeptSearches::new(means.alloc);
-                let solver = Solver {
-                    means,
-                    workers,
-                    searches: &mut searches,
-                };
-                let mut tools = Tools {
-                    solver,
-                    routes: &routes,
-                };
-                serve_opened(&mut tools, serving, disk, port, clock, number, count)
-            }
-        },
+    let routes = Routes::new(means.alloc)?;
+    match open_file(means.alloc, disk) {
+        Err(fault) => Err(stop_of(fault)),
+        Ok(serving) => {
+            let mut searches = KeptSearches::new(means.alloc);
+            let solver = Solver {
+                means,
+                workers,
+                searches: &mut searches,
+            };
+            let mut tools = Tools {
+                solver,
+                routes: &routes,
+            };
+            serve_opened(&mut tools, serving, disk, port, clock, number, count)
+        }
     }
 }
 

@@ -1,4 +1,4 @@
-// Making the file of a host.
+// Makes the file of a host.
 ghost use Rattle.std.specs.Prelude.{◌≤◌, ◌↔◌};
 ghost use Rattle.command_results.specs.Endings.{ending_of};
 ghost use Rattle.host_commands.specs.Files.{Makes};
@@ -10,11 +10,11 @@ use split_base::Disk;
 
 /// Makes the file of a host, with this secret and no events, in an empty file. It writes nothing out, and takes no memory.
 ///
-/// - `BadJournal`, with place 0, comes exactly where the file isn't empty.
-/// - `StoreFault` comes only where the disk's count of faults has risen, by one.
+/// - `BadJournal`, with place 0, is returned exactly when the file isn't empty.
+/// - `StoreFault` is returned only if the disk's count of faults has risen, by one.
 ///
-/// No other stop comes. No byte of a file that isn't empty changes, whatever the answer. What a crash leaves of an empty file before the answer
-/// is Ok isn't promised.
+/// There are no other stops. No byte of a file that isn't empty changes, whatever the answer. Nothing is promised about what a crash leaves of
+/// an empty file before the answer is Ok.
 pub fn make<D: Disk>(disk: &mut D, secret: &[u8; SECRET_SIZE]) -> Result<Text, Stop>
     ensures makes { Makes D.Disk disk.old disk.new secret.now (ending_of result) }
     ensures count { D.faults disk.old ≤ D.faults disk.new }

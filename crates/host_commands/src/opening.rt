@@ -1,4 +1,4 @@
-// Opening the file of a host.
+// Opens the file of a host.
 ghost use Rattle.std.specs.Prelude.{◌≡◌};
 ghost use Rattle.host_commands.specs.Files.{Opens, stop_of};
 
@@ -15,7 +15,7 @@ pub(crate) fn open_file<D: Disk>(alloc: Global, disk: &mut D) -> Result<Serving,
     open(alloc, disk)
 }
 
-// Why a command ends that could not make or open its file.
+// Why a command that could not make or open its file ends.
 pub(crate) fn stop_of(fault: LogFault) -> Stop
     ensures { result ≡ stop_of fault }
 {

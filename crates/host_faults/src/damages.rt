@@ -7,11 +7,11 @@ use std::alloc::Global;
 use std::io;
 use std::thread::Threads;
 
-/// The code with which a request is refused if the file is no journal.
+/// The code with which a request is refused if the file isn't a journal.
 const STORE_DAMAGED: &str = "{\"code\":\"store_damaged\",\"place\":";
 
 // Each byte of the file of the whole round is changed in turn, and a host that waits gets the file. If opening the file by itself tells that
-// it is no journal, the next request is refused with the place that this tells.
+// it isn't a journal, the next request is refused with the place that this tells.
 pub(crate) fn try_damages<R: Threads + Sync>(
     alloc: Global,
     rt: &R,

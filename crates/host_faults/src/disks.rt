@@ -60,7 +60,7 @@ pub(crate) fn tell_pairs<R: Threads + Sync + Print>(
     Ok(())
 }
 
-// Two calls of the disk fail that are so many apart, the first of them each in turn.
+// Two calls of the disk fail that are this many apart, the first of them each in turn.
 fn try_pairs<R: Threads + Sync>(
     alloc: Global,
     rt: &R,

@@ -8,9 +8,6 @@ use std::io;
 use std::io::ErrorKind;
 use std::thread::Threads;
 
-/// The line that is written before a body that is waited for.
-pub(crate) const INTERIM: &[u8] = b"HTTP/1.1 100 Continue\r\n\r\n";
-
 /// What a request gets without a fault: its reply, the reply if it is sent once more, and the events that are kept after it.
 #[derive(Drop)]
 pub(crate) struct Due {
@@ -108,7 +105,7 @@ impl Dues {
         (count, bytes)
     }
 
-    // The events that are kept when so many requests were replied to.
+    // The events that are kept when this many requests were replied to.
     pub(crate) fn events_behind(&self, count: usize) -> &[u8] {
         match count.checked_sub(1).and_then(|last| self.each.get(last)) {
             Some(due) => &due.events,
@@ -116,7 +113,7 @@ impl Dues {
         }
     }
 
-    // Whether these are the events after so many requests, and not already those before the last of them.
+    // Whether these are the events after this many requests, and not already those before the last of them.
     pub(crate) fn has_kept(&self, place: usize, events: &[u8]) -> bool {
         let before = self.events_behind(place);
         events != before && events == self.events_behind(place.saturating_add(1))
@@ -136,7 +133,7 @@ impl Dues {
         }
     }
 
-    // Sends the requests from this place on, over one link, and tells whether each gets its due.
+    // Sends the requests from this place on, over one link, and says whether each gets its due.
     pub(crate) fn goes_on<R: Threads + Sync>(
         &self,
         alloc: Global,

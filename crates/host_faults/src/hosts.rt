@@ -91,7 +91,7 @@ pub(crate) fn host_on(alloc: Global, disk: &mut MemDisk) -> io::Result<Option<Se
     }
 }
 
-// The place at which a file is no journal, if it is none.
+// The place of a file's first fault, if it isn't a journal.
 pub(crate) fn fault_in(alloc: Global, file: &[u8]) -> io::Result<Option<u64>> {
     let mut disk = disk_of(alloc, file, &[], None)?;
     match open(alloc, &mut disk) {

@@ -1,8 +1,9 @@
 // Rounds over one link, in pieces and with a call of the link or the clock that fails.
-use crate::dues::{Dues, INTERIM};
+use crate::dues::Dues;
 use crate::hosts::{Call, Fault, Got, Host};
 use crate::reports::{Report, is_refusal};
 use serving::LinkEnd;
+use split_http::INTERIM;
 use std::alloc::Global;
 use std::io;
 use std::thread::Threads;

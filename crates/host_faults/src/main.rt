@@ -9,8 +9,8 @@
 //! - A failed call of the disk has its request refused as `store_fault`, each failed call just one request.
 //! - The client sends a request again until it gets another reply, and then the rest. Each gets what it gets without a fault, or if its event was
 //!   kept already, what it gets without a fault when it is sent once more. At the end the same events are kept.
-//! - A host that waits and gets a file which is no journal refuses the request as `store_damaged`, with the place that opening the file by itself
-//!   tells.
+//! - A host that waits and gets a file which is not a journal refuses the request as `store_damaged`, with the place that opening the file by
+//!   itself tells.
 //! - If the disk stops, and what a crash leaves is opened, each acknowledged event is there, and at most that of the first request after them.
 //!
 //! Each table tells how many rounds were tried and how many differ from the rule.

@@ -1,5 +1,5 @@
 // What a table has shown.
-use crate::dues::INTERIM;
+use split_http::INTERIM;
 use std::io;
 use std::io::Print;
 

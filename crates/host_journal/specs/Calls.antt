@@ -43,14 +43,14 @@ pub record HoldsWithOrWithout {D : Type 0} (d : Ghosts D) (disk after : D) (s : 
   pub either : (kept ≡ s.kept) ⊎ (kept ≡ s.kept ++ event ∷ [])
   pub file : IsFound d disk after secret kept
 
--- what is known of the file when a host that waits was opened as it: if the disk tells its bytes, a read gave just these events; and if it is honest,
--- they are those kept before, with the one more or without it
+-- what is known of the file when a host that waits was opened as it: if the disk reveals its bytes, a read gave just these events; and if it is
+-- honest, they are those kept before, with the one more or without it
 pub record IsOpenedAs {D : Type 0} (d : Ghosts D) (disk after : D) (s : State) (event : EventView) (secret : List ℕ) (kept : List EventView) : Type 0 where
   pub read : d.tells disk → HoldsEvents secret kept (d.seen disk)
   pub settled : d.is_honest disk → HoldsWithOrWithout d disk after s event secret kept
 
--- The file of a host that waits was opened, and the host is that of its events. Or a call of the disk failed, and no byte but the version
--- gate may be torn. Or the file is no journal, which is never so on an honest disk, and the place of its first fault is told.
+-- The file of a host that waits was opened, and the host is that of its events. Or a call of the disk failed, and no byte but the version gate may
+-- be torn. Or the file isn't a journal, which is never so on an honest disk, and the place of its first fault is given.
 pub data Reopens {D T : Type 0} (d : Ghosts D) (disk after : D) (s new : State) (result : Result T LogFault) : Type 0 where
   opened : (event : EventView) (secret : List ℕ) (kept : List EventView) → s.waiting ≡ Some event → IsOk result → d.faults after ≡ d.faults disk
       → IsOpenedAs d disk after s event secret kept → new ≡ ready_with secret kept → Reopens d disk after s new result
@@ -59,8 +59,8 @@ pub data Reopens {D T : Type 0} (d : Ghosts D) (disk after : D) (s new : State) 
   damaged : (event : EventView) (place : ℕ) → s.waiting ≡ Some event → result ≡ Err (fault.NotALog place) → d.faults after ≡ d.faults disk
       → (d.tells disk → IsFirstFault place (d.seen disk)) → (d.is_honest disk → ⊥) → new ≡ s → Reopens d disk after s new result
 
--- A journal was opened: the serving is in a state that is ready. If the disk tells its bytes, a read gave just the events of that state; and if it is
--- honest, the file holds them now.
+-- A journal was opened: the serving is in a state that is ready. If the disk reveals its bytes, a read gave just the events of that state; and if it
+-- is honest, the file holds them now.
 pub record Opened {D : Type 0} (d : Ghosts D) (disk after : D) (serving : Serving) : Type 0 where
   pub secret : List ℕ
   pub kept : List EventView

@@ -45,7 +45,7 @@ pub record IsJournalOf (images : List ℕ → Type 0) (log : LogView) (host : Ho
   pub kept : AreKept log.version secret events
   pub is_host : host ≡ host_of secret events
 
--- the body is no event of the file's version that may be applied at its turn
+-- the body isn't an event of the file's version that may be applied at its turn
 abbrev pub IsNoEvent : ℕ → HostView → List ℕ → Type 0
 IsNoEvent version h body = (e : EventView) → Spells e body → IsOfVersion version e → CanApply h e → ⊥
 
@@ -95,7 +95,7 @@ pub record IsHostWithFile (host : HostView) (secret : List ℕ) (events : List E
   pub of_events : IsHostOf host secret events
   pub of_file : told
 
--- if the disk tells its bytes, a read gave just these events; and if it is honest, this holds
+-- if the disk reveals its bytes, a read gave just these events; and if it is honest, this holds
 pub record IsToldOf (tells honest : Type 0) (file : List ℕ) (secret : List ℕ) (events : List EventView) (is : Type 0) : Type 0 where
   pub read : tells → HoldsEvents secret events file
   pub holds : honest → is

@@ -25,7 +25,7 @@ byte_at (b ∷ bytes) = Some (b, bytes)
 abbrev pub number_at : Width → List ℕ → Option (ℕ × List ℕ)
 number_at w bytes = if nat_lt (length bytes) (byte_len w) then None else Some (from_le_bytes w (take (byte_len w) bytes), drop (byte_len w) bytes)
 
--- a text of at most so many bytes
+-- a text of at most this many bytes
 unfoldable pub text_at : ℕ → List ℕ → Option (List ℕ × List ℕ)
 text_at most bytes = do
   n ← byte_at bytes

@@ -24,9 +24,9 @@ pub struct CommitFault {
 ///
 /// - `Disk` comes only if the disk's count of faults has risen, by one: a call that fails isn't
 ///   tried again, and the count stays with every other answer. The host is as before; the file
-///   holds the event or doesn't. The log isn't at its end: the file is opened anew.
-/// - `NoMemory` comes only if the host has no spare place and memory runs out, before the first
-///   call of the disk, which is as before.
+///   holds the event or doesn't. The log isn't at its end: the file is reopened.
+/// - `NoMemory` is returned only if the host has no spare place and memory runs out, before the
+///   first call of the disk, which is as before.
 ///
 /// Each gives the event back; `NotALog` never comes.
 pub fn commit<D: Disk>(

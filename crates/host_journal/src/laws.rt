@@ -1,4 +1,4 @@
-// What holds of the spelling of every event.
+// Laws about the spelling of events, which hold for every event.
 ghost use Rattle.std.specs.Prelude.{◌≡◌, ◌⊎◌, ◌≤◌, ◌<◌, ◌+◌, ◌^◌, ℕ, List, All, length, map};
 ghost use Rattle.gate_log.specs.Records.{IsBody, place_after};
 ghost use Rattle.gate_log.specs.declared.limits.TheConstants.{FRONT_SIZE};

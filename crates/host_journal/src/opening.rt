@@ -22,10 +22,9 @@ use std::alloc::Global;
 ///
 /// - `Disk` comes only if the disk's count of faults has risen. The file holds the events that
 ///   it held, in either version.
-/// - `NotALog` comes exactly if the file has a fault, with the place of its first. A body that is
-///   no event of the file's version, or none that may be applied at its turn, is a fault at its gate's
-///   place.
-/// - `NoMemory` comes when memory runs out, before the first call of the disk.
+/// - `NotALog` is returned exactly when the file has a fault, with the place of its first. A body that is not an event of the file's
+///   version, or none that may be applied at its turn, is a fault at its gate's place.
+/// - `NoMemory` is returned when memory runs out, before the first call of the disk.
 ///
 /// After `NotALog` and `NoMemory` the file is as it was: it is raised only after it was read whole. A
 /// call of the disk that fails is not tried again: the count has risen by one after `Disk`, and otherwise
@@ -39,8 +38,8 @@ pub fn open_host<D: Disk>(alloc: Global, disk: &mut D) -> Result<(Host, Log), Lo
     ensures version { IfOk result (λ opened. opened.1.version ≡ 2) }
     ensures at_end { IfOk result (λ opened. IsTrue opened.1.at_end) }
 
-    // Whatever the disk, the host is that of some events, each of which may be applied at its turn. If the disk tells its bytes, they are
-    // those that a read gave; and if it is honest, the file holds them now.
+    // Whatever the disk, the host is that of some events, each of which may be applied at its turn. If the disk reveals its bytes, they
+    // are those that a read gave; and if it is honest, the file holds them now.
     ensures made { IfOk result (λ opened.
         (secret : List ℕ) × (events : List EventView)
         × IsHostWithFile opened.0.content secret events
@@ -115,8 +114,8 @@ pub(crate) fn open_in<D: Disk>(host: &mut Host, disk: &mut D) -> Result<Log, Log
     ensures version { IfOk result (λ log. log.version ≡ 2) }
     ensures at_end { IfOk result (λ log. IsTrue log.at_end) }
 
-    // Whatever the disk, the host is that of some events, each of which may be applied at its turn. If the disk tells its bytes, they are
-    // those that a read gave; and if it is honest, the file holds them now.
+    // Whatever the disk, the host is that of some events, each of which may be applied at its turn. If the disk reveals its bytes, they
+    // are those that a read gave; and if it is honest, the file holds them now.
     ensures made { IfOk result (λ log.
         (secret : List ℕ) × (events : List EventView)
         × IsHostWithFile host.new.content secret events
@@ -166,8 +165,46 @@ pub(crate) fn open_in<D: Disk>(host: &mut Host, disk: &mut D) -> Result<Log, Log
     events_law();
     journal_law();
     let mut log = read_host(host, disk)?;
-    to_version_two(&mut log, disk)?;
+    end_opening(host, &mut log, disk)?;
     Ok(log)
+}
+
+// Ends an opening after the whole file was read into the host: a journal of version 1 is raised, and
+// the host stays as it was read, even if the disk loses the raise.
+fn end_opening<D: Disk>(host: &mut Host, log: &mut Log, disk: &mut D) -> Result<(), LogFault>
+    requires { IsTrue log.old.at_end }
+    ensures as_read { host.new ≡ host.old }
+    ensures cause { HasCause (D.faults disk.old) (D.faults disk.new) result }
+    ensures faults { D.faults disk.new ≡ faults_after_call (D.faults disk.old) result }
+    ensures only_disk { IfErr result (λ e. e ≡ LogFault.Disk) }
+    ensures honest { D.is_honest disk.old ↔ D.is_honest disk.new }
+    ensures version { OnOk result (log.new.version ≡ 2) }
+    ensures at_end { OnOk result (IsTrue log.new.at_end) }
+    ensures changed { (log.old.version ≡ 1) ⊎ (disk.new ≡ disk.old) }
+    ensures done { D.is_honest disk.old
+        → OnOk result ((disk.new ≡ disk.old)
+        ⊎
+        ((log.old.version ≡ 1) × IsWritten (D.seen disk.old) VERSION_GATE (1 ∷ []) (D.seen disk.new)
+        × (D.moment disk.new ≡ D.moment disk.old + 2))) }
+    ensures writes { D.is_honest disk.old
+        → LeavesOnly D.moment D.left_since disk.old disk.new
+        (Tears (D.images disk.old) VERSION_GATE 1) }
+    ensures torn { D.is_honest disk.old
+        → Each (D.images disk.new) (Tears (D.images disk.old) VERSION_GATE 1) }
+    ensures one { D.is_honest disk.old → Only (D.seen disk.old) (D.images disk.old)
+        → OnOk result (Only (D.seen disk.new) (D.images disk.new)) }
+    ensures raised { D.is_honest disk.old → (secret : List ℕ) (bodies : List (List ℕ))
+        → IsLogOf (D.images disk.old) log.old secret bodies
+        → OnOk result (IsLogOf (D.images disk.new) log.new secret bodies) }
+    ensures any_moment { D.is_honest disk.old → (secret : List ℕ) (bodies : List (List ℕ))
+        → IsLogOf (D.images disk.old) log.old secret bodies
+        → LeavesOnly D.moment D.left_since disk.old disk.new
+        (HoldsFrom log.old.version secret bodies) }
+    ensures after { D.is_honest disk.old → (secret : List ℕ) (bodies : List (List ℕ))
+        → IsLogOf (D.images disk.old) log.old secret bodies
+        → Each (D.images disk.new) (HoldsFrom log.old.version secret bodies) }
+{
+    to_version_two(log, disk)
 }
 
 // Reads the whole file, which changes no byte of it.

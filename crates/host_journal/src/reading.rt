@@ -327,8 +327,8 @@ fn whole_of(bytes: &[u8]) -> Option<Event>
     if rest.is_empty() { Some(event) } else { None }
 }
 
-// The event, if a creation in it keeps its rules. A deadline past the last is no matter of
-// spelling: such an event can't be applied.
+// The event, if a creation in it keeps its rules. A deadline past the last isn't a matter for spelling: such an
+// event can't be applied.
 fn with_rules(event: Event) -> Option<Event>
     ensures same { IfSome result (λ kept. kept ≡ event) }
     ensures kept { IfSome result (λ _. KeepsRules (event_view event)) }
@@ -351,8 +351,8 @@ fn with_rules(event: Event) -> Option<Event>
     }
 }
 
-/// The event that a body spells, or `None` exactly if it spells none: if it isn't the bytes
-/// of an event and nothing more, or a creation in it breaks its rules. It takes no memory.
+/// The event that a body spells, or `None` exactly when it spells none: if it isn't the bytes of an event and
+/// nothing more, or a creation in it breaks its rules. It takes no memory.
 ///
 /// A creation's texts are UTF-8 within their limits, its lists fit, its facts are checked and have
 /// the counts of its lists. Its deadline may be any.

@@ -18,7 +18,7 @@ use std::mem::swap;
 /// file holds: so it is settled whether the event that waited was kept. Nothing is appended.
 ///
 /// - `Disk` comes only if the disk's count of faults has risen, by one.
-/// - `NotALog` comes exactly if the file is no journal, with the place of its first fault: never on
+/// - `NotALog` is returned exactly when the file isn't a journal, with the place of its first fault: never on
 ///   an honest disk with a file of the host's.
 ///
 /// After each of these the host waits as before, and with any other answer than `Disk` the count stays.
@@ -65,9 +65,9 @@ fn go_on(serving: &mut Serving, log: Log)
 ///
 /// - `Disk` comes only if the disk's count of faults has risen, by one. With any other answer the
 ///   count stays.
-/// - `NotALog` comes exactly if the file has a fault, with the place of its first.
-/// - `NoMemory` comes only when memory runs out, before the first call of the disk. It is taken for the host and
-///   for the one into which the file is read again, each with room for all instances.
+/// - `NotALog` is returned exactly when the file has a fault, with the place of its first.
+/// - `NoMemory` is returned only when memory runs out, before the first call of the disk. It is taken for the
+///   host and for the one into which the file is read again, each with room for all instances.
 ///
 /// After `NotALog` and `NoMemory` the file is as it was.
 pub fn open<D: Disk>(alloc: Global, disk: &mut D) -> Result<Serving, LogFault>

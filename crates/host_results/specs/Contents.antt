@@ -1,4 +1,4 @@
--- What a reply tells: its HTTP status, and its text with its type.
+-- What a reply says: its HTTP status, and its text with its type.
 use Rattle.std.specs.Prelude.{ℕ, List, Bool, true, false}
 use Rattle.reply_texts.specs.declared.refusals.ServiceRefusal.{ServiceRefusal}
 use Rattle.reply_texts.specs.Refusals.{service_row, service_text}
@@ -17,7 +17,7 @@ pub record ContentView : Type 0 where
   pub content_type : ContentType
   pub text : List ℕ
 
--- what a reply tells, as its bytes
+-- what a reply says, as its bytes
 abbrev pub content_view : ReplyContent → ContentView
 content_view told = record { status = told.status; content_type = told.content_type; text = told.text.items }
 

@@ -31,7 +31,7 @@ use Rattle.host_results.specs.declared.contents.ContentType.TheVariants.{Json, P
 use Rattle.host_results.specs.Contents.{ContentView, refusal_told}
 use Rattle.bid_rules.specs.declared.limits.TheConstants.{PAIR}
 
--- the case that an instance is of: its names, its facts and the kept bids. Turns, deadline and tag do not change it
+-- the case of an instance: its names, its facts and the kept bids. Turns, deadline and tag do not change it
 abbrev pub case_data : InstanceView → CaseData
 case_data i = record { title = i.creation.title; members = i.creation.members; items = i.creation.items; facts = i.creation.facts; bids = i.bids }
 
@@ -61,7 +61,7 @@ IsPublished what.Report given case division told = IsSuccessWith Plain (IsReport
 IsPublished what.Audit given case division told = IsAudit given case division told
 IsPublished what.Winner given case division told = ⊥
 
--- why there is no division, told as a refusal; that memory ran out is not published
+-- why there is no division, as a refusal; running out of memory is not published
 abbrev pub TellsFault : SolveFault → ContentView → Type 0
 TellsFault (fault.Void missing) told = told ≡ refusal_told (refusal_of_fault (fault.Void missing))
 TellsFault (fault.OverLimit limit) told = told ≡ refusal_told (refusal_of_fault (fault.OverLimit limit))
@@ -72,7 +72,7 @@ abbrev pub TellsEnd : What → CaseData → Result (Case × Division) SolveFault
 TellsEnd asked given (Ok answer) told = IsPublished asked given answer.0 answer.1 told
 TellsEnd asked given (Err fault) told = TellsFault fault told
 
--- the best division of the facts and bids is told as what is asked, or why there is none, whatever the number of workers
+-- the best division of the facts and bids in the form that is asked for, or why there is none, whatever the number of workers
 abbrev pub TellsBest : What → CaseData → ContentView → Type 0
 TellsBest asked given told = (end : Result (Case × Division) SolveFault) × IsSolved given.facts given.bids end × TellsEnd asked given end told
 
@@ -87,7 +87,7 @@ abbrev pub TellsPair : Bool → GoodsCase → ContentView → Type 0
 TellsPair true goods told = IsSuccessWith Plain (IsWinnerText goods) told
 TellsPair false goods told = told ≡ refusal_told service.NotTwo
 
--- a winner is one of goods between two players; the step limit plays no role
+-- a winner is one of goods between two players; the step limit doesn't matter
 abbrev pub TellsWinner : Result Case Missing → ContentView → Type 0
 TellsWinner (Err missing) told = told ≡ refusal_told (service.Void missing)
 TellsWinner (Ok (cases.Rent rent)) told = told ≡ refusal_told service.NotTwo

@@ -1,4 +1,5 @@
-// What a reply tells.
+// The content of a reply: its status, and its text with its
+// type.
 ghost use Rattle.std.specs.Prelude.{◌≡◌};
 ghost use Rattle.host_results.specs.Contents.{is_plain};
 
@@ -12,7 +13,7 @@ pub enum ContentType {
 }
 
 impl ContentType {
-    /// Whether it is that of plain text.
+    /// Whether it is the type of plain text.
     pub fn is_plain(self) -> bool
         ensures { result ≡ is_plain self }
     {
@@ -23,7 +24,8 @@ impl ContentType {
     }
 }
 
-/// What a reply tells.
+/// The content of a reply: its status, and its text with
+/// its type.
 #[derive(Debug, Drop)]
 pub struct ReplyContent {
     /// The HTTP status.

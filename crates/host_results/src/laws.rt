@@ -1,4 +1,4 @@
-// What holds of publications, for all instances: each law is the contract of a function that does nothing.
+// Laws about publications, which hold for all instances. Each is the contract of a function that does nothing.
 ghost use Rattle.std.specs.Prelude.{◌≡◌, ◌⊎◌};
 ghost use Rattle.reply_texts.specs.declared.refusals.ServiceRefusal.{ServiceRefusal};
 ghost use Rattle.sealed_core.specs.declared.commands.What.{What};
@@ -16,15 +16,15 @@ use reply_texts::division_text_law;
 use split_reports::report_law;
 use split_solve::solve_law;
 
-/// An instance is of a case whose facts and bids have no fault, with a name for each member and item, and an entry of the bids for each
-/// member. The Close changes nothing of that case.
+/// The case of an instance has facts and bids without fault, with a name for each member and item, and an entry of the bids for each
+/// member. The Close doesn't change that case.
 pub fn instance_law()
     ensures ready { (i : InstanceView) → IsCheckedInstance i → IsReady (case_data i) }
     ensures closed { (i : InstanceView) → case_data (as_closed i) ≡ case_data i }
 {}
 
-/// One thing alone is published of a case by what is asked: so neither the number of workers nor their order changes its status,
-/// its content type or its text.
+/// Only one thing can be published of a case in answer to what is asked, so neither the number of workers nor their order changes its
+/// status, its content type or its text.
 pub fn one_publication_law()
     ensures { (given : CaseData) (asked : What) (told other : ContentView) → IsReady given
         → IsPublication given asked told → IsPublication given asked other → told ≡ other }
@@ -39,7 +39,7 @@ pub fn one_publication_law()
     winner_text_law();
 }
 
-/// What is published has the status 200, or it tells a refusal of the service.
+/// What is published has the status 200, or it is a refusal by the service.
 pub fn publication_status_law()
     ensures { (given : CaseData) (asked : What) (told : ContentView)
         → IsPublication given asked told

@@ -1,4 +1,4 @@
-// What is published.
+// Makes what is published of a closed instance.
 ghost use Rattle.std.specs.Prelude.{◌≡◌, ◌==◌, IfOk, Ok, length};
 ghost use Rattle.bid_rules.specs.Facts.{IsValidCase, case_of};
 ghost use Rattle.bid_rules.specs.Goods.{IsValidGoodsCase, player_count};
@@ -28,18 +28,17 @@ use split_solve::{SolveFault, Solver, certificate_once, solve_once};
 use std::alloc::Global;
 use std::thread::Threads;
 
-/// What is published of an instance by what is asked.
+/// What is published of an instance, by what is asked for.
 ///
-/// - A division, a certificate and a report tell the best division of the case that its facts and bids make, and so does the audit of goods
-///   or of a shared fare; or, with the status of the refusal, that they make none where bids are missing, or one of goods whose step count is
-///   above its limit. A rent has no audit, whatever its bids.
-/// - The winner is told of a case of goods between two players, whatever its step count; else that bids are missing, or that they are not
-///   two.
+/// - A division, a certificate and a report give the best division of the case that the facts and bids make, and so does the audit of goods
+///   or of a shared fare. Otherwise they say, with the status of the refusal, that there is no case because bids are missing, or that the
+///   case is one of goods whose step count is above its limit. A rent has no audit, whatever its bids.
+/// - The winner is given for a case of goods between two players, whatever its step count. Otherwise it says that bids are missing, or that
+///   there aren't two players.
 ///
-/// It may be asked before the event that closes the instance is applied: that changes nothing of it. Goods are searched by the workers,
-/// unless a kept search is of the same case, and a certificate of goods that is kept is copied. Neither the workers nor what is kept change
-/// the answer.
-/// `NoMemory` comes only where memory runs out.
+/// It may be asked before the event that closes the instance is applied: that makes no difference. Goods are searched by the workers, unless
+/// the search of the same case is kept, and a certificate of goods that is kept is copied. Neither the workers nor what is kept change the
+/// answer. `NoMemory` is returned only where memory runs out.
 pub fn publication<R: Threads + Sync, G: Gate + Sync>(
     solver: &mut Solver<'_, R, G>,
     instance: &Instance,
@@ -56,7 +55,7 @@ pub fn publication<R: Threads + Sync, G: Gate + Sync>(
     }
 }
 
-// The best division, told as what is asked.
+// The best division, in the form that is asked for.
 fn best<R: Threads + Sync, G: Gate + Sync>(
     solver: &mut Solver<'_, R, G>,
     instance: &Instance,
@@ -105,7 +104,7 @@ fn winner(alloc: Global, instance: &Instance) -> Result<ReplyContent, NoMemory>
     }
 }
 
-// The winner of goods, where the players are two.
+// The winner of goods, if there are two players.
 fn winner_between(alloc: Global, goods: &GoodsCase) -> Result<ReplyContent, NoMemory>
     requires { IsValidGoodsCase goods.now }
     ensures { IfOk result (λ told.
@@ -216,15 +215,12 @@ fn audited_goods(
     Ok(plain(text))
 }
 
-// The names that a report tells of an instance.
+// The names of an instance that a report uses.
 fn names_of(instance: &Instance) -> Names<'_>
     ensures { shown_names result ≡ names_of (case_data (instance_view instance.now)) }
 {
-    Names {
-        title: &instance.creation.title,
-        members: &instance.creation.members,
-        items: &instance.creation.items,
-    }
+    let creation = &instance.creation;
+    Names::new(&creation.title, &creation.members, &creation.items)
 }
 
 // A success with a text of JSON.

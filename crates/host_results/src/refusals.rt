@@ -9,7 +9,7 @@ use split_base::NoMemory;
 use split_solve::SolveFault;
 use std::alloc::Global;
 
-/// The refusal by which a fault of the solver is told.
+/// The refusal that reports a fault of the solver.
 pub fn refusal_of(fault: SolveFault) -> ServiceRefusal
     ensures { result ≡ refusal_of_fault fault }
 {
@@ -20,8 +20,8 @@ pub fn refusal_of(fault: SolveFault) -> ServiceRefusal
     }
 }
 
-/// What the reply tells by which the service refuses a request: the status of the refusal, and its text as JSON. `NoMemory` comes only
-/// where memory runs out.
+/// The content of the reply with which the service refuses a request: the status of the refusal, and its text as JSON.
+/// `NoMemory` is returned only where memory runs out.
 pub fn refusal_content(alloc: Global, refusal: &ServiceRefusal) -> Result<ReplyContent, NoMemory>
     ensures { IfOk result (λ told. content_view told ≡ refusal_told refusal.now) }
 {

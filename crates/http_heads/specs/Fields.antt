@@ -1,4 +1,4 @@
--- Fields of a head, by name.
+-- The fields of a head, found by name.
 use Rattle.std.specs.Prelude.{ℕ, Bool, List, map, Option, count_by, find, option_map}
 use Rattle.std.specs.Str.{str_eq_ignore_ascii_case}
 use Rattle.httparse.specs.Spans.{header_bytes}

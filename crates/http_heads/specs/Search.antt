@@ -42,7 +42,7 @@ IsAhead IsText AsksMore IsFound bytes fields ahead.Bad = IsBad IsText bytes
 IsAhead IsText AsksMore IsFound bytes fields ahead.End = bytes ≡ []
 IsAhead IsText AsksMore IsFound bytes fields ahead.Fault = IsOpen IsText AsksMore bytes
 
--- what the bytes that are left begin with, if the source tells them
+-- what the bytes that are left begin with, if the source reveals them
 abbrev pub SearchSays : {T : Type 0} → (List ℕ → Type 0) → Option (List ℕ) → Ahead T → Type 0
 SearchSays IsText left (ahead.Found spans) = ⊤
 SearchSays IsText left ahead.Bad = IfSome left (IsBad IsText)

@@ -1,4 +1,4 @@
-// The bytes that were read of a source and not taken yet.
+// The bytes that were read from a source and not taken yet.
 ghost use Rattle.std.specs.Prelude.{◌≡◌, ◌<◌, ◌≤◌, ◌+◌, ◌++◌, ℕ, List, [], length, drop, IfOk, OnErr};
 ghost use Rattle.std.specs.Io.KnownBytes.{Keeps, IsAtEnd, prepend_known};
 ghost use Rattle.split_base.specs.Faults.{HasCause, IsCounted};
@@ -8,7 +8,7 @@ use crate::limits::MAX_HEAD;
 use split_base::{Failed, Source};
 use std::marker::Model;
 
-/// The bytes of a link that were read past the last message, of which there are no more than a head
+/// The bytes that were read from a link past its last message. There are at most as many as a head
 /// may have. The next message begins with them. Contracts see the bytes. It takes no memory.
 #[derive(Debug, Drop)]
 pub struct Carry {
@@ -46,7 +46,7 @@ impl Carry {
         &self.bytes[..self.len]
     }
 
-    /// How many there are.
+    /// How many bytes there are.
     pub fn len(&self) -> usize
         ensures value { result ≡ length self.now }
         ensures most { result ≤ MAX_HEAD }
@@ -54,7 +54,7 @@ impl Carry {
         self.len
     }
 
-    /// Takes the first bytes away.
+    /// Removes the first bytes.
     pub fn take_front(&mut self, count: usize)
         requires { count ≤ length self.old }
         ensures { self.new ≡ drop count self.old }
@@ -63,7 +63,7 @@ impl Carry {
         self.len -= count;
     }
 
-    /// Reads some more bytes after those that are there, or none at the end of input.
+    /// Reads some more bytes after those that are there, or none at the end of the input.
     pub fn fill<S: Source>(&mut self, source: &mut S) -> Result<usize, Failed>
         requires { length self.old < MAX_HEAD }
         ensures same { Keeps (prepend_known self.old (S.left source.old))
@@ -83,7 +83,7 @@ impl Carry {
         Ok(count)
     }
 
-    /// Reads some bytes if there are none. 0 only at the end of input.
+    /// Reads some bytes if there are none. The answer is 0 only at the end of the input.
     pub fn ready<S: Source>(&mut self, source: &mut S) -> Result<usize, Failed>
         ensures same { Keeps (prepend_known self.old (S.left source.old))
             (prepend_known self.new (S.left source.new)) }

@@ -1,4 +1,4 @@
-// Fields of a head, by name.
+// Finds the fields of a head by name.
 ghost use Rattle.std.specs.Prelude.{◌≡◌, length, All, option_map, find, IfSome};
 ghost use Rattle.std.specs.Str.{str_eq_ignore_ascii_case};
 ghost use Rattle.httparse.specs.Spans.{IsHeaderWithin, header_bytes};

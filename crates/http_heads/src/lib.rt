@@ -1,8 +1,8 @@
 //! What hosts and clients both need of HTTP/1.1: to find a head in bytes that come in pieces, its
 //! fields, whole numbers.
 //!
-//! Bytes that were held and are left stay the same bytes, however they come. A failed read is
-//! counted and ends the search.
+//! Bytes that are held and not taken stay the same, however the input is cut into pieces. A
+//! failed read is counted and ends the search.
 #![tactic(auto)]
 
 mod carry;

@@ -1,11 +1,11 @@
-// Whole numbers in decimal.
+// Reads whole numbers in decimal.
 ghost use Rattle.std.specs.Prelude.{◌≡◌, ◌≤◌, ◌^◌, MatchOption, min, All};
 ghost use Rattle.std.specs.Char.{IsAsciiDigit};
 ghost use Rattle.std.specs.Str.Parse.{digits_value};
 ghost use Rattle.http_heads.specs.Numbers.{number_in};
 
-/// The number that the digits write, or `most` if it is greater; `None` if a byte is no
-/// digit. Zeros may lead, and any number of digits counts.
+/// The number that the digits write, or `most` if it is greater; `None` if a byte isn't a digit.
+/// There may be leading zeros and any number of digits.
 #[tactic(auto, using(std::proofs::lemmas::Int::Digits::digits_value_more))]
 pub fn capped_number(text: &[u8], most: u64) -> Option<u64>
     requires { most ≤ 2 ^ 32 }
@@ -22,7 +22,7 @@ pub fn capped_number(text: &[u8], most: u64) -> Option<u64>
     Some(number)
 }
 
-/// The same of one or more digits; `None` if there are none. This is how a Content-Length is read.
+/// The same, but `None` if there are no digits. This is how a Content-Length is read.
 pub fn whole_number(text: &[u8], most: u64) -> Option<u64>
     requires { most ≤ 2 ^ 32 }
     ensures { result ≡ number_in most text.now }

@@ -13,7 +13,7 @@ use httparse::spans::HeaderSpan;
 use httparse::{Error, Status};
 use split_base::Source;
 
-/// A kind of head, of requests or of responses, as `httparse` reads it.
+/// A kind of head, that of requests or that of responses, as `httparse` reads it.
 pub trait HeadKind {
     /// Where the parts of a head are.
     type Spans: Copy;
@@ -24,7 +24,7 @@ pub trait HeadKind {
     /// The parser asks for more of the bytes, or has no room for all their fields.
     ghost AsksMore: { List ℕ → Type 0 };
 
-    /// Such a head is at the front of the bytes, at these spans.
+    /// A head of this kind is at the front of the bytes, at these spans.
     ghost IsFound: { List ℕ → List HeaderSpan → Self.Spans → Type 0 };
 
     /// How many fields the head at these spans has.
@@ -47,18 +47,18 @@ pub trait HeadKind {
         ensures { result ≡ size spans.now };
 }
 
-/// What the bytes that were read so far say of a head.
+/// What the bytes read so far say about a head.
 #[derive(Clone, Copy, Debug)]
 pub enum Look<T> {
-    /// One is at their front, at these spans.
+    /// A head is at their front, at these spans.
     Found(T),
-    /// They begin with none, whatever follows.
+    /// They don't begin with a head, whatever follows.
     Never,
-    /// They begin with none yet, and the parser asks for more of them.
+    /// They don't begin with a whole head yet, and the parser asks for more of them.
     NotYet,
 }
 
-/// What comes next of a source. A head that was found stays in the carry.
+/// What comes next from a source. A head that was found stays in the carry.
 #[derive(Clone, Copy, Debug)]
 pub enum Ahead<T> {
     /// A head, at these spans of the carry.
@@ -71,8 +71,8 @@ pub enum Ahead<T> {
     Fault,
 }
 
-/// Looks for a head at the front of the bytes, with at most `MAX_FIELDS` fields. `NotYet` comes only if the parser asks for more of them, or
-/// has no room for all their fields.
+/// Looks for a head at the front of the bytes, with at most `MAX_FIELDS` fields. `NotYet` is returned only if the parser asks for more of
+/// them, or has no room for all their fields.
 pub fn find_head<K: HeadKind>(bytes: &[u8], fields: &mut [HeaderSpan; ROOM]) -> Look<K::Spans>
     ensures { LookSays K.IsText K.AsksMore K.IsFound bytes.now fields.new result }
 {
@@ -93,13 +93,12 @@ pub fn find_head<K: HeadKind>(bytes: &[u8], fields: &mut [HeaderSpan; ROOM]) -> 
 /// Reads to the end of the next head, which stays in the carry. Once a read has met the end of the
 /// input it doesn't read again.
 ///
-/// - `Bad` comes if bytes are left, and no first part of them is a head of at most `MAX_HEAD`
-///   bytes and with at most `MAX_FIELDS` fields.
-/// - `End` comes if nothing is left.
-/// - `Fault` comes for one failed read, which the source's count of faults tells. Each other answer
-///   leaves that count as it is. A read is made only while the parser asks for more of what the carry
-///   holds, or has no room for all its fields: `Bad` comes at once if it tells that no head can
-///   come. That a head has more than `MAX_FIELDS` fields is told at its end, up to `ROOM` of them.
+/// - `Bad` is returned if bytes are left, and no first part of them is a head of at most `MAX_HEAD` bytes and with at most `MAX_FIELDS`
+///   fields.
+/// - `End` is returned if nothing is left.
+/// - `Fault` is returned for one failed read, which the source's count of faults shows. Each other answer leaves that count as it is. A read
+///   is made only while the parser asks for more of what the carry holds, or has no room for all its fields: `Bad` is returned at once if
+///   the parser says that no head can come. That a head has more than `MAX_FIELDS` fields, up to `ROOM` of them, is reported at its end.
 pub fn look_ahead<K: HeadKind, S: Source>(
     source: &mut S,
     carry: &mut Carry,
@@ -143,6 +142,6 @@ pub fn look_ahead<K: HeadKind, S: Source>(
             Look::NotYet => {}
         }
     }
-    // As many bytes as a head may have hold none.
+    // The carry holds as many bytes as a head may have, and no head is among them.
     Ahead::Bad
 }

@@ -84,7 +84,7 @@ OfPair given (Err (Void missing)) = IsVoid missing given
 OfPair given (Err NotTwo) = MakesGoods given (λ case. player_count case ≢ 2)
 OfPair given (Err other) = ⊥
 
--- the answer to bytes that are judged: `yes`, the first rule that they break, or the first line by which they are no text
+-- the answer to bytes that are judged: `yes`, the first rule that they break, or the first line by which they are not a text
 abbrev pub OfVerdict : (List ℕ → Verdict → Type 0) → (List ℕ → ℕ → Type 0) → List ℕ → Result (List ℕ) Stop → Type 0
 OfVerdict judged broken bytes (Ok text) = judged bytes Yes × (text ≡ yes_line)
 OfVerdict judged broken bytes (Err (BrokenRule rule)) = judged bytes (No rule)

@@ -15,7 +15,7 @@ use crate::limits::LONGEST_INPUT;
 use crate::pairing::{judge_pair, pair};
 use crate::weighing::weigh;
 use command_results::{Stop, Text};
-use split_base::{NoMemory, TextSource};
+use split_base::TextSource;
 use split_json::{CaseInput, read_case};
 use split_solve::solve_alone;
 use std::alloc::Global;
@@ -55,10 +55,8 @@ pub fn bytes_ending(alloc: Global, command: InputCommand, bytes: &[u8]) -> Resul
 fn text_of(verdict: Result<(), Stop>) -> Result<Text, Stop>
     ensures { ending_of result ≡ verdict_ending verdict }
 {
-    match verdict {
-        Ok(()) => Ok(Text::yes()),
-        Err(stop) => Err(stop),
-    }
+    verdict?;
+    Ok(Text::yes())
 }
 
 // How a command ends on these bytes that builds its text.
@@ -90,10 +88,9 @@ fn answer(alloc: Global, command: InputCommand, bytes: &[u8]) -> Result<Text, St
 fn divide_alone(alloc: Global, sort: DivisionText, bytes: &[u8]) -> Result<Text, Stop>
     ensures { UpToMemory (OfBody case_in (OfCase (IsTextOf sort)) bytes.now) (ending_of result) }
 {
-    match read_case(alloc, bytes) {
-        Ok(Ok(input)) => divide_case(alloc, sort, &input),
-        Ok(Err(fault)) => Err(Stop::BadCase { fault }),
-        Err(NoMemory) => Err(Stop::NoMemory),
+    match read_case(alloc, bytes)? {
+        Ok(input) => divide_case(alloc, sort, &input),
+        Err(fault) => Err(Stop::BadCase { fault }),
     }
 }
 

@@ -37,10 +37,9 @@ pub(crate) fn divide<R: Threads + Sync, G: Gate + Sync>(
 ) -> Result<Text, Stop>
     ensures { UpToMemory (OfBody case_in (OfCase (IsTextOf sort)) bytes.now) (ending_of result) }
 {
-    match read_case(means.alloc, bytes) {
-        Ok(Ok(input)) => divide_case(means, workers, sort, &input),
-        Ok(Err(fault)) => Err(Stop::BadCase { fault }),
-        Err(NoMemory) => Err(Stop::NoMemory),
+    match read_case(means.alloc, bytes)? {
+        Ok(input) => divide_case(means, workers, sort, &input),
+        Err(fault) => Err(Stop::BadCase { fault }),
     }
 }
 
@@ -72,10 +71,10 @@ pub(crate) fn solved_text(
     ensures { UpToMemory (OfCase (IsTextOf sort) (case_data_of input.now)) (ending_of result) }
 {
     match solved {
-        Ok((case, division)) => match division_text(alloc, sort, input, &case, &division) {
-            Ok(text) => Ok(Text::Kept(text)),
-            Err(NoMemory) => Err(Stop::NoMemory),
-        },
+        Ok((case, division)) => {
+            let text = division_text(alloc, sort, input, &case, &division)?;
+            Ok(Text::Kept(text))
+        }
         Err(SolveFault::Void { missing }) => Err(Stop::Void { missing }),
         Err(SolveFault::OverLimit { limit }) => Err(Stop::OverLimit { limit }),
         Err(SolveFault::NoMemory) => Err(Stop::NoMemory),

@@ -24,9 +24,9 @@ use std::thread::Threads;
 /// `cert_reader`, which they judge while they read, in fixed memory. The gate is told when a worker enters and leaves a task of the search
 /// of `solve` and `report`.
 ///
-/// - `TooLong` comes exactly if the input has more bytes. One byte more than the command may have was read then.
+/// - `TooLong` is returned exactly when the input has more bytes. One byte more than the command may have was read then.
 /// - `ReadFault` comes only if the input's count of faults has risen, and at once: the failed read is not tried again.
-/// - `NoMemory` comes only if memory runs out, and never of `check` and `checkwinner`.
+/// - `NoMemory` is returned only if memory runs out, and never of `check` and `checkwinner`.
 /// - Each other ending is what the command answers to the bytes of the input, which was read to its end.
 pub fn input_ending<R: Threads + Sync, I: Source, G: Gate + Sync>(
     means: &Means<'_, R, G>,

@@ -1,4 +1,4 @@
-// What holds of the commands' definitions, for all inputs: each law is the contract of a function that does nothing.
+// Laws about the definitions of the commands, which hold for all inputs. Each is the contract of a function that does nothing.
 ghost use Rattle.std.specs.Prelude.{◌≡◌, ◌≢◌, ℕ, List, Err, IfSome, Ok, Result};
 ghost use Rattle.cert_checker.specs.Judged.{IsCertificate, PrintsBest};
 ghost use Rattle.command_results.specs.Endings.{yes_line};
@@ -27,7 +27,7 @@ use winner_rules::winner_verdict_law;
 /// What a command ends with is fixed by the input's bytes, so it is the same for every number of workers: its text, since a case has one
 /// best division and a division one text; and each other ending, with the members who lack a bid, the limit, the rule, the field and the
 /// line that it names. And an ending that is neither a fault nor a lack of memory is the one that the bytes of the input call for, if it
-/// tells them.
+/// reveals them.
 pub fn input_answer_law()
     ensures one { (command other : InputCommand) (bytes : List ℕ)
         (ending another : Result (List ℕ) Stop) → AreAlike command other

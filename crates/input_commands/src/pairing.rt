@@ -17,7 +17,7 @@ use bid_rules::limits::PAIR_ROOM;
 use cert_reader::TextEnd;
 use command_results::{Stop, Text};
 use rule_verdicts::Verdict;
-use split_base::{NoMemory, Source};
+use split_base::Source;
 use split_json::{CaseInput, read_goods};
 use std::alloc::Global;
 use winner_rules::check_pair_text;
@@ -26,10 +26,9 @@ use winner_rules::check_pair_text;
 pub(crate) fn pair(alloc: Global, bytes: &[u8]) -> Result<Text, Stop>
     ensures { UpToMemory (OfBody goods_case_in OfPair bytes.now) (ending_of result) }
 {
-    match read_goods(alloc, bytes) {
-        Ok(Ok(input)) => pair_case(alloc, &input),
-        Ok(Err(fault)) => Err(Stop::BadCase { fault }),
-        Err(NoMemory) => Err(Stop::NoMemory),
+    match read_goods(alloc, bytes)? {
+        Ok(input) => pair_case(alloc, &input),
+        Err(fault) => Err(Stop::BadCase { fault }),
     }
 }
 
@@ -52,10 +51,7 @@ fn pair_players(alloc: Global, case: &GoodsCase) -> Result<Text, Stop>
     if case.values.len() != PAIR_ROOM {
         return Err(Stop::NotTwo);
     }
-    match winner_text(alloc, case) {
-        Ok(text) => Ok(Text::Kept(text)),
-        Err(NoMemory) => Err(Stop::NoMemory),
-    }
+    Ok(Text::Kept(winner_text(alloc, case)?))
 }
 
 // How `checkwinner` ends on an input.
@@ -64,10 +60,8 @@ pub(crate) fn check_pair<I: Source>(input: &mut I) -> Result<Text, Stop>
         (ending_of result) }
     ensures count { I.faults input.old ≤ I.faults input.new }
 {
-    match judge_pair(input) {
-        Ok(()) => Ok(Text::yes()),
-        Err(stop) => Err(stop),
-    }
+    judge_pair(input)?;
+    Ok(Text::yes())
 }
 
 // Whether `checkwinner` says yes to an input, or why not. It reaches no allocator.

@@ -28,10 +28,9 @@ use std::alloc::Global;
 pub(crate) fn weigh(alloc: Global, bytes: &[u8]) -> Result<Text, Stop>
     ensures { UpToMemory (OfBody proposal_in OfProposal bytes.now) (ending_of result) }
 {
-    match read_proposal(alloc, bytes) {
-        Ok(Ok(proposal)) => weigh_proposal(alloc, &proposal.0, proposal.1.as_slice()),
-        Ok(Err(fault)) => Err(Stop::BadCase { fault }),
-        Err(NoMemory) => Err(Stop::NoMemory),
+    match read_proposal(alloc, bytes)? {
+        Ok(proposal) => weigh_proposal(alloc, &proposal.0, proposal.1.as_slice()),
+        Err(fault) => Err(Stop::BadCase { fault }),
     }
 }
 
@@ -65,10 +64,10 @@ fn weigh_owners(
 {
     case_law();
     match dominating(case, owners) {
-        Ok(better) => match audit_beside(alloc, input, case, owners, &better) {
-            Ok(text) => Ok(Text::Kept(text)),
-            Err(NoMemory) => Err(Stop::NoMemory),
-        },
+        Ok(better) => {
+            let text = audit_beside(alloc, input, case, owners, &better)?;
+            Ok(Text::Kept(text))
+        }
         Err(over) => Err(Stop::OverLimit { limit: over.limit }),
     }
 }

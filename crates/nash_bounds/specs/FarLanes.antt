@@ -1,4 +1,4 @@
--- Lanes whose bound is below a pair, by their entries at one level.
+-- Finds lanes whose bound is below a pair, from their entries at one level.
 use Rattle.std.specs.Prelude.{◌≡◌, ℕ, ◌+◌, ◌-◌, ◌*◌, ◌/◌, ◌%◌, ◌^◌, ◌<◌, ◌⊎◌, min, max}
 use Rattle.bid_rules.specs.declared.pair.Pair.{Pair}
 use Rattle.nash_bounds.specs.Levels.{entry_at}

@@ -14,13 +14,13 @@ use Rattle.nash_bounds.specs.Prefixes.{prefix_bound}
 abbrev pub is_reached : Pair → Bool → Pair → Bool
 is_reached goal beyond pair = cond beyond (is_less goal pair) (is_at_most goal pair)
 
--- the goal's product holds at least so many whole units of a power of two, and few enough of them to be multiplied safely
+-- the goal's product holds at least this many whole units of a power of two, and few enough of them to be multiplied safely
 pub record IsGoal (goal : Goal) : Type 0 where
   pub shift : goal.shift < 128
   pub within : goal.units * 2 ^ goal.shift ≤ goal.pair.product
   pub few : goal.units < 2 ^ UNIT_BITS
 
--- so many units are more than the product, or more than those of the goal
+-- this is more units than the product has, or more than the goal has
 abbrev pub IsAbove : Goal → ℕ → ℕ → Type 0
 IsAbove goal product units = (product < units * 2 ^ goal.shift) ⊎ (goal.units < units)
 
@@ -28,13 +28,13 @@ IsAbove goal product units = (product < units * 2 ^ goal.shift) ⊎ (goal.units 
 abbrev pub is_contender : Contenders → ℕ → Bool
 is_contender contenders owner = lane_bit contenders.owners (owner - 1) == 1
 
--- each player who is no contender would leave a bound below the pair by getting the next good
+-- each player who isn't a contender would leave a bound below the pair by getting the next good
 abbrev pub AreContenders : GoodsCase → List ℕ → Pair → Contenders → Type 0
 AreContenders case owners pair contenders = (owner : ℕ) → 1 ≤ owner → owner ≤ player_count case → is_contender contenders owner ≡ false
     → IsLess (prefix_bound case (owners ++ owner ∷ [])) pair
 
--- even with so many points spread over the entries at a level, their product stays below the goal's, since it grows by at most (2 * level + spare) /
--- (2 * level - spare)
+-- even with this many points spread over the entries at a level, their product stays below the goal's, since it grows by at most (2 * level + spare)
+-- / (2 * level - spare)
 abbrev pub IsShort : ℕ → ℕ → ℕ → Goal → Type 0
 IsShort level spare product goal =
     (spare < 2 * level) × (units : ℕ) × IsAbove goal product units × (units * (2 * level + spare) < goal.units * (2 * level - spare))

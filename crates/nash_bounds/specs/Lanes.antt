@@ -1,4 +1,4 @@
--- Prefixes by lanes, of which there is one for each player by number; a lane without a player has nothing.
+-- Prefixes in lanes. There is a lane for each player, by number; a lane without a player holds 0.
 use Rattle.std.specs.Prelude.{◌≡◌, ℕ, ◌+◌, ◌-◌, ◌<◌, ◌≤◌, List, length, map, slice_index, slice_index_or}
 use Rattle.std.specs.List.{range_with_len, sum_by}
 use Rattle.bid_rules.specs.declared.goods.GoodsCase.{GoodsCase}

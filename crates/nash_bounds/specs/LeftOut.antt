@@ -1,4 +1,4 @@
--- Prefixes that a tree which shows the best allocation may leave out.
+-- Which prefixes may be left out of a tree that shows the best allocation.
 use Rattle.std.specs.Prelude.{ℕ, List, [], length, take, count_by, not, Bool, true, false, ◌==◌, ◌&&◌, ◌||◌}
 use Rattle.std.specs.Cmp.Lexicographic.{slice_cmp}
 use Rattle.std.specs.Ordering.{nat_cmp}
@@ -11,17 +11,17 @@ use Rattle.bid_rules.specs.Pairs.{is_less}
 use Rattle.nash_bounds.specs.OwnerLists.{below}
 use Rattle.nash_bounds.specs.Prefixes.{prefix_bound}
 
--- a test whether the two pairs are the same
+-- a test of whether the two pairs are the same
 abbrev pub is_same : Pair → Pair → Bool
 is_same a b = a.count == b.count && a.product == b.product
 
--- a test whether a comparison says that the first comes after the second
+-- a test of whether a comparison says that the first comes after the second
 abbrev pub is_greater : Ordering → Bool
 is_greater Less = false
 is_greater Equal = false
 is_greater Greater = true
 
--- a test whether the owners come after the answer's first owners, as lists
+-- a test of whether the owners come after the answer's first owners, as lists
 abbrev pub is_after : List ℕ → List ℕ → Bool
 is_after answer owners = is_greater (slice_cmp nat_cmp owners (take (length owners) answer))
 
@@ -32,6 +32,6 @@ may_be_left case answer owners =
     is_less (prefix_bound case owners) (pair_of case answer)
     || (is_same (prefix_bound case owners) (pair_of case answer) && is_after answer owners)
 
--- how many prefixes, of whatever length, may not be left out
+-- how many prefixes, of any length, may not be left out
 abbrev pub open_count : GoodsCase → List ℕ → ℕ
 open_count case answer = count_by (λ owners. not (may_be_left case answer owners)) (below (player_count case) case.facts.goods [])

@@ -1,4 +1,4 @@
--- The lanes at one level, by which owners of the next good are told apart from those who could reach a pair.
+-- The lanes at one level, from which it follows who could reach a pair by getting the next good.
 use Rattle.std.specs.Prelude.{◌≡◌, ℕ, ◌+◌, ◌≤◌, List, [], ◌∷◌, length, slice_index, sum, All}
 use Rattle.std.specs.List.{AllZip}
 use Rattle.bid_rules.specs.Pairs.{positives, product}
@@ -25,13 +25,13 @@ pub record IsSpan (lanes : Lanes) : Type 0 where
   pub rest : (k : ℕ) → MEMBER_ROOM ≤ k → slice_index lanes.high k ≡ 0
   pub within : sum lanes.low ≤ lanes.top
 
--- the entries at a level, and what they leave over of the top
+-- the entries at a level, and how much of the top they leave over
 pub record IsFitting (lanes : Lanes) (at : Fitting) : Type 0 where
   pub most : at.level ≤ WHOLE_POINTS
   pub is_entries : at.entries ≡ entries_at at.level lanes.low lanes.high
   pub is_spare : sum (entries_at at.level lanes.low lanes.high) + at.spare ≡ lanes.top
 
--- the entries at a level, what they leave over of the top, how many lanes may have points, and the product of the entries
+-- the entries at a level, how much of the top they leave over, how many lanes may have points, and the product of the entries
 pub record IsFlat (lanes : Lanes) (flat : Flat) : Type 0 where
   pub most : flat.level ≤ WHOLE_POINTS
   pub is_entries : flat.entries ≡ entries_at flat.level lanes.low lanes.high

@@ -1,4 +1,4 @@
-// Which players could take the next good and still reach a goal, asked for all of them at once.
+// Finds the players who could take the next good and still reach a goal, for all players at once.
 ghost use Rattle.std.specs.Prelude.{◌≡◌, ◌≤◌, ◌<◌, ◌+◌, ◌-◌, ◌*◌, ◌^◌, ◌⊎◌, ℕ, length, slice_index, min, max, cond, nat_le};
 ghost use Rattle.nash_bounds.specs.FarLanes.{FallsShort, IsNoMore, lane_bit};
 ghost use Rattle.nash_bounds.specs.Goals.{AreContenders, IsGoal, is_contender};
@@ -21,11 +21,11 @@ use std::simd::prelude::*;
 pub struct Contenders {
     /// Bit k is set if player k + 1 could.
     pub owners: u64,
-    /// By lane, in points, what the entries at the level leave over of the top if the lane's player gets the good.
+    /// For each lane, how many points of the top the entries at the level leave over if the lane's player gets the good.
     pub over: u16x16,
     /// A level at which the lanes without the good fit.
     pub level: u32,
-    /// About how many lanes rise there.
+    /// Roughly how many lanes rise there.
     pub rising: u32,
 }
 
@@ -39,7 +39,7 @@ impl Contenders {
         (self.owners >> (owner - 1)) & 1 == 1
     }
 
-    /// About the level of the bound with the good given to the owner.
+    /// Roughly the level of the bound with the good given to the owner.
     pub fn level_of(&self, owner: u8) -> u32
         requires low { 1 ≤ owner }
         requires high { owner ≤ LANES }
@@ -49,7 +49,7 @@ impl Contenders {
     }
 }
 
-// By lane the entry at the level with the lane's points.
+// For each lane, the entry at the level with the lane's points.
 fn entries_with(low: u16x16, high: u16x16, points: u16x16, level: u32) -> u16x16
     requires lows { length low ≡ LANES }
     requires highs { length high ≡ LANES }
@@ -90,7 +90,7 @@ fn rest_of(number: u32, numbers: u16x16) -> u16x16
     u16x16::splat(number as u16).strict_sub(numbers)
 }
 
-// By lane what is left over if the lane has its points to spare too, and the entry after in place of that before.
+// For each lane, what is left over if the lane has its points to spare too, and the entry `after` replaces the entry `before`.
 fn left_over(spare: u32, points: u16x16, before: u16x16, after: u16x16) -> u16x16
     requires points { length points ≡ LANES }
     requires befores { length before ≡ LANES }
@@ -117,7 +117,7 @@ fn widened(numbers: u16x16) -> u32x16
     numbers.cast::<u32>()
 }
 
-// By lane the entry's factor in a product.
+// For each lane, the entry's factor in a product.
 fn factors(entries: u16x16) -> u32x16
     requires { length entries ≡ LANES }
     ensures each { (k : ℕ) → k < LANES → slice_index result k ≡ max (slice_index entries k) 1 }
@@ -126,7 +126,7 @@ fn factors(entries: u16x16) -> u32x16
     widened(entries.simd_max(u16x16::splat(1)))
 }
 
-// By lane the entry's factor times the number and the shares.
+// For each lane, the entry's factor times the number and the shares.
 fn weighed(entries: u16x16, numbers: u16x16, shares: u32) -> u32x16
     requires entries { length entries ≡ LANES }
     requires numbers { length numbers ≡ LANES }
@@ -152,7 +152,7 @@ fn at_least(first: u32x16, second: u32x16) -> u64
     first.simd_ge(second).to_bitmask()
 }
 
-// By lane the lower of the number and the limit.
+// For each lane, the lower of the number and the limit.
 fn limited(numbers: u16x16, limit: u32) -> u16x16
     requires numbers { length numbers ≡ LANES }
     requires limit { limit < 2 ^ 16 }
@@ -162,7 +162,7 @@ fn limited(numbers: u16x16, limit: u32) -> u16x16
     numbers.simd_min(u16x16::splat(limit as u16))
 }
 
-// Bit k is clear only if the entry after in place of that before falls short of these shares.
+// Bit k is clear only if, with the entry `after` in place of the entry `before`, the product falls short of these shares.
 fn reaching(before: u16x16, after: u16x16, over: u16x16, level: u32, shares: u32) -> u64
     requires befores { length before ≡ LANES }
     requires afters { length after ≡ LANES }
@@ -193,7 +193,7 @@ fn opened(high: u16x16, points: u16x16) -> u64
     high.simd_lt(points.simd_min(u16x16::splat(1))).to_bitmask()
 }
 
-// The product is below so many shares of the goal's, or these are all.
+// A number of shares of the goal's product that together exceed this product, or else all of the shares.
 fn shares_of(product: u128, goal: &Goal) -> u32
     requires { IsGoal goal.now }
     ensures few { result ≤ SHARES }
@@ -206,7 +206,8 @@ fn shares_of(product: u128, goal: &Goal) -> u32
     shares.min(u64::from(SHARES)) as u32
 }
 
-// Bit k is clear only if too few lanes are open with lane k for the count, or just as many and it does not reach the product.
+// Says which lanes could reach the goal. Bit k is clear only if lane k leaves too few lanes open for the goal's count, or just enough of them
+// but falls short of its product.
 fn among(open_lanes: u8, count: u8, reaching: u64, opened: u64) -> u64
     ensures { (k : ℕ) → k < LANES → lane_bit result k ≡ 0
         → IsNoMore (open_lanes + lane_bit opened k) count (lane_bit reaching k) }
@@ -222,7 +223,7 @@ fn among(open_lanes: u8, count: u8, reaching: u64, opened: u64) -> u64
     }
 }
 
-// The same by the lanes at a level.
+// The same, from the lanes at a level.
 #[inline(always)]
 fn contenders_at(
     case: &GoodsCase,
@@ -253,8 +254,8 @@ fn contenders_at(
     }
 }
 
-/// Who could reach the goal with the next good: a player who is left out has a bound below the goal's pair with it. They are told apart soonest
-/// if `start` is near the level of the owners' bound.
+/// Who could reach the goal with the next good: if a player is left out, the bound with the good given to them is below the goal's pair. This
+/// is quickest if `start` is near the level of the owners' bound.
 #[inline(always)]
 pub fn contenders_of(
     case: &GoodsCase,

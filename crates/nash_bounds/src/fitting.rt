@@ -13,13 +13,14 @@ use std::simd::prelude::*;
 pub(crate) struct Fitting {
     /// The level, at most `WHOLE_POINTS`.
     pub(crate) level: u32,
-    /// By lane the entry.
+    /// For each lane, its entry.
     pub(crate) entries: u16x16,
-    /// What the entries leave over of the top.
+    /// How much of the top the entries leave over.
     pub(crate) spare: u32,
 }
 
-// About how many lanes rise at the level: those with a low of at most it and a high above it.
+// Roughly how many lanes rise at the level: those whose low is at most the level and whose
+// high is above it.
 pub(crate) fn rising(low: u16x16, high: u16x16, level: u32) -> u32
     requires { level ≤ WHOLE_POINTS }
 {
@@ -29,7 +30,7 @@ pub(crate) fn rising(low: u16x16, high: u16x16, level: u32) -> u32
         .count_ones()
 }
 
-// A lower level, by what the entries' sum has too much for each lane that rises.
+// A lower level: the excess of the entries' sum is shared out among the lanes that rise.
 fn lowered(level: u32, excess: u32, rising: u32) -> u32
     requires level { 0 < level }
     requires level_small { level ≤ WHOLE_POINTS }
@@ -40,7 +41,8 @@ fn lowered(level: u32, excess: u32, rising: u32) -> u32
     level.saturating_sub(excess.div_ceil(rising.max(1)))
 }
 
-// A level at which the lanes fit, from the start down. It need not be the last.
+// A level at which the lanes fit, found from the start downwards. It need not be the highest
+// one.
 pub(crate) fn fit(lanes: &Lanes, start: u32) -> Fitting
     requires { IsSpan lanes.now }
     ensures { IsFitting lanes.now result }

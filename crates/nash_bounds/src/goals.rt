@@ -13,7 +13,7 @@ pub struct Goal {
     pub pair: Pair,
     /// A unit is 2 to this power.
     pub shift: u32,
-    /// So many whole units are in the product, or more.
+    /// The product has at least this many whole units.
     pub units: u64,
 }
 
@@ -32,7 +32,7 @@ impl Goal {
         }
     }
 
-    // More units than are in the product, or else than are in the goal's.
+    // A number of units that is more than the product has, or at least more than the goal's product has.
     pub(crate) fn units_above(&self, product: u128) -> u64
         requires { IsGoal self.now }
         ensures above { IsAbove self.now product result }

@@ -1,4 +1,4 @@
-// What each player has, and may have, in one lane of a vector for each player.
+// What each player has and may have, in a vector with one lane for each player.
 ghost use Rattle.std.specs.Prelude.{◌≡◌, ℕ, List, ◌+◌, ◌-◌, ◌<◌, ◌≤◌, ◌^◌, [], ◌∷◌, ◌++◌, length, All, slice_index, slice_set};
 ghost use Rattle.bid_rules.specs.declared.goods.GoodsCase.{GoodsCase};
 ghost use Rattle.bid_rules.specs.Goods.{IsValidGoodsCase, player_count, points, order_of};
@@ -15,28 +15,28 @@ use bid_rules::GoodsCase;
 use bid_rules::limits::{ITEM_ROOM, MEMBER_ROOM, WHOLE_POINTS};
 use std::simd::prelude::*;
 
-/// What the players give one good, by lane.
+/// How many points the players give one good, by lane.
 #[derive(Clone, Copy, Default)]
 pub struct LaneRow {
-    /// By lane the player's points for the good.
+    /// For each lane, its player's points for the good.
     pub points: u16x16,
     /// The greatest of these.
     pub greatest: u32,
 }
 
-/// What the players give each good, by its place in the search order.
+/// How many points the players give each good, by its place in the search order.
 #[derive(Drop)]
 pub struct LaneTable {
-    /// By place in the search order what the players give the good.
+    /// For each place in the search order, what the players give the good there.
     pub rows: ArrayVec<LaneRow, ITEM_ROOM>,
 }
 
-/// What each player has with the owners of the first few goods, and may have with the others.
+/// What each player has under the owners of the first few goods, and may have with the other goods.
 #[derive(Clone, Copy, Default)]
 pub struct Lanes {
-    /// By lane the points that the player has so far.
+    /// For each lane, the points that its player has so far.
     pub low: u16x16,
-    /// By lane the points that the player would have with all free goods.
+    /// For each lane, the points that its player would have with all free goods.
     pub high: u16x16,
     /// The sum of `low` and, for each free good, the greatest points that any player gives it.
     pub top: u32,
@@ -66,7 +66,7 @@ fn more(numbers: u16x16, points: u16x16) -> u16x16
     numbers.strict_add(points)
 }
 
-/// Takes the next good from what the players may have.
+/// Takes the next good out of what the players may have.
 pub fn fork(case: &GoodsCase, table: &LaneTable, owners: &[u8], lanes: &mut Lanes)
     requires table { IsLaneTable case.now table.now }
     requires open { HasFreeGood case.now owners.now }
@@ -78,7 +78,7 @@ pub fn fork(case: &GoodsCase, table: &LaneTable, owners: &[u8], lanes: &mut Lane
     lanes.top -= row.greatest;
 }
 
-/// Gives the next good back, as it was before `fork`.
+/// Puts the next good back, which leaves things as they were before `fork`.
 pub fn join(case: &GoodsCase, table: &LaneTable, owners: &[u8], lanes: &mut Lanes)
     requires table { IsLaneTable case.now table.now }
     requires open { HasFreeGood case.now owners.now }
@@ -90,7 +90,7 @@ pub fn join(case: &GoodsCase, table: &LaneTable, owners: &[u8], lanes: &mut Lane
     lanes.top = raised(lanes.top, row.greatest);
 }
 
-// A sum of its own, so that its range is shown once for all lanes.
+// A function of its own, so that the range of the sum is shown just once for all lanes.
 fn raised(top: u32, points: u32) -> u32
     requires { top + points ≤ MOST_TOP }
     ensures { result ≡ top + points }
@@ -98,7 +98,7 @@ fn raised(top: u32, points: u32) -> u32
     top + points
 }
 
-// What the owner gives the next good.
+// How many points the owner gives the next good.
 fn points_of(case: &GoodsCase, table: &LaneTable, owners: &[u8], owner: u8) -> u32
     requires table { IsLaneTable case.now table.now }
     requires open { HasFreeGood case.now owners.now }
@@ -109,7 +109,7 @@ fn points_of(case: &GoodsCase, table: &LaneTable, owners: &[u8], owner: u8) -> u
     lane_of(&table.rows[owners.len()].points, owner)
 }
 
-// The numbers with the points more in one lane.
+// The numbers with the points added in one lane.
 fn raised_lane(numbers: u16x16, owner: u8, points: u32) -> u16x16
     requires owner_low { 1 ≤ owner }
     requires owner_high { owner ≤ LANES }
@@ -121,7 +121,7 @@ fn raised_lane(numbers: u16x16, owner: u8, points: u32) -> u16x16
     u16x16::from_array(lanes)
 }
 
-// The numbers with the points less in one lane.
+// The numbers with the points taken off in one lane.
 fn lowered_lane(numbers: u16x16, owner: u8, points: u32) -> u16x16
     requires owner_low { 1 ≤ owner }
     requires owner_high { owner ≤ LANES }
@@ -150,7 +150,7 @@ pub fn give(case: &GoodsCase, table: &LaneTable, owners: &[u8], owner: u8, lanes
     lanes.top += points;
 }
 
-/// Takes the next good from the owner, as it was before `give`.
+/// Takes the next good back from the owner, which leaves things as they were before `give`.
 pub fn take(case: &GoodsCase, table: &LaneTable, owners: &[u8], owner: u8, lanes: &mut Lanes)
     requires table { IsLaneTable case.now table.now }
     requires open { HasFreeGood case.now owners.now }
@@ -179,7 +179,7 @@ pub(crate) fn laned(numbers: &[u32]) -> u16x16
     u16x16::from_array(lanes)
 }
 
-/// The prefix by lanes.
+/// The prefix in lanes.
 pub fn lanes_of(case: &GoodsCase, prefix: &Prefix) -> Lanes
     requires case { IsValidGoodsCase case.now }
     requires few { player_count case.now ≤ MEMBER_ROOM }
@@ -214,7 +214,7 @@ pub fn players(case: &GoodsCase) -> u8
     case.values.as_slice().len() as u8
 }
 
-/// What the players give each good by lane, from the case's search order and table.
+/// What the players give each good, by lane, from the case's search order and table.
 pub fn lane_table(case: &GoodsCase, order: &[u8], table: &PointTable) -> LaneTable
     requires case { IsValidGoodsCase case.now }
     requires few { player_count case.now ≤ MEMBER_ROOM }

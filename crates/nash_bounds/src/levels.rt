@@ -19,7 +19,7 @@ struct Height {
     extra: u32,
 }
 
-/// What the entries sum to at a level, and how many of them rise from there to the next.
+/// What the entries sum to at a level, and how many of them rise from there to the next level.
 #[derive(Clone, Copy)]
 struct AtLevel {
     sum: u32,
@@ -62,8 +62,8 @@ fn aim(at: AtLevel, level: u32, top: u32, middle: u32) -> u32
 
 // The last level at which the sum is at most `top`, if the highest entries sum to more.
 //
-// It lies between a level that fits and one that does not. The first guess is `start`, any number. Each further one takes the number of rising entries as constant, and so meets
-// it as soon as no entry's ends lie between.
+// It lies between a level that fits and one that does not. The first guess is `start`, which can be any number. Each further guess assumes that the number of rising entries
+// stays the same, and so it is right as soon as no entry's ends lie in between.
 fn last_level(low: u16x16, high: u16x16, top: u32, start: u32) -> Height
     requires lows { length low ≡ LANES }
     requires highs { length high ≡ LANES }
@@ -99,7 +99,7 @@ fn last_level(low: u16x16, high: u16x16, top: u32, start: u32) -> Height
 
 // How high the entries rise together from low, until they sum to `top` or are all high.
 //
-// No whole list allowed has a greater pair: one more point multiplies the smallest utility by the most.
+// No allowed list of whole numbers has a greater pair, since one more point makes the greatest difference to the smallest utility.
 fn raise(low: u16x16, high: u16x16, top: u32, start: u32) -> Height
     requires lows { length low ≡ LANES }
     requires highs { length high ≡ LANES }
@@ -118,7 +118,7 @@ fn raise(low: u16x16, high: u16x16, top: u32, start: u32) -> Height
     last_level(low, high, top, start)
 }
 
-// The pair of the entries, of which the first few are raised, each at most as high as above.
+// The pair of the entries after the first few of them are raised, each to at most its limit.
 fn pair_of(entries: &[u16], above: &[u16], extra: u32) -> Pair
     requires lengths { length entries.now ≡ length above.now }
     requires short { length entries.now ≤ MEMBER_ROOM }

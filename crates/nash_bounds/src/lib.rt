@@ -1,10 +1,11 @@
 //! What a search for the best allocation of goods stands on: the search order, prefixes of allocations, and their bounds.
 //!
-//! It defines the start value, counted prefixes and the step count, too. They speak of allocations, and of no search.
+//! It also defines the start value, counted prefixes and the step count. These definitions are about allocations and
+//! don't mention any search.
 //!
-//! The bound of a prefix is the greatest pair of any list between what the players have and what
-//! each could have (`bound_law`), and filling one point at a time gives the same pair
-//! (`slow_filling_law`). `open_prefixes_law` tells which prefixes a certificate may not leave out.
+//! The bound of a prefix is the greatest pair of any list between what the players have and what each could have
+//! (`bound_law`), and filling one point at a time gives the same pair (`slow_filling_law`). `open_prefixes_law` says
+//! which prefixes a certificate may not leave out.
 #![tactic(auto)]
 
 mod contenders;

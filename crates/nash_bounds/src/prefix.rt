@@ -25,9 +25,9 @@ use bid_rules::{GoodsCase, Pair};
 pub struct Prefix {
     /// The owner, a player from 1, of each of the first few goods in search order.
     pub owners: ArrayVec<u8, ITEM_ROOM>,
-    /// By player the points that they have so far.
+    /// For each player, the points that they have so far.
     pub low: ArrayVec<u32, MEMBER_ROOM>,
-    /// By player the points that they would have with all free goods, at most `WHOLE_POINTS`.
+    /// For each player, the points that they would have with all free goods, at most `WHOLE_POINTS`.
     pub high: ArrayVec<u32, MEMBER_ROOM>,
     /// The sum of `low` and, for each free good, the greatest points that any player gives it.
     pub top: u32,
@@ -87,7 +87,7 @@ fn alike(players: usize, points: u32) -> ArrayVec<u32, MEMBER_ROOM>
     entries
 }
 
-// For each good the greatest points that any player gives it, in sum.
+// The sum, over all goods, of the greatest points that any player gives each.
 fn greatest_sum(case: &GoodsCase) -> u32
     requires { IsValidGoodsCase case.now }
     ensures { result ≡ sum_by (greatest_points case.now) (range_with_len 1 case.now.facts.goods) }
@@ -99,7 +99,7 @@ fn greatest_sum(case: &GoodsCase) -> u32
     sum
 }
 
-/// The prefix with one more owner, of the next good in the case's search order. Its bound is no higher.
+/// The prefix with one more owner, who gets the next good in the case's search order. Its bound is no higher.
 pub fn extend(case: &GoodsCase, order: &[u8], prefix: &Prefix, owner: u8) -> Prefix
     requires case { IsValidGoodsCase case.now }
     requires order { order.now ≡ order_of case.now }
@@ -118,7 +118,7 @@ pub fn extend(case: &GoodsCase, order: &[u8], prefix: &Prefix, owner: u8) -> Pre
     with_limits(case, prefix, owner, limits_after(case, &row, prefix, owner))
 }
 
-/// What `extend` gives, by the case's table, which is faster.
+/// The same as `extend`, but from the case's table, which is faster.
 pub fn extend_by(case: &GoodsCase, table: &PointTable, prefix: &Prefix, owner: u8) -> Prefix
     requires case { IsValidGoodsCase case.now }
     requires table { IsTable case.now table.now }

@@ -1,4 +1,4 @@
-// Whether a bound reaches a goal, which is quicker to ask than what the bound is.
+// Finds out whether a bound reaches a goal, which is quicker than computing the bound.
 ghost use Rattle.std.specs.Prelude.{◌≡◌, ◌<◌, ◌≤◌, [], ◌∷◌, ◌++◌, IfSome, true};
 ghost use Rattle.bid_rules.specs.Goods.{IsValidGoodsCase, pair_of, player_count};
 ghost use Rattle.nash_bounds.specs.Goals.{IsGoal, IsShort, is_reached};
@@ -21,11 +21,11 @@ use std::simd::prelude::*;
 pub(crate) struct Flat {
     /// The level, at most `WHOLE_POINTS`.
     pub(crate) level: u32,
-    /// About how many lanes rise there with the level.
+    /// Roughly how many lanes rise there with the level.
     pub(crate) rising: u32,
-    /// By lane the entry at the level.
+    /// For each lane, its entry at the level.
     pub(crate) entries: u16x16,
-    /// What the entries leave over of the lanes' `top`.
+    /// How much of the lanes' `top` the entries leave over.
     pub(crate) spare: u32,
     /// How many lanes may have points.
     pub(crate) open_lanes: u8,
@@ -42,7 +42,7 @@ pub struct Reached {
     pub level: u32,
 }
 
-/// The pair of what the players have with the owners.
+/// The pair of the players' utilities under these owners.
 pub fn pair_so_far(case: &GoodsCase, owners: &[u8], lanes: &Lanes) -> Pair
     requires valid { IsValidGoodsCase case.now }
     requires few { player_count case.now ≤ MEMBER_ROOM }
@@ -55,7 +55,7 @@ pub fn pair_so_far(case: &GoodsCase, owners: &[u8], lanes: &Lanes) -> Pair
     }
 }
 
-// The lanes without the next good at a level at which they fit. It is found soonest if `start` is near the level of the owners' bound.
+// The lanes without the next good at a level at which they fit. This is quickest if `start` is near the level of the owners' bound.
 pub(crate) fn flat_of(
     case: &GoodsCase,
     table: &LaneTable,
@@ -73,8 +73,7 @@ pub(crate) fn flat_of(
     flat_at(lanes, start.saturating_sub(fall))
 }
 
-// The product is greatest if what is left to give raises the lowest lanes to one level, so the bound is read off this
-// shape.
+// The product is greatest if what is left to give raises the lowest lanes to one level, so the bound can be read off from there.
 fn flat_at(lanes: &Lanes, start: u32) -> Flat
     requires { IsSpan lanes.now }
     ensures { IsFlat lanes.now result }
@@ -90,8 +89,8 @@ fn flat_at(lanes: &Lanes, start: u32) -> Flat
     }
 }
 
-// Whether no list with so many points more than the entries reaches the goal's product: they multiply the entries' product by at most
-// (2 * level + spare) / (2 * level - spare).
+// Whether no list with this many more points than the entries reaches the goal's product: they multiply the entries' product by at most (2
+// * level + spare) / (2 * level - spare).
 fn is_short(at: &Fitting, product: u128, goal: &Goal) -> bool
     requires level { at.now.level ≤ WHOLE_POINTS }
     requires goal { IsGoal goal.now }
@@ -105,8 +104,8 @@ fn is_short(at: &Fitting, product: u128, goal: &Goal) -> bool
     units * u64::from(twice + at.spare) < goal.units * u64::from(twice - at.spare)
 }
 
-// Whether the greatest pair of a list between the lanes' low and high, and within their top, reaches the goal, if a level tells: the
-// entries there are such a list.
+// Whether the greatest pair of a list between the lanes' low and high, and within their top, reaches the goal, as far as a level shows:
+// the entries there are such a list.
 fn by_level(lanes: &Lanes, at: &Fitting, goal: &Goal, beyond: bool) -> Option<bool>
     requires lanes { IsSpan lanes.now }
     requires at { IsFitting lanes.now at.now }
@@ -137,6 +136,7 @@ fn by_level(lanes: &Lanes, at: &Fitting, goal: &Goal, beyond: bool) -> Option<bo
 }
 
 // Whether the greatest pair of a list between the lanes' low and high, and within their top, reaches the goal.
+#[inline(always)]
 fn judge(lanes: &Lanes, start: u32, goal: &Goal, beyond: bool) -> Reached
     requires lanes { IsSpan lanes.now }
     requires goal { IsGoal goal.now }
@@ -157,15 +157,15 @@ fn judge(lanes: &Lanes, start: u32, goal: &Goal, beyond: bool) -> Reached
     }
 }
 
-// Whether the bound is at least the pair, or above it if it has to be beyond.
+// Whether the bound is at least the pair, or above it if it has to be.
 fn reaches_by(pair: Pair, beyond: bool, bound: Pair) -> bool
     ensures { result ≡ is_reached pair beyond bound }
 {
     if beyond { pair < bound } else { pair <= bound }
 }
 
-/// Whether the bound of the owners with these lanes is at least the goal's pair, or above it if it has to be beyond. It is found soonest
-/// if `start` is near the bound's level.
+/// Whether the bound of the owners with these lanes is at least the goal's pair, or above it if it has to be. This is quickest if `start`
+/// is near the bound's level.
 pub fn reaches(
     case: &GoodsCase,
     owners: &[u8],
@@ -183,8 +183,8 @@ pub fn reaches(
     judge(lanes, start, goal, beyond)
 }
 
-/// Whether the bound of the owners with the next good given to this owner is at least the goal's pair, or above it if it has to be beyond.
-/// It is found soonest if `start` is near the bound's level.
+/// Whether the bound of the owners with the next good given to this owner is at least the goal's pair, or above it if it has to be. This
+/// is quickest if `start` is near the bound's level.
 pub fn next_reaches(
     case: &GoodsCase,
     table: &LaneTable,

@@ -1,4 +1,4 @@
-// What holds of tasks, counted prefixes and the step count, for all cases: each law is the contract of a function that does nothing.
+// Laws about tasks, counted prefixes and the step count, which hold for all cases. Each is the contract of a function that does nothing.
 ghost use Rattle.std.specs.Prelude.{◌≡◌, ◌≢◌, ℕ, ◌+◌, ◌-◌, ◌*◌, ◌^◌, ◌<◌, ◌≤◌, ◌↔◌, ◌⊎◌, List, [], ◌∷◌, ◌++◌, length, take, AllPairs, All, Contains, Option, Some, None, flat_map, not, true};
 ghost use Rattle.std.specs.List.{range_with_len};
 ghost use Rattle.std.specs.Option.{option_to_list};
@@ -21,8 +21,8 @@ ghost use Rattle.nash_bounds.specs.Steps.{HasSteps, best_before, earlier, pair_k
 ghost use Rattle.nash_bounds.specs.Tasks.{depth_of, task_leaves, task_list, tasks_of};
 ghost use Rattle.nash_bounds.specs.declared.limits.TheConstants.{BLOCK_TASKS, FEWEST_LISTS, MOST_SHORTER};
 
-/// The lists of a length are all of that length, in rising order and so each once. The lists that begin with some owners are all that go on
-/// with so many more or fewer, each once; the leaves are those that go on with exactly so many, in rising order.
+/// The lists of a given length are all the lists of that length, in rising order and therefore each once. The lists that begin with some
+/// owners are all those that go on with up to k more, each once; the leaves are those that go on with exactly k more, in rising order.
 pub fn owner_lists_law()
     ensures listed { (n k : ℕ) (owners : List ℕ) → Contains (lists n k) owners
         ↔ (length owners ≡ k) × ArePlayers n owners }
@@ -60,7 +60,8 @@ pub fn tasks_law()
         (below (player_count case) (case.facts.goods - depth_of case) (task_list case task)) }
 {}
 
-/// The listed allocations are all allocations, in rising order and so each once. They are those of all tasks, in turn.
+/// The listed allocations are all allocations, in rising order and therefore each once. They are the allocations of all tasks, one task
+/// after another.
 pub fn allocations_law()
     ensures listed { (case : GoodsCase) (owners : List ℕ)
         → Contains (lists (player_count case) case.facts.goods) owners ↔ IsAllocation case owners }
@@ -76,8 +77,8 @@ pub fn allocations_law()
         ≡ lists (player_count case) case.facts.goods }
 {}
 
-/// The best allocation of the first few tasks is one of theirs. None of these has a greater pair, and none with the same pair is before
-/// it as a list. There is none if they have no allocation.
+/// The best allocation of the first few tasks is one of theirs. None of theirs has a greater pair, and none with the same pair comes before
+/// it as a list. If they have no allocation, there is no best one.
 pub fn best_before_law()
     ensures found { (case : GoodsCase) (task : ℕ) (owners : List ℕ)
         → best_before case task ≡ Some owners
@@ -90,8 +91,8 @@ pub fn best_before_law()
         → flat_map (task_leaves case) (range_with_len 0 task) ≡ [] }
 {}
 
-/// The best of the counted allocations of a task, kept in turn, is the best of them, the least list among equals. There is at most one best
-/// of any allocations, whatever their order.
+/// Keeping the best of a task's counted allocations one by one gives the best of them all, with the least list among equals. Any
+/// allocations have at most one best, whatever their order.
 pub fn best_counted_law()
     ensures kept { (case : GoodsCase) (task : ℕ) (floor : Pair) (above : Option Pair)
         → IsBestOf case (counted_leaves case task floor above)
@@ -100,7 +101,7 @@ pub fn best_counted_law()
         → IsBestOf case allocations a → IsBestOf case allocations b → a ≡ b }
 {}
 
-/// What tasks in a row count is what each of them counts, and so are their counted allocations.
+/// What several tasks in a row count is what each of them counts, added up, and their counted allocations are those of each.
 pub fn tasks_in_row_law()
     ensures none { (case : GoodsCase) (floor : Pair) (above : Option Pair) (from : ℕ)
         → count_tasks case floor above from 0 ≡ 0 }
@@ -116,9 +117,9 @@ pub fn tasks_in_row_law()
         ≡ counted_of_tasks case floor above from n ++ counted_leaves case (from + n) floor above }
 {}
 
-/// What is found among the counted allocations of the earlier blocks serves for the best of all earlier allocations. By it as many prefixes
-/// of the next block are counted; the better of it and of what is counted in tasks after it serves on; after all tasks it is the best
-/// allocation, which so exists.
+/// What is found among the counted allocations of the earlier blocks can stand in for the best of all earlier allocations. It leads to the
+/// same number of counted prefixes in the next block; the better of it and of what is counted in the tasks after it can stand in again; and
+/// after all tasks it is the best allocation, which therefore exists.
 pub fn serving_law()
     ensures begins { (case : GoodsCase) (floor : Pair)
         → Serves case floor None (best_before case 0) }
@@ -141,7 +142,7 @@ pub fn serving_law()
         → (owners : List ℕ) × GoodsBest case owners }
 {}
 
-/// A case has at most one start value, and so one step count. It begins with nothing and rises from task to task.
+/// A case has at most one start value, and therefore at most one step count. The count begins at 0 and rises from task to task.
 pub fn steps_law()
     ensures one_start { (case : GoodsCase) (pair other : Pair) → IsStartValue case pair
         → IsStartValue case other → pair ≡ other }
@@ -152,10 +153,10 @@ pub fn steps_law()
         → steps_before case floor task ≤ steps_before case floor (task + more) }
 {}
 
-/// The step law is about the prefixes that a tree which shows the best allocation may not leave out. They have all lengths, and the empty
-/// one is among them. They are at most as many as the step count and `MOST_SHORTER`. One may be left out if its bound is below the
-/// answer's pair, or the same and it is after the answer's first owners: if its bound does not reach the pair, or is not above it if
-/// the owners are after the answer's first ones.
+/// This law is about the prefixes that must not be left out of a tree that shows the best allocation. They can have any length, and the
+/// empty one is among them. There are at most as many as the step count plus `MOST_SHORTER`. One may be left out if its bound is below the
+/// answer's pair, or the same and it is after the answer's first owners: if its bound does not reach the pair, or is not above it if the
+/// owners are after the answer's first ones.
 pub fn open_prefixes_law()
     ensures left { (case : GoodsCase) (answer owners : List ℕ)
         → may_be_left case answer owners ≡ true

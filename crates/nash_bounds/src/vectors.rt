@@ -52,7 +52,7 @@ fn raised(numbers: u16x16) -> u16x16
     numbers.simd_max(u16x16::splat(1))
 }
 
-// The product of up to half as many numbers as there is room for players.
+// The product of at most half as many numbers as there is room for players.
 fn half_product(numbers: &[u16]) -> u64
     requires short { length numbers.now ≤ HALF_ROOM }
     requires some { All (λ number. 1 ≤ number) numbers.now }
@@ -69,7 +69,7 @@ fn half_product(numbers: &[u16]) -> u64
 
 // The product of the positive numbers, of which there is one for each player, and 0 in the other lanes.
 //
-// Each half of the players' numbers has a product that fits 64 bits.
+// Each half of the players' numbers has a product that fits in 64 bits.
 pub(crate) fn product_of(numbers: u16x16) -> u128
     requires long { length numbers ≡ LANES }
     requires small { All (λ number. number ≤ WHOLE_POINTS) numbers }

@@ -1,4 +1,4 @@
--- Parts of tasks: what the prefixes that begin with some owners count and have.
+-- Parts of tasks: how many prefixes that begin with some owners are counted, and which allocations these have.
 use Rattle.std.specs.Prelude.{◌≡◌, ℕ, ◌+◌, ◌-◌, ◌<◌, ◌≤◌, ◌++◌, ◌∷◌, [], List, Option, None, Bool, true, false, ◌&&◌, length, nat_lt}
 use Rattle.std.specs.List.{filter, range_with_len}
 use Rattle.bid_rules.specs.declared.goods.GoodsCase.{GoodsCase}
@@ -50,8 +50,8 @@ pub record IsPartWalk (case : GoodsCase) (pieces : PartPieces) : Type 0 where
   pub kept : best_all case pieces.floor pieces.above (to_come pieces.place) (list_of pieces.place.best)
       ≡ best case pieces.floor pieces.above (case.facts.goods - length pieces.owners) pieces.owners None
 
--- after a piece of at most so many prefixes, the part is done and its best allocation found, or exactly so many more prefixes are counted and some
--- are left
+-- after a piece of at most this many prefixes, the part is done and its best allocation found, or exactly this many more prefixes are counted and
+-- some are left
 abbrev pub PartAdvanced : GoodsCase → PartPieces → PartPieces → ℕ → Bool → Type 0
 PartAdvanced case old new most true =
     (new.nodes ≤ old.nodes + most) × (new.nodes ≡ part_count case old.floor old.above old.owners) × IsFoundBest case (part_leaves case old.floor old.above old.owners) new.best

@@ -32,8 +32,8 @@ pub record IsTaskWalk (case : GoodsCase) (pieces : Pieces) : Type 0 where
   pub kept : best_all case pieces.floor pieces.above (to_come pieces.place) (list_of pieces.place.best)
       ≡ best case pieces.floor pieces.above (case.facts.goods - depth_of case) (task_list case pieces.task) None
 
--- after a piece of at most so many prefixes, the task is done and its best allocation found, or exactly so many more prefixes are counted and some
--- are left
+-- after a piece of at most this many prefixes, the task is done and its best allocation found, or exactly this many more prefixes are counted and
+-- some are left
 abbrev pub Advanced : GoodsCase → Pieces → Pieces → ℕ → Bool → Type 0
 Advanced case old new most true =
     (new.nodes ≤ old.nodes + most) × (new.nodes ≡ count_task case old.task old.floor old.above) × IsFoundBest case (counted_leaves case old.task old.floor old.above) new.best

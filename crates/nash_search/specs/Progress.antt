@@ -18,7 +18,7 @@ pub record IsTallied (case : GoodsCase) (floor : Pair) (above : Option Pair) (fr
   pub count : tally.nodes ≡ count_tasks case floor above from n
   pub found : IsFoundBest case (counted_of_tasks case floor above from n) tally.best
 
--- after one task more, the tally is whole and within the allowance, or it is one prefix past the allowance
+-- after one more task, the tally is whole and within the allowance, or it is one prefix past the allowance
 abbrev pub AfterTask : GoodsCase → Pair → Option Pair → ℕ → ℕ → ℕ → Tally → Bool → Type 0
 AfterTask case floor above from n allowance tally true = (tally.nodes ≤ allowance) × IsTallied case floor above from (n + 1) tally
 AfterTask case floor above from n allowance tally false = (tally.nodes ≡ allowance + 1) × (tally.nodes ≤ count_tasks case floor above from (n + 1))

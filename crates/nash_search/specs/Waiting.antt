@@ -44,11 +44,11 @@ to_come walk = waiting_prefixes [] walk.path.items (map owners_of walk.levels.it
 abbrev pub count_all : GoodsCase → Pair → Option Pair → List (List ℕ) → ℕ
 count_all case floor above prefixes = sum_by (λ owners. count case floor above (case.facts.goods - length owners) owners) prefixes
 
--- the best of the counted allocations that begin with one of these, and of an earlier best
+-- the best of an earlier best and of the counted allocations that begin with one of these
 abbrev pub best_all : GoodsCase → Pair → Option Pair → List (List ℕ) → Option (List ℕ) → Option (List ℕ)
 best_all case floor above prefixes old = fold (λ kept owners. best case floor above (case.facts.goods - length owners) owners kept) old prefixes
 
--- a pair reaches the walk's goal exactly if it is at least the floor and greater than the pair above
+-- a pair reaches the walk's goal exactly when it is at least the floor and greater than the pair above
 pub record AreRules (rules : Rules) : Type 0 where
   pub goal : IsGoal rules.goal
   pub same : (pair : Pair) → (is_at_most rules.floor pair && is_above rules.above pair) ≡ is_reached rules.goal.pair rules.beyond pair

@@ -29,7 +29,7 @@ pub fn tasks_in_block(case: &GoodsCase, block: u32) -> u32
 
 /// Searches the tasks of a block one after another, all by one rule.
 ///
-/// It stops exactly if more of their prefixes are counted than the allowance.
+/// It stops exactly when more of their prefixes are counted than the allowance.
 pub fn search_block(
     case: &GoodsCase,
     tables: &Tables,

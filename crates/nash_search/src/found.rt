@@ -14,7 +14,7 @@ use bid_rules::limits::ITEM_ROOM;
 use nash_bounds::Pair;
 use std::cmp::Ordering;
 
-/// An allocation, the best of some.
+/// An allocation that is the best of several.
 #[derive(Debug, Drop, PartialEq, Eq)]
 pub struct Found {
     /// The number of players with positive utility, and the product of these utilities.
@@ -58,7 +58,7 @@ fn is_smaller(a: Pair, b: Pair) -> bool
 
 /// The better of the best of some allocations and the best of others: it is the best of all of these, the least list among equals.
 ///
-/// In what order several are put together plays no part.
+/// The order in which several are put together makes no difference.
 pub fn better(first: Option<Found>, second: Option<Found>) -> Option<Found>
     ensures { (case : GoodsCase) (xs ys : List (List ℕ)) → IsFoundBest case xs first
         → IsFoundBest case ys second → IsFoundBest case (xs ++ ys) result }
@@ -76,7 +76,7 @@ pub fn better(first: Option<Found>, second: Option<Found>) -> Option<Found>
     }
 }
 
-/// The pair of what is found.
+/// The pair of the allocation that was found.
 pub fn pair_found(found: &Option<Found>) -> Option<Pair>
     ensures { (case : GoodsCase) → IsKept case found.now
         → result ≡ pair_kept case (list_of found.now) }
@@ -92,7 +92,5 @@ pub(crate) fn copied(owners: &[u8]) -> ArrayVec<u8, ITEM_ROOM>
     requires { length owners.now ≤ ITEM_ROOM }
     ensures { result.items ≡ owners.now }
 {
-    let mut list = ArrayVec::new();
-    list.try_extend_from_slice(owners).unwrap();
-    list
+    ArrayVec::try_from(owners).unwrap()
 }

@@ -2,9 +2,8 @@
 //!
 //! Bounds, tasks, counted prefixes and the step count are defined in `nash_bounds`, the best allocation in `bid_rules`.
 //!
-//! It refuses exactly if the step count is above the limit of the case, and takes no memory. A
-//! valid case has one start value, one step count and at most one division (`some_steps_law`,
-//! `step_count_law`, `limit_law`).
+//! It refuses exactly when the step count is above the limit of the case, and takes no memory. A valid case has one
+//! start value, one step count and at most one division (`some_steps_law`, `step_count_law`, `limit_law`).
 //!
 //! For several workers a task is cut into parts: a prefix, with all that begins with it (`part_law`).
 #![tactic(auto)]

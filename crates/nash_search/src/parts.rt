@@ -1,4 +1,4 @@
-// Parts of tasks: the cut of a prefix into those with one owner more, and a walk through what begins with a prefix.
+// Parts of tasks: the cut of a prefix into those with one more owner, and a walk through what begins with a prefix.
 ghost use Rattle.std.specs.Prelude.{◌≡◌, ℕ, ◌+◌, ◌<◌, ◌≤◌, ◌↔◌, ◌^◌, ◌++◌, ◌∷◌, [], List, Option, cond, flat_map, length, reverse, true, None};
 ghost use Rattle.std.specs.List.{sum_by};
 ghost use Rattle.bid_rules.specs.declared.goods.GoodsCase.{GoodsCase};
@@ -23,8 +23,8 @@ use bid_rules::limits::{ITEM_ROOM, MEMBER_ROOM, MOST_STEPS};
 use nash_bounds::{Pair, Prefix, bound_law, lanes_of, owner_lists_law, reaches, tasks_law};
 use std::marker::Model;
 
-/// The prefixes of a task are those that begin with its owners. If a prefix is counted and leaves a good without an owner, it counts itself
-/// and what its counted prefixes with one owner more count, and it has their counted allocations, in order.
+/// The prefixes of a task are those that begin with its owners. If a prefix is counted and leaves a good without an owner, it counts itself and
+/// what its counted prefixes with one more owner count, and it has their counted allocations, in order.
 pub fn part_law()
     ensures task_count { (case : GoodsCase) (task : ℕ) (floor : Pair) (above : Option Pair)
         → task < tasks_of case
@@ -117,8 +117,8 @@ impl Model for PartWalk {
     } };
 }
 
-/// A walk that has all prefixes to come which begin with those of `prefix`. It will count those whose bound is at least `floor` and, if there is an
-/// `above`, greater than it.
+/// A walk that still has all prefixes to come that begin with the owners of `prefix`. It will count those whose bound is at least `floor` and, if
+/// there is an `above`, greater than it.
 pub fn walk_part(
     case: &GoodsCase,
     tables: &Tables,
@@ -146,10 +146,10 @@ pub fn walk_part(
 }
 
 impl PartWalk {
-    /// Counts up to so many further prefixes. It answers false exactly if counted prefixes of the part are still not counted, and then it
-    /// has counted so many more.
+    /// Counts up to this many further prefixes. It answers false exactly when counted prefixes of the part are still not counted, and then it has
+    /// counted this many more.
     ///
-    /// `case` is that with which the walk was started. After true, `nodes` and `best` are those of the whole part.
+    /// `case` is the one with which the walk was started. After true, `nodes` and `best` are those of the whole part.
     pub fn advance(&mut self, case: &GoodsCase, most: u32) -> bool
         requires case { IsValidGoodsCase case.now }
         requires walk { IsPartWalk case.now self.old }
@@ -188,8 +188,8 @@ impl PartWalk {
     }
 }
 
-/// Counts the prefixes that begin with those of `prefix` and whose bound is at least `floor` and, if there is an `above`, greater than it, and
-/// finds the best allocation among them. It stops exactly if they are more than the allowance, as `search_by` does.
+/// Counts the prefixes that begin with the owners of `prefix` and whose bound is at least `floor` and, if there is an `above`, greater than it, and
+/// finds the best allocation among them. It stops exactly when they are more than the allowance, as `search_by` does.
 pub fn search_part(
     case: &GoodsCase,
     tables: &Tables,

@@ -37,8 +37,8 @@ impl Model for TaskWalk {
     } };
 }
 
-/// A walk that has its whole task to come. It will count the prefixes whose bound is at least `floor` and, if there is an `above`, greater
-/// than it. The program makes the case's tables once and walks by them with `walk_by`; this is for a walk of a single task.
+/// A walk that still has its whole task to come. It will count the prefixes whose bound is at least `floor` and, if there is an `above`,
+/// greater than it. The program makes the case's tables once and walks with them by `walk_by`; this is for walking a single task.
 pub fn start_walk(case: &GoodsCase, task: u32, floor: Pair, above: Option<Pair>) -> TaskWalk
     requires case { IsValidGoodsCase case.now }
     requires task { task < tasks_of case.now }
@@ -77,10 +77,10 @@ pub fn walk_by(
 }
 
 impl TaskWalk {
-    /// Counts up to so many further prefixes. It answers false exactly if counted prefixes of the task are still not counted, and then it
-    /// has counted so many more.
+    /// Counts up to this many further prefixes. It answers false exactly when counted prefixes of the task are still not counted, and then
+    /// it has counted this many more.
     ///
-    /// `case` is that with which the walk was started. After true, `nodes` and `best` are those of the whole task.
+    /// `case` is the one with which the walk was started. After true, `nodes` and `best` are those of the whole task.
     pub fn advance(&mut self, case: &GoodsCase, most: u32) -> bool
         requires case { IsValidGoodsCase case.now }
         requires walk { IsTaskWalk case.now self.old }

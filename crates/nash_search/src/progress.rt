@@ -1,4 +1,4 @@
-// How far a whole search has come, block by block, and when it is over the limit.
+// Keeps track of how far a whole search has come, block by block, and when it goes over the limit.
 use crate::division::{GoodsDivision, OverLimit};
 use crate::found::{Found, better, pair_found};
 use crate::start::start_value;
@@ -10,10 +10,10 @@ use nash_bounds::{
     steps_law,
 };
 
-/// How far a search has come that goes through the tasks of a case in blocks of `BLOCK_TASKS`.
+/// How far a search has come. It goes through the tasks of a case in blocks of `BLOCK_TASKS`.
 ///
-/// In a block the prefixes are counted whose bound exceeds the best pair of the earlier blocks. The best that was found serves for it:
-/// if nothing was found, all earlier allocations are below the start value.
+/// In a block, those prefixes are counted whose bound exceeds the best pair of the earlier blocks. The best that was found stands in
+/// for that pair: if nothing was found, all earlier allocations are below the start value.
 #[derive(Drop)]
 pub struct Progress {
     /// The start value of the case. Prefixes with a smaller bound are not counted.
@@ -53,7 +53,7 @@ impl Progress {
         }
     }
 
-    /// Whether all blocks are searched.
+    /// Whether all blocks have been searched.
     pub fn is_done(&self, case: &GoodsCase) -> bool
         requires case { IsValidGoodsCase case.now }
         requires progress { IsProgress case.now self.now }

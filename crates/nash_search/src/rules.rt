@@ -1,4 +1,4 @@
-// Which prefixes are counted, as a goal that is made once for a block.
+// The rule on which prefixes are counted, as a goal that is made once for a block.
 ghost use Rattle.std.specs.Prelude.{◌≡◌};
 ghost use Rattle.nash_search.specs.Waiting.{AreRules};
 
@@ -17,7 +17,7 @@ pub(crate) struct Rules {
     pub(crate) beyond: bool,
 }
 
-// The rules by which a counted prefix has at least `floor` as its bound and, if `above` is there, a greater one than that.
+// The rule that a counted prefix has a bound of at least `floor`, which is greater than `above` if that is given.
 pub(crate) fn rules_of(floor: Pair, above: Option<Pair>) -> Rules
     ensures rules { AreRules result }
     ensures floor { result.floor ≡ floor }

@@ -25,7 +25,7 @@ pub enum TaskEnd {
     Stopped { nodes: u32 },
 }
 
-/// How many owners a task begins with, and how many tasks there are.
+/// How many owners each task begins with, and how many tasks there are.
 #[derive(Clone, Copy)]
 struct Split {
     depth: u8,
@@ -90,8 +90,9 @@ pub fn task_prefix(case: &GoodsCase, table: &PointTable, task: u32) -> Prefix
 /// Counts the prefixes of a task whose bound is at least `floor` and, if there is an `above`, greater than it, and finds the best
 /// allocation among them, the least list among equals.
 ///
-/// `task` is a task of the case, from 0, and `allowance` at most `MOST_STEPS`. The search stops exactly if more prefixes are counted than
-/// the allowance, and then it has counted one more. A search of a whole case makes the tables once, for all its tasks; this is for a single task.
+/// `task` is a task of the case, from 0, and `allowance` at most `MOST_STEPS`. The search stops exactly when more prefixes are counted than the
+/// allowance, and then it has counted one more. A search of a whole case makes the tables just once for all its tasks; this is for a single
+/// task.
 pub fn search_task(
     case: &GoodsCase,
     task: u32,

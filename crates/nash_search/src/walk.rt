@@ -44,13 +44,14 @@ fn offer(best: Option<Found>, pair: Pair, owners: &[u8]) -> Option<Found>
             return Some(found);
         }
     }
-    let mut list = ArrayVec::new();
-    list.try_extend_from_slice(owners).unwrap();
-    Some(Found { pair, list })
+    Some(Found {
+        pair,
+        list: copied(owners),
+    })
 }
 
 impl Walk {
-    // Gives the next good to the owner; the lanes of the longer path.
+    // Gives the next good to the owner, and returns the lanes of the longer path.
     fn descend(&mut self, case: &GoodsCase, turn: &Turn) -> Lanes
         requires table { IsLaneTable case.now self.old.table }
         requires fork { IsFork case.now self.old.path.items turn.now.lanes }
@@ -59,11 +60,7 @@ impl Walk {
         requires owner_high { turn.now.owner ≤ player_count case.now }
         ensures path { self.new.path.items ≡ self.old.path.items ++ turn.now.owner ∷ [] }
         ensures lanes { IsLanes case.now (self.old.path.items ++ turn.now.owner ∷ []) result }
-        ensures rules { self.new.rules ≡ self.old.rules }
-        ensures table { self.new.table ≡ self.old.table }
-        ensures levels { self.new.levels.items ≡ self.old.levels.items }
-        ensures nodes { self.new.nodes ≡ self.old.nodes }
-        ensures best { self.new.best ≡ self.old.best }
+        ensures frame { self.new ≡ record self.old { path = self.new.path } }
     {
         let mut lanes = turn.lanes;
         give(
@@ -77,7 +74,7 @@ impl Walk {
         lanes
     }
 
-    // Whether nobody waits at the last level.
+    // Whether nobody is waiting at the last level.
     fn is_stuck(&self) -> bool
         ensures stuck { result ≡ true
             → (front : List Level) × (last : Level) × (self.now.levels.items ≡ front ++ last ∷ [])
@@ -90,7 +87,7 @@ impl Walk {
         }
     }
 
-    // Leaves the last level, at which nobody waits.
+    // Leaves the last level, at which nobody is waiting.
     fn back(&mut self, case: &GoodsCase)
         requires case { IsValidGoodsCase case.now }
         requires walk { IsWalk case.now self.old }
@@ -98,24 +95,22 @@ impl Walk {
             × (self.old.levels.items ≡ front ++ last ∷ []) × (last.owners.items ≡ []) }
         ensures walk { IsWalk case.now self.new }
         ensures same { to_come self.new ≡ to_come self.old }
-        ensures rules { self.new.rules ≡ self.old.rules }
-        ensures best { self.new.best ≡ self.old.best }
-        ensures nodes { self.new.nodes ≡ self.old.nodes }
+        ensures frame { self.new
+            ≡ record self.old { path = self.new.path; levels = self.new.levels } }
         ensures fewer { length self.new.levels.items + 1 ≡ length self.old.levels.items }
     {
         let _ = self.levels.pop();
         let _ = self.path.pop();
     }
 
-    // Leaves the levels at which nobody waits.
+    // Leaves the last levels at which nobody is waiting.
     fn settle(&mut self, case: &GoodsCase)
         requires case { IsValidGoodsCase case.now }
         requires walk { IsWalk case.now self.old }
         ensures walk { IsWalk case.now self.new }
         ensures same { to_come self.new ≡ to_come self.old }
-        ensures rules { self.new.rules ≡ self.old.rules }
-        ensures best { self.new.best ≡ self.old.best }
-        ensures nodes { self.new.nodes ≡ self.old.nodes }
+        ensures frame { self.new
+            ≡ record self.old { path = self.new.path; levels = self.new.levels } }
         ensures settled { IsReadyForNext self.new }
     {
         'levels: while self.is_stuck() {
@@ -131,16 +126,13 @@ impl Walk {
         requires some { 0 < length self.old.levels.items }
         ensures walk { IsWalk case.now self.new }
         ensures here { length self.new.levels.items ≡ length self.new.path.items + 1 }
-        ensures path { self.new.path.items ≡ self.old.path.items }
+        ensures frame { self.new ≡ record self.old { levels = self.new.levels } }
         ensures next { to_come self.old
             ≡ (self.old.path.items ++ result.owner ∷ []) ∷ to_come self.new }
         ensures owner { (1 ≤ result.owner) × (result.owner ≤ player_count case.now) }
         ensures fork { IsFork case.now self.old.path.items result.lanes }
         ensures counted { is_counted case.now self.old.rules.floor self.old.rules.above
             (self.old.path.items ++ result.owner ∷ []) ≡ true }
-        ensures rules { self.new.rules ≡ self.old.rules }
-        ensures nodes { self.new.nodes ≡ self.old.nodes }
-        ensures best { self.new.best ≡ self.old.best }
     {
         let last = self.levels.len() - 1;
         self.levels[last].turn()
@@ -189,11 +181,7 @@ impl Walk {
         ensures kept { IsKept case.now self.new.best }
         ensures best { list_of self.new.best
             ≡ keep case.now (list_of self.old.best) self.old.path.items }
-        ensures path { self.new.path.items ≡ self.old.path.items }
-        ensures rules { self.new.rules ≡ self.old.rules }
-        ensures table { self.new.table ≡ self.old.table }
-        ensures levels { self.new.levels.items ≡ self.old.levels.items }
-        ensures nodes { self.new.nodes ≡ self.old.nodes }
+        ensures frame { self.new ≡ record self.old { best = self.new.best } }
     {
         let pair = pair_so_far(case, self.path.as_slice(), lanes);
         let best = self.best.take();
@@ -216,11 +204,7 @@ impl Walk {
             (λ owner.
             is_counted case.now self.old.rules.floor self.old.rules.above
             (self.old.path.items ++ owner ∷ [])) (range_with_len 1 (player_count case.now))) }
-        ensures path { self.new.path.items ≡ self.old.path.items }
-        ensures rules { self.new.rules ≡ self.old.rules }
-        ensures table { self.new.table ≡ self.old.table }
-        ensures nodes { self.new.nodes ≡ self.old.nodes }
-        ensures best { self.new.best ≡ self.old.best }
+        ensures frame { self.new ≡ record self.old { levels = self.new.levels } }
     {
         let level = next_level(
             case,
@@ -251,7 +235,8 @@ impl Walk {
         self.settle(case);
     }
 
-    // Counts up to so many further prefixes; whether all are counted.
+    // Counts up to this many further prefixes, and says whether all have been counted.
+    #[inline(always)]
     pub(crate) fn run(&mut self, case: &GoodsCase, most: u32) -> bool
         requires case { IsValidGoodsCase case.now }
         requires walk { IsWalk case.now self.old }
@@ -277,7 +262,7 @@ impl Walk {
     }
 }
 
-// A walk that has the prefix and those below it to come.
+// A walk that still has the prefix and those below it to come.
 pub(crate) fn start(case: &GoodsCase, table: LaneTable, prefix: &Prefix, rules: Rules) -> Walk
     requires case { IsValidGoodsCase case.now }
     requires table { IsLaneTable case.now table }
@@ -316,7 +301,8 @@ pub(crate) fn start(case: &GoodsCase, table: LaneTable, prefix: &Prefix, rules: 
     }
 }
 
-// No level, or one for each of the owners, at which nobody waits, and one at which this owner waits.
+// The levels of a path to this owner: one for each of the owners before, at which nobody is waiting, and one at which this owner is
+// waiting. There are none if the bound doesn't reach what it has to.
 fn first_levels(
     owners: usize,
     lanes: Lanes,

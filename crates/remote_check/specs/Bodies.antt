@@ -19,11 +19,11 @@ filler_of awaited filler input = if nat_lt (length input) awaited then FILLER el
 abbrev pub given_of : ℕ → ℕ → List ℕ → List ℕ
 given_of awaited filler input = take awaited input ++ replicate (filler_of awaited filler input) 0
 
--- the same, if the input tells its bytes
+-- the same, if the input reveals its bytes
 abbrev pub given : ℕ → ℕ → Option (List ℕ) → Option (List ℕ)
 given awaited filler input = option_map (given_of awaited filler) input
 
--- what the judge is given of a link with these bytes left
+-- which bytes the judge is given from a link that has these bytes left
 abbrev pub given_by : Due → Option (List ℕ) → Option (List ℕ)
 given_by (Awaited count) left = given count 0 left
 given_by (Filler count) left = given 0 count left
@@ -41,9 +41,9 @@ count_with (Awaited count) faults = faults
 count_with (Filler count) faults = faults
 count_with (Refused behind more) faults = min (faults + more) (2 ^ 64 - 1)
 
--- Twice the link's count of reads that gave nothing, with the one that may still come, while no read has met its input's end or failed. So a read that takes
--- bytes never raises this number: a read of the link that meets the end is the one that could still come, and no other may follow it. Twice, since the judge may count one
--- more, for the end of the body, which is no read of the link.
+-- Twice the link's count of reads that gave nothing, with the one that may still come, while no read has met its input's end or failed. So a read that takes bytes never
+-- raises this number: a read of the link that meets the end is the one that could still come, and no other may follow it. Twice, since the judge may count one more, for
+-- the end of the body, which isn't a read of the link.
 abbrev pub ends_with : Due → ℕ → ℕ
 ends_with (Awaited count) ends = 2 * (ends + 1)
 ends_with (Filler count) ends = 2 * ends

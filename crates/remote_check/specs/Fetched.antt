@@ -45,7 +45,7 @@ Fetched bytes result =
     (HasNoHead bytes × (result ≡ Err Reply))
     ⊎ ((head : ResponseHead) × (rest : List ℕ) × BeginsWith bytes head rest × SaysHead head rest result)
 
--- the same of a link's bytes, if it tells them and no call failed
+-- the same of a link's bytes, if it reveals them and no call failed
 abbrev pub FetchSays : Option (List ℕ) → Result Verdict FetchEnd → Type 0
 FetchSays known result = IfSome known (λ bytes. result ≢ Err LinkFault → Fetched bytes result)
 

@@ -11,11 +11,11 @@ use split_base::{Failed, Source};
 // What is due of a body.
 #[derive(Clone, Copy, Drop)]
 pub(crate) enum Due {
-    // So many bytes of the link are awaited.
+    // This many bytes of the link are awaited.
     Awaited(usize),
     // The input ended within the body, and so much filler is left.
     Filler(usize),
-    // A read failed before a byte that so many follow. Each read since was refused: so many.
+    // A read failed before a byte that this many follow. Each read since was refused: this many.
     Refused(usize, u64),
 }
 
@@ -28,7 +28,7 @@ pub(crate) struct Body<'l, S> {
 }
 
 impl<'l, S: Source> Body<'l, S> {
-    // Gives some of the awaited bytes, so many, or filler if the input ends.
+    // Gives some of the awaited bytes, this many, or filler if the input ends.
     fn take_awaited(&mut self, into: &mut [u8], count: usize) -> Result<usize, Failed>
         requires some { 0 < length into.old }
         requires due { self.old.due ≡ Due.Awaited count }

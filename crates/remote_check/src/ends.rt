@@ -3,15 +3,15 @@
 /// Why a fetch has no verdict.
 #[derive(Clone, Copy, Debug, PartialEq, Eq)]
 pub enum FetchEnd {
-    /// What came is no reply of a host: no first part of its first 8,192 bytes is the head of a response with at most 64 fields, or the head doesn't tell
-    /// the length of a body, or the input ends within the body.
+    /// What came isn't a reply of a host: no first part of its first 8,192 bytes is the head of a response with at most 64 fields, or the head doesn't
+    /// tell the length of a body, or the input ends within the body.
     Reply,
     /// The reply's status isn't 200.
     Status {
         /// The status.
         code: u16,
     },
-    /// The body is no certificate text.
+    /// The body isn't certificate text.
     NotText {
         /// Its first broken line, counted from 1.
         line: u32,

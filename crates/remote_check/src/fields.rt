@@ -25,7 +25,7 @@ fn number_in(value: &[u8]) -> Option<usize>
     }
 }
 
-// The length of the body that the head tells; one past the limit of a certificate counts as one more than it.
+// The length of the body that the head gives; one past the limit of a certificate counts as one more than it.
 pub(crate) fn body_length(bytes: &[u8], fields: &[HeaderSpan]) -> Option<usize>
     requires { All (IsHeaderWithin (length bytes.now)) fields.now }
     ensures { MatchOption result (told_length (fields_at bytes.now fields.now) ≡ None)

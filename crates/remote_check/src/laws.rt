@@ -1,4 +1,4 @@
-// What callers may rely on about the answer to a fetched certificate: the law is the contract of a function that only calls other laws.
+// A law about the answer to a fetched certificate that callers may rely on. It is the contract of a function that only calls other laws.
 ghost use Rattle.std.specs.Prelude.{◌≡◌, ℕ, List, Result, Ok};
 ghost use Rattle.cert_checker.specs.Judged.{IsCertificate, PrintsBest};
 ghost use Rattle.rule_verdicts.specs.declared.verdict.Verdict.{Verdict};
@@ -9,8 +9,8 @@ ghost use Rattle.remote_check.specs.Fetched.{Fetched, IsReplyOf};
 use cert_checker::certificate_verdict_law;
 use cert_reader::text_law;
 
-/// The bytes of a reply have one answer at most, so each comes exactly if it is said to come. Only yes shows that the reply's body is a certificate, and that
-/// it prints a valid case and its best division. A reply whose body is a certificate has no other answer.
+/// The bytes of a reply have one answer at most, so each comes exactly when it is said to come. Only yes shows that the reply's body is a certificate, and
+/// that it prints a valid case and its best division. A reply whose body is a certificate has no other answer.
 pub fn fetched_law()
     ensures one { (bytes : List ℕ) (result other : Result Verdict FetchEnd) → Fetched bytes result
         → Fetched bytes other → other ≡ result }

@@ -11,8 +11,8 @@ use Rattle.rent_maximin.specs.declared.division.RentDivision.{RentDivision}
 use Rattle.split_frac.specs.Frac.{fraction_of}
 use Rattle.room_assignment.specs.declared.limits.TheConstants.{DUAL_LIMIT}
 
--- the best rooms and prices with all numbers that show it: dual numbers and walks within the limit of dual numbers, ranks below the number of
--- members, and prices that are whole n-ths of a cent and no further from 0 than the rent
+-- the best rooms and prices, with all the numbers that show that they are: dual numbers and walks within the limit of dual numbers, ranks
+-- below the number of members, and prices that are whole n-ths of a cent and no further from 0 than the rent
 pub record IsRentDivision (case : RentCase) (division : RentDivision) : Type 0 where
   pub best : RentBest case division.best.rooms.items (map fraction_of division.prices.items)
   -- the least utility of any member, and the formula for it
@@ -33,7 +33,7 @@ pub record IsRentDivision (case : RentCase) (division : RentDivision) : Type 0 w
   pub price_range : All (λ price. IsWithinRent case price.den price.num) division.prices.items
   pub least_parts : division.least.den ∣ room_count case
   pub least_range : IsWithinRent case division.least.den division.least.num
-  -- all other numbers are small
+  -- all other numbers stay within their limits
   pub left_range : All (λ number. unsigned_abs number < DUAL_LIMIT) division.best.left.items
   pub right_range : All (λ number. unsigned_abs number < DUAL_LIMIT) division.best.right.items
   pub walk_range : All (λ weight. unsigned_abs weight < DUAL_LIMIT) division.walks.weights.items

@@ -10,7 +10,7 @@ use bid_rules::limits::MEMBER_ROOM;
 use room_assignment::{Rooms, Walks, best_rooms, value_walks};
 use split_frac::{Frac, make, value_law};
 
-/// The division of a rent, with the numbers that show it. Money is in cents.
+/// The division of a rent, with the numbers that show that it is the best. Money is in cents.
 #[derive(Drop)]
 pub struct RentDivision {
     /// The rooms by member, and the dual numbers over the keys.
@@ -25,8 +25,9 @@ pub struct RentDivision {
 
 /// The rooms and prices by the maximin rule (Gal, Mash, Procaccia and Zick 2016).
 ///
-/// They are envy-free, and no envy-free prices of any denominator have a greater least utility; among those with an equal one
-/// the list of rooms is the first. A member's utility is the least one and the greatest weight of a walk that ends at the member.
+/// They are envy-free, and no envy-free prices of any denominator have a greater least utility; among those with an equal one,
+/// the list of rooms is the first. A member's utility is the least utility plus the greatest weight of a walk that ends at the
+/// member.
 pub fn solve_rent(case: &RentCase) -> RentDivision
     requires { IsValidRentCase case.now }
     ensures division { IsRentDivision case.now result }

@@ -1,4 +1,4 @@
-// What holds of the solver's divisions, for all cases: each law is the contract of a function that does nothing.
+// Laws about the solver's divisions, which hold for all cases. Each is the contract of a function that does nothing.
 ghost use Rattle.std.specs.Prelude.{◌≡◌, ◌*◌, ◌≤◌, All, unsigned_abs};
 ghost use Rattle.bid_rules.specs.declared.limits.TheConstants.{MOST_AMOUNT};
 ghost use Rattle.bid_rules.specs.declared.rents.RentCase.{RentCase};
@@ -22,7 +22,7 @@ pub fn division_range_law()
         × (unsigned_abs division.least.num ≤ MOST_AMOUNT * division.least.den) }
 {}
 
-/// A valid case has one division: two are equal in every field.
+/// A valid case has only one division: any two are equal in every field.
 pub fn one_rent_division_law()
     ensures { (case : RentCase) (division other : RentDivision) → IsValidRentCase case
         → IsRentDivision case division → IsRentDivision case other → division ≡ other }

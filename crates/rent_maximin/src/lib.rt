@@ -1,7 +1,7 @@
 //! Rooms and prices of a shared rent by the maximin rule: envy-free, with the greatest least utility.
 //!
-//! `solve_rent` takes no memory and refuses nothing. A case has one division
-//! (`one_rent_division_law`), with each number by its formula and in its range
+//! `solve_rent` takes no memory and refuses nothing. A case has only one division
+//! (`one_rent_division_law`), in which each number follows its formula and stays in its range
 //! (`division_range_law`).
 #![tactic(auto)]
 

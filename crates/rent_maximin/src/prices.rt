@@ -57,7 +57,7 @@ fn sum_of(walks: &[i128]) -> i128
     sum
 }
 
-// A number some times.
+// A number multiplied by a count.
 fn times(count: u8, number: i128) -> i128
     requires count { count ≤ MEMBER_ROOM }
     requires number { unsigned_abs number ≤ MOST_MEMBERS * MOST_STEP }

@@ -1,4 +1,4 @@
--- The seven rules that a certificate of a rent keeps: they show its rooms and prices best (Gal, Mash, Procaccia and Zick 2016).
+-- The seven rules that a certificate of a rent keeps. They show that its rooms and prices are the best (Gal, Mash, Procaccia and Zick 2016).
 use Rattle.std.specs.Prelude.{◌≡◌, ℕ, ℤ, pos, ◌-◌, ◌<◌, ◌≤◌, ◌≤ℤ◌, ◌+ℤ◌, ◌⊎◌, List, [], ◌∷◌, All, slice_index}
 use Rattle.bid_rules.specs.declared.rents.RentCase.{RentCase}
 use Rattle.bid_rules.specs.Keys.{key}
@@ -9,7 +9,7 @@ use Rattle.cert_reader.specs.Layout.{RentView}
 use Rattle.rent_rules.specs.Printed.{printed_case, printed_rooms}
 use Rattle.rule_verdicts.specs.Verdicts.{rule_at}
 
--- rule 1: the printed numbers are 0 or more, and they are a valid case: 2 to 12 members, a rent in range, and values of each member that sum to the rent
+-- rule 1: the printed numbers are 0 or more, and they form a valid case: 2 to 12 members, a rent in range, and for each member values that sum to the rent
 pub record HasCase (view : RentView) : Type 0 where
   pub rent : pos 0 ≤ℤ view.rent
   pub values : All (λ row. All (λ value. pos 0 ≤ℤ value) row) view.values
@@ -35,7 +35,7 @@ pub record AreSettled (case : RentCase) (rooms : List ℕ) (walks : List ℤ) : 
   pub low : (to : ℕ) → to < room_count case → pos 0 ≤ℤ weight_at walks to
   pub steps : (from to : ℕ) → from < room_count case → to < room_count case → (weight_at walks from +ℤ value_step case rooms from to) ≤ℤ weight_at walks to
 
--- the walk to a member is the walk to this other member, whose rank is one less, and one step more
+-- the walk to a member is the walk to this other member, whose rank is one less, and one more step
 abbrev pub IsLed : RentCase → List ℕ → List ℤ → List ℤ → ℕ → ℕ → Type 0
 IsLed case rooms walks ranks to from = (weight_at ranks from +ℤ pos 1 ≡ weight_at ranks to) × (weight_at walks to ≡ weight_at walks from +ℤ value_step case rooms from to)
 

@@ -1,4 +1,4 @@
-// Dual numbers over the keys.
+// Checks the dual numbers against the keys.
 ghost use Rattle.std.specs.Prelude.{◌≡◌, ℕ, ◌<◌, ◌≤◌, ◌+ℤ◌, ◌≤ℤ◌, ◌↔◌, length, IsTrue};
 ghost use Rattle.bid_rules.specs.Keys.{key};
 ghost use Rattle.bid_rules.specs.Rent.{IsAssignment, IsValidRentCase, price_of, room_count};

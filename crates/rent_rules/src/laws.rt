@@ -1,4 +1,4 @@
-// What the rules show.
+// A law about what the rules of a rent show. It is the contract of a function that only calls other laws.
 ghost use Rattle.std.specs.Prelude.{◌≡◌};
 ghost use Rattle.bid_rules.specs.Rent.{IsValidRentCase, RentBest};
 ghost use Rattle.cert_reader.specs.Layout.{RentView};
@@ -10,8 +10,8 @@ ghost use Rattle.rule_verdicts.specs.Verdicts.{IsVerdictOf};
 
 use best_laws::{key_law, shown_rent_law, walk_law};
 
-/// If all rules hold, the printed case is valid, and the printed rooms and prices are best for it: the dual numbers show it of the rooms,
-/// and the walks of the prices (Gal, Mash, Procaccia and Zick 2016). A certificate has one verdict.
+/// If all rules hold, the printed case is valid, and the printed rooms and prices are best for it: the dual numbers show this for the
+/// rooms, and the walks for the prices (Gal, Mash, Procaccia and Zick 2016). A certificate has one verdict.
 pub fn rent_certificate_law()
     ensures valid { (view : RentView) → IsVerdictOf (rules_of_rent view) Yes
         → IsValidRentCase (printed_case view) }

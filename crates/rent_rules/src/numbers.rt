@@ -1,4 +1,4 @@
-// Numbers of a text, and rooms and values of a case, one at a time.
+// Looks up numbers of a text, and rooms and values of a case, one at a time.
 ghost use Rattle.std.specs.Prelude.{◌≡◌, pos, ◌+◌, ◌*◌, ◌<◌, ◌≤◌, ◌^◌, ◌+ℤ◌, ◌≤ℤ◌, slice_index, unsigned_abs};
 ghost use Rattle.bid_rules.specs.declared.limits.TheConstants.{MOST_RENT};
 ghost use Rattle.bid_rules.specs.Keys.{key};
@@ -20,7 +20,7 @@ pub(crate) fn plus(a: i128, b: i128) -> i128
     a + b
 }
 
-// The room of a member, who is given by place.
+// The room of a member, given by the member's place.
 pub(crate) fn room_at(_case: &RentCase, rooms: &[u8], member: usize) -> u8
     requires rooms { IsAssignment _case.now rooms.now }
     requires member { member < room_count _case.now }

@@ -1,4 +1,4 @@
-// The prices of the formula.
+// Checks the prices against the formula.
 ghost use Rattle.std.specs.Prelude.{◌≡◌, ℕ, ℤ, pos, ◌+◌, ◌*◌, ◌-◌, ◌<◌, ◌≤◌, ◌^◌, ◌+ℤ◌, ◌-ℤ◌, ◌*ℤ◌, ◌↔◌, length, map, slice_index, slice_index_or, unsigned_abs, IsTrue};
 ghost use Rattle.std.specs.List.{range_with_len};
 ghost use Rattle.bid_rules.specs.declared.limits.TheConstants.{MOST_MEMBERS, MOST_RENT};
@@ -55,7 +55,7 @@ fn least_of(case: &RentCase, rooms: &[u8], walks: &[i128]) -> i128
     welfare_of(case, rooms) - i128::from(case.facts.rent) - sum_of(walks)
 }
 
-// A number some times.
+// A number multiplied by a count.
 fn times(count: u8, number: i128) -> i128
     requires count { count ≤ MOST_MEMBERS }
     requires number { IsSmall number }
@@ -76,7 +76,7 @@ fn is_quotient(fraction: &Frac, whole: i128, parts: u8) -> bool
     fraction.num * i128::from(parts) == whole * i128::from(fraction.den)
 }
 
-// A value less the least utility and a walk, each some times.
+// A value less the least utility and a walk, each multiplied by a count.
 fn less(worth: i128, least: i128, walk: i128) -> i128
     requires worth { unsigned_abs worth ≤ MOST_MEMBERS * 10 ^ MOST_DIGITS }
     requires least { unsigned_abs least ≤ (MOST_MEMBERS + 1) * 10 ^ MOST_DIGITS }

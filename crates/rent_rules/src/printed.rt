@@ -1,4 +1,4 @@
-// The printed case and the printed rooms.
+// Reads the printed case and the printed rooms.
 ghost use Rattle.std.specs.Prelude.{◌≡◌};
 ghost use Rattle.std.specs.Option.{MatchOption};
 ghost use Rattle.cert_reader.specs.Views.{rent_view};
@@ -10,7 +10,7 @@ use bid_rules::{Rent, RentCase};
 use cert_reader::RentText;
 use rule_verdicts::{has_each, members_between, rows_of_amounts};
 
-// The printed case, if it is one.
+// The printed case, if it is a valid one.
 pub(crate) fn case_of(text: &RentText) -> Option<RentCase>
     ensures { MatchOption result (HasCase (rent_view text.now) → ⊥) (λ case.
         HasCase (rent_view text.now) × (case ≡ printed_case (rent_view text.now))) }

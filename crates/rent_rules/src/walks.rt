@@ -1,4 +1,4 @@
-// Walks over the values.
+// Checks the printed walks over the values, and their ranks.
 ghost use Rattle.std.specs.Prelude.{◌≡◌, ℕ, pos, ◌*◌, ◌^◌, ◌-◌, ◌<◌, ◌≤◌, ◌+ℤ◌, ◌≤ℤ◌, ◌↔◌, ◌⊎◌, length, unsigned_abs, IsTrue};
 ghost use Rattle.bid_rules.specs.declared.limits.TheConstants.{MOST_RENT};
 ghost use Rattle.bid_rules.specs.Maximin.{value_step};

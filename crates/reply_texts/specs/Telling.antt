@@ -1,4 +1,4 @@
--- What a reply tells of the host before the event, so that its text is made without applying the event.
+-- What a reply says of the host before the event, so that its text is made without applying the event.
 use Rattle.std.specs.Prelude.{◌≡◌, ℕ, ◌+◌, ◌≤◌, ◌⊎◌, Bool, true, false, length, map, is_some, Option, None, Some, IsSome, IsSomeAnd}
 use Rattle.sealed_core.specs.declared.replies.Reply.{Reply}
 use Rattle.sealed_core.specs.declared.replies.Reply.TheVariants as reply
@@ -10,7 +10,7 @@ use Rattle.sealed_core.specs.Step.{Answer, CommandView, IsCheckedCommand, step}
 abbrev pub IsAnswered : HostView → Answer → Type 0
 IsAnswered h a = (t : ℕ) × (command : CommandView) × IsCheckedCommand command × (a ≡ step h t command)
 
--- a test whether the reply is a publication, whose text comes from a division
+-- a test of whether the reply is a publication, whose text comes from a division
 abbrev pub is_publication : Reply → Bool
 is_publication (reply.Created id) = false
 is_publication (reply.Status id you) = false
@@ -32,7 +32,7 @@ public_if closed i = record {
   have_bid = map is_some i.bids;
 }
 
--- a test whether the event closes an instance
+-- a test of whether the event closes an instance
 abbrev pub is_close : Option EventView → Bool
 is_close None = false
 is_close (Some (Created now c)) = false

@@ -13,7 +13,7 @@ pub const DAMAGE_ROOM: usize = 80;
 /// Such a text, in room that takes no memory.
 pub type DamageText = ArrayVec<u8, DAMAGE_ROOM>;
 
-/// The text of the refusal where the file is no journal at this place. It takes no memory.
+/// The text of the refusal where the file isn't a journal at this place. It takes no memory.
 pub fn damage_text(place: u64) -> DamageText
     ensures { result.items ≡ service_text (StoreDamaged place) }
 {

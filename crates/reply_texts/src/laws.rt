@@ -1,4 +1,4 @@
-// What holds of all replies: the contracts of functions that do nothing.
+// Laws that hold for all replies. Each is the contract of a function that does nothing.
 ghost use Rattle.std.specs.Prelude.{◌≡◌, ℕ, List, Option, IsSome, IsTrue, false};
 ghost use Rattle.bid_rules.specs.Facts.{IsValidCase};
 ghost use Rattle.bid_rules.specs.declared.cases.Case.{Case};

@@ -24,5 +24,5 @@ pub use division_texts::division_text;
 pub use laws::{division_text_law, refusal_status_law, shown_law, telling_law, text_sealing_law};
 pub use page::ReplyBytes;
 pub use refusals::{ServiceRefusal, constant_text, memory_text, service_refusal_text};
-pub use replies::{is_publication, reply_bytes, reply_status, reply_text};
+pub use replies::{reply_bytes, reply_status, reply_text};
 pub use sizes::{REPLY_MOST, reply_size_law};

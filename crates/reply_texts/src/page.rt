@@ -11,7 +11,7 @@ use crate::sizes::REPLY_MOST;
 use arrayvec::ArrayVec;
 use itoa::Buffer;
 
-/// The text of a reply that is no publication, in room that takes no memory.
+/// The text of a reply that isn't a publication, in room that takes no memory.
 pub type ReplyBytes = ArrayVec<u8, REPLY_MOST>;
 
 /// The text of a reply is longer than its room.

@@ -20,7 +20,7 @@ use std::alloc::{AllocError, Global};
 /// of all when an event is kept. `Memory` may come at any point.
 #[derive(Debug, Drop, PartialEq, Eq)]
 pub enum ServiceRefusal {
-    /// The bytes are no head of a request.
+    /// The bytes are not the head of a request.
     BadHead,
     /// The clock failed at this request.
     ClockFault,
@@ -28,7 +28,7 @@ pub enum ServiceRefusal {
     BadHost,
     /// The request has a Transfer-Encoding.
     Framing,
-    /// The request has two or more Content-Length fields, or the value is no number.
+    /// The request has two or more Content-Length fields, or the value is not a number.
     BadLength,
     /// A POST without Content-Length.
     LengthMissing,
@@ -40,7 +40,7 @@ pub enum ServiceRefusal {
     Method,
     /// The disk failed in this request.
     StoreFault,
-    /// The file is no journal at this place, in bytes from 0.
+    /// The file is not a journal at this place, in bytes from 0.
     StoreDamaged { place: u64 },
     /// The audit of an instance of a kind that has none.
     NoAudit,
@@ -100,24 +100,6 @@ impl ServiceRefusal {
             ServiceRefusal::StepLimit { .. } => "step_limit",
             ServiceRefusal::NotTwo => "not_two",
             ServiceRefusal::Memory => "memory",
-        }
-    }
-
-    /// Whether the connection closes after the reply, whatever the request says: after each refusal of a head, a clock fault and lack of
-    /// memory.
-    pub fn closes(&self) -> bool
-        ensures { result ≡ (service_row self.now).closes }
-    {
-        match self {
-            ServiceRefusal::BadHead
-            | ServiceRefusal::ClockFault
-            | ServiceRefusal::BadHost
-            | ServiceRefusal::Framing
-            | ServiceRefusal::BadLength
-            | ServiceRefusal::LengthMissing
-            | ServiceRefusal::BodyTooLarge
-            | ServiceRefusal::Memory => true,
-            _ => false,
         }
     }
 }

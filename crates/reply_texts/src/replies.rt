@@ -39,16 +39,6 @@ pub fn reply_status(reply: &Reply) -> u16
     }
 }
 
-/// Whether a reply is a publication, whose text is made of a division.
-pub fn is_publication(reply: &Reply) -> bool
-    ensures { result ≡ is_publication reply.now }
-{
-    match reply {
-        Reply::Publish { .. } => true,
-        _ => false,
-    }
-}
-
 // The turn that was kept, which a client needs for its next bid.
 #[tactic(auto, unfolding(crate::specs::Replies::of_turn))]
 fn turn_text(turn: u8) -> Result<ReplyBytes, TooLong>

@@ -9,7 +9,7 @@ ghost use Rattle.reply_texts.specs.declared.sizes.TheConstants.{REPLY_MOST};
 
 use sealed_core::{key_law, machine_law};
 
-/// The most bytes of the text of a reply that is no publication.
+/// The most bytes of the text of a reply that isn't a publication.
 pub const REPLY_MOST: usize = 4_096;
 
 /// No host answers a reply with a longer text. A publication has none here: its text is made of a division.

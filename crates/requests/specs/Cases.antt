@@ -31,11 +31,11 @@ pub data Settles {D : Type 0} (d : Ghosts D) (disk after : D) (s new : State) (r
   -- a call of the disk failed in the reopening, and it isn't tried again
   store_fault : (event : EventView) → s.waiting ≡ Some event → d.faults after ≡ counted (d.faults disk) → (d.is_honest disk → Each (d.images after) (Tears (d.images disk) VERSION_GATE 1))
       → new ≡ s → result ≡ Some (refused_said service.StoreFault) → Settles d disk after s new result
-  -- the file is no journal, and the place of its first fault is told: never on an honest disk
+  -- the file isn't a journal, and the place of its first fault is given: never on an honest disk
   damaged : (event : EventView) (place : ℕ) → s.waiting ≡ Some event → d.faults after ≡ d.faults disk → (d.tells disk → IsFirstFault place (d.seen disk)) → (d.is_honest disk → ⊥)
       → new ≡ s → result ≡ Some (refused_said (service.StoreDamaged place)) → Settles d disk after s new result
-  -- the file was opened, and the state is that of events that may be applied in turn: where the disk tells its bytes those that a read gave, and on
-  -- an honest one those kept, with the one more or without it
+  -- the file was opened, and the state is that of events that may be applied in turn: where the disk reveals its bytes those that a read gave, and
+  -- on an honest one those kept, with the one more or without it
   opened : (event : EventView) (secret : List ℕ) (kept : List EventView) → s.waiting ≡ Some event → d.faults after ≡ d.faults disk → IsOpenedAs d disk after s event secret kept
       → CanApplyAll (empty secret) kept → new ≡ ready_with secret kept → result ≡ None → Settles d disk after s new result
 

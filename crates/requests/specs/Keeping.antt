@@ -1,4 +1,4 @@
--- What private functions say. No public contract names these definitions.
+-- Definitions for the contracts of private functions. No public contract names them.
 use Rattle.std.specs.Prelude.{◌≡◌, ℕ, [], ◌∷◌, ◌++◌, Some, None}
 use Rattle.gate_log.specs.declared.fault.LogFault.{LogFault}
 use Rattle.gate_log.specs.declared.fault.LogFault.TheVariants as fault
@@ -29,7 +29,7 @@ FaultSays fault.Disk said = said ≡ refused_said service.StoreFault
 FaultSays (fault.NotALog place) said = said ≡ refused_said (service.StoreDamaged place)
 FaultSays fault.NoMemory said = said ≡ memory_said
 
--- a reply is said as it is shown
+-- a reply says what its view shows
 abbrev pub SaysShown : HostView → Reply → SaidView → Type 0
 SaysShown h r said = (told : ContentView) × Shows h r told × (said ≡ content_said told)
 

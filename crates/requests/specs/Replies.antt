@@ -1,4 +1,4 @@
--- What the reply to a command tells, over the host after the event.
+-- What the reply to a command says, over the host after the event.
 use Rattle.std.specs.Prelude.{◌≡◌, ℕ, List, Some}
 use Rattle.host_results.specs.declared.contents.ContentType.TheVariants.{Json}
 use Rattle.host_results.specs.Contents.{ContentView}
@@ -11,12 +11,12 @@ use Rattle.sealed_core.specs.Host.{HostView, InstanceView, instance_at}
 use Rattle.sealed_core.specs.Sealed.{host_after}
 use Rattle.sealed_core.specs.Step.{CommandView, step}
 
--- A reply with a text of its own tells it as JSON, with its status. A publication has none: it tells what is asked for of the instance that
--- it names.
+-- A reply with a text of its own gives it as JSON, with its status. A publication has none of its own: it says what is asked for about the
+-- instance that it names.
 pub data Shows (h : HostView) (r : Reply) (told : ContentView) : Type 0 where
   own : (bytes : List ℕ) → text_of h r ≡ Some bytes → told ≡ record { status = status_of r; content_type = Json; text = bytes } → Shows h r told
   published : (id : ℕ) (asked : What) (i : InstanceView) → r ≡ reply.Publish id asked → instance_at h id ≡ Some i → IsPublication (case_data i) asked told → Shows h r told
 
--- what the reply to a command at a moment tells
+-- what the reply to a command at a moment says
 abbrev pub Replies : HostView → ℕ → CommandView → ContentView → Type 0
 Replies h t command told = Shows (host_after h t command) (step h t command).reply told

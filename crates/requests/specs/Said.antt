@@ -9,7 +9,8 @@ use Rattle.requests.specs.declared.said.ReplyText.TheVariants as text
 use Rattle.requests.specs.declared.said.Said.{Said}
 use Rattle.split_http.specs.declared.replies.Allow.{Allow}
 
--- what is said: the status, whether the text is plain or JSON, the text, the methods that are told, and whether memory ran out
+-- what is said: the status, whether the text is plain or JSON, the text, the methods that are listed, and whether memory ran
+-- out
 pub record SaidView : Type 0 where
   pub status : ℕ
   pub plain : Bool
@@ -24,7 +25,7 @@ bytes_of (text.Constant bytes) = bytes.now
 bytes_of (text.Own bytes) = bytes.items
 bytes_of (text.Short bytes) = bytes.items
 
--- what a reply of the code says
+-- what a reply in the code says
 abbrev pub said_view : Said → SaidView
 said_view said = record { status = said.status; plain = is_plain said.content_type; text = bytes_of said.text; allow = said.allow; memory = said.memory }
 

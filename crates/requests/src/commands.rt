@@ -9,8 +9,8 @@ use split_http::{Place, Route};
 use split_json::{read_bid, read_creation};
 use std::alloc::Global;
 
-/// The command of a request that leads there, with this key and body. `NoMemory` comes only when memory runs out, and only where the body is
-/// read: of a creation, a bid and a withdrawal.
+/// The command of a request that leads there, with this key and body. `NoMemory` is returned only when memory runs out, and only where the
+/// body is read: of a creation, a bid and a withdrawal.
 pub fn command_of(
     alloc: Global,
     route: Route,

@@ -1,4 +1,4 @@
-// What holds of every reply to a step: the contract of a function that does nothing.
+// A law that holds for every reply to a step. It is the contract of a function that does nothing.
 ghost use Rattle.std.specs.Prelude.{◌≡◌, ℕ, List, Option, false};
 ghost use Rattle.host_results.specs.Contents.{ContentView};
 ghost use Rattle.reply_texts.specs.Sealing.{sealed_told};
@@ -13,8 +13,8 @@ use reply_texts::text_sealing_law;
 use sealed_core::{publication_law, sealing_law};
 
 /// Bids are sealed in what is sent: where an instance isn't closed after a command on it, the status and the text of the reply are written
-/// from what the caller may know of it, the command and the moment. So at two hosts one command from callers with equal views gets one
-/// status and one text.
+/// from what the caller may know of it, the command and the moment. So if callers at two hosts have equal views, the same command gets the
+/// same status and the same text.
 pub fn sent_sealing_law()
     ensures from_view { (h : HostView) (t id : ℕ) (key : Option (List ℕ)) (ask : Ask)
         (told : ContentView) → is_closed (host_after h t (To id key ask)) id ≡ false

@@ -1,11 +1,11 @@
 //! A request that was read whole: its command, its reply, and the event that goes with it.
 //!
-//! A host whose append failed waits: the next request opens its file again. On an honest disk a crash at any moment of a request leaves
-//! the events kept before it, with or without its own.
+//! A host whose append has failed waits: the next request opens its file again. On an honest disk a crash at any moment of a request
+//! leaves the events kept before it, with or without its own.
 //!
-//! Each failed call of the disk is counted once and ends the request. A store fault is said only in
-//! a request in which a call failed. That memory ran out is said only of a body that is read and of a publication, with no event:
-//! to open the file again, to keep an event and to tell anything else take none.
+//! Each failed call of the disk is counted once and ends the request. A store fault is reported only in a request in which a call
+//! failed. Memory is reported to have run out only for a body that is read or for a publication, and then there is no event: reopening
+//! the file, keeping an event and all other replies take no memory.
 #![tactic(auto)]
 
 mod commands;

@@ -1,4 +1,4 @@
-// What the reply of the host tells.
+// What the reply of the host says.
 ghost use Rattle.std.specs.Prelude.{◌≡◌, ℕ, IfOk, OnErr, false};
 ghost use Rattle.reply_texts.specs.Telling.{IsAnswered, is_publication};
 ghost use Rattle.sealed_core.specs.declared.commands.What.{What};
@@ -15,8 +15,8 @@ use split_base::{Gate, NoMemory};
 use split_solve::Solver;
 use std::thread::Threads;
 
-// What is said of the host's answer, with all of its text: over the host after the event, which isn't applied. `NoMemory` comes only where
-// memory runs out, and only of a publication.
+// What is said of the host's answer, with all of its text: over the host after the event, which isn't applied. `NoMemory` is returned only
+// where memory runs out, and only of a publication.
 pub(crate) fn content<R: Threads + Sync, G: Gate + Sync>(
     solver: &mut Solver<'_, R, G>,
     host: &Host,
@@ -45,7 +45,7 @@ pub(crate) fn content<R: Threads + Sync, G: Gate + Sync>(
     }
 }
 
-// What is said in a reply that is no publication. It takes no memory.
+// What is said in a reply that isn't a publication. It takes no memory.
 fn own_content(host: &Host, answered: &Answered) -> Said
     requires answered { IsAnswered host.now.content (answer_view answered.now) }
     requires reply { is_publication answered.now.reply ≡ false }

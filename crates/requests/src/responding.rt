@@ -1,4 +1,4 @@
-// A request that was read whole.
+// Responds to a request that was read whole.
 ghost use Rattle.std.specs.Prelude.{◌≡◌, ◌≤◌, ◌↔◌};
 ghost use Rattle.host_journal.specs.Calls.{ReachesState};
 ghost use Rattle.host_journal.specs.States.{HasState, State};
@@ -29,10 +29,10 @@ use std::thread::Threads;
 /// - Then the command is answered: its reply is made, with all of its text; its event is kept; and then the reply is said. Only a publication
 ///   takes memory.
 ///
-/// A store fault is said only where a call of the disk failed in this request, which is counted once and not tried again. That the file is no
-/// journal is said with the place of its first fault, wherever the disk tells its bytes, and never on an honest disk. That memory ran out is said
-/// with no event of the request. On an honest disk a crash at any moment leaves the events kept before, with or without the
-/// one of the request. Neither the workers nor the kept searches change what is said.
+/// A store fault is said only where a call of the disk failed in this request, which is counted once and not tried again. That the file is not
+/// a journal is said with the place of its first fault, wherever the disk reveals its bytes, and never on an honest disk. That memory ran out
+/// is said with no event of the request. On an honest disk a crash at any moment leaves the events kept before, with or without the one of the
+/// request. Neither the workers nor the kept searches change what is said.
 pub fn respond<D: Disk, R: Threads + Sync, G: Gate + Sync>(
     tools: &mut Tools<'_, R, G>,
     serving: &mut Serving,
@@ -45,7 +45,7 @@ pub fn respond<D: Disk, R: Threads + Sync, G: Gate + Sync>(
         → ReachesState D.Disk serving.new disk.old disk.new s (λ new.
         Responds D.Disk disk.old disk.new head.now body.now moment s new (said_view result)) }
 
-    // Whatever state the serving is in.
+    // These hold whatever state the serving is in.
     ensures count { D.faults disk.old ≤ D.faults disk.new }
     ensures honest { D.is_honest disk.old ↔ D.is_honest disk.new }
 {
@@ -66,7 +66,7 @@ fn route_of(routes: &Routes, head: &Head) -> Result<Route, RouteFault>
     routes.find(head.verb, head.path.as_ref())
 }
 
-// What is said where a request leads nowhere.
+// What is said if a request leads nowhere.
 fn unrouted(fault: RouteFault) -> Said
     ensures { said_view result ≡ unrouted_said fault }
 {
@@ -76,7 +76,7 @@ fn unrouted(fault: RouteFault) -> Said
     }
 }
 
-// What is said to a command: where the host waits its file is opened first.
+// What is said to a command: if the host waits, its file is opened first.
 fn perform<D: Disk, R: Threads + Sync, G: Gate + Sync>(
     solver: &mut Solver<'_, R, G>,
     serving: &mut Serving,

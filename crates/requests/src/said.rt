@@ -13,7 +13,8 @@ pub enum ReplyText {
     Written(Vec<u8>),
     /// It is a constant, and takes no memory.
     Constant(&'static [u8]),
-    /// It was written for this reply, and takes no memory: of a reply that is no publication.
+    /// It was written for this reply, and takes no memory: of a reply that isn't a
+    /// publication.
     Own(ReplyBytes),
     /// It was written for this reply, and takes no memory: of a damaged file.
     Short(DamageText),
@@ -28,9 +29,10 @@ pub struct Said {
     pub content_type: ContentType,
     /// The whole text.
     pub text: ReplyText,
-    /// The methods of the route, where they are told.
+    /// The methods of the route, if the reply lists them.
     pub allow: Option<Allow>,
-    /// Whether it says that memory ran out: the connection is closed after it then.
+    /// Whether it says that memory ran out: in that case the connection is closed
+    /// after it.
     pub memory: bool,
     ghost known: { IsTrue (is_host_status status) },
 }

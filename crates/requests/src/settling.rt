@@ -10,7 +10,7 @@ use crate::telling::failure;
 use host_journal::{Serving, passing_law, reopen};
 use split_base::Disk;
 
-// Opens the file again where the host waits, in memory that was taken at the start. Where it answers `None` the request goes on, and the host is ready.
+// Opens the file again if the host waits, in memory that was taken at the start. If it returns `None`, the host is ready and the request goes on.
 pub(crate) fn settle<D: Disk>(serving: &mut Serving, disk: &mut D) -> Option<Said>
     ensures settled { (s : State) → HasState D.Disk serving.old disk.old s
         → ReachesState D.Disk serving.new disk.old disk.new s (λ new.

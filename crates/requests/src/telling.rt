@@ -28,7 +28,7 @@ impl ReplyText {
 }
 
 impl Said {
-    /// A reply that tells this.
+    /// A reply that says this.
     pub fn told(content: ReplyContent) -> Said
         requires { IsTrue (is_host_status content.status) }
         ensures { said_view result ≡ content_said (content_view content) }
@@ -42,7 +42,7 @@ impl Said {
         }
     }
 
-    // A reply that is no publication. It takes no memory.
+    // A reply that isn't a publication. It takes no memory.
     pub(crate) fn own(status: u16, text: ReplyBytes) -> Said
         requires { IsTrue (is_host_status status) }
         ensures { said_view result
@@ -57,7 +57,7 @@ impl Said {
         }
     }
 
-    /// A refusal that names nothing beside its code. It takes no memory.
+    /// A refusal that names nothing besides its code. It takes no memory.
     pub fn refused(refusal: &ServiceRefusal) -> Said
         requires { is_code_alone (service_row refusal.now).detail ≡ true }
         ensures { said_view result ≡ refused_said refusal.now }
@@ -88,7 +88,7 @@ impl Said {
         }
     }
 
-    /// That memory ran out. It takes none.
+    /// Says that memory ran out. This takes no memory.
     pub fn out_of_memory() -> Said
         ensures { said_view result ≡ memory_said }
     {
@@ -102,7 +102,7 @@ impl Said {
     }
 }
 
-// What is said where the journal has failed. It takes no memory.
+// What is said once the journal has failed. It takes no memory.
 pub(crate) fn failure(fault: LogFault) -> Said
     ensures { FaultSays fault (said_view result) }
 {
@@ -113,7 +113,7 @@ pub(crate) fn failure(fault: LogFault) -> Said
     }
 }
 
-// What is said where the file is no journal at this place.
+// What is said where the file isn't a journal at this place.
 fn damage(place: u64) -> Said
     ensures { FaultSays (LogFault.NotALog place) (said_view result) }
 {

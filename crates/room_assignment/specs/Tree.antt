@@ -1,4 +1,4 @@
--- How the assignment of greatest sum is found: members are matched one by one, each by an alternating tree (Kuhn 1955; Munkres 1957).
+-- How the assignment with the greatest sum is found: members are matched one by one, each by an alternating tree (Kuhn 1955; Munkres 1957).
 use Rattle.std.specs.Prelude.{◌≡◌, ◌≢◌, ℕ, ℤ, Bool, true, false, pos, ◌<◌, ◌≤◌, ◌+ℤ◌, ◌-ℤ◌, ◌≤ℤ◌, List, [], length, slice_index, slice_index_or, unsigned_abs, sum_by, if◌then◌else◌}
 use Rattle.std.specs.List.{range_with_len}
 use Rattle.std.specs.List.Sorted.{IsPermutation}

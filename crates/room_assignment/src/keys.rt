@@ -1,4 +1,5 @@
-// Keys: values in cents and the order of assignments in one number, so that the greatest sum is the first of the best.
+// Keys, which put values in cents and the order of assignments into one number, so that the greatest sum belongs to the first of
+// the best assignments.
 ghost use Rattle.std.specs.Prelude.{◌≡◌, ℕ, ℤ, pos, ◌+◌, ◌*◌, ◌-◌, ◌<◌, ◌≤◌, ◌^◌, ◌+ℤ◌, ◌-ℤ◌, ◌*ℤ◌, ◌≤ℤ◌, length, All, slice_index, slice_index_or, unsigned_abs};
 ghost use Rattle.bid_rules.specs.Rent.{IsValidRentCase, value, room_count};
 ghost use Rattle.room_assignment.specs.Matrix.{IsSquare, entry};
@@ -27,7 +28,7 @@ fn power(base: u8, exponent: usize) -> u64
     power
 }
 
-// A value times a power.
+// A value multiplied by a power.
 fn lifted(value: i128, by: u64) -> i128
     requires low { pos 0 ≤ℤ value }
     requires high { value ≤ℤ pos MOST_RENT }
@@ -39,7 +40,7 @@ fn lifted(value: i128, by: u64) -> i128
     by as i128 * value
 }
 
-// A room's place times a power.
+// A room's place multiplied by a power.
 fn digit(room: usize, by: u64) -> i128
     requires room { room < MOST_MEMBERS }
     requires by { by ≤ MOST_MEMBERS ^ MOST_MEMBERS }
@@ -61,8 +62,8 @@ fn value_of(case: &RentCase, member: usize, room: usize) -> i128
     i128::from(case.value(member as u8 + 1, room as u8 + 1))
 }
 
-/// The key of a member and a room, both numbered from 1: the value in cents times n^n, less a digit to the base n that counts
-/// against high rooms of early members.
+/// The key of a member and a room, both numbered from 1: the value in cents times n^n, less a digit in base n that counts against
+/// giving high rooms to early members.
 ///
 /// The assignment with the greatest sum of keys is the first one of greatest welfare.
 pub fn key_at(case: &RentCase, member: u8, room: u8) -> i128
@@ -162,7 +163,7 @@ fn step_row(weights: &Matrix, rooms: &[u8], from: usize) -> ArrayVec<i128, MEMBE
     row
 }
 
-// How much more one member's weight of a room is than another's.
+// By how much one member's weight for a room exceeds another's.
 fn one_step(weights: &Matrix, from: usize, to: usize, room: usize) -> i128
     requires weights { AreKeys weights.now }
     requires from { from < length weights.now.items }
@@ -174,7 +175,7 @@ fn one_step(weights: &Matrix, from: usize, to: usize, room: usize) -> i128
     step(weights, to, room) - step(weights, from, room)
 }
 
-// The weights of the steps between members: how much more the other's weight of the first one's room is than the first one's own.
+// The weights of the steps between members: by how much the other's weight for the first one's room exceeds the first one's own.
 pub(crate) fn walk_matrix(weights: &Matrix, rooms: &[u8]) -> Matrix
     requires weights { AreKeys weights.now }
     requires count { length rooms.now ≡ length weights.now.items }

@@ -1,8 +1,8 @@
 //! The rooms of greatest welfare, first as a list, with dual numbers that show it, and longest walks over weighted steps.
 //!
-//! It gives the one assignment with the greatest sum of keys, with dual numbers that show it. Walks
-//! are the greatest of all walks over a square matrix without a cycle of positive weight, and ranks
-//! are their fewest steps.
+//! It gives the one assignment with the greatest sum of keys, with dual numbers that show that it is. The walks are the
+//! longest of all walks over a square matrix without a cycle of positive weight, and the ranks are the fewest steps that
+//! such walks take.
 #![tactic(auto)]
 
 mod keys;

@@ -1,4 +1,4 @@
-// The rooms of greatest welfare, with dual numbers that show that no other rooms have more.
+// Finds the rooms of greatest welfare, with dual numbers that show that no other rooms have more.
 ghost use Rattle.std.specs.Prelude.{◌≡◌, ℕ, ℤ, pos, ◌+◌, ◌*◌, ◌-◌, ◌<◌, ◌≤◌, ◌^◌, List, length, map, All, unsigned_abs};
 ghost use Rattle.std.specs.List.{range_with_len};
 ghost use Rattle.std.specs.List.Sorted.{IsPermutation};
@@ -21,7 +21,7 @@ use bid_rules::limits::{MEMBER_ROOM, MOST_MEMBERS};
 /// An assignment, and the dual numbers that show that it has the greatest sum of keys.
 #[derive(Drop)]
 pub struct Rooms {
-    /// The room of each member, by member, rooms from 1.
+    /// The room of each member, numbered from 1.
     pub rooms: ArrayVec<u8, MEMBER_ROOM>,
     /// The dual number of each member: the greatest weight of a walk over the keys that ends there, in cents times n^n.
     pub left: ArrayVec<i128, MEMBER_ROOM>,
@@ -78,7 +78,8 @@ fn rights(keys: &Matrix, rooms: &[u8], left: &[i128]) -> ArrayVec<i128, MEMBER_R
 /// The assignment with the greatest sum of keys, and the dual numbers that show it.
 ///
 /// No other assignment has that sum. It is the one of greatest welfare, and the first list of rooms among those of that
-/// welfare. `left` is by member the greatest weight of a walk over the keys, and with `right`, by room, it bounds every key.
+/// welfare. `left` gives for each member the greatest weight of a walk over the keys, and together with `right`, which is by
+/// room, it bounds every key.
 pub fn best_rooms(case: &RentCase) -> Rooms
     requires { IsValidRentCase case.now }
     ensures rooms { HasGreatestKeySum case.now result.rooms.items }
@@ -119,7 +120,7 @@ fn unnumbered(rooms: &[u8]) -> ArrayVec<u8, MEMBER_ROOM>
     unnumbered
 }
 
-/// The longest walks over the values, for an assignment of greatest welfare, rooms by member from 1.
+/// The longest walks over the values, for an assignment of greatest welfare, given as each member's room, numbered from 1.
 ///
 /// The step from one member to another is how much more the other would pay for the first one's room than the first one
 /// would. Since no assignment has a greater welfare, no cycle of such steps has a positive weight.

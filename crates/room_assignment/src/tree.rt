@@ -1,5 +1,5 @@
-// The Hungarian method (Kuhn 1955; Munkres 1957): members are matched one by one. From the next one an alternating tree grows over
-// pairs without slack, until it reaches a room that no matched member holds. In place of paths it keeps, for each of its members, the
+// The Hungarian method (Kuhn 1955; Munkres 1957): members are matched one by one. From the next member an alternating tree grows over
+// pairs without slack, until it reaches a room that no matched member holds. Instead of paths, it keeps for each of its members the
 // assignment that leaves this member free.
 ghost use Rattle.std.specs.Prelude.{◌≡◌, ℕ, [], ℤ, pos, true, false, ◌+◌, ◌*◌, ◌-◌, ◌<◌, ◌≤◌, ◌^◌, ◌+ℤ◌, ◌-ℤ◌, ◌≤ℤ◌, ◌≢◌, ◌⊎◌, length, All, slice_index, slice_index_or, unsigned_abs};
 ghost use Rattle.std.specs.List.{range_with_len, swap};
@@ -15,7 +15,7 @@ use bid_rules::limits::MEMBER_ROOM;
 /// A list of rooms by member, both counted from 0.
 pub(crate) type Order = ArrayVec<u8, MEMBER_ROOM>;
 
-/// An assignment of rooms to members, and dual numbers by member and by room.
+/// An assignment of rooms to members, with dual numbers by member and by room.
 #[derive(Drop)]
 pub(crate) struct Plan {
     pub rooms: Order,
@@ -92,10 +92,7 @@ fn swapped(plan: &[u8], first: usize, second: usize) -> Order
     requires second { second < length plan.now }
     ensures { result.items ≡ swap plan.now first second }
 {
-    let mut swapped = Order::new();
-    for room in plan {
-        swapped.push(*room);
-    }
+    let mut swapped = Order::try_from(plan).unwrap();
     swapped[first] = plan[second];
     swapped[second] = plan[first];
     swapped
@@ -116,7 +113,7 @@ pub(crate) fn holder(plan: &[u8], room: usize) -> usize
     0
 }
 
-// The choice of less slack.
+// The choice with less slack.
 fn better(first: Choice, second: Choice) -> Choice
     ensures one { (result ≡ first) ⊎ (result ≡ second) }
     ensures first { result.slack ≤ℤ first.slack }
@@ -199,7 +196,7 @@ fn with_member(keys: &Matrix, tree: &Tree, matched: usize, member: usize, least:
     least
 }
 
-// The choice of least slack.
+// The choice with the least slack.
 fn least_choice(keys: &Matrix, tree: &Tree, matched: usize) -> Choice
     requires keys { AreKeys keys.now }
     requires tree { IsTreeOf matched keys.now tree.now }
@@ -263,7 +260,7 @@ fn grow(keys: &Matrix, tree: &mut Tree, matched: usize, member: usize, room: usi
     tree.labelled[room] = true;
 }
 
-// The assignment that the tree augments: the member left free takes the room of a holder who is not matched.
+// The assignment after the tree augments it: the member left free takes the room of a holder who is not matched.
 fn augmented(keys: &Matrix, tree: Tree, matched: usize, member: usize, holder: usize) -> Plan
     requires keys { AreKeys keys.now }
     requires tree { IsTreeOf matched keys.now tree }
@@ -284,7 +281,7 @@ fn augmented(keys: &Matrix, tree: Tree, matched: usize, member: usize, holder: u
     }
 }
 
-// Marks for so many places, of which one is set.
+// Marks for this many places, of which one is set.
 fn one_mark(count: usize, place: usize) -> ArrayVec<bool, MEMBER_ROOM>
     requires { count ≤ MEMBER_ROOM }
     ensures count { length result.items ≡ count }
@@ -299,19 +296,7 @@ fn one_mark(count: usize, place: usize) -> ArrayVec<bool, MEMBER_ROOM>
     marked
 }
 
-// The same list of rooms.
-fn copied(rooms: &[u8]) -> Order
-    requires { length rooms.now ≤ MEMBER_ROOM }
-    ensures { result.items ≡ rooms.now }
-{
-    let mut copied = Order::new();
-    for room in rooms {
-        copied.push(*room);
-    }
-    copied
-}
-
-// The same list of rooms, so many times.
+// The same list of rooms, this many times.
 fn copies(rooms: &[u8], count: usize) -> ArrayVec<Order, MEMBER_ROOM>
     requires few { length rooms.now ≤ MEMBER_ROOM }
     requires count { count ≤ MEMBER_ROOM }
@@ -321,12 +306,12 @@ fn copies(rooms: &[u8], count: usize) -> ArrayVec<Order, MEMBER_ROOM>
 {
     let mut copies = ArrayVec::new();
     for _k in 0..count {
-        copies.push(copied(rooms));
+        copies.push(Order::try_from(rooms).unwrap());
     }
     copies
 }
 
-// The alternating tree of its root alone, the next member.
+// The alternating tree that has only its root, the next member.
 fn rooted(keys: &Matrix, plan: Plan, matched: usize) -> Tree
     requires keys { AreKeys keys.now }
     requires plan { IsMatchedPlan matched keys.now plan }
@@ -396,7 +381,7 @@ fn first_plan(keys: &Matrix) -> Plan
     Plan { rooms, left, right }
 }
 
-// The rooms of greatest sum of keys, with dual numbers that show it.
+// The rooms with the greatest sum of keys, and the dual numbers that show it.
 pub(crate) fn assign(keys: &Matrix) -> Plan
     requires { AreKeys keys.now }
     ensures { IsMatchedPlan (length keys.now.items) keys.now result }

@@ -8,13 +8,14 @@ use crate::limits::MOST_STEP;
 use arrayvec::ArrayVec;
 use bid_rules::limits::{MEMBER_ROOM, MOST_MEMBERS};
 
-/// A matrix of weights: the entry (from, to) is the weight of the step from one vertex to another, both from 0.
+/// A matrix of weights: the entry (from, to) is the weight of the step from one vertex to another, both numbered
+/// from 0.
 pub type Matrix = ArrayVec<ArrayVec<i128, MEMBER_ROOM>, MEMBER_ROOM>;
 
 /// The longest walks, by vertex.
 #[derive(Drop)]
 pub struct Walks {
-    /// The greatest weight of a walk that ends at the vertex, the walk of no steps included.
+    /// The greatest weight of a walk that ends at the vertex, including the walk of no steps.
     pub weights: ArrayVec<i128, MEMBER_ROOM>,
     /// The least number of steps of a walk of that weight.
     pub ranks: ArrayVec<u8, MEMBER_ROOM>,
@@ -38,7 +39,7 @@ pub(crate) fn step(matrix: &Matrix, from: usize, to: usize) -> i128
     matrix[from][to]
 }
 
-// The weight of a walk and one step more.
+// The weight of a walk with one more step.
 fn extended(matrix: &Matrix, weights: &[i128], from: usize, to: usize) -> i128
     requires square { IsSquare matrix.now }
     requires from { from < length matrix.now.items }
@@ -63,7 +64,7 @@ pub(crate) fn greater(first: i128, second: i128) -> i128
     first
 }
 
-// The greatest weight of a walk and one step more to a vertex.
+// The greatest weight of a walk with one more step to a vertex.
 fn best_extended(matrix: &Matrix, weights: &[i128], to: usize) -> i128
     requires square { IsSquare matrix.now }
     requires to { to < length matrix.now.items }
@@ -144,7 +145,7 @@ fn no_walks(count: usize) -> Walks
 /// The greatest weight of a walk that ends at each vertex, and the least number of steps of such a walk.
 ///
 /// The matrix is square, with weights between -10^21 and 10^21, and no cycle has a positive weight. In each round
-/// the walks may have one step more; with n vertices n - 1 steps are enough (Bellman 1958).
+/// the walks may have one more step; with n vertices n - 1 steps are enough (Bellman 1958).
 pub fn longest_walks(matrix: &Matrix) -> Walks
     requires square { IsSquare matrix.now }
     requires cycles { HasNoPositiveCycle (length matrix.now.items) (entry matrix.now) }

@@ -13,7 +13,7 @@ use std::thread::Threads;
 
 const TURNS: u32 = 5_000_000;
 
-/// Holds the first task until so many calls of `enter` and of `leave` were made, or for so many turns.
+/// Holds the first task until this many calls of `enter` and of `leave` were made, or for this many turns.
 #[derive(Drop)]
 struct Hold {
     entered: AtomicU32,
@@ -45,7 +45,7 @@ impl Gate for Hold {
     }
 }
 
-// Two workers come to the end of a block of 16 tasks, whose first is held until so many tasks are entered and so many left.
+// Two workers come to the end of a block of 16 tasks, whose first is held until this many tasks are entered and this many left.
 fn block_ends<R: Threads + Abort + Sync>(
     rt: &R,
     alloc: Global,

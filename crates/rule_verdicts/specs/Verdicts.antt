@@ -3,7 +3,7 @@ use Rattle.std.specs.Prelude.{ℕ, zero, suc, ◌+◌, ◌<◌, ◌≤◌, List,
 use Rattle.rule_verdicts.specs.declared.verdict.Verdict.{Verdict}
 use Rattle.rule_verdicts.specs.declared.verdict.Verdict.TheVariants.{Yes, No}
 
--- the rule with this number, counted from 1; a number that no rule has asks nothing
+-- the rule with this number, counted from 1; where no rule has the number, nothing is asked
 abbrev pub rule_at : List (Type 0) → ℕ → Type 0
 rule_at [] number = Unit {0}
 rule_at (rule ∷ rules) zero = Unit {0}

@@ -1,4 +1,5 @@
-// Printed members: numbers that count from 1, as those of members, places, owners, rooms and riders.
+// Reads printed numbers that count from 1, such as those of members, places, owners, rooms and
+// riders.
 ghost use Rattle.std.specs.Prelude.{◌≡◌, ℕ, ◌≤◌, ◌↔◌, Contains, IsTrue, MatchOption, length, map, unsigned_abs};
 ghost use Rattle.rule_verdicts.specs.Ranges.{AreBetween};
 

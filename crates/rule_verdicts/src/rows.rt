@@ -1,4 +1,4 @@
-// Printed amounts: numbers of cents or of points, from 0 to a limit.
+// Reads printed amounts: numbers of cents or of points, from 0 to a limit.
 ghost use Rattle.std.specs.Prelude.{◌≡◌, ◌≤◌, All, MatchOption, length, map, unsigned_abs};
 ghost use Rattle.rule_verdicts.specs.Ranges.{AreBetween};
 

@@ -61,7 +61,7 @@ abbrev pub CauseOfWithdrawalBody : Standing → Option ℕ → Refusal → Type 
 CauseOfWithdrawalBody s None r = r ≡ refusal.BadField field.Turn
 CauseOfWithdrawalBody s (Some turn) r = CauseOfWithdrawal s turn r
 
--- why a caller who may ask something is refused it
+-- why a caller who may ask something is refused
 abbrev pub CauseOfAsk : Standing → Ask → Refusal → Type 0
 CauseOfAsk s asks.Status r = ⊥
 CauseOfAsk s (asks.Bid (Err fault)) r = r ≡ refusal_of_body fault

@@ -1,4 +1,4 @@
--- A host as contracts see it: texts are lists of bytes. What events may come, and what they do.
+-- A host as contracts see it, with texts as lists of bytes; which events may come, and what they do.
 use Rattle.std.specs.Prelude.{◌≡◌, ◌≢◌, ℕ, zero, suc, ◌+◌, ◌-◌, ◌<◌, ◌≤◌, ◌⊎◌, ◌==◌, Bool, true, false, List, [], ◌∷◌, ◌++◌, length, replicate, set, All, Option, Some, None, IfSome, IsSome, IsSomeAnd, slice_get, slice_index, slice_index_or, if◌then◌else◌}
 use Rattle.bid_rules.specs.declared.bids.Bid.{Bid}
 use Rattle.bid_rules.specs.Facts.{IsCheckedBid}
@@ -9,7 +9,7 @@ use Rattle.sealed_core.specs.declared.host.Instance.{Instance}
 use Rattle.sealed_core.specs.declared.events.Event.{Event}
 use Rattle.sealed_core.specs.declared.events.Event.TheVariants as event
 
--- an instance: by member the kept turn, 0 at first, and the kept bid or none
+-- an instance: for each member the kept turn, which is 0 at first, and the kept bid or none
 pub record InstanceView : Type 0 where
   pub creation : CreationView
   pub turns : List ℕ
@@ -22,12 +22,12 @@ pub record HostView : Type 0 where
   pub moment : ℕ
   pub instances : List InstanceView
 
--- a host and its spare places, of which 'unchanged' never speaks
+-- a host and its spare places, which "unchanged" never refers to
 pub record Holding : Type 0 where
   pub content : HostView
   pub spare : ℕ
 
--- there are more spare places than instances that may still come
+-- there are more spare places than further instances that there may be
 abbrev pub HasRoom : Holding → Type 0
 HasRoom h = (MOST_INSTANCES - length h.content.instances) < h.spare
 
@@ -81,7 +81,7 @@ moment_of (BidKept moment id member turn bid) = moment
 moment_of (Closed moment id) = moment
 moment_of (Withdrawn moment id member turn) = moment
 
--- it is open, before its deadline, and this is the member's next turn
+-- the instance is open and before its deadline, and this is the member's next turn
 pub record IsNextTurn (now : ℕ) (i : InstanceView) (m turn : ℕ) : Type 0 where
   pub open_ : i.closed ≡ false
   pub early : now < i.creation.deadline
@@ -97,7 +97,7 @@ IsAllowed h (BidKept now id m turn bid) = IsSomeAnd (instance_at h id) (λ i. Is
 IsAllowed h (Closed now id) = IsSomeAnd (instance_at h id) (λ i. (i.closed ≡ false) × ((i.creation.deadline ≤ now) ⊎ All (λ bid. IsSome bid) i.bids))
 IsAllowed h (Withdrawn now id m turn) = IsSomeAnd (instance_at h id) (λ i. IsNextTurn now i m turn × IsSome (kept_bid i m))
 
--- the event may come: its moment isn't below the greatest kept one, and its own condition holds
+-- the event may be applied: its moment isn't below the greatest kept one, and its own condition holds
 abbrev pub CanApply : HostView → EventView → Type 0
 CanApply h e = (h.moment ≤ moment_of e) × IsAllowed h e
 
@@ -113,13 +113,13 @@ with_turn m turn bid i = record { creation = i.creation; turns = set i.turns (m 
 abbrev pub as_closed : InstanceView → InstanceView
 as_closed i = record { creation = i.creation; turns = i.turns; bids = i.bids; closed = true }
 
--- the element at a place, from 0, is changed
+-- the list with the element at this place, from 0, changed
 abbrev pub change_at : {A : Type 0} → (A → A) → List A → ℕ → List A
 change_at f [] place = []
 change_at f (x ∷ xs) zero = f x ∷ xs
 change_at f (x ∷ xs) (suc place) = x ∷ change_at f xs place
 
--- the instance with this id is changed
+-- the instances with the one that has this id changed
 abbrev pub change : (InstanceView → InstanceView) → List InstanceView → ℕ → List InstanceView
 change f instances id = change_at f instances (id - 1)
 

@@ -16,7 +16,7 @@ key_text secret id member = encode_lower (sha256 (secret ++ member_text id membe
 abbrev pub IsKeyDigit : ℕ → Type 0
 IsKeyDigit digit = ((48 ≤ digit) × (digit ≤ 57)) ⊎ ((97 ≤ digit) × (digit ≤ 102))
 
--- the least of so many numbers, from the given one on, whose key this is
+-- the least of this many numbers, from the given one on, to which this key belongs
 abbrev pub first_holder : List ℕ → ℕ → List ℕ → ℕ → ℕ → Option ℕ
 first_holder secret id key zero from = None
 first_holder secret id key (suc left) from = if pointwise nat_eq (key_text secret id from) key then Some from else first_holder secret id key left (from + 1)

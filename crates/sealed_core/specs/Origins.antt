@@ -6,7 +6,7 @@ use Rattle.body_fields.specs.declared.bodies.BidBody.{BidBody}
 use Rattle.sealed_core.specs.Host.{InstanceView, HostView, EventView, Created, BidKept, Closed, Withdrawn, instance_at}
 use Rattle.sealed_core.specs.Step.{CommandView, Create, To, form_of, holder, may_ask}
 
--- the command asks this of the instance with this id, which is there, under the key of this number, who may ask it
+-- the command asks this of the instance with this id, which exists, under the key of the caller with this number, who may ask it
 pub record IsAskedBy (h : HostView) (command : CommandView) (id m : ℕ) (i : InstanceView) (ask : Ask) : Type 0 where
   pub key : List ℕ
   pub asked : command ≡ To id (Some key) ask
@@ -14,8 +14,8 @@ pub record IsAskedBy (h : HostView) (command : CommandView) (id m : ℕ) (i : In
   pub held : holder h.secret id i key ≡ Some m
   pub may : may_ask m ask ≡ true
 
--- a creation is the command's; a bid is that of the body that the member sent, with its turn, as is the turn of a withdrawal; a close is
--- asked for by the organiser, or comes of whatever a caller asks at or past the deadline
+-- a creation is the command's; a bid and its turn are those of the body that the member sent, and so is the turn of a withdrawal; a
+-- close is asked for by the organiser, or comes from whatever a caller asks at or past the deadline
 abbrev pub ComesOf : HostView → CommandView → EventView → Type 0
 ComesOf h command (Created now c) = command ≡ Create (Ok c)
 ComesOf h command (BidKept now id m turn given) = (i : InstanceView) × (body : BidBody) × IsAskedBy h command id m i (asks.Bid (Ok body)) × (body.turn ≡ Some turn) × (form_of i.creation.facts body ≡ Some given)

@@ -1,4 +1,4 @@
--- What a step compares: creations, and bids.
+-- When the creations or bids that a step compares are equal.
 use Rattle.std.specs.Prelude.{ℕ, Bool, false, ◌&&◌, ◌==◌, nat_eq, List, Option, None, Some}
 use Rattle.std.specs.Cmp.Lexicographic.{pointwise}
 use Rattle.bid_rules.specs.declared.bids.Bid.{Bid}

@@ -32,7 +32,7 @@ public_of i = record {
   have_bid = map is_some i.bids;
 }
 
--- a caller of an instance: a member, 0 for the organiser, or none if the command has no key or the key of nobody
+-- a caller of an instance: a member, 0 for the organiser, or none if the command has no key or one that belongs to nobody
 abbrev pub Caller : Type 0
 Caller = Option ℕ
 
@@ -181,15 +181,16 @@ abbrev pub views : HostView → ℕ → Caller → List Asked → List View
 views h id caller [] = []
 views h id caller (a ∷ run) = if is_closed (next h a) id then [] else view h id caller ∷ views (next h a) id caller run
 
--- the step keeps a new bid of this member on this instance
+-- the step keeps a new bid by this member on this instance
 abbrev pub KeepsBid : HostView → ℕ → ℕ → Asked → Type 0
 KeepsBid h id m a = (now turn : ℕ) × (given : Bid) × ((step h a.moment a.command).event ≡ Some (BidKept now id m turn given))
 
--- two steps are equal, or both are bids by one member on one instance at one moment, each with its event; but not the caller's own on this instance
+-- two steps are equal; or both are bids by the same member on the same instance at the same moment, each with its event, but not the caller's own
+-- bid on this instance
 abbrev pub AreAlike : HostView → HostView → ℕ → Caller → Asked → Asked → Type 0
 AreAlike g h id caller a b = (a ≡ b) ⊎ ((a.moment ≡ b.moment) × ((k m : ℕ) × (k ≡ id → caller ≢ Some m) × KeepsBid g k m a × KeepsBid h k m b))
 
--- the two lists have one length, and their steps are alike pair by pair, each at its own host
+-- the two lists have the same length, and their steps are alike pair by pair, each at its own host
 abbrev pub RunAlike : HostView → HostView → ℕ → Caller → List Asked → List Asked → Type 0
 RunAlike g h id caller [] [] = Unit {0}
 RunAlike g h id caller [] (b ∷ others) = ⊥

@@ -27,7 +27,7 @@ use Rattle.sealed_core.specs.Keys.{first_holder}
 use Rattle.sealed_core.specs.Sameness.{same_creation, same_text, is_kept}
 use Rattle.body_fields.specs.Rules.{allowed_bid}
 
--- a command creates an instance, or asks one with this id, under a key or none
+-- a command creates an instance, or asks something of the one with this id, under a key or none
 pub data CommandView : Type 0 where
   Create : Result CreationView BodyFault → CommandView
   To : (id : ℕ) → (key : Option (List ℕ)) → Ask → CommandView
@@ -37,7 +37,7 @@ abbrev pub creation_seen : Result Creation BodyFault → Result CreationView Bod
 creation_seen (Ok creation) = Ok (creation_view creation)
 creation_seen (Err fault) = Err fault
 
--- what a command of the code asks
+-- what a command in the code asks for
 abbrev pub command_view : Command → CommandView
 command_view (command.Create body) = Create (creation_seen body)
 command_view (command.Status id key) = To id key asks.Status
@@ -52,7 +52,7 @@ pub record Answer : Type 0 where
   pub event : Option EventView
   pub reply : Reply
 
--- what an answer of the code says
+-- what an answer in the code says
 abbrev pub answer_view : Answered → Answer
 answer_view a = record { event = option_map event_view a.event; reply = a.reply }
 
@@ -84,7 +84,7 @@ abbrev pub answer_creation : ℕ → List InstanceView → Result CreationView B
 answer_creation now instances (Err fault) = answer_to_fault fault
 answer_creation now instances (Ok c) = new_creation now (length instances) c (tagged_from 1 instances c.tag)
 
--- the instance that a command asks and the caller's number in it, or the first refusal
+-- the instance that a command asks about and the caller's number in it, or the first refusal
 abbrev pub caller_by : InstanceView → Option ℕ → Result (InstanceView × ℕ) Refusal
 caller_by i None = Err refusal.WrongKey
 caller_by i (Some m) = Ok (i, m)
@@ -216,7 +216,7 @@ abbrev pub answer_to : ℕ → ℕ → Ask → Result (InstanceView × ℕ) Refu
 answer_to now id ask (Err r) = refused r
 answer_to now id ask (Ok caller) = answer_caller now id ask caller.0 caller.1
 
--- a command at the greater of the moment given and the greatest kept one
+-- the answer to a command at the given moment, or at the greatest kept one if that is later
 abbrev pub step : HostView → ℕ → CommandView → Answer
 step h t (Create body) = answer_creation (max t h.moment) h.instances body
 step h t (To id key ask) = answer_to (max t h.moment) id ask (caller_of h id key)

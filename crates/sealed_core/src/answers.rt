@@ -1,4 +1,4 @@
-// What the host answers to a command, and the event that goes with it.
+// Decides what the host answers to a command, and which event goes with it.
 ghost use Rattle.std.specs.Prelude.{◌≡◌, ◌≤◌, ◌↔◌, map, length, true, false, None, Some, IfSome};
 ghost use Rattle.bid_rules.specs.Facts.{IsCheckedFacts};
 ghost use Rattle.sealed_core.specs.Causes.{Cause};
@@ -39,7 +39,7 @@ fn broken(fault: BodyFault) -> Answered
     }
 }
 
-// A creation. One that is equal to the creation that is kept under its tag is answered as that one was.
+// Answers a creation. One that is equal to the creation kept under its tag gets the same answer as that one did.
 fn answer_creation(now: u64, instances: &[Instance], body: Result<Creation, BodyFault>) -> Answered
     requires { length instances.now ≤ MOST_INSTANCES }
     ensures { answer_view result
@@ -102,7 +102,7 @@ fn form_field(facts: &Facts) -> FieldName
     }
 }
 
-// A bid whose body is right.
+// Answers a bid whose body is right.
 fn bid_turn(
     now: u64,
     id: u32,
@@ -175,7 +175,7 @@ fn answer_bid(
     bid_turn(now, id, member, instance, closed, turn, bid)
 }
 
-// A withdrawal whose body is right.
+// Answers a withdrawal whose body is right.
 fn withdrawal_turn(
     now: u64,
     id: u32,
@@ -247,7 +247,7 @@ fn answer_withdrawal(
     withdrawal_turn(now, id, member, instance, closed, turn)
 }
 
-// A close that the organiser asks for.
+// Answers a close that the organiser asks for.
 fn answer_close(now: u64, id: u32, member: u8, instance: &Instance, closed: bool) -> Answered
     ensures { answer_view result
         ≡ answer_close now id (standing_of (instance_view instance.now) member closed) }
@@ -264,7 +264,7 @@ fn answer_close(now: u64, id: u32, member: u8, instance: &Instance, closed: bool
     }
 }
 
-// What a caller who may ask it is answered, the instance being closed or not.
+// The answer to a caller who may ask this, whether the instance is closed or not.
 fn answer_ask(
     now: u64,
     id: u32,
@@ -290,8 +290,8 @@ fn answer_ask(
     }
 }
 
-// What is answered to a caller. If the deadline has passed the event is the instance's Close, and the answer is that of the
-// closed instance.
+// The answer to a caller. If the deadline has passed, the event is the instance's Close, and the answer is that of the closed
+// instance.
 fn answer_caller(now: u64, id: u32, ask: Ask, instance: &Instance, member: u8) -> Answered
     requires most { member ≤ length instance.now.creation.members.items }
     requires sound { IsCheckedInstance (instance_view instance.now) }
@@ -309,7 +309,7 @@ fn answer_caller(now: u64, id: u32, ask: Ask, instance: &Instance, member: u8) -
     answer_ask(now, id, member, instance, instance.closed, ask)
 }
 
-// Who asks is settled before what they ask, so that a wrong key learns nothing about the instance.
+// Who is asking is settled before what they ask, so a wrong key learns nothing about the instance.
 fn answer_to(host: &Host, now: u64, id: u32, key: Option<Key>, ask: Ask) -> Answered
     ensures { answer_view result ≡ answer_to now id ask (caller_of host.now.content id key) }
 {
@@ -319,7 +319,7 @@ fn answer_to(host: &Host, now: u64, id: u32, key: Option<Key>, ask: Ask) -> Answ
     }
 }
 
-// The same answer; only the step is said of it.
+// The same answer, with a contract that says only that it is the step's.
 fn step(host: &Host, moment: u64, command: Command) -> Answered
     ensures step { answer_view result ≡ step host.now.content moment (command_view command) }
     ensures sound { AreCheckedInstances host.now.content.instances }
@@ -339,17 +339,17 @@ fn step(host: &Host, moment: u64, command: Command) -> Answered
 
 /// What a host answers to a command at a moment, in seconds since 1970: at most one event, which may be applied, and one reply.
 ///
-/// The moment is taken as the greatest one of a kept event if it is below that. A new creation, bid or withdrawal and the
-/// organiser's close have their event. What a caller may ask of an instance at or past its deadline, which isn't closed, has the close
-/// as its event, and is answered as on the closed instance. A creation equal to the one that is kept under its tag has no event and
-/// that one's reply; nor has a bid equal to the kept one with the kept turn, or a withdrawal with the turn of the last withdrawal if
-/// the member hasn't bid since: they get the kept turn.
+/// If the moment is below the greatest one of a kept event, that one counts instead. A new creation, bid or withdrawal and the
+/// organiser's close have their event. When a caller asks something they may ask, of an instance that is at or past its deadline and
+/// isn't closed, the close is the event, and the answer is that of the closed instance. A creation equal to the one that is kept under
+/// its tag has no event and that one's reply; a bid equal to the kept one with the kept turn has no event either, nor has a withdrawal
+/// with the turn of the last withdrawal if the member hasn't bid since: these get the kept turn.
 ///
-/// A creation in the command keeps the rules that `Creation::is_checked` tests; every other command may come as it is.
+/// A creation in the command must keep the rules that `Creation::is_checked` tests; every other command may come as it is.
 ///
-/// Each refusal comes exactly if it has its cause, and with no event but the close, at the moment, of the instance that is asked, which
-/// is open past its deadline. If the instance that is asked isn't closed after the step, the reply follows from what the caller may
-/// know of it.
+/// Each refusal is given exactly when it has its cause. Its only possible event is the close, at the moment, of the instance that is
+/// asked about, if that is open past its deadline. If the instance that is asked about isn't closed after the step, the reply follows
+/// from what the caller may know of it.
 pub fn answer(host: &Host, moment: u64, command: Command) -> Answered
     requires { IsCheckedCommand (command_view command) }
     ensures step { answer_view result ≡ step host.now.content moment (command_view command) }

@@ -1,4 +1,4 @@
-// What can be asked of a host, by whom.
+// What can be asked of a host, and by whom.
 use crate::Key;
 use body_fields::{BidBody, BodyFault, Creation};
 
@@ -11,9 +11,10 @@ pub enum What {
     Certificate,
     /// The text that explains the division.
     Report,
-    /// The text that audits the division: for goods, whom each envies, and that no other one betters it.
+    /// The text that audits the division: for goods, who envies whom, and that no other division dominates it.
     Audit,
-    /// The division of goods between two by adjusted winner (Brams and Taylor 1996), beside the one that is the best by its rule.
+    /// The division of goods between two by adjusted winner (Brams and Taylor 1996), besides the one that is best by the rule for
+    /// goods.
     Winner,
 }
 
@@ -64,7 +65,7 @@ pub enum Command {
 pub enum Ask {
     /// The public facts.
     Status,
-    /// A member's bid is to be kept.
+    /// Asks to keep a member's bid.
     Bid(Result<BidBody, BodyFault>),
     /// The member's own bid.
     Own,
@@ -72,6 +73,6 @@ pub enum Ask {
     Close,
     /// What the closed instance came to.
     Publish(What),
-    /// A member's bid is to be withdrawn.
+    /// Asks to withdraw a member's bid.
     Withdraw(Result<BidBody, BodyFault>),
 }

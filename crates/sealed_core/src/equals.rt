@@ -1,4 +1,4 @@
-// Whether two creations, or two bids, are the same in every field.
+// Tests whether two creations, or two bids, are the same in every field.
 ghost use Rattle.std.specs.Prelude.{◌≡◌, map};
 ghost use Rattle.sealed_core.specs.Host.{creation_view, text};
 ghost use Rattle.sealed_core.specs.Sameness.{is_kept, same_bid, same_creation, same_facts, same_texts};
@@ -6,7 +6,7 @@ ghost use Rattle.sealed_core.specs.Sameness.{is_kept, same_bid, same_creation, s
 use bid_rules::{Bid, Facts, Fares};
 use body_fields::{Creation, Name};
 
-// Fares have a table of costs, which has to agree in every entry.
+// Fares have a table of costs, which must agree in every entry.
 fn same_fares(a: &Fares, b: &Fares) -> bool
     ensures { result ≡ same_facts (Facts.Fares a.now) (Facts.Fares b.now) }
 {
@@ -56,7 +56,7 @@ fn same_bid(a: &Bid, b: &Bid) -> bool
     }
 }
 
-// Whether a bid is kept and is this one.
+// Whether a bid is kept, and it is this one.
 pub(crate) fn is_kept(kept: &Option<Bid>, bid: &Bid) -> bool
     ensures { result ≡ is_kept kept.now bid.now }
 {

@@ -1,4 +1,4 @@
-// What changes a host, and when it may.
+// Events, which change a host, and when they may be applied.
 ghost use Rattle.std.specs.Prelude.{◌≡◌, ◌≢◌, ◌≤◌, ◌↔◌, ◌⊎◌, map, All, IsTrue, IsSome, false};
 ghost use Rattle.bid_rules.specs.Facts.{IsCheckedBid};
 ghost use Rattle.sealed_core.specs.Host.{CanApply, IsNextTurn, IsCheckedInstance, event_view, instance_view, kept_bid, text};
@@ -86,7 +86,7 @@ fn can_bid(now: u64, instance: &Instance, member: u8, turn: u8, bid: &Bid) -> bo
     is_next_turn(now, instance, member, turn) && check_bid(&instance.creation.facts, bid).is_ok()
 }
 
-// Only a bid that is there can be withdrawn.
+// Only a bid that exists can be withdrawn.
 fn can_withdraw(now: u64, instance: &Instance, member: u8, turn: u8) -> bool
     requires { IsCheckedInstance (instance_view instance.now) }
     ensures { IsTrue result
@@ -96,7 +96,7 @@ fn can_withdraw(now: u64, instance: &Instance, member: u8, turn: u8) -> bool
     is_next_turn(now, instance, member, turn) && bid_of(instance, member).is_some()
 }
 
-// The deadline closes an instance, or its organiser does once every bid is there.
+// An instance is closed by its deadline, or by its organiser once every bid is there.
 fn can_close(now: u64, instance: &Instance) -> bool
     ensures { IsTrue result
         ↔ ((instance_view instance.now).closed ≡ false)
@@ -109,7 +109,7 @@ fn can_close(now: u64, instance: &Instance) -> bool
     now >= instance.creation.deadline || instance.bids.iter().all(|bid| bid.is_some())
 }
 
-/// Whether an event may be applied: its moment isn't below the greatest kept one, and
+/// Whether an event may be applied. Its moment must not be below the greatest kept one, and
 ///
 /// - a creation is checked, there are fewer than 1,000 instances and none of them has its tag;
 /// - a bid is checked and is the next turn, of at most 20, of a member of an instance that is there, open and before its deadline;

@@ -1,4 +1,4 @@
-// The host as kept events have made it: its instances, and how an event changes it.
+// The host as its kept events have made it: its instances, and how an event changes it.
 ghost use Rattle.std.specs.Prelude.{◌≡◌, ◌≤◌, [], length, map, OnErr, OnOk, All};
 ghost use Rattle.std.specs.Prelude.{◌+◌, ◌-◌, IfSome, IsSome, IsSomeAnd, replicate, false, ◌<◌, ◌⊎◌};
 ghost use Rattle.bid_rules.specs.Facts.{IsCheckedBid};
@@ -27,7 +27,7 @@ pub struct Instance {
     pub closed: bool,
 }
 
-/// The instances that kept events have made.
+/// The instances that the kept events have made.
 #[derive(Drop)]
 pub struct Host {
     secret: [u8; 32],
@@ -61,7 +61,7 @@ impl Host {
         }
     }
 
-    /// The secret of which the keys are made.
+    /// The secret that the keys are made from.
     pub fn secret(&self) -> &[u8; 32]
         ensures { result.now ≡ self.now.content.secret }
     {
@@ -85,7 +85,7 @@ impl Host {
         &self.instances
     }
 
-    /// Makes it the empty host with this secret, in the memory that it has.
+    /// Turns it into the empty host with this secret, in the memory that it already has.
     pub fn clear(&mut self, secret: [u8; 32])
         ensures content { self.new.content
             ≡ record { secret = secret; moment = 0; instances = [] } }
@@ -108,7 +108,7 @@ impl Host {
         }
     }
 
-    // A host without room for all instances asks for that of the next one before it answers.
+    // A host without room for all instances asks for the room of the next one before it answers.
     fn reserve_one(&mut self) -> Result<(), NoMemory>
         ensures content { self.new.content ≡ self.old.content }
         ensures room { OnOk result (1 ≤ self.new.spare) }
@@ -134,7 +134,7 @@ impl Host {
         self.instances.push_reserved(fresh(creation));
     }
 
-    // Keeps a member's turn, and the bid that they now have or none.
+    // Keeps a member's turn, and the bid that they now have, if any.
     fn keep_turn(&mut self, moment: u64, id: u32, member: u8, turn: u8, bid: Option<Bid>)
         requires { IsSomeAnd (instance_at self.old.content id) (λ i.
             IsNextTurn moment i member turn × IfSome bid (IsCheckedBid i.creation.facts)) }
@@ -230,7 +230,7 @@ pub fn reserve(host: &mut Host) -> Result<(), NoMemory>
     host.reserve_one()
 }
 
-/// Makes spare places for all the instances that a host may have, and one more, so that `apply` never wants one.
+/// Makes spare places for all the instances that a host may have, and one more, so that `apply` never lacks one.
 pub fn reserve_all(host: &mut Host) -> Result<(), NoMemory>
     ensures content { host.new.content ≡ host.old.content }
     ensures room { OnOk result (HasRoom host.new) }
@@ -238,7 +238,7 @@ pub fn reserve_all(host: &mut Host) -> Result<(), NoMemory>
     host.reserve_all()
 }
 
-/// Applies an event that may be applied, in memory that `reserve` took. It takes no other.
+/// Applies an event that may be applied, in memory that `reserve` took. It takes no more memory.
 pub fn apply(host: &mut Host, event: Event)
     requires can { CanApply host.old.content (event_view event) }
     requires room { 1 ≤ host.old.spare }

@@ -1,4 +1,4 @@
-// Keys of members and organisers: how they are made, and whose a key is.
+// Keys of members and organisers: how they are made, and whose key one is.
 ghost use Rattle.std.specs.Prelude.{◌≡◌, ◌+◌, ◌≤◌, IfSome};
 ghost use Rattle.bid_rules.specs.declared.limits.TheConstants.{MEMBER_ROOM};
 ghost use Rattle.sealed_core.specs.Keys.{first_holder, key_text};
@@ -27,7 +27,7 @@ pub fn key_of(secret: &[u8; 32], id: u32, member: u8) -> Key
     key
 }
 
-// The least number, from 0 to the count, whose key this is.
+// The least number, from 0 to the count, to which this key belongs.
 #[tactic(auto, using(crate::proofs::Holders::first_here, crate::proofs::Holders::first_later))]
 pub(crate) fn holder_of(secret: &[u8; 32], id: u32, key: &Key, count: u8) -> Option<u8>
     requires { count ≤ MEMBER_ROOM }

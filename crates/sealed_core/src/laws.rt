@@ -1,4 +1,4 @@
-// What holds of all runs: the contracts of functions that do nothing.
+// Laws that hold for all runs of the host. Each is the contract of a function that does nothing.
 ghost use Rattle.std.specs.Prelude.{◌≡◌, ◌↔◌, ◌+◌, ℕ, List, [], ◌∷◌, ◌++◌, Option, None, Some, IfSome, IsSome, Ok, true, max, All, length, replicate, false};
 ghost use Rattle.bid_rules.specs.Facts.{IsCheckedBid};
 ghost use Rattle.bid_rules.specs.declared.bids.Bid.{Bid};
@@ -18,13 +18,12 @@ ghost use Rattle.sealed_core.specs.Runs.{AreChecked, CanApplyAll, HoldsLeast, ho
 ghost use Rattle.sealed_core.specs.Sealed.{Asked, Caller, IsLateClose, RunAlike, caller_number, empty, heard, host_after, is_closed, sealed_reply, view, views};
 ghost use Rattle.sealed_core.specs.Veil.{LookAlike};
 
-/// Bids are sealed until their instance is closed. Take two hosts that differ in nothing but what others than the caller have bid on the instance,
-/// and what anyone has bid on other instances. Take a run from each, whose steps are equal pair by pair, except that some of them may be two such bids, by
-/// the same member on the same instance at the same moment, each of them kept.
-/// Then the caller hears the same of the instance in both, and their view of it is the same, up to the step at which it is closed.
-/// The reply to a command is written from the caller's view, the command and the moment if the instance isn't closed after the step.
-/// So at any two hosts, one command from two callers with equal views gets one reply if the instance isn't closed after the step; and
-/// it is closed after the step at both or at neither.
+/// Bids are sealed until their instance is closed. Take two hosts that differ only in what people other than the caller have bid on the instance, and what
+/// anyone has bid on other instances. Take a run from each, with steps that are equal pair by pair, except that a pair may be two such bids, by the same
+/// member on the same instance at the same moment, both of which are kept. Then the caller hears the same of the instance in both, and their view of it is
+/// the same, up to the step at which it is closed. The reply to a command is written from the caller's view, the command and the moment if the instance
+/// isn't closed after the step. So at any two hosts, one command from two callers with equal views gets one reply if the instance isn't closed after the
+/// step; and it is closed after the step at both or at neither.
 pub fn sealing_law()
     ensures from_view { (h : HostView) (t id : ℕ) (key : Option (List ℕ)) (ask : Ask)
         → is_closed (host_after h t (To id key ask)) id ≡ false
@@ -46,12 +45,12 @@ pub fn sealing_law()
         → views g id caller run ≡ views h id caller others }
 {}
 
-/// A run from the empty host keeps events each of which may be applied at its turn, and its host is the one that they make. The host of
-/// a list of events and one more is the host of the list after that event. The event of a step is at the step's moment and comes of its
-/// command: a creation is the one that was sent; a bid or a withdrawal is that of the member whose key was shown, with the turn and the
-/// bid that was sent; a close was asked for by the organiser, or a caller asked something past the deadline. What a caller asks past the
-/// deadline has the Close as its event, and is answered as it would be on the host after that event. A bid that may be applied is kept.
-/// The instance after its Close is the same one, closed; and a closed instance stays closed.
+/// A run from the empty host keeps events each of which may be applied in its turn, and its host is the one that they make. The host of a list of events
+/// and one more is the host of the list after that event. The event of a step has the step's moment and comes from its command: a creation is the one that
+/// was sent; a bid or a withdrawal is that of the member whose key was shown, with the turn and the bid that was sent; a close was asked for by the
+/// organiser, or a caller asked something past the deadline. What a caller asks past the deadline has the Close as its event, and is answered as it would
+/// be on the host after that event. A bid that may be applied is kept. The instance after its Close is the same one, closed; and a closed instance stays
+/// closed.
 pub fn machine_law()
     ensures accepted { (secret : List ℕ) (run : List Asked) → AreChecked run
         → CanApplyAll (empty secret) (kept (empty secret) run) }
@@ -85,8 +84,8 @@ pub fn machine_law()
         → is_closed (apply h e) id ≡ true }
 {}
 
-/// What is published is what was asked for under a key, of an instance that is there. The event beside it is none or the Close, at the
-/// moment, of that instance, which is open past its deadline; so the instance is closed after the step.
+/// What is published is what was asked for under a key, of an instance that is there. With it comes no event, or the Close, at that moment, of that
+/// instance, which is open past its deadline; so the instance is closed after the step.
 pub fn publication_law()
     ensures asked { (h : HostView) (t id : ℕ) (command : CommandView) (what : What)
         → (step h t command).reply ≡ replies.Publish id what
@@ -101,7 +100,7 @@ pub fn publication_law()
         → is_closed (host_after h t command) id ≡ true }
 {}
 
-/// A key has 64 lower-case hexadecimal digits. So 64 zero bytes are nobody's key, whatever the instance.
+/// A key has 64 lower-case hexadecimal digits. So 64 zero bytes are nobody's key in any instance.
 pub fn key_law()
     ensures digits { (secret : List ℕ) (id member : ℕ)
         → All IsKeyDigit (key_text secret id member) }
@@ -110,8 +109,8 @@ pub fn key_law()
         → holder secret id i (replicate 64 0) ≡ None }
 {}
 
-/// What the tests of a step mean. The holder of a key is the least number, from 0 to the number of members, whose key it is; two
-/// creations, or two bids, pass for equal exactly if they are; a bid is allowed exactly if it is checked.
+/// What the tests of a step mean. The holder of a key is the least number, from 0 to the number of members, whose key it is; two creations, or two bids,
+/// pass for equal exactly when they are; a bid is allowed exactly when it is checked.
 pub fn sameness_law()
     ensures holder { (secret : List ℕ) (id count : ℕ) (key : List ℕ) (m : ℕ)
         → (first_holder secret id key (count + 1) 0 ≡ Some m) ↔ HoldsLeast secret id count key m }

@@ -2,12 +2,11 @@
 //!
 //! `answer` says what a host replies to a command at a moment, and which event goes before the reply; `apply` makes the event's change.
 //! Until an instance is closed, what a caller hears of it follows from the public facts, their own bid and kept turn, and the greatest
-//! moment of a kept event alone.
+//! moment of a kept event, and from nothing else.
 //!
-//! Each refusal comes exactly if it has its cause. `machine_law` says of each kept event which
-//! command it comes from, `publication_law` what is published, `key_law` what a key is, and
-//! `sameness_law` which creations and bids pass for equal. That a key is hard to guess is not
-//! proved.
+//! Each refusal is given exactly when it has its cause. `machine_law` says of each kept event which command it comes from,
+//! `publication_law` what is published, `key_law` what a key is, and `sameness_law` which creations and bids count as equal. It is not
+//! proved that a key is hard to guess.
 #![tactic(auto)]
 
 mod answers;

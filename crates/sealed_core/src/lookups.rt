@@ -1,4 +1,4 @@
-// What a host knows of an instance: by its id, by its tag, by the key that is shown.
+// Looks up what a host knows about an instance, by its id, its tag or the key that is shown.
 ghost use Rattle.std.specs.Prelude.{◌≡◌, ◌≤◌, ◌+◌, length, map, is_none, is_some, MatchOption, MatchResult, IfOk, IfSome, Some, None, Ok, Err};
 ghost use Rattle.std.specs.List.{list_all};
 ghost use Rattle.sealed_core.specs.declared.limits.TheConstants.{MOST_INSTANCES, MOST_TURNS};
@@ -23,7 +23,8 @@ pub fn instance_at<'a>(host: &'a Host, id: u32) -> Option<&'a Instance>
     Some(instance)
 }
 
-// The instance that is asked and the caller's number in it: 0 for the organiser, otherwise a member.
+// The instance that is asked about, and the caller's number in it: 0 for the organiser, otherwise a
+// member.
 pub(crate) fn caller<'a>(
     host: &'a Host,
     id: u32,
@@ -55,7 +56,7 @@ pub(crate) fn is_over(now: u64, instance: &Instance) -> bool
     !instance.closed && instance.creation.deadline <= now
 }
 
-// An instance with every bid can be closed before its deadline.
+// Whether every bid is there, so that the instance can be closed before its deadline.
 fn has_all(bids: &[Option<Bid>]) -> bool
     ensures { result ≡ list_all is_some bids.now }
 {

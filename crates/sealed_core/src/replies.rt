@@ -2,19 +2,19 @@
 use crate::{Event, What};
 use body_fields::FieldName;
 
-/// Why a command is refused. The first of several causes is told, in the order `NoInstance` to `TurnsUsed`, `NoBid`, `NotAll`,
-/// `NotClosed`.
+/// Why a command is refused. If there are several causes, the first is given, in the order `NoInstance` to `TurnsUsed`, `NoBid`,
+/// `NotAll`, `NotClosed`.
 #[derive(Clone, Copy, Debug, PartialEq, Eq)]
 pub enum Refusal {
     /// No instance has the id.
     NoInstance,
     /// No key is shown.
     NoKey,
-    /// The key is that of nobody in this instance.
+    /// The key belongs to nobody in this instance.
     WrongKey,
-    /// The organiser bids, withdraws or asks for a bid of their own, or a member closes.
+    /// The organiser bids, withdraws or asks for their own bid, or a member tries to close.
     Role,
-    /// The body of a creation, bid or withdrawal is no JSON.
+    /// The body of a creation, bid or withdrawal isn't JSON.
     BadJson,
     /// The first field of the body that breaks its rule.
     BadField { name: FieldName },
@@ -25,7 +25,7 @@ pub enum Refusal {
     /// A bid, a withdrawal or a close on a closed instance.
     Closed,
     /// The turn of a bid is neither the next one nor the kept one of an equal kept bid, or the turn of a withdrawal is neither the next
-    /// one nor the kept one, above 0, of a member who has withdrawn and not bid since. With the member's kept turn.
+    /// one nor the kept one, above 0, of a member who has withdrawn and not bid since. It comes with the member's kept turn.
     Turn { kept: u8 },
     /// The turn is the next one, and the member has used all turns.
     TurnsUsed,
@@ -40,7 +40,7 @@ pub enum Refusal {
 /// The reply to a command.
 #[derive(Clone, Copy, Debug, PartialEq, Eq)]
 pub enum Reply {
-    /// The instance of the creation: a new one, or that of an equal creation before.
+    /// The instance of the creation: a new one, or that of an equal earlier creation.
     Created { id: u32 },
     /// The public facts of the instance, and who asks: a member from 1, or 0 for the organiser.
     Status { id: u32, you: u8 },

@@ -17,8 +17,8 @@ use Rattle.search_workers.specs.Works.{HasWhole}
 abbrev pub crew_of : GoodsCase → ℕ → ℕ → ℕ
 crew_of case block workers = min workers (tasks_in case block)
 
--- a block ends with all its counted prefixes counted, no more than are left, and the best counted allocation found, or with more than are left, by at
--- most one piece for each worker
+-- a block ends with all its counted prefixes counted, which are no more than are left, and the best counted allocation found; or with more counted
+-- than are left, by at most one piece for each worker
 abbrev pub EndsBlock : GoodsCase → Pair → Option Pair → ℕ → ℕ → ℕ → BlockEnd → Type 0
 EndsBlock case floor above block left workers (Done nodes best) =
     (nodes ≤ left) × (nodes ≡ count_block case floor above block) × IsFoundBest case (counted_of_block case floor above block) best

@@ -11,7 +11,7 @@ use Rattle.search_workers.specs.declared.view.DeskView.{DeskView}
 use Rattle.search_workers.specs.declared.view.DeskSize.{DeskSize}
 use Rattle.search_workers.specs.Views.{no_worker}
 
--- the two words of a desk, and the views of all its seats, also of those that were given back
+-- the two words of a desk, and the views of all its seats, including those that were given back
 abbrev pub DeskState : Type 0
 DeskState = State (Unit {0}) DeskView
 
@@ -39,7 +39,7 @@ all_reported views = sum_by (λ (view : DeskView). view.reported) views
 abbrev pub all_stops : List DeskView → ℕ
 all_stops views = sum_by (λ (view : DeskView). view.stops) views
 
--- for how many workers all views together account
+-- how many workers all views together account for
 abbrev pub all_allots : List DeskView → ℕ
 all_allots views = sum_by (λ (view : DeskView). view.allot) views
 
@@ -56,11 +56,11 @@ pub record IsDesk (left workers : ℕ) (state : DeskState) : Type 0 where
   pub small : left ≤ MOST_STEPS
   pub one_worker : 1 ≤ workers
   pub few : workers ≤ MOST_WORKERS
-  -- the tickets of all views are the numbers below the ticket word, each once: any weight of them sums to that of these numbers
+  -- the tickets of all views are the numbers below the ticket word, each once: for any weight, the sum over them is the sum over these numbers
   pub tickets : (weight : ℕ → ℕ) → all_tickets weight state.views ≡ sum_by weight (range_with_len 0 (ticket_word state))
   -- the node word is what all views together have reported
   pub nodes : all_reported state.views ≡ node_word state
-  -- it is above what is left exactly if a view has a stop, and then by at most one piece for each stop
+  -- it is above what is left exactly when a view has a stop, and then by at most one piece for each stop
   pub over : left < node_word state → 1 ≤ all_stops state.views
   pub under : node_word state ≤ left → all_stops state.views ≡ 0
   pub most : node_word state ≤ left + LONGEST_PIECE * all_stops state.views

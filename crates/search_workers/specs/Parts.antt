@@ -1,4 +1,4 @@
--- The parts of a block, and what workers bring back of them.
+-- The parts of a block, and what workers bring back from them.
 use Rattle.std.specs.Prelude.{◌≡◌, ℕ, ◌+◌, ◌<◌, ◌≤◌, List, Option, All, IfSome, length, flat_map, slice_index_or, true}
 use Rattle.std.specs.List.{sum_by}
 use Rattle.bid_rules.specs.declared.goods.GoodsCase.{GoodsCase}
@@ -31,29 +31,31 @@ pub record IsPart (case : GoodsCase) (part : Part) : Type 0 where
   pub prefix : IsPrefix case part.prefix
   pub some : 0 < length part.prefix.owners.items
 
--- the new parts are the old ones, cut: with so many prefixes more they count the same, and they have the same counted allocations
+-- the new parts are the old ones, cut: together with this many more prefixes they count the same, and they have the
+-- same counted allocations
 pub record AreCut (case : GoodsCase) (rule : BlockRule) (old new : List Part) (nodes : ℕ) : Type 0 where
   pub each : All (IsPart case) new
   pub count : nodes + count_parts case rule new ≡ count_parts case rule old
   pub leaves : leaves_parts case rule new ≡ leaves_parts case rule old
 
--- the parts with so many prefixes more are all of the block
+-- the parts and this many more prefixes make up the whole block
 pub record ArePartsOf (case : GoodsCase) (rule : BlockRule) (parts : List Part) (nodes : ℕ) : Type 0 where
   pub each : All (IsPart case) parts
   pub count : nodes + count_parts case rule parts ≡ count_block case rule.floor rule.above rule.block
   pub leaves : leaves_parts case rule parts ≡ counted_of_block case rule.floor rule.above rule.block
 
--- what is counted of a part: no more than it counts, and if it is whole all of it, with the best counted allocation
+-- what was counted in a part: no more than the part counts, and if it was walked whole, all of it, with the best
+-- counted allocation
 pub record IsEndOf (case : GoodsCase) (rule : BlockRule) (part : Part) (ended : Ended) : Type 0 where
   pub few : ended.nodes ≤ count_of case rule part
   pub whole : ended.whole ≡ true → (ended.nodes ≡ count_of case rule part) × IsFoundBest case (leaves_of case rule part) ended.best
 
--- the part at its place was walked so
+-- the part at this place was walked as this says
 pub record IsEnded (case : GoodsCase) (rule : BlockRule) (parts : List Part) (ended : Ended) : Type 0 where
   pub inside : ended.place < length parts
   pub end : (other : Part) → IsEndOf case rule (slice_index_or parts ended.place other) ended
 
--- by part what was brought back of it, if anything was
+-- for each part, what was brought back from it, if anything was
 pub record AreEnds (case : GoodsCase) (rule : BlockRule) (parts : List Part) (ends : List (Option Ended)) : Type 0 where
   pub long : length ends ≡ length parts
   pub each : (place : ℕ) (other : Part) (none : Option Ended) → place < length ends → IfSome (slice_index_or ends place none) (IsEndOf case rule (slice_index_or parts place other))

@@ -16,7 +16,7 @@ after_draw state place view = record {
   views = slice_set state.views place (with_ticket view (ticket_word state));
 }
 
--- the desk after the view at a place has reported so many prefixes
+-- the desk after the view at a place has reported this many prefixes
 abbrev pub after_report : DeskState → ℕ → DeskView → ℕ → DeskState
 after_report state place view count = record {
   words = slice_set state.words 1 (node_word state + count);
@@ -24,10 +24,10 @@ after_report state place view count = record {
   views = slice_set state.views place (with_report view count (node_word state));
 }
 
--- the desk after one worker of the view at a place has got a view of its own
+-- the desk after one worker of the view at a place has been given a view of its own
 abbrev pub after_split : DeskState → ℕ → DeskView → DeskState
 after_split state place view = record { words = state.words; homes = state.homes; views = slice_set state.views place (fewer view) ++ idle_worker view ∷ [] }
 
--- the desk after the view at a place has taken in that at another, which is then spent
+-- the desk after the view at one place has absorbed the view at another, which is then spent
 abbrev pub after_join : DeskState → ℕ → DeskView → ℕ → DeskView → DeskState
 after_join state place view from other = record { words = state.words; homes = state.homes; views = slice_set (slice_set state.views place (sum_of_views view other)) from no_worker }

@@ -2,7 +2,7 @@
 use Rattle.std.specs.Prelude.{ℕ, ◌+◌, ◌-◌, ◌++◌, List, [], ◌∷◌, nat_lt, cond}
 use Rattle.search_workers.specs.declared.view.DeskView.{DeskView}
 
--- a view made of its parts
+-- a view, made from its parts
 abbrev pub desk_view : List ℕ → ℕ → ℕ → ℕ → ℕ → ℕ → DeskView
 desk_view tickets reported allot stops left workers = record { tickets = tickets; reported = reported; allot = allot; stops = stops; left = left; workers = workers }
 
@@ -14,7 +14,7 @@ no_worker = desk_view [] 0 0 0 0 0
 abbrev pub whole : ℕ → ℕ → DeskView
 whole left workers = desk_view [] 0 workers 0 left workers
 
--- the view with one ticket more
+-- the view with one more ticket
 abbrev pub with_ticket : DeskView → ℕ → DeskView
 with_ticket view ticket = desk_view (view.tickets ++ ticket ∷ []) view.reported view.allot view.stops view.left view.workers
 
@@ -22,11 +22,11 @@ with_ticket view ticket = desk_view (view.tickets ++ ticket ∷ []) view.reporte
 abbrev pub stop_of : ℕ → ℕ → ℕ
 stop_of left node = cond (nat_lt left node) 1 0
 
--- the view after so many more prefixes were reported, if the node word was `found` before
+-- the view after this many more prefixes were reported, if the node word was `found` before
 abbrev pub with_report : DeskView → ℕ → ℕ → DeskView
 with_report view count found = desk_view view.tickets (view.reported + count) view.allot (view.stops + stop_of view.left (found + count)) view.left view.workers
 
--- the view with one worker less
+-- the view with one worker fewer
 abbrev pub fewer : DeskView → DeskView
 fewer view = desk_view view.tickets view.reported (view.allot - 1) view.stops view.left view.workers
 

@@ -11,11 +11,11 @@ use Rattle.nash_search.specs.declared.found.Found.{Found}
 use Rattle.search_workers.specs.declared.view.DeskView.{DeskView}
 use Rattle.search_workers.specs.Views.{desk_view}
 
--- how many prefixes of a ticket's task are counted, which are none past the last task of the block
+-- how many prefixes of a ticket's task are counted, which is 0 past the last task of the block
 abbrev pub count_at : GoodsCase → Pair → Option Pair → ℕ → ℕ → ℕ
 count_at case floor above block ticket = cond (nat_lt ticket (tasks_in case block)) (count_task case (BLOCK_TASKS * block + ticket) floor above) 0
 
--- the counted allocations of a ticket's task, which are none past the last task of the block
+-- the counted allocations of a ticket's task, of which there are none past the last task of the block
 abbrev pub counted_at : GoodsCase → Pair → Option Pair → ℕ → ℕ → List (List ℕ)
 counted_at case floor above block ticket = cond (nat_lt ticket (tasks_in case block)) (counted_leaves case (BLOCK_TASKS * block + ticket) floor above) []
 
@@ -37,6 +37,6 @@ pub record HasWhole (case : GoodsCase) (floor : Pair) (above : Option Pair) (blo
 abbrev pub stop_count : Bool → ℕ
 stop_count stopped = cond stopped 1 0
 
--- a view after so many more prefixes were reported, with one stop more if the walk has stopped
+-- a view after this many more prefixes were reported, with one more stop if the walk has stopped
 abbrev pub walked_on : DeskView → ℕ → Bool → DeskView
 walked_on view nodes stopped = desk_view view.tickets (view.reported + nodes) view.allot (view.stops + stop_count stopped) view.left view.workers

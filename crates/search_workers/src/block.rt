@@ -1,4 +1,4 @@
-// The search of one block, by the calling thread alone or by several workers.
+// Searches one block, either in the calling thread alone or by several workers.
 ghost use Rattle.std.specs.Prelude.{◌≡◌, ◌+◌, ◌*◌, ◌<◌, ◌≤◌, IfOk};
 ghost use Rattle.bid_rules.specs.Goods.{IsValidGoodsCase};
 ghost use Rattle.nash_bounds.specs.Tasks.{tasks_of};
@@ -23,13 +23,14 @@ use std::thread::Threads;
 /// How the search of a block ended.
 #[derive(Debug, Drop, PartialEq, Eq)]
 pub enum BlockEnd {
-    /// All counted prefixes of the block's tasks are counted: how many, and the best allocation among them, `None` if none is one.
+    /// All counted prefixes of the block's tasks are counted: how many, and the best allocation among them, or `None` if none of them is an
+    /// allocation.
     Done { nodes: u32, best: Option<Found> },
-    /// They are more than were left, and so many of them are counted.
+    /// There are more of them than were left, and this many have been counted.
     Over { nodes: u32 },
 }
 
-// A block by the calling thread alone.
+// Searches a block in the calling thread alone.
 fn walk_alone<G: Gate>(
     case: &GoodsCase,
     tables: &Tables,
@@ -65,7 +66,7 @@ fn walk_alone<G: Gate>(
     }
 }
 
-// A block by workers who draw its parts, or no memory for the parts or the workers.
+// Searches a block by workers who draw its parts. Fails if there is no memory for the parts or the workers.
 fn share<R: Threads + Sync, G: Gate + Sync>(
     alloc: Global,
     rt: &R,
@@ -152,15 +153,15 @@ pub(crate) fn run_by<R: Threads + Sync, G: Gate + Sync>(
     }
 }
 
-/// Searches a block by several workers, who draw parts of its tasks and share the budget `left`, at most `MOST_STEPS`.
+/// Searches a block by several workers, who draw parts of its tasks and share the budget `left`, which is at most `MOST_STEPS`.
 ///
-/// Those prefixes of the tasks are counted whose bound is at least `floor` and, if there is an `above`, greater than it. `Over` comes exactly
-/// where they are more than `left`. The end is the same for every number of workers, no matter which of them walks which part, except for
-/// the number that `Over` gives.
+/// Those prefixes of the tasks are counted whose bound is at least `floor` and, if there is an `above`, greater than it. `Over` is returned
+/// exactly when there are more than `left` of them. The end is the same for every number of workers, no matter which of them walks which part,
+/// except for the number that `Over` gives.
 ///
-/// It takes no more workers than the block has tasks, the calling thread among them. Where it takes one, or no memory is found for the parts, the
-/// calling thread walks the block's tasks one after another. With several workers, `enter` of the gate is called for a task when its first part is
-/// drawn, and `leave` when its last part has ended.
+/// It takes no more workers than the block has tasks, the calling thread among them. If it takes only one, or finds no memory for the parts, the
+/// calling thread walks the block's tasks one after another. With several workers, the gate's `enter` is called for a task when its first part has
+/// been drawn, and `leave` when the last of its parts has ended.
 pub fn run_block<R: Threads + Sync, G: Gate + Sync>(
     alloc: Global,
     rt: &R,

@@ -1,4 +1,4 @@
-// The search of a whole case, block by block, by several workers.
+// Searches a whole case, block by block, by several workers.
 ghost use Rattle.std.specs.Prelude.{◌≡◌, ℕ, ◌<◌, ◌≤◌, ◌↔◌, IsOk, IsErr, IfOk, IfErr};
 ghost use Rattle.bid_rules.specs.Goods.{IsValidGoodsCase};
 ghost use Rattle.nash_bounds.specs.Steps.{HasSteps};
@@ -13,12 +13,12 @@ use split_base::Gate;
 use std::alloc::Global;
 use std::thread::Threads;
 
-/// What `search_alone` gives, by 1 to `MOST_WORKERS` workers: the allocation with the greatest Nash welfare, with its pair and the step
-/// count, or the limit of the case exactly if the step count is above it.
+/// The same answer as `search_alone`, found by 1 to `MOST_WORKERS` workers: the allocation with the greatest Nash welfare, with its pair and
+/// the step count, or the limit of the case exactly when the step count is above it.
 ///
-/// Neither the number of workers nor their order takes part in the answer. A block takes no more workers than it has tasks, and the calling
-/// thread walks a block of one task alone. It never fails for memory: if there is none for a block's parts, the calling thread walks that block
-/// alone.
+/// Neither the number of workers nor their order affects the answer. A block takes no more workers than it has tasks, and the calling thread
+/// walks a block of one task alone. It never fails for lack of memory: if there is none for a block's parts, the calling thread walks that
+/// block alone.
 pub fn search<R: Threads + Sync, G: Gate + Sync>(
     alloc: Global,
     rt: &R,

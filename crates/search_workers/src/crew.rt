@@ -1,4 +1,4 @@
-// The workers of a block, each in a thread, who draw its parts and walk them.
+// Runs the workers of a block, each in a thread, who draw its parts and walk them.
 ghost use Rattle.std.specs.Prelude.{◌≡◌, ◌<◌, ◌≤◌, [], All, IfOk, length};
 ghost use Rattle.bid_rules.specs.Goods.{IsValidGoodsCase};
 ghost use Rattle.nash_search.specs.Tables.{AreTables};
@@ -24,7 +24,7 @@ pub(crate) struct Worker {
     pub(crate) ended: Vec<Ended>,
 }
 
-// So many workers, who have drawn nothing yet.
+// As many workers as asked for, who have drawn nothing yet.
 pub(crate) fn hire(alloc: Global, workers: u8) -> Result<Vec<Worker>, AllocError>
     ensures { IfOk result (λ crew. All IsReady crew.items) }
 {
@@ -77,7 +77,7 @@ fn walk_pieces(
     }
 }
 
-// Walks the part that was drawn, between the calls of the gate.
+// Walks the part that was drawn, and calls the gate before and after if it is due.
 fn walk_drawn<G: Gate>(
     case: &GoodsCase,
     tables: &Tables,
@@ -100,7 +100,7 @@ fn walk_drawn<G: Gate>(
     ended
 }
 
-// Keeps what was counted of a part. If there is no memory for it, the calling thread will walk the part.
+// Keeps what was counted in a part. If there is no memory for it, the calling thread will walk the part.
 fn keep(worker: &mut Worker, ended: Ended, case: &GoodsCase, rule: &BlockRule, parts: &[Part])
     requires worker { HasEnded case.now rule.now parts.now worker.old }
     requires ended { IsEnded case.now rule.now parts.now ended }
@@ -109,7 +109,7 @@ fn keep(worker: &mut Worker, ended: Ended, case: &GoodsCase, rule: &BlockRule, p
     let _ = worker.ended.push(ended);
 }
 
-// One worker: draws parts and walks them, until none is left to draw.
+// Does one worker's work: draws parts and walks them, until none are left to draw.
 fn work_parts<G: Gate>(
     worker: &mut Worker,
     case: &GoodsCase,
@@ -136,7 +136,7 @@ fn work_parts<G: Gate>(
     }
 }
 
-// All workers, each in a thread. Where no thread can be had they work one after another.
+// Runs all workers, each in a thread. If no threads can be had, they work one after another.
 pub(crate) fn run_workers<R: Threads + Sync, G: Gate + Sync>(
     rt: &R,
     crew: &mut [Worker],

@@ -46,9 +46,9 @@ pub fn draw(desk: &Desk, seat: &mut DeskSeat) -> u64
     desk.shared.fetch_add::<Draw>(seat, TICKETS, 1)
 }
 
-/// Reports counted prefixes, and answers whether the node word is now above what is left.
+/// Reports counted prefixes, and says whether the node word is now above what is left.
 ///
-/// `left` is the seat's number. Where the answer is true it is kept as a stop in the seat's view.
+/// `left` is the seat's number. If the answer is true, it is kept as a stop in the seat's view.
 pub fn report(desk: &Desk, seat: &mut DeskSeat, count: u16, left: u32) -> bool
     requires of { IsAt seat.old.table_id desk.now.shared.table_id }
     requires count { (1 ≤ count) × (count ≤ LONGEST_PIECE) }
@@ -66,7 +66,7 @@ pub fn report(desk: &Desk, seat: &mut DeskSeat, count: u16, left: u32) -> bool
     found + count > u64::from(left)
 }
 
-/// A seat for one worker, for whom the first seat then no longer accounts.
+/// A seat for one worker, whom the first seat then no longer accounts for.
 pub fn split_desk(desk: &Desk, seat: &mut DeskSeat) -> DeskSeat
     requires of { IsAt seat.old.table_id desk.now.shared.table_id }
     requires allot { 2 ≤ seat.old.me.0.allot }
@@ -91,7 +91,7 @@ pub fn join_desk(desk: &Desk, seat: &mut DeskSeat, other: DeskSeat)
     desk.shared.join_seat::<Both>(seat, other);
 }
 
-/// The ticket word, as the seat sees it that accounts for all workers: it has all tickets and reports.
+/// The ticket word, as seen by the seat that accounts for all workers: that seat has all tickets and reports.
 pub fn learn(desk: &Desk, seat: &mut DeskSeat) -> u64
     requires of { IsAt seat.old.table_id desk.now.shared.table_id }
     requires all { (1 ≤ seat.old.me.0.allot) × (seat.old.me.0.allot ≡ seat.old.me.0.workers) }

@@ -1,4 +1,4 @@
-// What the four kinds of step do to a desk, whatever it is: each law is the contract of a function that does nothing.
+// Laws about what the four kinds of step do to any desk. Each is the contract of a function that does nothing.
 ghost use Rattle.std.specs.Prelude.{◌≡◌, ◌≢◌, ℕ, ◌+◌, ◌-◌, ◌*◌, ◌<◌, ◌≤◌, All, length, slice_set};
 ghost use mathlib.Core.Option.{some};
 ghost use lib.ListN.{get_elem?};
@@ -8,8 +8,8 @@ ghost use Rattle.search_workers.specs.Steps.{after_draw, after_join, after_repor
 ghost use Rattle.search_workers.specs.Views.{sum_of_views, stop_of};
 ghost use Rattle.search_workers.specs.declared.limits.TheConstants.{LONGEST_PIECE, MOST_TICKETS};
 
-/// A draw, by a view with room for a ticket, keeps the rule. It adds the ticket word to the tickets, which is above all of the view's, and
-/// nothing else changes in sum.
+/// A draw, by a view with room for a ticket, keeps the rule. It adds the ticket word, which is above all of the view's tickets, to the
+/// tickets, and no other total changes.
 pub fn draw_law()
     ensures keeps { (left workers place : ℕ) (state : DeskState) (view : DeskView)
         → IsDesk left workers state → get_elem? state.views place ≡ some view
@@ -29,7 +29,7 @@ pub fn draw_law()
         × (all_allots (after_draw state place view).views ≡ all_allots state.views) }
 {}
 
-/// A report of a piece, by a view with fewer stops than workers, keeps the rule. It adds the piece to what is reported, and a stop where the
+/// A report of a piece, by a view with fewer stops than workers, keeps the rule. It adds the piece to what is reported, and a stop if the
 /// node word is then above what is left.
 pub fn report_law()
     ensures keeps { (left workers place count : ℕ) (state : DeskState) (view : DeskView)
@@ -51,7 +51,7 @@ pub fn report_law()
         × (all_allots (after_report state place view count).views ≡ all_allots state.views) }
 {}
 
-/// A split, of a view that accounts for two workers or more and leaves room for what it has, keeps the rule. Nothing changes in sum.
+/// Splitting a view that accounts for two workers or more and leaves room for what it has keeps the rule. No total changes.
 pub fn split_law()
     ensures keeps { (left workers place : ℕ) (state : DeskState) (view : DeskView)
         → IsDesk left workers state → get_elem? state.views place ≡ some view → 2 ≤ view.allot
@@ -65,7 +65,7 @@ pub fn split_law()
         × (all_allots (after_split state place view).views ≡ all_allots state.views) }
 {}
 
-/// A join, of a view that is not spent and another, keeps the rule. Nothing changes in sum.
+/// Joining a view that is not spent with another keeps the rule. No total changes.
 pub fn join_law()
     ensures keeps { (left workers place from : ℕ) (state : DeskState) (view other : DeskView)
         → IsDesk left workers state → get_elem? state.views place ≡ some view → from ≢ place

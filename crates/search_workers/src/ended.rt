@@ -1,7 +1,7 @@
-// What a worker brings back of a part.
+// What a worker brings back from a part.
 use nash_search::Found;
 
-/// What was counted and found in a part.
+/// What has been counted and found in a part.
 #[derive(Drop)]
 pub(crate) struct Ended {
     /// The place of the part among those of the block.

@@ -2,13 +2,13 @@
 //!
 //! The workers of a block draw parts of its tasks and share one budget of counted prefixes.
 //!
-//! `search` has the four clauses of `search_alone`, in which neither the number of workers nor
-//! their order occurs. What a worker brings back is proved of the part that it walked (`IsEndOf`),
-//! and the end of a block takes each part once (`settle`). Where there is no memory for the parts,
-//! one thread walks the tasks one after another.
+//! `search` has the four clauses of `search_alone`, which mention neither the number of workers nor their order.
+//! What a worker brings back is proved to be right for the part that it walked (`IsEndOf`), and the end of a block
+//! takes each part once (`settle`). If there is no memory for the parts, one thread walks the tasks one after
+//! another.
 //!
-//! `work` is a worker of a plainer kind, who draws whole tasks at a desk: each task is drawn once
-//! and walked whole (`drawn_tickets_law`, `walked_block_law`).
+//! `work` is a simpler kind of worker, who draws whole tasks at a desk: each task is drawn once and walked whole
+//! (`drawn_tickets_law`, `walked_block_law`).
 #![tactic(auto)]
 
 mod block;

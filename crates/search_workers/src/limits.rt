@@ -1,4 +1,4 @@
-// The limits of workers and their desk. Each number is here and nowhere else.
+// The limits of workers and their desk. Each of these numbers stands only here.
 use bid_rules::limits::MOST_STEPS;
 use nash_bounds::limits::BLOCK_TASKS;
 
@@ -8,11 +8,11 @@ pub const MOST_WORKERS: u8 = 16;
 pub const MOST_TICKETS: u32 = BLOCK_TASKS + 1;
 /// The most prefixes that a worker counts between two reports.
 pub const LONGEST_PIECE: u16 = 256;
-/// The most that a desk's node word shows: each worker may report once where it is above what is left.
+/// The most that a desk's node word shows: each worker may report once when it is above what is left.
 pub const MOST_REPORTED: u32 = MOST_STEPS + LONGEST_PIECE as u32 * MOST_WORKERS as u32;
 /// The most that a desk's ticket word shows: each worker may draw `MOST_TICKETS`.
 pub const MOST_DRAWN: u32 = MOST_TICKETS * MOST_WORKERS as u32;
-/// How often the tasks of a block are cut by the owners of one more good, at most.
+/// At most how often the tasks of a block are cut by the owners of one more good.
 pub const MOST_CUTS: usize = 4;
-/// With so many parts a block is not cut further.
+/// Once a block has this many parts, it is not cut further.
 pub const ENOUGH_PARTS: usize = 256;

@@ -1,4 +1,5 @@
-// The parts of a block, which its workers draw: its tasks, cut by the owners of further goods, so that several workers can share one task.
+// Makes the parts of a block that its workers draw: its tasks, cut by the owners of further goods, so that several workers can share one
+// task.
 ghost use Rattle.std.specs.Prelude.{◌≡◌, ℕ, ◌+◌, ◌*◌, ◌<◌, ◌≤◌, ◌++◌, ◌∷◌, [], All, IfOk, flat_map, length, reverse};
 ghost use Rattle.std.specs.List.{sum_by};
 ghost use Rattle.bid_rules.specs.Goods.{AreOwners, IsValidGoodsCase};
@@ -17,7 +18,7 @@ use nash_bounds::{Prefix, extend_by, tasks_in_row_law};
 use nash_search::{Tables, owners_after, part_law, task_prefix, tasks_in_block};
 use std::alloc::{AllocError, Global};
 
-/// A part of a task: a prefix, with all that begins with it.
+/// A part of a task: a prefix, with everything that begins with it.
 #[derive(Drop)]
 pub(crate) struct Part {
     /// The task.
@@ -51,7 +52,7 @@ fn whole_tasks(
     Ok(parts)
 }
 
-// Adds the part's prefixes with each of these owners more, the last one first.
+// Adds the part's prefix extended by each of these owners, the last one first.
 fn push_longer(
     case: &GoodsCase,
     tables: &Tables,
@@ -92,7 +93,7 @@ fn push_longer(
     Ok(())
 }
 
-// Adds the part, cut by the owners of one more good if it can be; how many prefixes are then counted that are in no part.
+// Adds the part, cut by the owners of one more good if that is possible, and returns how many counted prefixes are then in no part.
 fn push_cut(
     case: &GoodsCase,
     tables: &Tables,
@@ -118,7 +119,7 @@ fn push_cut(
     Ok(1)
 }
 
-// All parts, each cut by the owners of one more good if it can be, and how many prefixes are then counted that are in no part.
+// All parts, each cut by the owners of one more good if that is possible, and how many counted prefixes are then in no part.
 fn cut_all(
     alloc: Global,
     case: &GoodsCase,
@@ -140,8 +141,8 @@ fn cut_all(
     Ok((longer, nodes))
 }
 
-// The parts of a block: its tasks, cut until there are `ENOUGH_PARTS` or each was cut `MOST_CUTS` times, and how many prefixes of the block
-// are counted that are in no part.
+// The parts of a block: its tasks, cut until there are `ENOUGH_PARTS` or each has been cut `MOST_CUTS` times, and how many counted prefixes
+// of the block are in no part.
 pub(crate) fn parts_of(
     alloc: Global,
     case: &GoodsCase,

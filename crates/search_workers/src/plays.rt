@@ -1,4 +1,4 @@
-// The rule of a desk, and what each step on it tells.
+// The rule of a desk, and what each step on it shows to the seat that takes it.
 ghost use Rattle.search_workers.specs.Desks.{Kept};
 ghost use Rattle.search_workers.specs.Plays.{Draws, Learns, Reports};
 ghost use Rattle.search_workers.specs.Views.{fewer, idle_worker, sum_of_views, no_worker, whole};

@@ -1,4 +1,4 @@
-// What follows from the rule of a desk, whatever desk it is: each law is the contract of a function that does nothing.
+// Laws that follow from the rule of any desk. Each is the contract of a function that does nothing.
 ghost use Rattle.std.specs.Prelude.{◌≡◌, ◌≢◌, ℕ, ◌+◌, ◌*◌, ◌<◌, ◌≤◌, ◌↔◌, AllPairs, Contains, Option};
 ghost use mathlib.Core.Option.{some};
 ghost use lib.ListN.{get_elem?};
@@ -25,7 +25,7 @@ pub fn begun_desk_law()
         → IsDesk left workers (begun_desk left workers) }
 {}
 
-/// Each number below the ticket word is a ticket of one view, which has it once. No number is a ticket of two views.
+/// Each number below the ticket word is a ticket of exactly one view, which has it once.
 pub fn drawn_tickets_law()
     ensures drawn { (left workers ticket : ℕ) (state : DeskState) → IsDesk left workers state
         → ticket < ticket_word state
@@ -40,8 +40,8 @@ pub fn drawn_tickets_law()
         → Contains seen.tickets ticket → place ≡ other }
 {}
 
-/// Both words stay below bounds that the number of workers gives, and so far below the greatest value of a word. The node word is above what
-/// is left exactly if a view has a stop.
+/// Both words stay below bounds that depend on the number of workers, and so stay far below the greatest value of a word. The node word is
+/// above what is left exactly when a view has a stop.
 pub fn word_limits_law()
     ensures tickets { (left workers : ℕ) (state : DeskState) → IsDesk left workers state
         → ticket_word state ≤ MOST_TICKETS * workers }
@@ -73,9 +73,9 @@ pub fn whole_view_law()
         → view.stops ≡ all_stops state.views }
 {}
 
-/// Where the view of each worker has all tasks of its tickets whole, and a ticket past the last, each task of the block is walked once and
-/// whole: one view alone has its ticket, and the node word is what the block's tasks count. Where the views reported no more than what
-/// their tickets' tasks count, the node word is no more than what the block's tasks count.
+/// If each worker's view has walked the tasks of its tickets whole and has a ticket past the last task, each task of the block has been
+/// walked whole, exactly once: only one view has its ticket, and the node word is what the block's tasks count. If the views reported no
+/// more than what their tickets' tasks count, the node word is no more than what the block's tasks count.
 pub fn walked_block_law()
     ensures drawn { (case : GoodsCase) (floor : Pair) (above : Option Pair) (block left workers : ℕ)
         (state : DeskState) → IsDesk left workers state

@@ -3,15 +3,16 @@ ghost use Rattle.std.specs.Prelude.{ℕ, List};
 
 use std::marker::Model;
 
-/// What a worker's seat knows. It is plain data that only contracts see: no value of it is made.
+/// What a worker's seat knows. It is plain data that only contracts see: the program never makes
+/// a value of it.
 pub struct DeskView {
     /// The tickets that it drew, the last one last.
     pub ghost tickets: { List ℕ },
     /// How many prefixes it reported.
     pub ghost reported: { ℕ },
-    /// For how many workers it accounts.
+    /// How many workers it accounts for.
     pub ghost allot: { ℕ },
-    /// How often a report of it found the node word above what is left.
+    /// How often one of its reports found the node word above what is left.
     pub ghost stops: { ℕ },
     /// The desk's number of prefixes that are left to be counted.
     pub ghost left: { ℕ },

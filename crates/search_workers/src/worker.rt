@@ -22,7 +22,7 @@ use split_base::Gate;
 pub struct Walked {
     /// How many prefixes it counted and reported.
     pub nodes: u32,
-    /// The best of the counted allocations, the earliest list among equals; nothing is said of it if the worker has stopped.
+    /// The best of the counted allocations, the earliest list among equals; nothing is promised about it if the worker has stopped.
     pub best: Option<Found>,
     /// Whether a report found the node word above what is left.
     pub stopped: bool,
@@ -107,7 +107,7 @@ fn walk_task(
     }
 }
 
-// The same between the two calls of the gate.
+// The same, between the two calls of the gate.
 fn walk_gated<G: Gate>(
     case: &GoodsCase,
     tables: &Tables,
@@ -140,7 +140,7 @@ fn walk_gated<G: Gate>(
     walked
 }
 
-// What `work` does, by the case's tables.
+// What `work` does, with the case's tables.
 pub(crate) fn work_by<G: Gate>(
     case: &GoodsCase,
     tables: &Tables,
@@ -195,11 +195,11 @@ pub(crate) fn work_by<G: Gate>(
 
 /// One worker of a block: draws tickets, and walks the task of each.
 ///
-/// A ticket t below the block's number of tasks means the task `BLOCK_TASKS * block + t`. The worker counts the task's prefixes whose
+/// A ticket t below the block's number of tasks stands for the task `BLOCK_TASKS * block + t`. The worker counts the task's prefixes whose
 /// bound is at least `floor` and, if there is an `above`, greater than it, in pieces of at most `LONGEST_PIECE`, and reports each piece that
 /// is not empty. It ends at the first ticket that is not below the block's number of tasks, or at the first report that answers true.
 ///
-/// It asks for a seat that accounts for one worker and has done nothing. Unless it has stopped, it has all tasks of its tickets.
+/// The seat must account for one worker and have done nothing. Unless the worker has stopped, it has counted all tasks of its tickets whole.
 pub fn work<G: Gate + Sync>(
     case: &GoodsCase,
     block: u32,

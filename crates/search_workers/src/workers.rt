@@ -29,7 +29,7 @@ impl Workers {
         Workers { count: 1 }
     }
 
-    /// So many workers.
+    /// This many workers.
     pub fn new(count: u8) -> Workers
         requires { (1 ≤ count) × (count ≤ MOST_WORKERS) }
         ensures { result ≡ count }
@@ -37,7 +37,7 @@ impl Workers {
         Workers { count }
     }
 
-    /// How many they are.
+    /// How many workers there are.
     pub fn count(self) -> u8
         ensures same { result ≡ self }
         ensures range { (1 ≤ result) × (result ≤ MOST_WORKERS) }
@@ -53,6 +53,6 @@ pub struct Means<'a, R, G> {
     pub alloc: Global,
     /// Starts threads.
     pub rt: &'a R,
-    /// Is told of the tasks of a search.
+    /// Is told about the tasks of a search.
     pub gate: &'a G,
 }

@@ -37,7 +37,7 @@ closing moment bodiless = record { moment = moment; bodiless = bodiless; closes 
 abbrev pub closes : DueView → Bool
 closes due = due.said.memory || due.manner.closes
 
--- the reply tells what is due
+-- the reply says what is due
 pub record SaysDue (due : DueView) (reply : HttpReply) : Type 0 where
   pub status : reply.status ≡ due.said.status
   pub text : reply.text.now ≡ due.said.text

@@ -11,7 +11,7 @@ HearSays link held now asked (heard.Quiet end) = HeardQuiet link now asked end
 HearSays link held now asked (heard.Refused refusal answer bodiless) = HeardRefused link (with_carry held now) asked refusal answer bodiless
 HearSays link held now asked (heard.Request head body moment) = HeardRequest link (with_carry held now) asked head body.items moment
 
--- the moment is one that a date can tell
+-- the moment is one that a date can express
 abbrev pub IsTimed : Heard → Type 0
 IsTimed (heard.Quiet end) = Unit {0}
 IsTimed (heard.Refused refusal answer bodiless) = IfSome answer (λ t. t ≤ LAST_MOMENT)

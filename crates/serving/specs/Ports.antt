@@ -46,7 +46,7 @@ PortRun service tells [] answers w new = (answers ≡ []) × (new ≡ w)
 PortRun {L} {W} service tells (l ∷ links) answers w new =
     (now later : List (Option ℕ)) × (mid : W) × (answers ≡ now ++ later) × LinkServed service tells l.0 l.1 now w mid × PortRun service tells links later mid new
 
--- links: each as it was handed out, and as it was when it was done with; so many of them were given back as there were places
+-- links: each as it was handed out, and as it was when it was done with; as many of them were given back as there were places
 pub record PortServed {L W : Type 0} (service : Service W) (tells : LinkTells L) (come come_now back back_now : Option (List L)) (places : ℕ)
     (asked : List (Option ℕ) → Type 0) (stands : W → Type 0) (w : W) (count : ℕ) : Type 0 where
   pub links : List (L × L)

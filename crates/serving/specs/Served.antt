@@ -22,7 +22,7 @@ pub record LinkTells (L : Type 0) : Type 0 where
   pub empties : L → ℕ
   pub ends : L → ℕ
 
--- by what the two sides of a link tell
+-- by what the two sides of a link reveal
 abbrev pub tells_of : {L : Type 0} → SourceSide L → SinkSide L → LinkTells L
 tells_of source sink = record { left = source.left; written = sink.written; reads = source.faults; writes = sink.faults; empties = sink.empty_writes; ends = source.empty_reads }
 
@@ -34,7 +34,7 @@ pub record LinkView : Type 0 where
   pub writes : ℕ
   pub empties : ℕ
 
--- what a link tells at a moment
+-- what a link reveals at a moment
 abbrev pub link_view : {L : Type 0} → LinkTells L → L → LinkView
 link_view tells link = record { ahead = tells.left link; written = tells.written link; reads = tells.reads link; writes = tells.writes link; empties = tells.empties link }
 
@@ -159,7 +159,7 @@ abbrev pub HeadServed : {W : Type 0} → Service W → (link : LinkView) (held :
 HeadServed service link held now asked stands last w None = WentOn service link (with_carry held now) asked stands last w
 HeadServed service link held now asked stands last w (Some end) = RanTo (LastHead service last) link now asked stands w end
 
--- Some heads of at most so many were taken off the bytes and went through, and n more may come: whatever run the rest has completes the run of
+-- Some heads of at most this many were taken off the bytes and went through, and n more may come: whatever run the rest has completes the run of
 -- the link.
 pub record Going {W : Type 0} (service : Service W) (most : ℕ) (link now : LinkView) (asked : List (Option ℕ) → Type 0) (stands : W → Type 0) (n : ℕ) (w : W) : Type 0 where
   pub answers : List (Option ℕ)

@@ -1,4 +1,4 @@
-// What holds of the runs of links and ports, as the contracts of functions that do nothing.
+// Laws about the runs of links and ports. Each is the contract of a function that does nothing.
 ghost use Rattle.std.specs.Prelude.{◌++◌, ℕ, List, Option};
 ghost use Rattle.host_journal.specs.States.{State};
 ghost use Rattle.serving.specs.Ends.{Ending};

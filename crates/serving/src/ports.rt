@@ -58,8 +58,8 @@ fn serve_link<D: Disk, P: Port, C: Clock, R: Threads + Sync, G: Gate + Sync>(
 /// whatever its end, before the port is asked for the next one, and the port is not asked again once it has answered that none comes. It takes no memory but
 /// what a request may be refused for.
 ///
-/// `Failed` comes only where the port's count of faults has risen, by one, and before `count` links were served; no link is asked for again then.
-/// `Ok` leaves the count as it is.
+/// `Failed` is returned only where the port's count of faults has risen, by one, and before `count` links were served; no link is asked for again then. `Ok`
+/// leaves the count as it is.
 pub fn serve<D: Disk, P: Port, C: Clock, R: Threads + Sync, G: Gate + Sync>(
     tools: &mut Tools<'_, R, G>,
     serving: &mut Serving,

@@ -50,11 +50,11 @@ pub(crate) fn is_head(verb: Verb) -> bool
 /// Reads the next head of a link and its body. The clock is asked once for each head, also where the bytes begin with none or memory lacks,
 /// and not where nothing is left or a read failed. Before the body the interim line is written where the head asks for it.
 ///
-/// - `Quiet` with `Ended` comes exactly where nothing is left, with `Cut` exactly where the input ends within the body of a head that isn't
-///   refused, and with `LinkFault` for one failed call, which one of the link's two counts of faults tells. A read is made only while the parser
+/// - `Quiet` with `Ended` is returned exactly when nothing is left, with `Cut` exactly when the input ends within the body of a head that isn't
+///   refused, and with `LinkFault` for one failed call, which one of the link's two counts of faults shows. A read is made only while the parser
 ///   asks for more of the bytes that have come, or has no room for all their fields, or less than the body has come: where the parser tells that no
 ///   head can come, it is refused at once.
-/// - `Refused` comes exactly where the bytes begin with no head, the clock failed or the head is refused, in this order, or where memory ran
+/// - `Refused` is returned exactly when the bytes begin with no head, the clock failed or the head is refused, in this order, or where memory ran
 ///   out. Nothing is written then.
 ///
 /// Any other answer than `LinkFault` leaves both counts as they are. No write is empty.

@@ -13,7 +13,7 @@ use split_http::{HttpReply, write_reply};
 /// ran out.
 ///
 /// - `LinkFault` comes only where the link's count of failed writes has risen, by one. A first part of the reply was written then.
-/// - `Memory` comes exactly where a memory reply was written, and `Ended` exactly where another that closes the connection was.
+/// - `Memory` is returned exactly when a memory reply was written, and `Ended` exactly when another that closes the connection was.
 ///
 /// No write is empty.
 pub fn finish<L: Link>(link: &mut L, reply: &HttpReply<'_>, memory: bool) -> Option<LinkEnd>

@@ -1,4 +1,4 @@
--- What a request is answered, and in which state it leaves the host, whatever the disk.
+-- How a request is answered, and in which state it leaves the host, whatever the disk.
 use Rattle.std.specs.Prelude.{◌≡◌, ℕ, None, Some, Ok, Err}
 use Rattle.host_journal.specs.Journal.{IsFirstFault}
 use Rattle.host_journal.specs.States.{State, waits_with}
@@ -18,9 +18,9 @@ use Rattle.split_http.specs.declared.routes.RouteFault.TheVariants.{NoRoute, Met
 use Rattle.split_http.specs.Places.{IsRouted}
 
 -- Its path or method is refused. Or it goes by the machine's step at this state, at which no event waits: it has the reply of that step, whose event, if it
--- makes one, was kept, and none waits then. Or memory ran out, where it may. Or a call of the disk failed, and this is told: in opening the file of a host
--- that waits, which waits on; or in the append of the step's event, which waits. Or the file of a host that waits is no journal, which is never so on an
--- honest disk, and the place of its first fault is told. Where the request has no step that was kept, it leaves the events of the state as they are.
+-- makes one, was kept, and none waits then. Or memory ran out, where it may. Or a call of the disk failed, and the reply says so: in opening the file of a
+-- host that waits, which waits on; or in the append of the step's event, which waits. Or the file of a host that waits isn't a journal, which never happens
+-- on an honest disk, and the place of its first fault is given. Where the request has no step that was kept, it leaves the events of the state as they are.
 pub data HasAnswer {D : Type 0} (d : Ghosts D) (x : Exchange (D × State)) (settled : State) : Type 0 where
   no_route : IsRouted x.head.verb x.head.path (Err NoRoute) → x.after.1 ≡ settled → x.due.said ≡ refused_said service.NoRoute → HasAnswer d x settled
   method : (allow : Allow) → IsRouted x.head.verb x.head.path (Err (Method allow)) → x.after.1 ≡ settled → x.due.said ≡ method_said allow → HasAnswer d x settled

@@ -22,7 +22,7 @@ pub record IsHandled {D : Type 0} (d : Ghosts D) (x : Exchange (D × State)) (se
   pub sealed : IsSealedReply d x settled
   pub keyed : (event : EventView) → Makes x settled.secret settled.kept event → IsSentBy x settled.secret settled.kept event
 
--- each of these requests is handled so at its state
+-- each of these requests is handled in this way at its state
 abbrev pub AreHandled : {D : Type 0} → Ghosts D → List (Exchange (D × State)) → List State → Type 0
 AreHandled d [] [] = Unit {0}
 AreHandled d [] (settled ∷ states) = ⊥

@@ -17,7 +17,7 @@ use Rattle.split_http.specs.declared.routes.Route.{Route}
 use Rattle.split_http.specs.Places.{IsRouted}
 use Rattle.serving_laws.specs.Sealing.{TellsNoStep, got}
 
--- the request goes by this step of the machine from a state: it has the step's reply, and the step's event, if it makes one, was kept after those before
+-- the request takes this step of the machine from a state: it has the step's reply, and the step's event, if it makes one, was kept after those before
 pub record IsStepAt {D : Type 0} (x : Exchange (D × State)) (s : State) (a : Asked) : Type 0 where
   pub route : Route
   pub told : ContentView
@@ -29,7 +29,7 @@ pub record IsStepAt {D : Type 0} (x : Exchange (D × State)) (s : State) (a : As
   pub secret : x.after.1.secret ≡ s.secret
   pub kept : x.after.1.kept ≡ s.kept ++ option_to_list (step (host_in s) a.moment a.command).event
 
--- the request goes by this step from the state before it
+-- the request takes this step from the state before it
 abbrev pub IsStep : {D : Type 0} → Exchange (D × State) → Asked → Type 0
 IsStep x a = IsStepAt x x.before.1 a
 
@@ -57,8 +57,8 @@ pub data Finds (s settled : State) (steps : List Taken) : Type 0 where
   found : (a : Asked) (event : EventView) → s.waiting ≡ Some event → (step (host_in s) a.moment a.command).event ≡ Some event → HasKept settled s.secret (s.kept ++ event ∷ [])
       → steps ≡ record { asked = a; said = None } ∷ [] → Finds s settled steps
 
--- the steps of the request itself: none, where its reply is that of no step, or tells that its file is no journal, which is never so on an honest
--- disk (`IsSealedReply`); or the one that it goes by
+-- the steps of the request itself: none, if its reply is not that of a step, or says that the file isn't a journal, which never happens on an honest
+-- disk (`IsSealedReply`); or the one step that it takes
 pub data Takes {D : Type 0} (x : Exchange (D × State)) (settled : State) (steps : List Taken) : Type 0 where
   nothing : TellsNoStep x settled → HasKept x.after.1 settled.secret settled.kept → steps ≡ [] → Takes x settled steps
   damaged : (place : ℕ) → x.due.said ≡ refused_said (service.StoreDamaged place) → HasKept x.after.1 settled.secret settled.kept → steps ≡ [] → Takes x settled steps

@@ -19,7 +19,7 @@ AsksUnderKey x secret id member ask =
     (route : Route) × IsRouted x.head.verb x.head.path (Ok route) × (command_of route.place route.id x.head.key x.body ≡ To id (Some (key_text secret id member)) ask)
 
 -- The request sent this event to the host of these events. A bid is the one in its body, with its turn, and a withdrawal has its turn; each was sent
--- under its member's key. Of a creation and a close nothing is said here.
+-- under its member's key. Nothing is said here about a creation or a close.
 abbrev pub IsSentBy : {W : Type 0} → Exchange W → List ℕ → List EventView → EventView → Type 0
 IsSentBy x secret kept (Created now c) = Unit {0}
 IsSentBy x secret kept (BidKept now id member turn given) =

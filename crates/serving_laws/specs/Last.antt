@@ -18,7 +18,7 @@ pub data Last : Type 0 where
   read_failed : Last
   write_failed : Last
 
--- how the link ends by that
+-- how the link ends because of that
 abbrev pub ending_by : Last → Ending
 ending_by Last.nothing_left = Ending.ended
 ending_by Last.body_cut = Ending.cut
@@ -26,7 +26,7 @@ ending_by (Last.reply due) = end_of due
 ending_by Last.read_failed = Ending.read_fault
 ending_by Last.write_failed = Ending.write_fault
 
--- how the link ends by that, as it is told
+-- how the link ends because of that, as it is reported
 abbrev pub end_by : Last → LinkEnd
 end_by last = end_as (ending_by last)
 

@@ -10,7 +10,7 @@ use Rattle.sealed_core.specs.Host.{EventView}
 use Rattle.serving_laws.specs.Accepting.{Makes}
 
 -- The state is as it was; or it waited, and its file was opened as this one, whose secret and events are just those that a read gave, if the disk
--- tells its bytes.
+-- reveals its bytes.
 abbrev pub IsReopened : {D : Type 0} → Ghosts D → D → State → State → Type 0
 IsReopened d disk s settled =
     (settled ≡ s)

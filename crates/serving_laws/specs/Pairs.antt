@@ -9,7 +9,7 @@ use Rattle.serving_laws.specs.Accepting.{Makes}
 use Rattle.serving_laws.specs.Heard.{IsStepAt, Taken, TakesSteps, asked_of, got_all, replied_of}
 use Rattle.serving_laws.specs.Sealing.{MayLackMemory}
 
--- the two requests have one head, one body and one moment
+-- the two requests have the same head, the same body and the same moment
 pub record AreEqual {W : Type 0} (x y : Exchange W) : Type 0 where
   pub head : x.head ≡ y.head
   pub body : x.body ≡ y.body
@@ -19,7 +19,8 @@ pub record AreEqual {W : Type 0} (x y : Exchange W) : Type 0 where
 abbrev pub MakesBid : {W : Type 0} → Exchange W → State → ℕ → ℕ → Type 0
 MakesBid x s id m = (now turn : ℕ) × (given : Bid) × Makes x s.secret s.kept (BidKept now id m turn given)
 
--- two requests are equal; or both are bids by one member on one instance at one moment, each with its event; but not the caller's own on this instance
+-- two requests are equal; or both are bids by the same member on the same instance at the same moment, each with its event, but not the caller's own bid
+-- on this instance
 abbrev pub AskAlike : {W : Type 0} → ℕ → Caller → (x y : Exchange W) → (s t : State) → Type 0
 AskAlike id caller x y s t = AreEqual x y ⊎ ((x.moment ≡ y.moment) × ((k m : ℕ) × (k ≡ id → caller ≢ Some m) × MakesBid x s k m × MakesBid y t k m))
 
@@ -40,7 +41,7 @@ pub record IsPair {D : Type 0} (id : ℕ) (caller : Caller) (x y : Exchange (D �
   pub store : StoresAlike x y s t
   pub lack : LackAlike x y s t
 
--- the two runs have one length, and their requests are such pairs, each at its own state
+-- the two runs have the same length, and their requests are such pairs, each at its own state
 abbrev pub ArePairs : {D : Type 0} → ℕ → Caller → (run others : List (Exchange (D × State))) → (states twins : List State) → Type 0
 ArePairs id caller [] [] states twins = Unit {0}
 ArePairs id caller [] (y ∷ others) states twins = ⊥
@@ -49,11 +50,11 @@ ArePairs id caller (x ∷ run) (y ∷ others) [] twins = ⊥
 ArePairs id caller (x ∷ run) (y ∷ others) (s ∷ states) [] = ⊥
 ArePairs id caller (x ∷ run) (y ∷ others) (s ∷ states) (t ∷ twins) = IsPair id caller x y s t × ArePairs id caller run others states twins
 
--- both requests have the reply of a step, or one and the same reply
+-- both requests have the reply of a step, or both have the same reply
 abbrev pub ReplyAlike : {D : Type 0} → (x y : Exchange (D × State)) → (s t : State) → Type 0
 ReplyAlike x y s t = (x.due.said ≡ y.due.said) ⊎ (((a : Asked) × IsStepAt x s a) × ((b : Asked) × IsStepAt y t b))
 
--- so it is of each pair of requests
+-- this holds of each pair of requests
 abbrev pub RepliesAlike : {D : Type 0} → (run others : List (Exchange (D × State))) → (states twins : List State) → Type 0
 RepliesAlike [] [] states twins = Unit {0}
 RepliesAlike [] (y ∷ others) states twins = ⊥

@@ -55,7 +55,7 @@ pub record IsDueResult {W : Type 0} (x : Exchange W) (s : State) : Type 0 where
 abbrev pub MayLackMemory : {W : Type 0} → Exchange W → State → Type 0
 MayLackMemory x s = ReadsBody x ⊎ IsDueResult x s
 
--- The reply is that of no step: the path or the method of the request is refused; the store failed; or memory ran out, for a body that is read or for a
+-- The reply isn't that of a step: the path or the method of the request is refused; the store failed; or memory ran out, for a body that is read or for a
 -- result of a closed instance.
 pub data TellsNoStep {D : Type 0} (x : Exchange (D × State)) (s : State) : Type 0 where
   no_route : IsRouted x.head.verb x.head.path (Err NoRoute) → x.due.said ≡ refused_said service.NoRoute → TellsNoStep x s
@@ -63,8 +63,8 @@ pub data TellsNoStep {D : Type 0} (x : Exchange (D × State)) (s : State) : Type
   store_fault : x.due.said ≡ refused_said service.StoreFault → TellsNoStep x s
   memory : MayLackMemory x s → x.due.said ≡ memory_said → TellsNoStep x s
 
--- The reply tells of the file of a host that waits that it is no journal, with a place. It is never so on an honest disk, and where the disk tells
--- its bytes the place is that of the file's first fault.
+-- The reply says of the file of a host that waits that it isn't a journal, with a place. This never happens on an honest disk, and if the disk reveals
+-- its bytes, the place is that of the file's first fault.
 pub record TellsDamage {D : Type 0} (d : Ghosts D) (x : Exchange (D × State)) : Type 0 where
   pub event : EventView
   pub place : ℕ
@@ -79,8 +79,8 @@ abbrev pub IsSealedTold : HostView → ℕ → CommandView → Told → Type 0
 IsSealedTold h t (Create body) told = Unit {0}
 IsSealedTold h t (To id key ask) told = is_closed (host_after h t (To id key ask)) id ≡ false → told ≡ sealed_told (view h id (caller_number h id key)) t id key ask
 
--- The reply is that of no step; or it tells that the host's file is no journal; or it tells of an instance that isn't closed no more than what its caller
--- may know. So every status, own bid and close on an instance that isn't closed has the last, or a fault of the store is told.
+-- The reply isn't that of a step; or it says that the host's file isn't a journal; or, about an instance that isn't closed, it says no more than what its
+-- caller may know. So the reply to every status, own bid and close on an instance that isn't closed is of the last kind, or reports a fault of the store.
 pub data IsSealedReply {D : Type 0} (d : Ghosts D) (x : Exchange (D × State)) (settled : State) : Type 0 where
   nothing : TellsNoStep x settled → IsSealedReply d x settled
   damaged : TellsDamage d x → IsSealedReply d x settled

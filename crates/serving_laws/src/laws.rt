@@ -1,4 +1,4 @@
-// Laws of whole runs.
+// Laws about whole runs of the host, over a link and over a port: what its replies may say, and what it keeps.
 ghost use Rattle.std.specs.Prelude.{◌≡◌, ◌↔◌, ◌⊎◌, ℕ, List, ◌++◌, None, Option, true, false};
 ghost use Rattle.split_base.specs.Disk.{Each};
 ghost use Rattle.split_base.specs.Faults.{HasRisen};
@@ -34,10 +34,10 @@ use serving::link_law;
 use split_base::Disk;
 use split_http::{cut_law, reply_law};
 
-/// The run of a link ends by what came last on it, after its requests. It is `Ended` exactly if no byte was left where a head would begin, or where the last
-/// thing was a reply that was written, closed the connection and wasn't the memory reply; `Cut` exactly if the input ended within the body
-/// of a head that isn't refused; `Memory` exactly if the memory reply was the last thing and was written; and `LinkFault` exactly if a
-/// call of the link failed, so only if a count of the link has risen.
+/// How the run of a link ends depends on what came last on it, after its requests. It is `Ended` exactly when no byte was left where a head would begin, or
+/// where the last thing was a reply that was written, closed the connection and wasn't the memory reply; `Cut` exactly when the input ended within the body of a
+/// head that isn't refused; `Memory` exactly when the memory reply was the last thing and was written; and `LinkFault` exactly when a call of the link failed,
+/// so only if a count of the link has risen.
 pub fn ends_law<D: Disk>()
     ensures last { (n : ℕ) (all : List ℕ) (answers : List (Option ℕ)) (w : D × State) (out : List ℕ)
         (new : D × State) (end : Ending) → LinkRun (host_service D.Disk) n all answers w out new end
@@ -84,23 +84,25 @@ pub fn acknowledged_law<D: Disk>()
         → Each (D.images w.0) (IsFile w.1) → Acknowledges D.Disk new.0 w run }
 {}
 
-/// A request is handled at one state, whatever the disk: the state as it was, or as its file was opened if it waited. If the disk tells its bytes,
-/// that file held just the events of that state; on an honest disk they are those kept before, with the one that waited or without it. All of this holds of
-/// that one state.
+/// A request is handled at one state, whatever the disk: the state as it was, or as its file was opened if it waited. If the disk reveals its bytes, that file
+/// held just the events of that state; on an honest disk they are those kept before, with the one that waited or without it. All of this holds of that one
+/// state.
 ///
-/// - The request changes it by at most one event, which its own step makes. The event is kept; or the disk failed in its append, which is told, and it waits.
-/// - The request is answered: its path or method is refused; or it has the reply of the machine's step there, whose event, if it makes one, was kept; or
-///   memory ran out, for a body that is read or for what is published of a closed instance, and for nothing else. Or a call of the disk failed in it, and
-///   this is told. Or the file of a host that waited is no journal: then the place of its first fault is told, wherever the disk tells its bytes, and it is
-///   never so on an honest disk.
-/// - Without success it changes nothing but, if the deadline of the instance that it asks has passed, by the Close of that; or its own event waits.
-/// - Its reply tells of an instance that isn't closed after it no more than what the caller may know; or it is that of no step. So of a status, an own bid
-///   and a close it tells what the caller may know, or a fault of the store.
+/// - The request changes it by at most one event, which its own step makes. The event is kept; or the disk failed in its append, which the reply says, and the
+///   event waits.
+/// - The request is answered: its path or method is refused; or it has the reply of the machine's step there, whose event, if it makes one, was kept; or memory
+///   ran out, for a body that is read or for what is published of a closed instance, and for nothing else. Or a call of the disk failed in it, and the reply
+///   says so. Or the file of a host that waited isn't a journal: then the place of its first fault is given, wherever the disk reveals its bytes; this never
+///   happens on an honest disk.
+/// - If it doesn't succeed, it changes nothing, except by the Close of the instance that it asks about if the deadline of that has passed; or its own event
+///   waits.
+/// - About an instance that isn't closed after it, its reply says no more than what the caller may know; or it isn't the reply of a step. So the reply to a
+///   status, an own bid or a close says what the caller may know, or reports a fault of the store.
 /// - A bid or a withdrawal that it makes was sent under its member's key.
 ///
-/// So it is of each request of a run; and on an honest disk the run goes by steps of the machine from those same states: a request takes one, or none if
-/// its reply is that of no step, as when its path or method is refused, the store failed or memory ran out; and before it the step of an event
-/// that waited is taken, if the file that is opened again has it.
+/// This is true of each request of a run; and on an honest disk the run goes by steps of the machine from those same states: a request takes one, or none if its
+/// reply isn't that of a step, as when its path or method is refused, the store failed or memory ran out; and before it the step of an event that waited is
+/// taken, if the file that is opened again has it.
 pub fn handled_law<D: Disk>()
     ensures one { (x : Exchange (D × State)) → IsExchange (host_service D.Disk) x
         → (settled : State) × IsHandled D.Disk x settled }
@@ -126,13 +128,12 @@ pub fn integrity_law<D: Disk>()
     sameness_law();
 }
 
-/// Over the same bytes and answers of the clock, if the machine with its disk and its memory answers each request in one way, a link on which
-/// no call fails gets the same bytes and ends alike. So neither the pieces in which its bytes come nor the number of workers plays a role in
-/// what it gets.
+/// Over the same bytes and answers of the clock, if the machine with its disk and its memory answers each request in one way, a link on which no call fails gets
+/// the same bytes and ends alike. So neither the pieces in which its bytes come nor the number of workers affects what it gets.
 ///
-/// Where hosts of one state answer alike: over the same bytes, and answers of the clock that are the same as far as both take some, a link at either
-/// on which no call fails, while no call of the disk fails and memory suffices, gets the same bytes and ends alike; the hosts come to one
-/// state, and have taken as many answers.
+/// Suppose that hosts in the same state answer alike: over the same bytes, and answers of the clock that are the same as far as both take some, a link at either
+/// on which no call fails, while no call of the disk fails and memory suffices, gets the same bytes and ends alike; the hosts come to one state, and have taken
+/// as many answers.
 pub fn writing_law<D: Disk>()
     ensures one { (answer : Answering D) (all : List ℕ) (answers : List (Option ℕ)) (w : D × State)
         (out told : List ℕ) (new after : D × State) (end stop : Ending) → IsDone end → IsDone stop
@@ -153,8 +154,8 @@ pub fn writing_law<D: Disk>()
     reply_law();
 }
 
-/// Bids are sealed in what a link gets. If an instance isn't closed after a command on it, two requests of this command at one moment, at hosts of
-/// which the caller may know the same, have replies of one status and one text. What one reply tells is in `handled_law`.
+/// Bids are sealed in what a link gets. If an instance isn't closed after a command on it, two requests of this command at one moment, at hosts of which the
+/// caller may know the same, have replies of one status and one text. What a single reply says is in `handled_law`.
 pub fn sealed_law<D: Disk>()
     ensures { (x y : Exchange (D × State)) (id : ℕ) (key : Option (List ℕ)) (ask : Ask)
         (g h : HostView) → AsksOf x id key ask g → AsksOf y id key ask h → x.moment ≡ y.moment
@@ -167,16 +168,16 @@ pub fn sealed_law<D: Disk>()
 
 /// Bids are sealed in whole runs of requests, as they happen: on an honest disk each run goes by steps of the machine (`handled_law`).
 ///
-/// Take two runs, from hosts that differ in nothing but what others than the caller have bid on the instance, and what anyone has bid on other instances, as two
-/// hosts with empty journals or two that were started again. Let their steps be equal pair by pair, but that some of them may be two such bids, by
-/// the same member on the same instance at the same moment, each of them kept; and let steps of a pair both have replies or both none. Then the
-/// caller gets the same status and text in reply to each of their own commands on the instance in both, up to the step at which it is closed (`got`).
+/// Take two runs, from hosts that differ only in what people other than the caller have bid on the instance, and what anyone has bid on other instances, as two
+/// hosts with empty journals or two that were started again. Let their steps be equal pair by pair, except that a pair may be two such bids, by the same member
+/// on the same instance at the same moment, each of them kept; and let steps of a pair both have replies or both none. Then the caller gets the same status and
+/// text in reply to each of their own commands on the instance in both, up to the step at which it is closed (`got`).
 ///
-/// So it is when requests are compared, and not steps (`same`). Take two such runs on honest disks, from hosts at which no event waits. Let their requests
-/// be equal pair by pair, but that some may be two such bids. Let the store do the same in both requests of a pair: the file of a host that waits is opened
-/// in both or in neither, with the event that waited in both or in neither, and an event waits after both or after neither. And if a body is read, or a
-/// result of a closed instance is due, let memory run out in both or in neither. Then the steps are alike, the caller gets the same, and each reply that is
-/// that of no step is the same in both, whoever gets it. Of any other request nothing is asked about memory, since it can't run out there.
+/// The same is true when requests are compared instead of steps (`same`). Take two such runs on honest disks, from hosts at which no event waits. Let their
+/// requests be equal pair by pair, except that a pair may be two such bids. Let the store do the same in both requests of a pair: the file of a host that waits
+/// is opened in both or in neither, with the event that waited in both or in neither, and an event waits after both or after neither. And if a body is read, or
+/// a result of a closed instance is due, let memory run out in both or in neither. Then the steps are alike, the caller gets the same, and each reply that isn't
+/// that of a step is the same in both, whoever gets it. For any other request nothing is required of memory, since it can't run out there.
 ///
 /// A request at a host that is ready goes by a step, or its path or method is refused, if no call of the disk failed in it and memory didn't run out.
 pub fn sealed_runs_law<D: Disk>()

@@ -1,7 +1,7 @@
 //! What holds of whole runs of the host, over a link and over a port.
 //!
-//! They hold over a disk of any kind, but when they speak of crashes or of files, over an honest
-//! one.
+//! These laws hold over any disk, except that what they say about crashes or files holds over an
+//! honest one.
 #![tactic(auto)]
 
 mod laws;

@@ -1,4 +1,4 @@
-// What coalitions cost, and how they go, from a whole table of route costs.
+// Says what coalitions cost and how they go, from a whole table of route costs.
 ghost use Rattle.std.specs.Prelude.{◌≡◌, ◌+◌, ◌*◌, ◌<◌, ◌≤◌, ◌^◌, length, map, Contains, unsigned_abs};
 ghost use Rattle.bid_rules.specs.Coalitions.{riders_in, start_of};
 ghost use Rattle.bid_rules.specs.Fares.{IsLeastRoute, coalition_cost, route_cost, sum_of_marginal_costs};
@@ -48,8 +48,8 @@ impl<'a> SetCosts<'a> {
 }
 
 impl SetCosts<'_> {
-    /// The least sum of legs in cents that starts at the origin, for `at` 0, or at the place of rider `at`, and ends every rider
-    /// of the set at their place, in some order. The rider `at` is not in the set.
+    /// The least sum of legs in cents that starts at the origin, for `at` 0, or at the place of rider `at`, and brings every
+    /// rider of the set to their place, in some order. The rider `at` is not in the set.
     pub fn entry(&self, at: u8, set: u16) -> u32
         requires at { at ≤ length self.now.at.items }
         requires set { set < 2 ^ length self.now.at.items }

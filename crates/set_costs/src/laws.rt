@@ -1,4 +1,5 @@
-// What holds of the rows of a table, for all cases, and of the limits: each law is the contract of a function that does nothing.
+// Laws about the rows of a table and about the limits, which hold for all cases. Each is the contract of a function that does
+// nothing.
 ghost use Rattle.std.specs.Prelude.{◌≡◌, ◌<◌, ◌^◌, List, ℕ, [], ◌∷◌, ◌++◌, length};
 ghost use Rattle.bid_rules.specs.declared.cases.FareCase.{FareCase};
 ghost use Rattle.bid_rules.specs.Coalitions.{riders_in};
@@ -6,7 +7,7 @@ ghost use Rattle.bid_rules.specs.Facts.{IsValidFareCase};
 ghost use Rattle.bid_rules.specs.FareLimits.{most_sum};
 ghost use Rattle.set_costs.specs.Table.{HoldsCosts, ListsCosts, route_costs};
 
-/// A table begins with no row, and each further row is that of the next set.
+/// A table begins with no rows, and each further row is that of the next set.
 pub fn rows_law()
     ensures none { (case : FareCase) → IsValidFareCase case → ListsCosts case [] }
     ensures more { (case : FareCase) (rows : List (List ℕ)) → ListsCosts case rows
@@ -16,7 +17,7 @@ pub fn rows_law()
         → IsValidFareCase case }
 {}
 
-/// No sum over all orders overflows 64 bits with a sign.
+/// No sum over all orders overflows a signed 64-bit number.
 pub fn sum_limits_law()
     ensures { most_sum < 2 ^ 63 }
 {}

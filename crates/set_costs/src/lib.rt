@@ -1,6 +1,6 @@
-//! What sets of riders cost, by the recursion over sets, in whatever memory the rows of the table lie.
+//! What sets of riders cost, by the recursion over sets, wherever in memory the rows of the table lie.
 //!
-//! Whole rows give the least sum of legs over all orders of a set, the first of the cheapest
+//! A complete table gives the least sum of legs over all orders of a set, the first of the cheapest
 //! routes, and a rider's sum of marginal costs over all orders.
 #![tactic(auto)]
 

@@ -1,4 +1,4 @@
-// Who gets off first: what routes cost by the cost of shorter ones.
+// Computes what routes cost from the cost of shorter ones, by who gets off first.
 ghost use Rattle.std.specs.Prelude.{◌≡◌, ℕ, ◌*◌, ◌<◌, ◌≤◌, ◌^◌, length, map, All, Contains};
 ghost use Rattle.bid_rules.specs.Coalitions.{riders_in, start_of};
 ghost use Rattle.bid_rules.specs.Facts.{IsValidFareCase};
@@ -15,7 +15,7 @@ use best_laws::{coalition_law, route_cost_law, route_set_law, without_rider_law}
 use bid_rules::FareCase;
 use bid_rules::limits::{MOST_FARE_CENTS, MOST_RIDERS, RIDER_ROOM};
 
-/// First stops of the routes of a set, by the riders who may get off first.
+/// The first stops of the routes of a set, one for each rider who may get off first.
 pub(crate) type FirstStops = ArrayVec<FirstStop, RIDER_ROOM>;
 
 // The place of departure: that of a rider, or the origin for 0.
@@ -32,7 +32,7 @@ pub(crate) fn start(case: &FareCase, at: u8) -> u8
     }
 }
 
-// What the route of a set costs from a place of departure, where the rows have it.
+// What the route of a set costs from a place of departure, according to the rows.
 pub(crate) fn entry_in(case: &FareCase, rows: &[Row], at: u8, set: u16) -> u32
     requires rows { ListsCosts case.now (map (λ row. row.items) rows.now) }
     requires at { at ≤ length case.now.at.items }
@@ -45,7 +45,7 @@ pub(crate) fn entry_in(case: &FareCase, rows: &[Row], at: u8, set: u16) -> u32
     rows[usize::from(set)][usize::from(at)]
 }
 
-// The first stop of the routes of a set on which the rider gets off first.
+// The first stop of those routes of a set on which the rider gets off first.
 fn first_stop(case: &FareCase, rows: &[Row], set: u16, rider: u8) -> FirstStop
     requires rows { ListsCosts case.now (map (λ row. row.items) rows.now) }
     requires set { set ≤ length rows.now }
@@ -101,7 +101,7 @@ fn cost_by(case: &FareCase, rows: &[Row], from: u8, set: u16, rider: u8) -> u32
     cost_from(case, from, first_stop(case, rows, set, rider))
 }
 
-// The lowest of the riders of a set by whom, when they get off first, the route from a place is cheapest.
+// The lowest of those riders of a set who make the route from a place cheapest by getting off first.
 pub(crate) fn first_rider(case: &FareCase, rows: &[Row], from: u8, set: u16) -> u8
     requires rows { ListsCosts case.now (map (λ row. row.items) rows.now) }
     requires from { from ≤ case.now.facts.places }
@@ -130,7 +130,7 @@ pub(crate) fn first_rider(case: &FareCase, rows: &[Row], from: u8, set: u16) -> 
     riders[first]
 }
 
-// What the cheapest of the routes with these first stops costs from a place, and 0 where there is none.
+// What the cheapest of the routes with these first stops costs from a place, or 0 if there are none.
 pub(crate) fn cheapest(case: &FareCase, from: u8, stops: &[FirstStop]) -> u32
     requires case { IsValidFareCase case.now }
     requires from { from ≤ case.now.facts.places }

@@ -22,7 +22,7 @@ pub fn riders_of_set(count: u8, set: u16) -> RiderList
     riders
 }
 
-/// The set without a rider of it.
+/// The set without one of its riders.
 pub fn without(set: u16, rider: u8) -> u16
     requires rider { Contains (riders_in set) rider }
     requires high { rider ≤ MOST_RIDERS }

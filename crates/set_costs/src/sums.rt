@@ -14,13 +14,14 @@ use arrayvec::ArrayVec;
 use best_laws::{coalition_law, marginal_set_law, without_rider_law};
 use bid_rules::limits::{MOST_FARE_CENTS, MOST_RIDERS, RIDER_ROOM};
 
-/// Room for an entry a set of riders, the empty one too.
+/// Room for an entry for each set of riders, including the empty one.
 pub const SET_ROOM: usize = 1 << RIDER_ROOM;
 
-/// By set of riders, in the order of their numbers, a rider's sum in cents. It is kept on the stack, one rider at a time.
+/// A rider's sum in cents for each set of riders, in the order of the sets' numbers. It is kept on the stack, for one
+/// rider at a time.
 type SetSums = ArrayVec<i64, SET_ROOM>;
 
-/// n!, the number of orders of so many riders.
+/// n!, the number of orders of this many riders.
 pub fn factorial(count: u8) -> u64
     requires { count ≤ MOST_RIDERS }
     ensures value { result ≡ orders_of count }
@@ -33,7 +34,7 @@ pub fn factorial(count: u8) -> u64
     orders
 }
 
-/// The set of so many riders, all of a case.
+/// The set of all riders of a case that has this many.
 pub fn all_riders(count: u8) -> u16
     requires { count ≤ MOST_RIDERS }
     ensures { result ≡ 2 ^ count - 1 }
@@ -58,7 +59,7 @@ fn added_last(costs: &SetCosts, set: u16, rider: u8, orders: u64) -> i64
     added * orders as i64
 }
 
-// The sum of a rider's marginal costs over all orders of a set, where those of the sets below are given.
+// The sum of a rider's marginal costs over all orders of a set, given the sums of the sets below it.
 fn sum_of_set(costs: &SetCosts, sums: &[i64], rider: u8, set: u16) -> i64
     requires valid { IsValidFareCase costs.now }
     requires set { set < 2 ^ length costs.now.at.items }
@@ -86,7 +87,7 @@ fn sum_of_set(costs: &SetCosts, sums: &[i64], rider: u8, set: u16) -> i64
     sum + added_last(costs, set, rider, orders)
 }
 
-// The sum for the next set: 0 where the rider is not in it.
+// The sum for the next set, which is 0 if the rider is not in it.
 fn next_sum(costs: &SetCosts, sums: &[i64], rider: u8, count: u8) -> i64
     requires valid { IsValidFareCase costs.now }
     requires count { count ≡ length costs.now.at.items }

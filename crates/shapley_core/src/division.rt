@@ -1,4 +1,4 @@
-// Fares as the means of marginal costs over all orders of the riders (Shapley 1953).
+// Computes fares as the means of marginal costs over all orders of the riders (Shapley 1953).
 ghost use Rattle.std.specs.Prelude.{◌≡◌, ◌*◌, ◌+◌, ◌≤◌, length, map, All, IfOk, unsigned_abs};
 ghost use Rattle.std.specs.List.{AllZip};
 ghost use Rattle.bid_rules.specs.Facts.{IsValidFareCase};
@@ -21,7 +21,7 @@ use std::alloc::Global;
 /// Fares in cents, by rider.
 pub type FareList = ArrayVec<Frac, RIDER_ROOM>;
 
-/// The division of a shared fare: what each rider pays, what all cost, and how they go.
+/// The division of a shared fare: what each rider pays, what all of them cost, and the route that they take.
 #[derive(Drop)]
 pub struct FareDivision {
     /// The fares in cents, by rider.
@@ -34,7 +34,7 @@ pub struct FareDivision {
     pub costs: Costs,
 }
 
-// The mean over all orders of so many riders of what has this sum.
+// The mean over all orders of this many riders of what has this sum.
 fn mean(sum: i128, count: u8) -> Frac
     requires count { count ≤ MOST_RIDERS }
     requires small { unsigned_abs sum ≤ MOST_FARE_CENTS * (MOST_RIDERS + 1) * orders_of count }
@@ -48,7 +48,7 @@ fn mean(sum: i128, count: u8) -> Frac
 
 /// The fares of all riders, in turn: each is the mean of the rider's marginal costs over all orders.
 ///
-/// It takes no memory, so it serves costs in whatever memory their rows lie.
+/// It takes no memory, so it works wherever in memory the rows of the costs lie.
 pub fn fares_of(costs: &SetCosts<'_>, count: u8) -> FareList
     requires valid { IsValidFareCase costs.now }
     requires count { count ≡ length costs.now.at.items }
@@ -67,10 +67,10 @@ pub fn fares_of(costs: &SetCosts<'_>, count: u8) -> FareList
 }
 
 /// The best division of a shared fare among 1 to 10 riders: each pays the mean of their marginal costs over all orders of
-/// the riders (Shapley 1953), and the route is the least of the cheapest.
+/// the riders (Shapley 1953), and the route is the least of the cheapest ones.
 ///
-/// It takes about `n^2 * 2^n` steps for n riders, and memory once, for the table of costs. `NoMemory` comes only if
-/// memory runs out.
+/// It takes about `n^2 * 2^n` steps for n riders, and takes memory just once, for the table of costs. `NoMemory` is
+/// returned only if memory runs out.
 pub fn solve_fares(alloc: Global, case: &FareCase) -> Result<FareDivision, NoMemory>
     requires { IsValidFareCase case.now }
     ensures { IfOk result (λ division. IsFareDivision case.now division) }

@@ -1,4 +1,4 @@
-// What holds of all best divisions: each law is the contract of a function that does nothing.
+// Laws about the best division of shared fares, which hold for all cases. Each is the contract of a function that does nothing.
 ghost use Rattle.std.specs.Prelude.{◌≡◌, ◌≤◌, ◌+◌, ◌*◌, ◌↔◌, ℕ, List, map};
 ghost use Rattle.bid_rules.specs.declared.cases.FareCase.{FareCase};
 ghost use Rattle.bid_rules.specs.FareLimits.{most_orders, most_sum};
@@ -26,7 +26,8 @@ pub fn division_law()
     value_law();
 }
 
-/// The number of members never changes what routes and coalitions cost, a rider's marginal costs, and so the best fares and the route.
+/// The number of members never changes what routes and coalitions cost or a rider's marginal costs, and so it never changes the best fares and
+/// the route.
 pub fn members_law()
     ensures routes { (case : FareCase) (members from : ℕ) (riders : List ℕ)
         → route_cost (with_members case members) from riders ≡ route_cost case from riders }
@@ -41,8 +42,8 @@ pub fn members_law()
         → FareBest (with_members case members) fares route ↔ FareBest case fares route }
 {}
 
-/// Fares and excesses are within the limits of fractions: a denominator for all orders, and a numerator for what all riders pay over them, less a
-/// cost.
+/// Fares and excesses stay within the limits of fractions: the denominator is at most the number of orders, and the numerator at most what all
+/// riders pay over all of them, less a cost.
 pub fn fraction_limits_law()
     ensures denominators { most_orders ≤ MOST_DENOMINATOR }
     ensures numerators { most_sum * (MOST_RIDERS + 1) ≤ MOST_NUMERATOR }

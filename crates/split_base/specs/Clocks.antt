@@ -1,4 +1,4 @@
--- The calls of a clock.
+-- What the calls of a clock answer, and how they change its count of faults.
 use Rattle.std.specs.Prelude.{◌≡◌, ℕ, ◌≤◌, List, [], ◌∷◌, Option, None, Some, Result, Ok, Err}
 use Rattle.split_base.specs.Faults.{counted}
 

@@ -18,17 +18,17 @@ pub record IsTorn (place n : ℕ) (old new : List ℕ) : Type 0 where
   pub before : take place (take (length old) new) ≡ take place old
   pub after : drop (place + n) (take (length old) new) ≡ drop (place + n) old
 
--- before this end, and outside a range of n bytes at the place, a read gives the same
+-- up to this end, and outside a range of n bytes at the place, a read gives the same bytes
 pub record IsSameOutside (place n end : ℕ) (old new : List ℕ) : Type 0 where
   pub no_shorter : end ≤ length new
   pub before : take place (take end new) ≡ take place (take end old)
   pub after : drop (place + n) (take end new) ≡ drop (place + n) (take end old)
 
--- each image of the new disk was one of the old
+-- each image of the new disk was already one of the old
 abbrev pub AddsNone : (List ℕ → Type 0) → (List ℕ → Type 0) → Type 0
 AddsNone old new = (c : List ℕ) → new c → old c
 
--- there is one image
+-- there is exactly one image, this one
 abbrev pub Only : List ℕ → (List ℕ → Type 0) → Type 0
 Only file images = (c : List ℕ) → images c → c ≡ file
 
@@ -36,7 +36,7 @@ Only file images = (c : List ℕ) → images c → c ≡ file
 abbrev pub Each : (List ℕ → Type 0) → (List ℕ → Type 0) → Type 0
 Each images P = (c : List ℕ) → images c → P c
 
--- this is no further than the stable end: each image reaches it
+-- this place is not past the stable end: each image reaches it
 abbrev pub IsStableTo : (List ℕ → Type 0) → ℕ → Type 0
 IsStableTo images end = Each images (λ c. end ≤ length c)
 
@@ -65,7 +65,7 @@ pub record Rests {D : Type 0} (seen : D → List ℕ) (images : D → List ℕ �
   pub adds_none : AddsNone (images old) (images new)
   pub time : Elapses (moment old) (moment new) (left_since old) (left_since new) (images old)
 
--- a write of n bytes at the place, done or failed: each image after it is one from before, perhaps torn
+-- a write of n bytes at the place, whether it succeeded or failed: each image after it is one from before, perhaps torn
 pub record MayTear {D : Type 0} (images : D → List ℕ → Type 0) (moment : D → ℕ) (left_since : D → ℕ → List ℕ → Type 0) (place n : ℕ) (old new : D) : Type 0 where
   pub crash : Each (images new) (Tears (images old) place n)
   pub time : Elapses (moment old) (moment new) (left_since old) (left_since new) (images new)

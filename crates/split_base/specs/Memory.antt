@@ -13,7 +13,7 @@ pub record SourceState : Type 0 where
   pub empty_reads : ℕ
 
 -- a sink: the bytes that were written, the number of bytes that still fit, the numbers of the calls that fail, and how many calls were made,
--- have failed, and were given no byte
+-- have failed, and were given no bytes
 pub record SinkState : Type 0 where
   pub written : List ℕ
   pub room : ℕ
@@ -27,11 +27,11 @@ pub record LinkState : Type 0 where
   pub input : SourceState
   pub output : SinkState
 
--- what the other side of a link tells of its source: the bytes that are left, the faults, and the reads that gave nothing
+-- what the other side of a link reveals of its source: the bytes that are left, the faults, and the reads that gave nothing
 abbrev pub source_side : LinkState → Option (List ℕ) × ℕ × ℕ
 source_side link = (Some link.input.left, link.input.faults, link.input.empty_reads)
 
--- what the other side of a link tells of its sink: the bytes that were written, the faults, and the calls without a byte
+-- what the other side of a link reveals of its sink: the bytes that were written, the faults, and the calls that were given no bytes
 abbrev pub sink_side : LinkState → Option (List ℕ) × ℕ × ℕ
 sink_side link = (Some link.output.written, link.output.faults, link.output.empty_writes)
 
@@ -40,12 +40,12 @@ abbrev pub next_piece : List ℕ → ℕ
 next_piece [] = 2 ^ 64 - 1
 next_piece (p ∷ ps) = p
 
--- a count of the reads that gave nothing, after a read of so many bytes
+-- the count of reads that gave nothing, after a read of this many bytes
 abbrev pub with_nothing : ℕ → ℕ → ℕ
 with_nothing zero count = counted count
 with_nothing (suc read) count = count
 
--- the source after a call that gave so many bytes: they are gone, and a piece is used up
+-- the source after a call that gave this many bytes: they are gone, and a piece is used up
 abbrev pub after_read : SourceState → ℕ → SourceState
 after_read source count = record {
   left = drop count source.left;
@@ -67,7 +67,7 @@ after_failed_read source = record {
   empty_reads = source.empty_reads;
 }
 
--- a count of the calls that were given no byte, after a call with this piece
+-- the count of calls that were given no bytes, after a call with this piece
 abbrev pub with_empty : List ℕ → ℕ → ℕ
 with_empty [] count = counted count
 with_empty (b ∷ bytes) count = count

@@ -1,4 +1,4 @@
--- A clock in memory.
+-- The state of a clock in memory, and what each call does to it.
 use Rattle.std.specs.Prelude.{◌≡◌, ℕ, List, [], ◌∷◌, Option, None, Some, Contains}
 use Rattle.split_base.specs.Faults.{counted}
 
@@ -20,7 +20,7 @@ abbrev pub first_of : List ℕ → Option ℕ
 first_of [] = None
 first_of (m ∷ ms) = Some m
 
--- after a call that told a moment
+-- after a call that gave a moment
 abbrev pub after_moment : ClockState → ClockState
 after_moment c = record { moments = moved_on c.moments; fails = c.fails; calls = counted c.calls; faults = c.faults }
 
@@ -28,7 +28,7 @@ after_moment c = record { moments = moved_on c.moments; fails = c.fails; calls =
 abbrev pub after_no_moment : ClockState → ClockState
 after_no_moment c = record { moments = c.moments; fails = c.fails; calls = counted c.calls; faults = counted c.faults }
 
--- one call: it fails if its number is listed, and otherwise tells the first moment
+-- one call: it fails if its number is listed, and otherwise gives the first moment
 abbrev pub Ticked : ClockState → Option ℕ → ClockState → Type 0
 Ticked old None new = Contains old.fails (counted old.calls) × (new ≡ after_no_moment old)
 Ticked old (Some moment) new = (Contains old.fails (counted old.calls) → ⊥) × (first_of old.moments ≡ Some moment) × (new ≡ after_moment old)

@@ -13,13 +13,13 @@ pub record Write : Type 0 where
   pub place : ℕ
   pub bytes : List ℕ
 
--- what a read gives, what was stable at the last sync, and the writes since, the last one first
+-- what a read gives, what was stable at the last sync, and the writes since then, latest first
 pub record State : Type 0 where
   pub seen : List ℕ
   pub stable : List ℕ
   pub later : List Write
 
--- a file after a write: with zeros in a gap; one of no bytes changes nothing
+-- a file after a write: any gap is filled with zeros, and a write of no bytes changes nothing
 abbrev pub after_write : List ℕ → ℕ → List ℕ → List ℕ
 after_write old place [] = old
 after_write old place (b ∷ bytes) = take place old ++ replicate (place - length old) 0 ++ b ∷ bytes ++ drop (place + length (b ∷ bytes)) old
@@ -47,11 +47,11 @@ IsImage (w ∷ earlier) stable c = (d : List ℕ) × IsImage earlier stable d ×
 abbrev pub images_of : State → List ℕ → Type 0
 images_of s c = IsImage s.later s.stable c
 
--- what a crash after t of these calls or later might have left
+-- what a crash after the first t of these calls, or later, might have left
 abbrev pub LeftSince : List ℕ → List Act → ℕ → List ℕ → Type 0
 LeftSince first acts t c = (k : ℕ) × (t ≤ k) × (k ≤ length acts) × images_of (after_all (stable_file first) (take k acts)) c
 
--- how many bytes these writes have together
+-- how many bytes these writes have in total
 abbrev pub total : List Write → ℕ
 total [] = 0
 total (w ∷ earlier) = total earlier + length w.bytes
@@ -90,15 +90,15 @@ images_at d c = images_of (state_of d) c
 abbrev pub moment_of : DiskState → ℕ
 moment_of d = length d.acts
 
--- what a crash of the disk after t of the calls that changed it, or later, might have left
+-- what a crash of the disk after the first t of the calls that changed it, or later, might have left
 abbrev pub left_of : DiskState → ℕ → List ℕ → Type 0
 left_of d t c = LeftSince d.first d.acts t c
 
--- what a crash leaves that keeps so many bytes of the later writes
+-- what is left by a crash that keeps this many bytes of the later writes
 abbrev pub after_crash : DiskState → ℕ → List ℕ
 after_crash d keep = on_top (state_of d).stable (state_of d).later keep
 
--- a disk that nobody has called
+-- a disk that nobody has called yet
 abbrev pub new_disk : List ℕ → ℕ → List ℕ → Option ℕ → DiskState
 new_disk bytes room fails stop = record { first = bytes; acts = []; room = room; list = room; fails = fails; stop = stop; calls = 0; faults = 0 }
 
@@ -106,7 +106,7 @@ new_disk bytes room fails stop = record { first = bytes; acts = []; room = room;
 abbrev pub IsDown : DiskState → Type 0
 IsDown d = Contains d.fails (counted d.calls) ⊎ IsSomeAnd d.stop (λ from. from ≤ counted d.calls)
 
--- a write or sync that takes so much of the list of calls finds too little left of it
+-- the list of calls has too little room left for a write or sync that takes this much of it
 abbrev pub IsFull : DiskState → ℕ → Type 0
 IsFull d taken = d.list < taken
 
@@ -114,10 +114,10 @@ IsFull d taken = d.list < taken
 abbrev pub after_call : DiskState → DiskState
 after_call d = record { first = d.first; acts = d.acts; room = d.room; list = d.list; fails = d.fails; stop = d.stop; calls = counted d.calls; faults = d.faults }
 
--- one fault more, and nothing else changed
+-- one more fault, and nothing else changed
 abbrev pub after_fault : DiskState → DiskState
 after_fault d = record { first = d.first; acts = d.acts; room = d.room; list = d.list; fails = d.fails; stop = d.stop; calls = d.calls; faults = counted d.faults }
 
--- after an act that took so much of the list of calls
+-- after an act that took this much room in the list of calls
 abbrev pub after_act : DiskState → Act → ℕ → DiskState
 after_act d act taken = record { first = d.first; acts = d.acts ++ act ∷ []; room = d.room; list = d.list - taken; fails = d.fails; stop = d.stop; calls = d.calls; faults = d.faults }

@@ -1,5 +1,5 @@
--- The laws that the trait asks of a disk in memory: the first of them, that what a read gives is an image, by way of what a write may leave. A type's
--- proof of a trait's law is read with its definitions, so they are here.
+-- The laws that the trait asks of a disk in memory. The first of them, that what a read gives is an image, is shown by way of what a write may leave.
+-- A type's proof of a trait's law is read with its definitions, so they are here.
 use Rattle.std.proofs.Common.{◌≡◌, ◌⊎◌, ⊎_elim, inl, inr, ℕ, ◌+◌, ◌-◌, ◌≤◌, ◌<◌, min, List, [], ◌∷◌, ◌++◌, length, take, drop, replicate, refl, sym, ◌∙◌, ap, subst, arith, append_assoc, length-append, length-take, length-drop}
 use Rattle.std.proofs.lemmas.Bool.{cases_lt}
 use Rattle.std.proofs.lemmas.List.{take_all, take_at, drop_at, drop_all, take-take, length-replicate}

@@ -1,4 +1,5 @@
--- The calls of an object that hands out links and takes them back, if it tells them.
+-- What is known of the calls of an object that hands out links and takes them back, if it reveals
+-- the links.
 use Rattle.std.specs.Prelude.{◌≡◌, ℕ, ⊤, List, [], ◌∷◌, ◌++◌, MatchOption, MatchResult, Option, None, Some, Result, Ok, Err}
 
 -- the first link to come was handed out, or none if there is none; a failed call hands out none

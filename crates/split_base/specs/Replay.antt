@@ -1,4 +1,4 @@
--- How a disk in memory keeps its calls, and a file that is made from them anew.
+-- How a disk in memory keeps its calls, and how a file is made from them again.
 use Rattle.std.specs.Prelude.{ℕ, ◌+◌, ◌-◌, List, [], ◌∷◌, length, take, drop}
 use Rattle.split_base.specs.declared.memory.disk.Call.{Call}
 use Rattle.split_base.specs.declared.memory.disk.Call.TheVariants as call

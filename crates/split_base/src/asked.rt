@@ -1,8 +1,9 @@
-// Which ports an object was asked for.
+// A record of how often an object was asked for a port, and for which one.
 ghost use Rattle.std.specs.Prelude.{◌≡◌};
 ghost use Rattle.split_base.specs.Asked.{asked_again, never_asked};
 
-/// How often an object was asked for a port, up to 2^64 - 1, and for which one last.
+/// How often an object has been asked for a port, up to 2^64 - 1, and which port it
+/// was last asked for.
 #[derive(Clone, Copy, Debug, PartialEq, Eq)]
 pub struct Asked {
     /// How often.
@@ -12,7 +13,7 @@ pub struct Asked {
 }
 
 impl Asked {
-    /// It was not asked yet.
+    /// It has not been asked yet.
     pub fn never() -> Asked
         ensures { result ≡ never_asked }
     {
@@ -22,7 +23,7 @@ impl Asked {
         }
     }
 
-    /// It is asked once more, for the port of this number.
+    /// The record after one more request, for the port with this number.
     pub fn again(self, port: u16) -> Asked
         ensures { result ≡ asked_again port self }
     {

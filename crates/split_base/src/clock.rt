@@ -1,4 +1,4 @@
-// Clocks, as a trait.
+// The trait of clocks.
 ghost use Rattle.std.specs.Prelude.{◌≡◌, ◌≤◌, ◌∷◌, [], ℕ, Option, IfOk, IfSome};
 ghost use Rattle.split_base.specs.Faults.{HasCause, IsCounted};
 ghost use Rattle.split_base.specs.Clocks.{ClockRun, answer_of};
@@ -8,8 +8,8 @@ use crate::Failed;
 
 /// Tells the time.
 pub trait Clock {
-    /// What a call may answer, and the clock after it: a moment, or none if the call fails.
-    /// A clock that can't tell this allows every answer.
+    /// What a call may answer (a moment, or none if it fails), and the clock after that call. A
+    /// clock that can't reveal this allows every answer.
     ghost gives: { Self → Option ℕ → Self → Type 0 };
 
     /// How many of its calls have failed, up to 2^64 - 1.
@@ -17,8 +17,8 @@ pub trait Clock {
 
     /// The moment, in seconds since 1970, at most `LAST_MOMENT`.
     ///
-    /// `Failed` comes only if the count of faults has risen, by one. A call that answers a moment
-    /// leaves the count as it is.
+    /// `Failed` is returned only if the count of faults has risen, by one. A call that answers a
+    /// moment leaves the count as it is.
     fn now(&mut self) -> Result<u64, Failed>
         ensures range { IfOk result (λ moment. moment ≤ LAST_MOMENT) }
         ensures gives { gives self.old (answer_of result) self.new }

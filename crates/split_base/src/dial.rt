@@ -1,4 +1,4 @@
-// Dialers, which open links, as a trait.
+// The trait of dialers, which open links.
 ghost use Rattle.std.specs.Prelude.{◌≡◌, ◌<◌, ◌-◌, ℕ, List, Option, IfOk};
 ghost use Rattle.split_base.specs.Faults.{HasCause, IsCounted, counted};
 ghost use Rattle.split_base.specs.Links.{link_faults};
@@ -14,27 +14,27 @@ pub trait Dial {
     /// A connection.
     type Link: Link + Drop;
 
-    /// The links still to come; `None` if the object doesn't tell them.
+    /// The links still to come; `None` if the object doesn't reveal them.
     ghost to_come: { Self → Option (List Self.Link) };
 
     /// The links that were given back, each with what it had got by then; `None` if the object
-    /// doesn't tell them.
+    /// doesn't reveal them.
     ghost given_back: { Self → Option (List Self.Link) };
 
-    /// For how many more links that are given back there is a place.
+    /// How many more returned links it has places for.
     ghost places: { Self → ℕ };
 
-    /// How often it was asked to open a link, and to which port last.
+    /// How often it has been asked to open a link, and to which port most recently.
     ghost asked: { Self → Asked };
 
     /// How many of its calls have failed, and how many links were given back with a fault; up to
     /// 2^64 - 1.
     ghost faults: { Self → ℕ };
 
-    /// Opens a link to the port of this number. Neither side of it has had a fault.
+    /// Opens a link to the port with this number. Neither side of the link has had a fault.
     ///
-    /// `Failed` comes only if the count of faults has risen, by one. No link is given then. `Ok`
-    /// leaves the count as it is.
+    /// `Failed` is returned only if the count of faults has risen, by one. In that case it gives
+    /// no link. `Ok` leaves the count as it is.
     fn dial(&mut self, port: u16) -> Result<Self::Link, Failed>
         ensures cause { HasCause (faults self.old) (faults self.new) result }
         ensures count { IsCounted (faults self.old) (faults self.new) result }
@@ -46,7 +46,7 @@ pub trait Dial {
         ensures back { given_back self.new ≡ given_back self.old };
 
     /// Takes a link back. If there is no place for it, it is dropped. The count of faults rises,
-    /// by one, exactly if the link has had a fault.
+    /// by one, exactly when the link has had a fault.
     fn done(&mut self, link: Self::Link)
         ensures whole { link_faults (Self.Link.Source.faults link) (Self.Link.Sink.faults link) ≡ 0
             → faults self.new ≡ faults self.old }

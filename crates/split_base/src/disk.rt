@@ -7,16 +7,16 @@ use crate::Failed;
 
 /// One file. Places and sizes are in bytes, and places count from 0.
 ///
-/// Between two successful syncs, each written range and everything past the end that was stable
-/// may hold any bytes after a crash; other bytes stay. After a successful sync a crash leaves what
-/// a read gives. This is said only of an honest disk, and what a read gives of one that tells its
-/// bytes. The disk in memory is both.
+/// Between two successful syncs, each written range and everything past the end that was stable may
+/// hold any bytes after a crash; other bytes stay. After a successful sync a crash leaves what a read
+/// gives. All this is promised only for an honest disk, except that what a read gives is promised for
+/// any disk that reveals its bytes. The disk in memory is both.
 pub trait Disk {
-    /// The disk tells its bytes: a read gives those that are seen, and no size, read or sync
-    /// changes one.
+    /// The disk reveals its bytes: a read gives those that `seen` shows, and no call of `size`,
+    /// `read_at` or `sync` changes any of them.
     ghost tells: { Self → Type 0 };
 
-    /// The disk tells its bytes, and keeps what a sync made stable.
+    /// The disk reveals its bytes, and keeps what a sync has made stable.
     ghost is_honest: { Self → Type 0 };
 
     /// The bytes that a read gives.
@@ -25,11 +25,11 @@ pub trait Disk {
     /// The images: what a crash at this moment may leave.
     ghost images: { Self → List ℕ → Type 0 };
 
-    /// The moment, a number that does not fall: a write or a sync that is done raises it by one, a
-    /// size and a read leave it.
+    /// The moment, a number that never falls: each completed write or sync raises it by one, and
+    /// `size` and reads leave it unchanged.
     ghost moment: { Self → ℕ };
 
-    /// What a crash at some moment from that one on might have left, during a call or between two.
+    /// What a crash, during a call or between two calls, might have left at that moment or later.
     ghost left_since: { Self → ℕ → List ℕ → Type 0 };
 
     /// How many of its calls have failed.
@@ -37,7 +37,7 @@ pub trait Disk {
 
     /// The file's size, at most 2^63.
     ///
-    /// `Failed` comes only if the count of faults has risen, by one. No byte changes.
+    /// `Failed` is returned only if the count of faults has risen, by one. No byte changes.
     fn size(&mut self) -> Result<u64, Failed>
         ensures cause { HasCause (faults self.old) (faults self.new) result }
         ensures counted { IsCounted (faults self.old) (faults self.new) result }
@@ -49,10 +49,11 @@ pub trait Disk {
         ensures rests { is_honest self.old
             → Rests seen images moment left_since self.old self.new };
 
-    /// Moves the bytes from the place on to the front of `into`, up to the buffer's end or the
-    /// file's, and answers how many.
+    /// Copies the bytes from this place on to the front of `into`, up to the end of the buffer or of
+    /// the file, and returns how many there were.
     ///
-    /// `Failed` comes only if the count of faults has risen, by one. No byte of the file changes.
+    /// `Failed` is returned only if the count of faults has risen, by one. No byte of the file
+    /// changes.
     fn read_at(&mut self, place: u64, into: &mut [u8]) -> Result<usize, Failed>
         ensures cause { HasCause (faults self.old) (faults self.new) result }
         ensures counted { IsCounted (faults self.old) (faults self.new) result }
@@ -70,9 +71,9 @@ pub trait Disk {
 
     /// Writes the bytes at the place, over what is there and past the end.
     ///
-    /// `Failed` comes only if the count of faults has risen, by one. Until a sync, a crash may
-    /// leave any bytes in the range and past the stable end, also after `Failed`. Other bytes stay,
-    /// for a read too.
+    /// `Failed` is returned only if the count of faults has risen, by one. Until the next sync, a
+    /// crash may leave any bytes in the range and past the stable end, even after `Failed`. All other
+    /// bytes stay the same, for reads as well.
     fn write_at(&mut self, place: u64, bytes: &[u8]) -> Result<(), Failed>
         ensures cause { HasCause (faults self.old) (faults self.new) result }
         ensures counted { IsCounted (faults self.old) (faults self.new) result }
@@ -86,10 +87,10 @@ pub trait Disk {
         ensures tears { is_honest self.old
             → MayTear images moment left_since place (length bytes.now) self.old self.new };
 
-    /// Makes what a read gives stable: after it, a crash leaves that and nothing else.
+    /// Makes what a read gives stable: from then on, a crash leaves exactly that.
     ///
-    /// `Failed` comes only if the count of faults has risen, by one. A crash then leaves what it
-    /// might have left before.
+    /// `Failed` is returned only if the count of faults has risen, by one. In that case a crash leaves
+    /// what it might have left before.
     fn sync(&mut self) -> Result<(), Failed>
         ensures cause { HasCause (faults self.old) (faults self.new) result }
         ensures counted { IsCounted (faults self.old) (faults self.new) result }
@@ -101,26 +102,26 @@ pub trait Disk {
         ensures rests { is_honest self.old
             → Rests seen images moment left_since self.old self.new };
 
-    /// An honest disk tells its bytes.
+    /// An honest disk reveals its bytes.
     ghost honest_tells: { (disk : Self) → is_honest disk → tells disk };
 
-    /// This moment is one of those since an earlier one.
+    /// What a crash may leave now counts among what it might have left since an earlier moment.
     ghost counts_now: { (disk : Self) (t : ℕ) (c : List ℕ) → is_honest disk → t ≤ moment disk → images disk c → left_since disk t c };
 
-    /// Since this moment there is no other.
+    /// What a crash might have left since this very moment is what it may leave now.
     ghost only_now: { (disk : Self) (c : List ℕ) → is_honest disk → left_since disk (moment disk) c → images disk c };
 
-    /// What a read gives is an image.
+    /// The bytes that a read gives are one of the images.
     ghost seen_is_image: { (disk : Self) → is_honest disk → images disk (seen disk) };
 }
 
 /// Writes the bytes at the place and syncs: two calls of the disk.
 ///
-/// `Failed` comes only if the disk's count of faults has risen. A call that fails is not tried
-/// again: the count has risen by one then, and not at all after `Ok`. A crash at any moment of it, and
-/// after it, leaves an image of before, with any bytes in the range and past the stable end; other
-/// bytes stay, for a read too. After `Ok` there is one image, which holds the bytes. It takes no
-/// memory.
+/// `Failed` is returned only if the disk's count of faults has risen. A call that fails is not tried
+/// again: the count has risen by one then, and not at all after `Ok`. A crash during or after the call
+/// leaves an earlier image, with any bytes in the range and past the stable end; all other bytes stay
+/// the same, for reads as well. After `Ok` there is exactly one image, which holds the bytes. The call
+/// takes no memory.
 pub fn write_synced<D: Disk>(disk: &mut D, place: u64, bytes: &[u8]) -> Result<(), Failed>
     ensures cause { HasCause (D.faults disk.old) (D.faults disk.new) result }
     ensures counted { IsCounted (D.faults disk.old) (D.faults disk.new) result }

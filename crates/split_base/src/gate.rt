@@ -1,13 +1,18 @@
-// A gate that a walk of a task goes through.
+// A gate that is called as workers begin and end tasks, so that tests can hold a worker up.
 
-/// Is told when a worker begins and ends the walk of a task. Each walk comes between the two
-/// calls. A gate may hold a worker up, and so tests can choose in which order workers go on; it
-/// answers nothing, so no result depends on it.
+/// Is told when the walk of a task begins and when it has ended. The first part of a task is
+/// walked between the two calls, and `leave` is called when the last of its parts has ended;
+/// but a later part that another worker has drawn may be walked before `enter` has returned,
+/// and a part whose result was lost for lack of memory is walked again after `leave`. Neither
+/// call is made for a task that is never handed out because the block's steps have run out, as
+/// when cutting the block's tasks into parts alone takes more than are left. A gate may hold a
+/// worker up, so tests can choose the order in which workers go on. It answers nothing, so no
+/// result depends on it.
 pub trait Gate {
-    /// A worker begins the walk of this task.
+    /// A worker is about to walk the first part of this task.
     fn enter(&self, task: u32);
 
-    /// A worker has ended the walk of this task.
+    /// The last part of this task has ended.
     fn leave(&self, task: u32);
 }
 

@@ -1,11 +1,11 @@
 //! The outside of the program, as traits and in memory: sources and sinks of bytes, links, a port,
 //! a dialer, a disk with what a crash may leave, and a clock, each with a count of its faults.
 //!
-//! A call of each object fails only if the object's count of faults rises in it, by one; a
-//! successful call leaves the count. `read_all` and `write_all` end at the first failed call and
-//! try nothing again. For an honest `Disk` the clauses say what reads give, and what a crash at
-//! any moment of a call may leave. An object in memory fails exactly if it is told to, and no
-//! contract says anything of a `Gate`.
+//! A call fails only if it raises its object's count of faults, by one; a successful call leaves
+//! the count unchanged. `read_all` and `write_all` end at the first failed call and try nothing
+//! again. For an honest `Disk` the clauses say what reads give and what a crash at any moment of a
+//! call may leave. An object in memory fails exactly when it is told to, and no contract says
+//! anything about a `Gate`.
 #![tactic(auto)]
 
 mod asked;

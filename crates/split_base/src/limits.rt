@@ -1,4 +1,5 @@
-// Limits on which several crates rest.
+// Limits that several crates share.
 
-/// The last second, since 1970, that a date can tell: 9999-12-31T23:59:59Z, the end of the year 9999.
+/// The last second, counted from 1970, that a date can express: 9999-12-31T23:59:59Z, the end of
+/// the year 9999.
 pub const LAST_MOMENT: u64 = 253_402_300_799;

@@ -20,6 +20,6 @@ pub use sink::MemSink;
 pub use source::MemSource;
 pub use text::TextSource;
 
-/// There was no memory for what a call makes.
+/// There was no memory for what a call had to make.
 #[derive(Clone, Copy, Debug, PartialEq, Eq)]
 pub struct NoMemory;

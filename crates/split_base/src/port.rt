@@ -1,4 +1,4 @@
-// Ports, which hand out links, as a trait.
+// The trait of ports, which hand out links.
 ghost use Rattle.std.specs.Prelude.{◌≡◌, ◌↔◌, ◌<◌, ◌-◌, ℕ, List, Option, IfOk, IsNone};
 ghost use Rattle.split_base.specs.Faults.{HasCause, IsCounted};
 ghost use Rattle.split_base.specs.Asked.{asked_again};
@@ -6,43 +6,43 @@ ghost use Rattle.split_base.specs.Ports.{Accepts, AnswersNone, TakesBack, handed
 
 use crate::{Failed, Link};
 
-/// Hands out links until it has ended, one after another: the next one only after the last was
-/// given back, and none after it has answered that no link comes.
+/// Hands out links one after another until it has ended: each one only after the last was given
+/// back, and none after it has answered that there are no more.
 pub trait Port {
     ghost use Rattle.split_base.specs.declared.asked.Asked.{Asked};
 
     /// A connection.
     type Link: Link + Drop;
 
-    /// The links still to come; `None` if the object doesn't tell them.
+    /// The links still to come; `None` if the object doesn't reveal them.
     ghost to_come: { Self → Option (List Self.Link) };
 
     /// The links that were given back, each with what it had got by then; `None` if the object
-    /// doesn't tell them.
+    /// doesn't reveal them.
     ghost given_back: { Self → Option (List Self.Link) };
 
-    /// For how many more links that are given back there is a place.
+    /// How many more returned links it has places for.
     ghost places: { Self → ℕ };
 
-    /// How often it was asked to listen, and at which port last.
+    /// How often it has been asked to listen, and at which port most recently.
     ghost asked: { Self → Asked };
 
-    /// How many links were handed out and not given back yet.
+    /// How many links have been handed out and not yet given back.
     ghost out: { Self → ℕ };
 
-    /// No link comes any more.
+    /// No more links will come.
     ghost has_ended: { Self → Type 0 };
 
-    /// It has answered that no link comes.
+    /// It has answered that there are no more links.
     ghost is_over: { Self → Type 0 };
 
     /// How many of its calls have failed, up to 2^64 - 1.
     ghost faults: { Self → ℕ };
 
-    /// Begins to take connections at the port of this number.
+    /// Begins to take connections at the port with this number.
     ///
-    /// `Failed` comes only if the count of faults has risen, by one. `Ok` leaves the count as it
-    /// is.
+    /// `Failed` is returned only if the count of faults has risen, by one. `Ok` leaves the count
+    /// as it is.
     fn listen(&mut self, port: u16) -> Result<(), Failed>
         ensures cause { HasCause (faults self.old) (faults self.new) result }
         ensures count { IsCounted (faults self.old) (faults self.new) result }
@@ -54,11 +54,12 @@ pub trait Port {
         ensures come { to_come self.new ≡ to_come self.old }
         ensures back { given_back self.new ≡ given_back self.old };
 
-    /// The next link, or `None` exactly if the port has ended. A port that has ended stays so.
-    /// It is asked only while each link that it handed out was given back, and not after `None`.
+    /// The next link, or `None` exactly when the port has ended. A port that has ended stays so.
+    /// It may be called only while every link that it handed out has been given back, and not
+    /// after `None`.
     ///
-    /// `Failed` comes only if the count of faults has risen, by one. No link is handed out then.
-    /// `Ok` leaves the count as it is.
+    /// `Failed` is returned only if the count of faults has risen, by one. In that case no link
+    /// is handed out. `Ok` leaves the count as it is.
     fn accept(&mut self) -> Result<Option<Self::Link>, Failed>
         requires none_out { out self.old ≡ 0 }
         requires goes_on { is_over self.old → ⊥ }

@@ -1,4 +1,4 @@
-// Reading to the end and writing whole pieces, over any source and any sink.
+// Reads any source to its end, and writes whole pieces to any sink.
 ghost use Rattle.std.specs.Prelude.{◌≡◌, ◌<◌, ◌≤◌, ◌+◌, ℕ, List, length, take, drop, IfOk, IfSome, OnErr, IsErrOf, Some};
 ghost use Rattle.std.specs.Io.KnownBytes.{Appends, Consumes, IsAtEnd};
 ghost use Rattle.split_base.specs.Faults.{HasCause, HasRisen, IsCounted};
@@ -13,7 +13,7 @@ use std::alloc::Global;
 pub enum ReadStop {
     /// A read failed.
     Fault,
-    /// The source has more bytes than were asked for at most.
+    /// The source has more bytes than the most that were asked for.
     TooLong,
     /// There was no memory for the bytes.
     NoMemory,
@@ -22,14 +22,15 @@ pub enum ReadStop {
 /// Reads to the end, and gives all the bytes, at most `most` of them. Once a read has met the end it
 /// does not read again.
 ///
-/// - `Fault` comes only if the source's count of faults has risen. A failed read ends the
-///   reading: it is not tried again, so the count has risen by one then, and not at all with
-///   every other answer.
-/// - `TooLong` comes exactly if there are more than `most` bytes. Then `most + 1` of them were read.
-/// - `NoMemory` comes only for lack of memory.
+/// - `Fault` is returned only if the source's count of faults has risen. A failed read ends the
+///   reading and is not tried again, so the count has then risen by one; with any other answer it
+///   has not risen.
+/// - `TooLong` is returned exactly when there are more than `most` bytes. In that case `most + 1` of
+///   them have been read.
+/// - `NoMemory` is returned only when memory runs out.
 ///
-/// After each of these the bytes read so far, at most `most + 1`, are lost, and the source goes on
-/// after them.
+/// In each of these cases the bytes read so far, at most `most + 1`, are lost, and the source goes
+/// on after them.
 pub fn read_all<S: Source>(alloc: Global, source: &mut S, most: usize) -> Result<Vec<u8>, ReadStop>
     ensures short { IfOk result (λ bytes. length bytes.items ≤ most) }
     ensures bytes { IfOk result (λ bytes.
@@ -71,12 +72,13 @@ pub fn read_all<S: Source>(alloc: Global, source: &mut S, most: usize) -> Result
     }
 }
 
-/// Writes all the bytes. It takes no memory. If there is no byte, it does not call the sink, and it
-/// never gives the sink a piece of no bytes.
+/// Writes all the bytes. It takes no memory. If there are no bytes, it does not call the sink, and
+/// it never gives the sink an empty piece.
 ///
-/// `Failed` comes only if the sink's count of faults has risen. A first part of the bytes was
-/// written then, and not all of them: so it never comes if there are none. A failed write is not
-/// tried again: the count has risen by one then, and not at all if all was written.
+/// `Failed` is returned only if the sink's count of faults has risen. In that case some of the bytes
+/// from the front were written, but not all of them, so it is never returned if there are none. A
+/// failed write is not tried again, so the count has then risen by one; it has not risen if
+/// everything was written.
 pub fn write_all<S: Sink>(sink: &mut S, bytes: &[u8]) -> Result<(), Failed>
     ensures ok { IfOk result (λ _. Appends (S.written sink.old) (S.written sink.new) bytes.now) }
     ensures prefix { OnErr result ((n : ℕ) × (n < length bytes.now)

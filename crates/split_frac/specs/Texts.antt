@@ -1,4 +1,4 @@
--- Lines and their parts, as those who write them and those who read them know them.
+-- Lines and their parts, as both writers and readers of texts know them.
 use Rattle.std.specs.Prelude.{ℕ, ℤ, List, [], ◌∷◌, ◌++◌, flat_map}
 use Rattle.std.specs.Fmt.{decimal}
 use Rattle.split_frac.specs.Frac.{pair_text}

@@ -10,8 +10,8 @@ use std::cmp::Ordering;
 
 /// The fraction of the value `num / den`, in lowest terms.
 ///
-/// Asks for a numerator between -10^24 and 10^24 and a denominator from 1 to 4,000,000, and
-/// answers a fraction in these ranges.
+/// Asks for a numerator between -10^24 and 10^24 and a denominator from 1 to 4,000,000, and returns
+/// a fraction in these ranges.
 pub fn make(num: i128, den: u64) -> Frac
     requires num { unsigned_abs num ≤ MOST_NUMERATOR }
     requires den_low { 0 < den }
@@ -50,7 +50,7 @@ pub fn sub(a: Frac, b: Frac) -> Frac
     reduced(scaled(a.num, b.den) - scaled(b.num, a.den), a.den * b.den)
 }
 
-/// The order of the values of two fractions, by their cross products.
+/// How the values of two fractions compare, by their cross products.
 ///
 /// Asks for numerators between -10^24 and 10^24 and denominators up to 4,000,000.
 pub fn compare(a: &Frac, b: &Frac) -> Ordering
@@ -89,7 +89,8 @@ pub fn rem(a: &Frac) -> Frac
     }
 }
 
-// A numerator times a denominator: a product too small to overflow a sum of two.
+// A numerator times a denominator: the product is small enough that a sum of two such products
+// can't overflow.
 fn scaled(num: i128, den: u64) -> i128
     requires num { unsigned_abs num ≤ MOST_NUMERATOR }
     requires den { den ≤ MOST_DENOMINATOR }

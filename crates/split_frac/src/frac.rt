@@ -1,9 +1,10 @@
-// The struct of fractions, in a file of its own because it imports every ghost name of its file.
+// The struct of fractions. It has a file of its own because the struct imports every ghost name
+// of its file.
 ghost use Rattle.std.specs.Prelude.{◌≡◌, ℕ, ℤ, pos, ◌<◌, unsigned_abs};
 ghost use Rattle.std.specs.Int.{IsGcd};
 
 /// A fraction in lowest terms: `num / den`, with a denominator above 0 that shares no divisor
-/// above 1 with the numerator. So 0 is `0 / 1`, and each value has one fraction.
+/// above 1 with the numerator. So 0 is `0 / 1`, and each value has exactly one fraction.
 #[derive(Clone, Copy, Debug, PartialEq, Eq)]
 pub struct Frac {
     pub num: i128,

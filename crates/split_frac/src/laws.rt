@@ -1,4 +1,4 @@
-// Laws of fractions: each law is the contract of a function that does nothing.
+// Laws that hold of all fractions. Each is the contract of a function that does nothing.
 ghost use Rattle.std.specs.Prelude.{◌≡◌, ◌↔◌, ℕ, ℤ, pos, ◌+ℤ◌, ◌-ℤ◌, ◌*ℤ◌, ◌<ℤ◌, ◌+◌, ◌*◌, ◌/◌, ◌<◌, ◌≤◌, unsigned_abs};
 ghost use Rattle.std.specs.Int.{◌∣◌};
 ghost use Rattle.std.specs.Ordering.{ordering_reverse};
@@ -6,9 +6,9 @@ ghost use Rattle.std.specs.declared.cmp.Ordering.TheVariants.{Less, Equal};
 ghost use Rattle.split_frac.specs.Frac.{HasValue, IsSum, IsDifference, IsFloor, frac_cmp, fraction_of};
 ghost use Rattle.split_frac.specs.declared.frac.Frac.{Frac};
 
-/// Each value has one fraction: two fractions whose cross products agree are equal, and so are two
-/// with the same numerator and denominator. It is the least of all ways to write its value: its
-/// denominator divides theirs, and its numerator is no greater.
+/// Each value has exactly one fraction: two fractions whose cross products agree are equal, and so are two with the same
+/// numerator and denominator. It is the least of all ways to write its value: its denominator divides theirs, and its
+/// numerator is no greater.
 pub fn value_law()
     ensures value { (a b : Frac) → a.num *ℤ pos b.den ≡ b.num *ℤ pos a.den → a ≡ b }
     ensures pair { (a b : Frac) → fraction_of a ≡ fraction_of b → a ≡ b }
@@ -17,13 +17,14 @@ pub fn value_law()
         → unsigned_abs a.num ≤ unsigned_abs num }
 {}
 
-/// Every quotient has a fraction: there is one of the value of any whole number divided into any number of parts above 0.
+/// Every quotient has a fraction: for any whole number and any number of parts above 0, there is a fraction whose value
+/// is the one divided by the other.
 pub fn quotient_law()
     ensures { (num : ℤ) (den : ℕ) → 0 < den → (a : Frac) × HasValue a num den }
 {}
 
-/// The order is the order of the values, and a total one: it is turned around with its arguments,
-/// equal only at equal fractions, and transitive.
+/// The order is that of the values, and it is a total order: swapping the arguments reverses it, it says "equal" only for
+/// equal fractions, and it is transitive.
 pub fn order_law()
     ensures less { (a b : Frac) → frac_cmp a b ≡ Less
         ↔ ((a.num *ℤ pos b.den) <ℤ (b.num *ℤ pos a.den)) }
@@ -33,9 +34,9 @@ pub fn order_law()
         → frac_cmp a c ≡ Less }
 {}
 
-/// A common multiple of the denominators of two fractions is a multiple of the denominator of
-/// their sum and of their difference, whose numerators are at most what the two numerators over
-/// that multiple add up to. Callers of `add` and `sub` show by it that the result keeps its range.
+/// A common multiple of the denominators of two fractions is a multiple of the denominator of their sum and of their
+/// difference, whose numerators are at most what the two numerators over that multiple add up to. Callers of `add` and
+/// `sub` use this to show that the result stays in its range.
 pub fn sum_law()
     ensures sum { (a b c : Frac) (multiple : ℕ) → a.den ∣ multiple → b.den ∣ multiple → IsSum a b c
         → c.den ∣ multiple }
@@ -51,7 +52,7 @@ pub fn sum_law()
         ≤ unsigned_abs a.num * (multiple / a.den) + unsigned_abs b.num * (multiple / b.den) }
 {}
 
-/// Two fractions that are whole numbers of k-ths have a sum and a difference of so many k-ths.
+/// Two fractions that are whole numbers of k-ths have a sum and a difference of this many k-ths.
 pub fn parts_law()
     ensures sum { (a b c : Frac) (x y : ℤ) (k : ℕ) → HasValue a x k → HasValue b y k → IsSum a b c
         → HasValue c (x +ℤ y) k }
@@ -59,7 +60,7 @@ pub fn parts_law()
         → IsDifference a b c → HasValue c (x -ℤ y) k }
 {}
 
-/// A fraction has one floor.
+/// A fraction has exactly one floor.
 pub fn floor_law()
     ensures { (a : Frac) (x y : ℤ) → IsFloor a x → IsFloor a y → x ≡ y }
 {}

@@ -1,8 +1,7 @@
 //! Exact fractions in lowest terms: value, sum, difference, order, floor and text; and how lines of numbers and names are written.
 //!
-//! Each result has exactly the value of the sum, the difference or the remainder, within the ranges
-//! of the limits. Fractions of one value are equal (`value_law`), and their order is that of the
-//! values (`order_law`).
+//! Each result has exactly the value of the sum, the difference or the remainder, within the ranges of the limits. Fractions with
+//! the same value are equal (`value_law`), and their order is that of the values (`order_law`).
 #![tactic(auto)]
 
 mod arithmetic;

@@ -1,4 +1,4 @@
-// Lines, as they are appended to a text.
+// Appends lines to a text.
 ghost use Rattle.std.specs.Prelude.{◌≡◌, ◌++◌, map, IfSome, OnOk, string_bytes};
 ghost use Rattle.split_frac.specs.Texts.{line, word_line};
 
@@ -6,8 +6,8 @@ use crate::numbers::{Number, Numbers};
 use split_base::NoMemory;
 use std::fmt;
 
-/// Appends a line: the content as `Display` writes it, and LF. For a line of several parts, the content is
-/// `format_args!("..")`.
+/// Appends a line: the content as `Display` writes it, and then a line feed. For a line of several parts,
+/// the content is `format_args!("..")`.
 ///
 /// `NoMemory`: the text could not grow.
 #[tactic(auto, unfolding(crate::specs::Texts::line))]
@@ -21,7 +21,7 @@ pub fn push_line<D: fmt::Display + Drop>(text: &mut String, content: D) -> Resul
     }
 }
 
-/// Appends a line of a word and numbers, as `rooms 1 3 2` and `prices 2101/3 100 100`.
+/// Appends a line of a word and numbers, such as `rooms 1 3 2` or `prices 2101/3 100 100`.
 ///
 /// `NoMemory`: the text could not grow.
 pub fn push_numbers<T: Number>(text: &mut String, word: &str, numbers: &[T]) -> Result<(), NoMemory>

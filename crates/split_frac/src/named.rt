@@ -1,4 +1,4 @@
-// A name under its number.
+// A name with its number in front, as people read it.
 ghost use Rattle.std.specs.Prelude.{Some};
 ghost use Rattle.split_frac.specs.Texts.{numbered_name};
 

@@ -1,4 +1,4 @@
-// Numbers one after another.
+// Writes numbers one after another, each after a space.
 ghost use Rattle.std.specs.Prelude.{◌≡◌, ℕ, List, map, refl, Some};
 ghost use Rattle.std.specs.Fmt.{decimal, signed_decimal};
 ghost use Rattle.split_frac.specs.Frac.{frac_text};

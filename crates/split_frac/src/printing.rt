@@ -1,4 +1,4 @@
-// Exact fractions as text.
+// Writes exact fractions as text.
 ghost use Rattle.std.specs.Prelude.{◌≡◌, IfOk, Some};
 ghost use Rattle.std.specs.String.{string_bytes};
 ghost use Rattle.split_frac.specs.Frac.{frac_text};
@@ -9,7 +9,7 @@ use std::alloc::Global;
 use std::fmt;
 
 /// In decimal: the numerator, with a `-` if it is below 0, and, unless the denominator is 1, a `/` and
-/// the denominator, as `-3/2` and `5`.
+/// the denominator, such as `-3/2` or `5`.
 impl fmt::Display for Frac {
     ghost output = { λ a. Some (frac_text a) };
 

@@ -33,11 +33,11 @@ is_listing name field = is_named name field && lists_close field.1
 abbrev pub has_option : List ℕ → List Pair → Bool
 has_option name fields = list_any (is_listing name) fields
 
--- the length that a value tells; one past the limit counts as one more than it
+-- the length that a value gives; one past the limit counts as one more than it
 abbrev pub number_of : List ℕ → Stated
 number_of value = unwrap_or (option_map Bytes (number_in (MAX_BODY + 1) value)) Bad
 
--- the length that a head tells: two fields or more tell none
+-- the length that a head gives: two fields or more tell none
 abbrev pub stated_of : List Pair → Stated
 stated_of fields =
     if nat_lt 1 (count_of (codes "content-length") fields) then Bad

@@ -61,7 +61,7 @@ verb_of method =
 abbrev pub key_from : List ℕ → List ℕ
 key_from value = if length value == 64 then value else replicate 64 0
 
--- the key that the first x-key tells
+-- the key that the first x-key gives
 abbrev pub key_of : List Pair → Option (List ℕ)
 key_of fields = option_map key_from (value_of (codes "x-key") fields)
 
@@ -69,7 +69,7 @@ key_of fields = option_map key_from (value_of (codes "x-key") fields)
 abbrev pub has_bad_host : ℕ → ℕ → Bool
 has_bad_host minor hosts = if minor == 1 then not (hosts == 1) else nat_lt 1 hosts
 
--- the refusal for the length that a head tells or leaves out
+-- the refusal for the length that a head gives or leaves out
 abbrev pub stated_by : Verb → Stated → Option ℕ
 stated_by verb Bad = Some BAD_LENGTH
 stated_by Post Absent = Some LENGTH_MISSING
@@ -89,7 +89,7 @@ first_refusal verb minor fields =
 abbrev pub refusal_of_head : HeadText → Option ℕ
 refusal_of_head text = first_refusal (verb_of text.method) text.minor text.fields
 
--- the body's length: the one that the head tells, if nothing is refused
+-- the body's length: the one that the head gives, if nothing is refused
 abbrev pub length_by : Option ℕ → Stated → ℕ
 length_by None (Bytes count) = count
 length_by None Absent = 0

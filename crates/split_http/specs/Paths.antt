@@ -7,6 +7,6 @@ use Rattle.http_uri.specs.declared.uri.Uri.{Uri}
 abbrev pub HasPath : List ℕ → List ℕ → Type 0
 HasPath target path = (uri : Uri) × Spells target uri × (path ≡ uri_path uri) × (0 < length path)
 
--- the path of the target, or none if it is no URI or has no path
+-- the path of the target, or none if it isn't a URI or has no path
 abbrev pub IsPathOf : List ℕ → Option (List ℕ) → Type 0
 IsPathOf target found = MatchOption found ((path : List ℕ) → ¬ (HasPath target path)) (λ path. HasPath target path)

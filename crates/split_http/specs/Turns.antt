@@ -14,7 +14,7 @@ use Rattle.http_heads.specs.declared.limits.TheConstants.{MAX_HEAD, ROOM}
 use Rattle.split_http.specs.Pieces.{AppendsPart, AppendsProperPart}
 use Rattle.split_http.specs.Heads.{IsHead, HasNoHead, IsHeadOf, text_of, verb_of}
 
--- these are the bytes, if the object tells them
+-- these are the bytes, if the object reveals them
 abbrev pub IsToldAs : Option (List ℕ) → List ℕ → Type 0
 IsToldAs None bytes = ⊤
 IsToldAs (Some known) bytes = bytes ≡ known
@@ -55,7 +55,7 @@ IsTaken old new turns.End = ⊥
 IsTaken old new turns.LinkFault = ⊥
 IsTaken old new (turns.NoMemory verb) = (new ≡ old) × HasHeadOf verb old
 
--- what the bytes that the carry held and those read after them are, and what the carry holds then, whatever the link tells: the head at the front is
+-- what the bytes that the carry held and those read after them are, and what the carry holds then, whatever the link reveals: the head at the front is
 -- taken off, and otherwise nothing is; a read fails only if the parser asks for more of the bytes held
 abbrev pub CarrySays : List ℕ → List ℕ → HeadTurn → Type 0
 CarrySays bytes new (turns.Head head) = (h : RequestHead) × IsHead h × IsHeadOf (text_of h) head × (bytes ≡ print_request h ++ new)

@@ -10,6 +10,9 @@ use http_heads::Carry;
 use split_base::{Failed, Link, Sink, write_all};
 use std::alloc::Global;
 
+/// The interim line, by which a host asks for a body (RFC 9110, section 15.2.1).
+pub const INTERIM: &[u8] = b"HTTP/1.1 100 Continue\r\n\r\n";
+
 /// What comes where the body of a head is.
 #[derive(Debug, Drop)]
 pub enum BodyTurn {
@@ -31,14 +34,14 @@ pub enum BodyTurn {
 /// Reads the body after a head and takes it off the link's bytes. If the head asks for it, the
 /// interim line is written to the link first.
 ///
-/// - `Refused` comes exactly if the head is refused. Nothing is read or written then.
-/// - `Cut` comes exactly if the input ends within the body.
-/// - `LinkFault` comes for one failed call, which one of the link's two counts of faults tells: a
+/// - `Refused` is returned exactly when the head is refused. Nothing is read or written then.
+/// - `Cut` is returned exactly when the input ends within the body.
+/// - `LinkFault` comes for one failed call, which one of the link's two counts of faults shows: a
 ///   write of the interim line, if it is due, of which some is missing then, before anything was
-///   read; or a read after the whole line, while less than the body was read. So nothing is read
-///   if no body is due, and a failed call is not tried again.
-/// - `NoMemory` comes only if memory ran out for a body of one byte or more, and before anything is
-///   read or written.
+///   read; or a read after the whole line, while less than the body was read. So nothing is read if
+///   no body is due, and a failed call is not tried again.
+/// - `NoMemory` is returned only if memory ran out for a body of one byte or more, and before
+///   anything is read or written.
 ///
 /// Each answer but `LinkFault` leaves both counts as they are. No write is empty.
 /// After anything but a body the connection takes no further request.
@@ -98,11 +101,7 @@ fn write_interim<S: Sink>(sink: &mut S, due: bool) -> Result<(), Failed>
 fn interim(due: bool) -> &'static [u8]
     ensures { result.now ≡ interim_of due }
 {
-    if due {
-        b"HTTP/1.1 100 Continue\r\n\r\n"
-    } else {
-        b""
-    }
+    if due { INTERIM } else { b"" }
 }
 
 // Moves the first bytes of the carry to the end of the body.

@@ -12,14 +12,14 @@ use http_heads::{count_named, has_name, named_value, same_word, whole_number};
 use httparse::is_space_or_tab;
 use httparse::spans::HeaderSpan;
 
-// What a head tells of its body's length.
+// What a head gives of its body's length.
 #[derive(Clone, Copy)]
 pub(crate) enum Stated {
     // No Content-Length.
     Absent,
     // Two of them or more, or a value that is not one or more digits.
     Bad,
-    // So many bytes; any number past the limit counts as one more than it.
+    // This many bytes; any number past the limit counts as one more than it.
     Bytes(u32),
 }
 
@@ -103,7 +103,7 @@ pub(crate) fn any_closes(bytes: &[u8], fields: &[HeaderSpan], name: &[u8]) -> bo
     fields.iter().any(|field| lists(bytes, field, name))
 }
 
-// The number of bytes that a Content-Length tells.
+// The number of bytes that a Content-Length gives.
 fn length_told(value: &[u8]) -> Stated
     ensures { result ≡ number_of value.now }
 {
@@ -113,7 +113,7 @@ fn length_told(value: &[u8]) -> Stated
     }
 }
 
-// What the head tells of its body's length.
+// What the head gives of its body's length.
 pub(crate) fn stated_length(bytes: &[u8], fields: &[HeaderSpan]) -> Stated
     requires { All (IsHeaderWithin (length bytes.now)) fields.now }
     ensures { result ≡ stated_of (fields_at bytes.now fields.now) }

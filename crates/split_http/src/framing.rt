@@ -33,7 +33,7 @@ pub enum Framing {
 /// Where the request at the front of these bytes ends, by the rule by which `next_head` and `next_body` read it. So a caller that has the
 /// bytes of a client can tell when its request is whole, before a link reads any of them. Nothing is kept, and no memory is taken.
 ///
-/// - `Request` comes exactly if a head is at the front, as `next_head` finds it.
+/// - `Request` is returned exactly when a head is at the front, as `next_head` finds it.
 /// - `NoHead` comes only if none is there, whatever follows; so as soon as 8,192 bytes hold none.
 /// - `Open` comes only for fewer bytes than these, and only while the parser asks for more of them.
 pub fn framing_of(bytes: &[u8]) -> Framing

@@ -31,10 +31,10 @@ pub enum Verb {
 pub struct Head {
     /// The method.
     pub verb: Verb,
-    /// The path of the target; `None` exactly if `http` refuses the target or it has no path.
+    /// The path of the target; `None` exactly when `http` refuses the target or it has no path.
     pub path: Option<PathText>,
-    /// The value of the first field `x-key`; 64 zero bytes, which are nobody's key, if it has
-    /// another length. `None` exactly if there is no such field.
+    /// The value of the first field `x-key`; 64 zero bytes, which are nobody's key, if it has another
+    /// length. `None` exactly when there is no such field.
     pub key: Option<[u8; 64]>,
     /// The first of the five refusals of a head, in the order of their numbers: `BAD_HOST`,
     /// `FRAMING`, `BAD_LENGTH`, `LENGTH_MISSING`, `BODY_TOO_LARGE`.
@@ -129,7 +129,7 @@ fn key_bytes(value: &[u8]) -> [u8; 64]
     key
 }
 
-// The key that the first x-key tells.
+// The key that the first x-key gives.
 fn key(bytes: &[u8], fields: &[HeaderSpan]) -> Option<[u8; 64]>
     requires { All (IsHeaderWithin (length bytes.now)) fields.now }
     ensures { result ≡ key_of (fields_at bytes.now fields.now) }
@@ -158,8 +158,8 @@ fn closes(bytes: &[u8], fields: &[HeaderSpan], minor: u8) -> bool
     minor == 0 || any_closes(bytes, fields, b"connection")
 }
 
-// What the head at the front of the bytes says, whose parts are at these spans. `NoMemory` comes
-// only if there was no memory for the path.
+// What the head at the front of the bytes says, whose parts are at these spans. `NoMemory` is
+// returned only if there was no memory for the path.
 pub(crate) fn head_at(
     alloc: Global,
     bytes: &[u8],

@@ -34,17 +34,16 @@ pub enum HeadTurn {
 /// that the link has left; what is answered and what is left depends only on them, and not on the
 /// pieces in which they come.
 ///
-/// - `BadHead` comes exactly if bytes are left, and no first part of them is the head of a
+/// - `BadHead` is returned exactly when bytes are left, and no first part of them is the head of a
 ///   request as `httparse` reads it (RFC 9112), of at most 8,192 bytes and with at most 64 fields.
-/// - `End` comes exactly if nothing is left.
+/// - `End` is returned exactly when nothing is left.
 /// - `LinkFault` comes for one failed read, which the link's count of faults tells. Each other answer
 ///   leaves that count as it is. A read is made only while the parser asks for more of what the carry
 ///   holds, or has no room for all its fields: nothing is read while a whole head waits there, and
 ///   if the parser tells that no head can come, `BadHead` is answered at once. That a head has 65
 ///   to 256 fields is told at its end; of more fields it tells nothing.
-/// - `NoMemory` comes only if memory ran out and a head is at the front. That head
-///   stays there. Its method is told, so that a reply to HEAD can leave its body out
-///   (`HttpReply::bodiless`).
+/// - `NoMemory` is returned only if memory ran out and a head is at the front. That head stays there.
+///   Its method is told, so that a reply to HEAD can leave its body out (`HttpReply::bodiless`).
 ///
 /// But for a head that was taken off, the carry holds what it held and then what was read. After
 /// anything but a head the connection takes no further request.

@@ -1,4 +1,4 @@
-// Laws of the cut of messages, of heads and of replies.
+// Laws about how messages are cut, about heads and about replies, which callers may rely on.
 ghost use Rattle.std.specs.Prelude.{◌≡◌, ◌≤◌, ◌++◌, ℕ, List, Some, Option, IsSome, IsTrue};
 ghost use Rattle.http.specs.StatusCode.{reason_phrase};
 ghost use Rattle.httparse.specs.Grammar.{RequestHead, print_request};

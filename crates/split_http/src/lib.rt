@@ -20,7 +20,7 @@ mod replies;
 mod request_heads;
 mod routes;
 
-pub use bodies::{BodyTurn, next_body};
+pub use bodies::{BodyTurn, INTERIM, next_body};
 pub use framing::{Framing, framing_law, framing_of};
 pub use head::{Head, Verb};
 pub use heads::{HeadTurn, next_head};

@@ -174,7 +174,7 @@ fn write_parts<'a, S: Sink>(
 /// type and length of its body, `Allow` and `Connection: close` if they are due, an empty
 /// line, and the body. It takes no memory, and makes no empty write.
 ///
-/// `Failed` comes only if the sink's count of faults has risen. A first part of the reply was
+/// `Failed` is returned only if the sink's count of faults has risen. A first part of the reply was
 /// written then, and at least one byte of it is missing.
 pub fn write_reply<S: Sink>(sink: &mut S, reply: &HttpReply<'_>) -> Result<(), Failed>
     requires status { IsSome (reason_phrase reply.now.status) }

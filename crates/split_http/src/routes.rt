@@ -68,7 +68,7 @@ pub struct Routes {
 impl Routes {
     /// All routes of the host.
     ///
-    /// `NoMemory` comes only if memory ran out.
+    /// `NoMemory` is returned only if memory ran out.
     pub fn new(alloc: Global) -> Result<Routes, NoMemory> {
         match make_router(alloc) {
             Ok(router) => Ok(Routes { router }),
@@ -79,8 +79,8 @@ impl Routes {
     /// Where a request with this method and path leads; a target without a path leads nowhere. It
     /// takes no memory.
     ///
-    /// - `NoRoute` comes exactly if no route has the path.
-    /// - `Method` comes exactly if a route has the path, but not the method.
+    /// - `NoRoute` is returned exactly when no route has the path.
+    /// - `Method` is returned exactly when a route has the path, but not the method.
     pub fn find(&self, verb: Verb, path: Option<&PathText>) -> Result<Route, RouteFault>
         ensures { IsRouted verb (option_map (λ p. p.now) path.entry) result }
     {
@@ -119,7 +119,7 @@ fn make_router(alloc: Global) -> Result<Router<(Place, Allow)>, InsertError>
     Ok(router)
 }
 
-// A path that the router doesn't know is no route.
+// A path that the router doesn't know isn't a route.
 fn find_endpoint(router: &Router<(Place, Allow)>, path: &str) -> Option<(Place, Allow)>
     requires { router.now ≡ route_rows }
     ensures { result ≡ endpoint_of path.now }

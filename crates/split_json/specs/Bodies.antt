@@ -15,7 +15,7 @@ use Rattle.split_json.specs.Deadlines.{deadline_of}
 use Rattle.split_json.specs.Reading.{field_text, head_of_object, field_or_name, ◌>>=◌}
 use Rattle.split_json.specs.Rules.{json_of, number_in, numbers_in, passing, place_in}
 
--- the second that a JSON value names as a deadline, if it is a text that does
+-- the second that a JSON value names as a deadline, if it is a text that names one
 abbrev pub deadline_in : Data → Option ℕ
 deadline_in d = option_and_then deadline_of (as_str d)
 
@@ -32,12 +32,12 @@ creation_of_object body = do
   tag ← field_or_name field.Tag tag_in body
   Ok (record { title = head.title; members = head.members; items = head.items; facts = head.facts; deadline = deadline; tag = tag })
 
--- the creation that a JSON value holds, or what is wrong; no value means that the body is no JSON
+-- the creation that a JSON value holds, or what is wrong; no value means that the body isn't JSON
 abbrev pub creation_of : Option Data → Result CreationView BodyFault
 creation_of None = Err Json
 creation_of (Some body) = result_map_both (λ creation. creation) Field (creation_of_object body)
 
--- the creation that a body holds, or what is wrong with the body: it is no JSON, or this is its first broken field
+-- the creation that a body holds, or what is wrong with the body: it isn't JSON, or this is its first broken field
 abbrev pub creation_in : List ℕ → Result CreationView BodyFault
 creation_in body = creation_of (json_of body)
 
@@ -45,7 +45,7 @@ creation_in body = creation_of (json_of body)
 abbrev pub field_in : {A : Type 0} → FieldName → (Data → Option A) → Data → Option A
 field_in name form body = option_and_then form (get (field_text name) body)
 
--- the turn, and the values or the place, each if it is there and has its form, while a JSON value that is no object has none of them
+-- the turn, and the values or the place, each if it is there and has its form, while a JSON value that isn't an object has none of them
 unfoldable pub bid_body_of : Data → BidBody
 bid_body_of body = record {
   turn = field_in field.Turn number_in body;
@@ -53,11 +53,11 @@ bid_body_of body = record {
   place = field_in field.Place place_in body;
 }
 
--- what a JSON value holds of a bid, where no value means that the body is no JSON, and a field is never a fault here
+-- what a JSON value holds of a bid, where no value means that the body isn't JSON, and a field is never a fault here
 abbrev pub bid_answer : Option Data → Result BidBody BodyFault
 bid_answer None = Err Json
 bid_answer (Some body) = Ok (bid_body_of body)
 
--- what the body of a bid or of a withdrawal holds, or that it is no JSON
+-- what the body of a bid or of a withdrawal holds, or that it isn't JSON
 abbrev pub bid_body_in : List ℕ → Result BidBody BodyFault
 bid_body_in body = bid_answer (json_of body)

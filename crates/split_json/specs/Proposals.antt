@@ -24,7 +24,7 @@ goods_alone kind.Fares = None
 abbrev pub goods_in : Data → Option Kind
 goods_in d = option_and_then goods_alone (kind_in d)
 
--- a test whether there is a member with this number, and the member has bid
+-- a test of whether there is a member with this number, and the member has bid
 abbrev pub has_bid : List (Option Bid) → ℕ → Bool
 has_bid bids member = nat_le 1 member && is_some (slice_index_or bids (member - 1) None)
 
@@ -42,12 +42,12 @@ goods_case_of_object body = do
   kind ← field_or_name field.Kind goods_in body
   case_of_object body
 
--- the case of goods that a JSON value holds, or what is wrong; no value means that the body is no JSON
+-- the case of goods that a JSON value holds, or what is wrong; no value means that the body isn't JSON
 abbrev pub goods_answer : Option Data → Result CaseData BodyFault
 goods_answer None = Err Json
 goods_answer (Some body) = result_map_both (λ case. case) Field (goods_case_of_object body)
 
--- the case of goods that a body holds, or what is wrong with the body: it is no JSON, or this is its first broken field
+-- the case of goods that a body holds, or what is wrong with the body: it isn't JSON, or this is its first broken field
 abbrev pub goods_case_in : List ℕ → Result CaseData BodyFault
 goods_case_in body = goods_answer (json_of body)
 
@@ -58,12 +58,12 @@ proposal_of_object body = do
   owners ← field_or_name field.Owners (owners_in (length case.items) case.bids) body
   Ok (case, owners)
 
--- the case of goods and the owners that a JSON value holds, or what is wrong; no value means that the body is no JSON
+-- the case of goods and the owners that a JSON value holds, or what is wrong; no value means that the body isn't JSON
 abbrev pub proposal_answer : Option Data → Result (CaseData × List ℕ) BodyFault
 proposal_answer None = Err Json
 proposal_answer (Some body) = result_map_both (λ proposal. proposal) Field (proposal_of_object body)
 
--- the case of goods and the owner of each good that a body holds, or what is wrong with the body: it is no JSON, or this is its first broken field
+-- the case of goods and the owner of each good that a body holds, or what is wrong with the body: it isn't JSON, or this is its first broken field
 abbrev pub proposal_in : List ℕ → Result (CaseData × List ℕ) BodyFault
 proposal_in body = proposal_answer (json_of body)
 

@@ -65,7 +65,7 @@ field_or_name name rule body = ok_or (option_and_then rule (get (field_text name
 abbrev pub held_or : {A : Type 0} → A → FieldName → (Data → Option A) → Data → Result A FieldName
 held_or usual name rule body = if is_some (get (field_text name) body) then field_or_name name rule body else Ok usual
 
--- the next test, of what passed the first, while the name of a broken field stays
+-- the next test, applied to what passed the first one; the name of a broken field stays
 infixl 10 ◌>>=◌
 abbrev pub ◌>>=◌ : {A B : Type 0} → Result A FieldName → (A → Result B FieldName) → Result B FieldName
 Ok x >>= next = next x
@@ -146,12 +146,12 @@ case_of_object body = do
   bids ← field_or_name field.Bids (bids_in head.facts) body
   Ok (record { title = head.title; members = head.members; items = head.items; facts = head.facts; bids = bids })
 
--- the case that a JSON value holds, or what is wrong; no value means that the body is no JSON
+-- the case that a JSON value holds, or what is wrong; no value means that the body isn't JSON
 abbrev pub answer_of : Option Data → Result CaseData BodyFault
 answer_of None = Err Json
 answer_of (Some body) = result_map_both (λ case. case) Field (case_of_object body)
 
--- the case that a body holds, or what is wrong with the body: it is no JSON, or this is its first broken field
+-- the case that a body holds, or what is wrong with the body: it isn't JSON, or this is its first broken field
 abbrev pub case_in : List ℕ → Result CaseData BodyFault
 case_in body = answer_of (json_of body)
 

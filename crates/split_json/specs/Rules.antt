@@ -1,5 +1,5 @@
--- What the fields of a body hold, by form: texts, whole numbers and lists. Which texts are names is said by `body_fields`, and which of
--- these make checked facts and bids by `bid_rules`.
+-- What the fields of a body hold, by form: texts, whole numbers and lists. `body_fields` says which texts are names, and `bid_rules` which of
+-- these fields make checked facts and bids.
 use Rattle.std.specs.Prelude.{ℕ, ◌&&◌, nat_le, Bool, if◌then◌else◌, List, [], ◌∷◌, length, codes, bytes_eq, Option, Some, None, is_some, option_map, option_and_then}
 use Rattle.std.specs.Str.{is_utf8}
 use Rattle.serde_json.specs.Data.{Data, Items, no_items, item}
@@ -40,7 +40,7 @@ kind_in d = option_and_then kind_named (as_str d)
 abbrev pub name_in : Data → Option (List ℕ)
 name_in d = option_and_then (passing is_name) (as_str d)
 
--- a test whether the number is in the range
+-- a test of whether the number is in the range
 abbrev pub is_within : ℕ → ℕ → ℕ → Bool
 is_within low high n = nat_le low n && nat_le n high
 
@@ -48,7 +48,7 @@ is_within low high n = nat_le low n && nat_le n high
 abbrev pub whole_number : Data → Option ℕ
 whole_number d = option_and_then as_u64 (as_number d)
 
--- the number that a JSON value is, if it is whole and at most so much
+-- the number that a JSON value is, if it is whole and at most this much
 abbrev pub whole_in : ℕ → Data → Option ℕ
 whole_in most d = option_and_then (passing (λ n. nat_le n most)) (whole_number d)
 
@@ -86,7 +86,7 @@ list_in rule least most d = option_and_then (each rule) (elements least most d)
 abbrev pub names_in : ℕ → ℕ → Data → Option (List (List ℕ))
 names_in = list_in name_in
 
--- the numbers that a JSON array lists, if there are at most so many
+-- the numbers that a JSON array lists, if there are at most this many
 abbrev pub numbers_in : ℕ → Data → Option (List ℕ)
 numbers_in = list_in number_in 0
 

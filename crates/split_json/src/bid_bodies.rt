@@ -12,10 +12,11 @@ use serde_json::Value;
 use split_base::NoMemory;
 use std::alloc::Global;
 
-/// The body of a bid or of a withdrawal that a body of JSON holds, or `Json` if it is no JSON text (RFC 8259) that `serde_json` reads.
+/// The body of a bid or of a withdrawal that a body of JSON holds, or `Json` if it isn't a JSON text (RFC 8259) that `serde_json`
+/// reads.
 ///
-/// A field is `None` exactly if it is absent or of another form, so all are if the body is no object: a turn is a whole number below
-/// 2^32, values are at most 24 of these, and a place is a whole number below 2^8. `NoMemory`: memory ran out.
+/// A field is `None` exactly when it is absent or of another form, so all of them are if the body isn't an object: a turn is a
+/// whole number below 2^32, values are at most 24 of these, and a place is a whole number below 2^8. `NoMemory`: memory ran out.
 pub fn read_bid(alloc: Global, body: &[u8]) -> Result<Result<BidBody, BodyFault>, NoMemory>
     ensures bid { IfOk result (λ answer. answer ≡ bid_body_in body.now) }
     ensures json { IfOk result (λ answer.

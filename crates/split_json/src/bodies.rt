@@ -1,4 +1,4 @@
-// The JSON value of a body.
+// Parses the JSON value of a body.
 ghost use Rattle.std.specs.Prelude.{◌≡◌, IfOk, option_map};
 ghost use Rattle.serde_json.specs.View.{view};
 ghost use Rattle.split_json.specs.Rules.{json_of};
@@ -7,7 +7,7 @@ use serde_json::Value;
 use split_base::NoMemory;
 use std::alloc::Global;
 
-// The value that the bytes are as JSON, or none. `NoMemory`: memory ran out.
+// The JSON value that the bytes spell, or none. `NoMemory`: memory ran out.
 pub(crate) fn parsed(alloc: Global, body: &[u8]) -> Result<Option<Value>, NoMemory>
     ensures { IfOk result (λ value. option_map view value ≡ json_of body.now) }
 {

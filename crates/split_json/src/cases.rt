@@ -16,9 +16,9 @@ use std::alloc::Global;
 
 /// The case that a body of JSON holds, or what is wrong with the body.
 ///
-/// `Json` if the body is no JSON text (RFC 8259) that `serde_json` reads: no UTF-8, deeper than 127 levels, or a number that
-/// no `f64` holds. Else `Field` with the first field whose rule is broken, in the order of `FieldName`. Fields of other names are
-/// ignored, and if a key is repeated, the last one counts. `NoMemory`: memory ran out.
+/// `Json` if the body isn't a JSON text (RFC 8259) that `serde_json` reads: it isn't UTF-8, is nested more than 127 levels deep,
+/// or has a number that no `f64` holds. Otherwise `Field` with the first field whose rule is broken, in the order of `FieldName`.
+/// Fields of other names are ignored, and if a key is repeated, the last one counts. `NoMemory`: memory ran out.
 pub fn read_case(alloc: Global, body: &[u8]) -> Result<Result<CaseInput, BodyFault>, NoMemory>
     ensures case { IfOk result (λ answer.
         result_map_both case_data_of (λ fault. fault) answer ≡ case_in body.now) }

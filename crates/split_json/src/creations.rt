@@ -19,9 +19,9 @@ use std::alloc::Global;
 
 /// The creation that a body of JSON holds, or what is wrong with the body.
 ///
-/// `Json` if the body is no JSON text (RFC 8259) that `serde_json` reads. Otherwise `Field` with the first field whose rule is broken: those
-/// of a case before the bids, in the order of `FieldName`, then the deadline, a timestamp that `jiff` reads and that is not before 1970, of
-/// which a fraction of a second is dropped, and the tag. What is read keeps the rules of a creation. `NoMemory`: memory ran out.
+/// `Json` if the body is not a JSON text (RFC 8259) that `serde_json` reads. Otherwise `Field` with the first field whose rule is broken:
+/// those of a case before the bids, in the order of `FieldName`, then the deadline, a timestamp that `jiff` reads, which is not before
+/// 1970 and loses any fraction of a second, and the tag. What is read keeps the rules of a creation. `NoMemory`: memory ran out.
 pub fn read_creation(alloc: Global, body: &[u8]) -> Result<Result<Creation, BodyFault>, NoMemory>
     ensures creation { IfOk result (λ answer.
         result_map_both creation_view (λ fault. fault) answer ≡ creation_in body.now) }
@@ -39,7 +39,7 @@ pub fn read_creation(alloc: Global, body: &[u8]) -> Result<Result<Creation, Body
     }
 }
 
-// A deadline is a text with a date, not a number.
+// The deadline that the value gives, which is a text with a date and not a number.
 fn deadline_in(value: &Value) -> Option<u64>
     ensures second { result ≡ deadline_in (view value.now) }
     ensures last { IfSome result (λ second. second ≤ LAST_DEADLINE) }

@@ -1,5 +1,5 @@
-// The head of a case: its fields before the bids, in the order in which they are tested. Facts are checked as soon as a field of
-// theirs is read, with good values in place of those that are still to come, so that a fault is that of the field read last.
+// The head of a case: its fields before the bids, in the order in which they are tested. Facts are checked as soon as one of
+// their fields is read, with good values in place of those still to come, so that a fault must be due to the field read last.
 ghost use Rattle.std.specs.Prelude.{◌≡◌, ◌≤◌, length, map, replicate, IfOk};
 ghost use Rattle.std.specs.Result.{result_map_both};
 ghost use Rattle.serde_json.specs.View.{view};
@@ -18,7 +18,7 @@ use bid_rules::{Facts, Fares, Goods, Rent};
 use body_fields::{FieldName, Name};
 use serde_json::Value;
 
-// The head that the body gives, or the first field of it whose rule is broken.
+// The head that the body gives, or its first field whose rule is broken.
 #[tactic(auto, unfolding(crate::specs::Reading::head_of_object))]
 pub(crate) fn head_of_object(body: &Value) -> Result<Head, FieldName>
     ensures head { result_map_both shown_head (λ name. name) result
@@ -34,7 +34,7 @@ pub(crate) fn head_of_object(body: &Value) -> Result<Head, FieldName>
     }
 }
 
-// The number of members is tested before the rooms are read, since there must be just as many of them.
+// The number of members is tested before the rooms are read, since there must be exactly as many of them.
 #[tactic(auto, unfolding(crate::specs::Reading::rent_head))]
 fn rent_head(body: &Value, title: Name) -> Result<Head, FieldName>
     ensures head { result_map_both shown_head (λ name. name) result

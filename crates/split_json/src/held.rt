@@ -1,4 +1,5 @@
-// One function a field, or a kind of field: the value that the body holds by the field's rule, or the field's name.
+// One function for each field or kind of field: the value that the body holds by the field's rule, or the field's
+// name.
 ghost use Rattle.std.specs.Prelude.{◌≡◌, ◌≤◌, length, map, option_map, IfOk};
 ghost use Rattle.std.specs.Result.{result_map_both};
 ghost use Rattle.serde_json.specs.Find.{get};
@@ -41,7 +42,7 @@ pub(crate) fn title_of(body: &Value) -> Result<Name, FieldName>
         .ok_or(FieldName::Title)
 }
 
-// The names that the field has, at least and at most so many.
+// The names that the field has, whose number must be in this range.
 pub(crate) fn names_of<const N: usize>(
     body: &Value,
     name: FieldName,

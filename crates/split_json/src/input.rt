@@ -4,7 +4,7 @@ use bid_rules::limits::{ITEM_ROOM, MEMBER_ROOM};
 use bid_rules::{Bid, Facts};
 use body_fields::Name;
 
-/// What a case is about: all that its body has before the bids. The head that a body gives has facts without fault.
+/// What a case is about: everything in its body before the bids. The head that a body gives has facts without fault.
 #[derive(Drop)]
 pub struct Head {
     /// What the case is called.

@@ -1,4 +1,4 @@
-// What holds of the definitions of reading, for all bodies: each law is the contract of a function that does nothing.
+// Laws about the definitions of reading, which hold for all bodies. Each is the contract of a function that does nothing.
 ghost use Rattle.std.specs.Prelude.{◌≡◌, ◌≤◌, ◌↔◌, ℕ, List, Ok, Some};
 ghost use Rattle.serde_json.specs.Data.{Data};
 ghost use Rattle.arrayvec.specs.ArrayVec.{ArrayVec};
@@ -12,19 +12,18 @@ use bid_rules::limits::{
 };
 use bid_rules::{Bid, Facts};
 
-/// Whatever the body, a case that is read from it has facts and bids without fault.
+/// A case that is read from any body has facts and bids without fault.
 pub fn case_in_law()
     ensures { (body : List ℕ) (case : CaseData) → case_in body ≡ Ok case → IsReady case }
 {}
 
-/// Whatever the value, a head that an object gives has facts without fault, and names for all members and items.
+/// A head that is read from any JSON object has facts without fault, and names for all members and items.
 pub fn head_law()
     ensures { (body : Data) (head : HeadData) → head_of_object body ≡ Ok head → IsReadyHead head }
 {}
 
-/// The form of a bid refuses none that the rules allow. Under checked facts a whole number is a bid exactly if it is a checked
-/// place, and a list of whole numbers below 2^32 exactly if they are checked values or points. The facts are asked to be checked since
-/// the form has the room of checked facts alone: a bid of more entries or a greater place is refused before the rule is asked.
+/// The form of a bid refuses none that the rules allow. Under checked facts a whole number is a bid exactly when it is a checked place, and a list of whole numbers below 2^32 exactly when they are checked values or points. The facts have to
+/// be checked, since the form only has room for what checked facts can need: a bid with more entries or a greater place is refused before the rule is asked.
 pub fn field_rules_law()
     ensures places { (facts : Facts) (value : Data) (place : ℕ) → IsCheckedFacts facts
         → whole_number value ≡ Some place → (bid_in facts value ≡ Some (Bid.Place place))
@@ -35,8 +34,8 @@ pub fn field_rules_law()
         ↔ IsCheckedBid facts (Bid.Values values) }
 {}
 
-/// Why a fault of facts that are not read whole is that of the field read last: the values in place of those to come are good. So a rent and goods are refused after the members, and goods after the goods, exactly if their number is out of its
-/// limits, and fares before the legs exactly if a count or the flag fall is.
+/// Why a fault of facts that have only been read in part is that of the field read last: the values that stand in for the fields to come are good. So a rent and goods are refused after the members, and goods after the goods, exactly when
+/// their number is out of its limits, and fares before the legs exactly when a count or the flag fall is.
 pub fn field_fault_law()
     ensures rent { (members : ℕ) → IsCheckedFacts (rent_facts members MOST_RENT)
         ↔ (FEWEST_MEMBERS ≤ members) × (members ≤ MOST_MEMBERS) }

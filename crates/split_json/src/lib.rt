@@ -1,8 +1,7 @@
 //! Bodies of JSON: the case, the proposal, the creation or the bid that one holds, or the first thing wrong with it.
 //!
-//! A body is no JSON, or its first broken field is named, or each of its fields is read. Facts and
-//! bids that were read have no fault. A fault of facts is that of the field that was read last
-//! (`field_fault_law`).
+//! A body isn't JSON, or its first broken field is named, or each of its fields is read. Facts and bids that were
+//! read have no fault. A fault in the facts is that of the field that was read last (`field_fault_law`).
 #![tactic(auto)]
 
 mod bid_bodies;

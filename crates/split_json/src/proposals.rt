@@ -22,8 +22,8 @@ use std::alloc::Global;
 
 /// The case of goods that a body of JSON holds, or what is wrong with the body.
 ///
-/// The refusals are those of `read_case`, but any kind other than goods breaks `kind`, which comes first. `NoMemory` comes if memory ran
-/// out.
+/// The refusals are those of `read_case`, but any kind other than goods breaks `kind`, which comes first. `NoMemory` is returned if memory
+/// ran out.
 pub fn read_goods(alloc: Global, body: &[u8]) -> Result<Result<CaseInput, BodyFault>, NoMemory>
     ensures case { IfOk result (λ answer.
         result_map_both case_data_of (λ fault. fault) answer ≡ goods_case_in body.now) }
@@ -44,9 +44,9 @@ pub fn read_goods(alloc: Global, body: &[u8]) -> Result<Result<CaseInput, BodyFa
 /// The case of goods and the proposed owner of each good, by the number of the member, that a body of JSON holds, or what is wrong with
 /// the body.
 ///
-/// `Json` if the body is no JSON text (RFC 8259) that `serde_json` reads. Otherwise `Field` with the first field whose rule is broken: those
-/// of a case, in the order of `FieldName`, in which a kind other than goods breaks `kind`, and then the owners: a list with an entry per
-/// good, each the number of a member who has bid. `NoMemory`: memory ran out.
+/// `Json` if the body isn't a JSON text (RFC 8259) that `serde_json` reads. Otherwise `Field` with the first field whose rule is broken:
+/// those of a case, in the order of `FieldName`, in which a kind other than goods breaks `kind`, and then the owners: a list with an entry
+/// per good, each the number of a member who has bid. `NoMemory`: memory ran out.
 pub fn read_proposal(
     alloc: Global,
     body: &[u8],

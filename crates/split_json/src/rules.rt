@@ -48,7 +48,7 @@ pub(crate) fn name_in(value: &Value) -> Option<Name>
     Name::from(text).ok()
 }
 
-// The whole number that a value is, at most so great.
+// The whole number that a value is, if it is no greater than this.
 fn whole_in(value: &Value, most: u64) -> Option<u64>
     ensures { result ≡ whole_in most (view value.now) }
 {
@@ -72,14 +72,14 @@ pub(crate) fn place_in(value: &Value) -> Option<u8>
     Some(place as u8)
 }
 
-// Both ends belong to the range.
+// Whether the number is in the range, both ends included.
 fn is_within(low: usize, high: usize, number: usize) -> bool
     ensures { result ≡ is_within low high number }
 {
     low <= number && number <= high
 }
 
-// The elements of a list that has at least and at most so many.
+// The elements of a list, if their number is in this range.
 pub(crate) fn elements(value: &Value, least: usize, most: usize) -> Option<&[Value]>
     ensures values { option_map (λ values. map view values.now) result
         ≡ elements least most (view value.now) }

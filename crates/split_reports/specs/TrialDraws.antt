@@ -11,11 +11,11 @@ seed number = number % DRAW_MODULUS
 abbrev pub next : ℕ → ℕ
 next draw = draw * DRAW_FACTOR % DRAW_MODULUS
 
--- the draw that comes so many draws after one
+-- the draw that comes this many draws after one
 unfoldable pub after : ℕ → ℕ → ℕ
 after zero draw = draw
 after (suc n) draw = next (after n draw)
 
--- so many weights, from one draw each
+-- this many weights, from one draw each
 unfoldable pub weights_behind : ℕ → ℕ → List ℕ
 weights_behind draw n = map (λ j. 1 + after (j + 1) draw % WEIGHTS) (range_with_len 0 n)

@@ -32,7 +32,7 @@ impl Draws {
         self.last
     }
 
-    // Draws so many weights, each from 1 to `WEIGHTS`.
+    // Draws this many weights, each from 1 to `WEIGHTS`.
     pub(crate) fn weights(&mut self, count: u8) -> Values
         requires { count ≤ ITEM_ROOM }
         ensures weights { result.items ≡ weights_behind self.old.last count }

@@ -1,4 +1,4 @@
-// What holds of reports, for all cases: each law is the contract of a function that does nothing.
+// Laws about reports, which hold for all cases. Each is the contract of a function that does nothing.
 ghost use Rattle.std.specs.Prelude.{◌≡◌, ℕ, List, Ok};
 ghost use Rattle.bid_rules.specs.declared.cases.Case.{Case};
 ghost use Rattle.bid_rules.specs.Facts.{case_of};

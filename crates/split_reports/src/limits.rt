@@ -1,4 +1,5 @@
-// What a trial draws, and how many of each. Each number is here and nowhere else.
+// What a trial draws, and how many of each. Each of these numbers stands only
+// here.
 
 /// A draw is below this number, which is a prime.
 pub const DRAW_MODULUS: u32 = 2_147_483_647;

@@ -18,6 +18,25 @@ pub struct Names<'a> {
     pub items: &'a ArrayVec<Name, ITEM_ROOM>,
 }
 
+impl<'a> Names<'a> {
+    /// What a text calls by these names.
+    pub fn new(
+        title: &'a Name,
+        members: &'a ArrayVec<Name, MEMBER_ROOM>,
+        items: &'a ArrayVec<Name, ITEM_ROOM>,
+    ) -> Names<'a>
+        ensures title { result.title.now ≡ title.now }
+        ensures members { result.members.now ≡ members.now }
+        ensures items { result.items.now ≡ items.now }
+    {
+        Names {
+            title,
+            members,
+            items,
+        }
+    }
+}
+
 /// The number and the name that goes with it.
 pub fn named(names: &[Name], number: u8) -> Named<'_>
     requires low { 1 ≤ number }

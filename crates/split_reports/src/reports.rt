@@ -21,7 +21,7 @@ use std::alloc::Global;
 /// and goods. Lines end with LF.
 ///
 /// The lists of the input have the counts of its facts, the facts and bids have no fault, the case is the one that they make,
-/// and the division is the solver's for that case. `NoMemory` comes only if memory runs out.
+/// and the division is the solver's for that case. `NoMemory` is returned only if memory runs out.
 pub fn report(
     alloc: Global,
     input: &CaseInput,
@@ -35,18 +35,14 @@ pub fn report(
         IsReport (case_data_of input.now) case.now division.now text.items) }
 {
     case_law();
-    let names = Names {
-        title: &input.title,
-        members: &input.members,
-        items: &input.items,
-    };
+    let names = Names::new(&input.title, &input.members, &input.items);
     named_report(alloc, &names, case, division)
 }
 
 /// The report that people read, of a case whose names are given apart from its facts and bids.
 ///
-/// There is a name for each member and each item of the case, and the division is the solver's for it. `NoMemory` comes only if
-/// memory runs out.
+/// There is a name for each member and each item of the case, and the division is the solver's for it. `NoMemory` is returned
+/// only if memory runs out.
 pub fn named_report(
     alloc: Global,
     names: &Names<'_>,

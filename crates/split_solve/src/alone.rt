@@ -14,7 +14,6 @@ use certificates::Division;
 use nash_search::{GoodsDivision, OverLimit, limit_law, search_alone};
 use rent_maximin::solve_rent;
 use shapley_core::solve_fares;
-use split_base::NoMemory;
 use std::alloc::Global;
 
 /// What `solve` gives, by the calling thread alone: no handle is taken and no thread is started.
@@ -38,10 +37,8 @@ pub fn solve_alone(
         Ok(case) => case,
         Err(missing) => return Err(SolveFault::Void { missing }),
     };
-    match lone_division(alloc, &case) {
-        Ok(division) => Ok((case, division)),
-        Err(fault) => Err(fault),
-    }
+    let division = lone_division(alloc, &case)?;
+    Ok((case, division))
 }
 
 // The best division of a case.
@@ -52,10 +49,7 @@ fn lone_division(alloc: Global, case: &Case) -> Result<Division, SolveFault>
     match case {
         Case::Rent(case) => Ok(Division::Rent(solve_rent(case))),
         Case::Goods(case) => end_of(searched(case)),
-        Case::Fares(case) => match solve_fares(alloc, case) {
-            Ok(division) => Ok(Division::Fares(division)),
-            Err(NoMemory) => Err(SolveFault::NoMemory),
-        },
+        Case::Fares(case) => Ok(Division::Fares(solve_fares(alloc, case)?)),
     }
 }
 

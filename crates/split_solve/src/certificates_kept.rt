@@ -1,4 +1,4 @@
-// The certificates of goods that are kept, so that one that is asked for again is not written anew.
+// The certificates of goods that are kept, so that one that is asked for again need not be written again.
 ghost use Rattle.std.specs.Prelude.{◌≡◌, IfOk, IfSome};
 ghost use Rattle.bid_rules.specs.declared.cases.Case.TheVariants as cases;
 ghost use Rattle.bid_rules.specs.Facts.{IsValidCase};
@@ -60,7 +60,7 @@ impl KeptSearches {
         None
     }
 
-    // Keeps the certificate of a case, in place of the oldest ones where there is no room beside them.
+    // Keeps the certificate of a case, in place of the oldest ones if there is no room for it beside them.
     fn keep_certificate(&mut self, alloc: Global, case: &GoodsCase, text: &[u8])
         requires { IsGoodsText case.now text.now }
     {
@@ -76,7 +76,7 @@ impl KeptSearches {
         }
     }
 
-    // Forgets the oldest certificates until one of so many bytes has room.
+    // Forgets the oldest certificates until one of this many bytes has room.
     fn make_room(&mut self, bytes: usize) {
         for _ in 0..MOST_KEPT_SEARCHES {
             if self.certificates.is_empty() || self.has_room(bytes) {
@@ -86,13 +86,13 @@ impl KeptSearches {
         }
     }
 
-    // Whether a certificate of so many bytes has room beside those that are kept.
+    // Whether a certificate of this many bytes has room beside those that are kept.
     fn has_room(&self, bytes: usize) -> bool {
         self.certificates.len() < MOST_KEPT_SEARCHES
             && self.kept_bytes().saturating_add(bytes) <= MOST_KEPT_BYTES
     }
 
-    // How many bytes the certificates have that are kept.
+    // How many bytes the kept certificates have.
     fn kept_bytes(&self) -> usize {
         let mut bytes: usize = 0;
         for kept in self.certificates.iter() {
@@ -102,7 +102,7 @@ impl KeptSearches {
     }
 }
 
-// The same bytes once more, if there is memory for them.
+// A copy of the bytes, if there is memory for it.
 fn copy_of(alloc: Global, bytes: &[u8]) -> Option<Vec<u8>>
     ensures { IfSome result (λ copy. copy.items ≡ bytes.now) }
 {
@@ -115,8 +115,8 @@ fn copy_of(alloc: Global, bytes: &[u8]) -> Option<Vec<u8>>
 
 /// What `write_certificate` gives, by the kept certificates: one of goods that is among them is copied, and another is kept.
 ///
-/// They never change the text, since each is the canonical certificate of its whole case. Memory that is refused for keeping is no fault.
-/// `NoMemory` comes only when memory runs out.
+/// They never change the text, since each is the canonical certificate of its whole case. Memory that is refused for keeping is not a
+/// fault. `NoMemory` is returned only when memory runs out.
 pub fn certificate_once<R: Threads + Sync, G: Gate + Sync>(
     solver: &mut Solver<'_, R, G>,
     case: &Case,

@@ -1,11 +1,11 @@
-// The searches of goods that are kept, so that a case that comes again is not searched anew.
+// The searches of goods that are kept, so that a case that comes again need not be searched again.
 ghost use Rattle.std.specs.Prelude.{◌≡◌, IfSome};
 ghost use Rattle.split_solve.specs.Searches.{IsSearched};
 
 use crate::certificates_kept::KeptCertificate;
 use crate::limits::MOST_KEPT_SEARCHES;
 use arrayvec::ArrayVec;
-use bid_rules::limits::{MemberList, ValueTable, Values};
+use bid_rules::limits::ValueTable;
 use bid_rules::{Goods, GoodsCase};
 use nash_search::{GoodsDivision, OverLimit};
 use std::alloc::Global;
@@ -54,7 +54,7 @@ pub struct KeptSearches {
 }
 
 impl KeptSearches {
-    /// None yet. It takes no memory.
+    /// Nothing is kept yet. This takes no memory.
     pub fn new(alloc: Global) -> Self {
         KeptSearches {
             searches: Vec::new(alloc),
@@ -88,7 +88,7 @@ impl KeptSearches {
     }
 }
 
-// The same case once more.
+// A copy of the case.
 pub(crate) fn same_case(case: &GoodsCase) -> GoodsCase
     ensures { result ≡ case.now }
 {
@@ -98,18 +98,18 @@ pub(crate) fn same_case(case: &GoodsCase) -> GoodsCase
             goods: case.facts.goods,
             limit: case.facts.limit,
         },
-        who: same_numbers(&case.who),
+        who: ArrayVec::try_from(case.who.as_slice()).unwrap(),
         values: same_table(&case.values),
     }
 }
 
-// The same end of a search once more.
+// A copy of the end of a search.
 fn same_end(found: &Result<GoodsDivision, OverLimit>) -> Result<GoodsDivision, OverLimit>
     ensures { result ≡ found.now }
 {
     match found {
         Ok(division) => Ok(GoodsDivision {
-            owners: same_numbers(&division.owners),
+            owners: ArrayVec::try_from(division.owners.as_slice()).unwrap(),
             pair: division.pair,
             steps: division.steps,
         }),
@@ -117,35 +117,13 @@ fn same_end(found: &Result<GoodsDivision, OverLimit>) -> Result<GoodsDivision, O
     }
 }
 
-// The same numbers once more.
-fn same_numbers<const N: usize>(numbers: &ArrayVec<u8, N>) -> ArrayVec<u8, N>
-    ensures { result ≡ numbers.now }
-{
-    let mut copy = ArrayVec::new();
-    for number in numbers.as_slice() {
-        copy.push(*number);
-    }
-    copy
-}
-
-// The same points once more, by player.
+// A copy of the points, by player.
 fn same_table(table: &ValueTable) -> ValueTable
     ensures { result ≡ table.now }
 {
     let mut copy = ArrayVec::new();
     for values in table.as_slice() {
-        copy.push(same_values(values));
-    }
-    copy
-}
-
-// The same points once more, by good.
-fn same_values(values: &Values) -> Values
-    ensures { result ≡ values.now }
-{
-    let mut copy = ArrayVec::new();
-    for value in values.as_slice() {
-        copy.push(*value);
+        copy.push(ArrayVec::try_from(values.as_slice()).unwrap());
     }
     copy
 }

@@ -1,4 +1,4 @@
-// What holds of the answers, for all facts and bids: the law is the contract of a function that does nothing.
+// A law about the answers, which holds for all facts and bids. It is the contract of a function that does nothing.
 ghost use Rattle.std.specs.Prelude.{◌≡◌, ◌≢◌, All, Err, IfSome, List, Ok, Option, Result, length};
 ghost use Rattle.bid_rules.specs.declared.bids.Bid.{Bid};
 ghost use Rattle.bid_rules.specs.declared.bids.Facts.{Facts};
@@ -13,8 +13,8 @@ use bid_rules::case_law;
 use certificates::division_law;
 use nash_search::limit_law;
 
-/// Unless memory runs out, facts and bids have one end: a case with its best division, or one fault. So neither the number of workers nor
-/// their order changes it. Checked facts and bids have one division, too (`one_end`).
+/// Unless memory runs out, facts and bids have exactly one end: a case with its best division, or one fault. So neither the number of
+/// workers nor their order changes it. Checked facts and bids have one division, too (`one_end`).
 pub fn solve_law()
     ensures one_case { (facts : Facts) (bids : List (Option Bid)) (a b : Case × Division)
         → IsSolved facts bids (Ok a) → IsSolved facts bids (Ok b) → a.0 ≡ b.0 }

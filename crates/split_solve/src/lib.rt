@@ -1,8 +1,8 @@
 //! One call for all kinds: the case that facts and bids make, and its best division.
 //!
-//! Bids are missing, or the limit is passed, exactly where the definitions say so. Except where
-//! memory runs out, checked facts and bids have one end (`solve_law`). So neither the number of
-//! workers nor a kept search changes the answer. `solve_alone` gives it without threads, and
+//! Bids are missing, or the limit is passed, exactly when the definitions say so. Unless memory
+//! runs out, checked facts and bids have exactly one end (`solve_law`). So neither the number
+//! of workers nor a kept search changes the answer. `solve_alone` gives it without threads, and
 //! `certificate_once` keeps the last certificates of goods.
 #![tactic(auto)]
 

@@ -1,4 +1,4 @@
-// One call for all kinds: the case of facts and bids, and its best division, kept or found anew.
+// One call for all kinds: the case of facts and bids, and its best division, kept from before or newly found.
 ghost use Rattle.std.specs.Prelude.{◌≡◌, ℕ, ◌<◌, ◌≤◌, ◌↔◌, All, Err, IfSome, Ok, length};
 ghost use Rattle.bid_rules.specs.declared.cases.Case.TheVariants as case;
 ghost use Rattle.bid_rules.specs.declared.cases.Missing.{Missing};
@@ -25,19 +25,31 @@ use std::thread::Threads;
 /// Why facts and bids have no division.
 #[derive(Debug, Drop, PartialEq, Eq)]
 pub enum SolveFault {
-    /// They make no case, since these members have not bid: on a rent if any is missing, on goods and fares if all are.
+    /// The facts and bids make no case, since these members have not bid: for a rent if any bid is missing, for goods and fares if all
+    /// are.
     Void { missing: Missing },
-    /// They make a case of goods whose step count is above its limit, which is this one.
+    /// The facts and bids make a case of goods whose step count is above this limit of the case.
     OverLimit { limit: u32 },
-    /// They make a case of fares, and memory ran out.
+    /// The facts and bids make a case of fares, but memory ran out.
     NoMemory,
+}
+
+impl From<NoMemory> for SolveFault {
+    ghost use Rattle.std.specs.Prelude.{◌≡◌};
+    ghost use Rattle.split_solve.specs.declared.solving.SolveFault.TheVariants.{NoMemory};
+
+    ghost from_gives = { λ _ fault. fault ≡ NoMemory };
+
+    fn from(_: NoMemory) -> Self {
+        SolveFault::NoMemory
+    }
 }
 
 /// The case that checked facts and checked bids make, and its best division.
 ///
-/// The bids are by member, `None` where one has not bid. The division has the maximin prices for a rent, the greatest Nash welfare
-/// for goods and the Shapley values for fares, with the tie rules of each. Goods are searched by 1 to `MOST_WORKERS` workers, whose number
-/// never changes the answer.
+/// There is an entry in `bids` for each member, which is `None` if the member has not bid. The division has the maximin prices for a rent,
+/// the greatest Nash welfare for goods and the Shapley values for fares, with the tie rules of each. Goods are searched by 1 to
+/// `MOST_WORKERS` workers, whose number never changes the answer.
 pub fn solve<R: Threads + Sync, G: Gate + Sync>(
     alloc: Global,
     rt: &R,
@@ -66,9 +78,9 @@ pub fn solve<R: Threads + Sync, G: Gate + Sync>(
     solve_once(&mut solver, facts, bids)
 }
 
-/// What `solve` gives, by the kept searches: a case of goods that is among them is not searched anew, and the search of another is kept.
+/// What `solve` gives, by the kept searches: a case of goods that is among them is not searched again, and the search of another is kept.
 ///
-/// They never change the answer. Memory that is refused for keeping is no fault.
+/// They never change the answer. Memory that is refused for keeping is not a fault.
 pub fn solve_once<R: Threads + Sync, G: Gate + Sync>(
     solver: &mut Solver<'_, R, G>,
     facts: &Facts,
@@ -89,10 +101,8 @@ pub fn solve_once<R: Threads + Sync, G: Gate + Sync>(
         Ok(case) => case,
         Err(missing) => return Err(SolveFault::Void { missing }),
     };
-    match best_division(solver, &case) {
-        Ok(division) => Ok((case, division)),
-        Err(fault) => Err(fault),
-    }
+    let division = best_division(solver, &case)?;
+    Ok((case, division))
 }
 
 // The best division of a case, by the kept searches.
@@ -106,14 +116,11 @@ fn best_division<R: Threads + Sync, G: Gate + Sync>(
     match case {
         Case::Rent(case) => Ok(Division::Rent(solve_rent(case))),
         Case::Goods(case) => end_of(search_once(solver, case)),
-        Case::Fares(case) => match solve_fares(solver.means.alloc, case) {
-            Ok(division) => Ok(Division::Fares(division)),
-            Err(NoMemory) => Err(SolveFault::NoMemory),
-        },
+        Case::Fares(case) => Ok(Division::Fares(solve_fares(solver.means.alloc, case)?)),
     }
 }
 
-// What the search of a case of goods finds: what is kept of it, and otherwise a new search, which is then kept.
+// What the search of a case of goods finds: the kept answer, or otherwise that of a new search, which is then kept.
 fn search_once<R: Threads + Sync, G: Gate + Sync>(
     solver: &mut Solver<'_, R, G>,
     case: &GoodsCase,

@@ -70,13 +70,13 @@ Finishes tells outside (Read reads) status =
     IsSound outside.input
     → IfSome outside.input.bytes_before (λ bytes. (ending : Result (List ℕ) Stop) → CallsFor reads bytes ending → (status ≡ (owed ending).status) ⊎ (ReadingTakesMemory reads × (status ≡ 9)))
 
--- if no write failed, the status is 2 exactly if the words are no row, and otherwise the one that their command finishes with
+-- if no write failed, the status is 2 exactly when the words are not a row, and otherwise the one that their command finishes with
 abbrev pub IsComplete : {D P L C X M : Type 0} → OutsideTells D P L C X M → Outside D P C X → List (List ℕ) → ℕ → Type 0
 IsComplete tells outside words status =
     IsSound outside.output → (AreNoRow words × (status ≡ 2)) ⊎ ((command : Command) × Names words command × Finishes tells outside command status)
 
 -- What holds of the words of `serve`, for each ending whose line was due. If the file was not opened, that line has status 4, 7 or 9, and neither the
--- port nor the clock was called. Otherwise the headline holds of so many links, at most COUNT, as `IsOpened` says: the line has status 0 and tells
+-- port nor the clock was called. Otherwise the headline holds of this many links, at most COUNT, as `IsOpened` says: the line has status 0 and tells
 -- their number, and no call of the port failed; or it has status 8, because one failed. If that was the call to listen, there are no links.
 pub record IsServed {D P L C X M : Type 0} (tells : OutsideTells D P L C X M) (outside : Outside D P C X) (port count status : ℕ) : Type 0 where
   pub ending : Result (List ℕ) Stop

@@ -19,7 +19,7 @@ use Rattle.split_top.specs.declared.command.Command.{Command}
 use Rattle.split_top.specs.declared.command.Command.TheVariants.{Init, Serve, Dump, Trial, Audit, Read}
 use Rattle.trial_runs.specs.Texts.{IsTrialText}
 
--- what the objects of the outside tell, each by its trait: the disk, the port with its links, the clock, and the dialer with its links
+-- what the objects of the outside reveal, each by its trait: the disk, the port with its links, the clock, and the dialer with its links
 pub record OutsideTells (D P L C X M : Type 0) : Type 1 where
   pub disk : DiskTells D
   pub port : PortTells P L
@@ -48,7 +48,7 @@ Came tells outside (Trial number workers) ending = UsesNothing outside × Tries 
 Came tells outside (Audit port asked) ending = UsesDialer outside × Audits tells.dialer tells.dialled outside.dialer outside.dialer_now port asked ending
 Came tells outside (Read command) ending = UsesInput outside × EndsOn command outside.input ending
 
--- the ending: the words are no row of the command table, and nothing was used; or that of their command
+-- the ending: the words aren't a row of the command table, and nothing was used; or that of their command
 abbrev pub Comes : {D P L C X M : Type 0} → OutsideTells D P L C X M → Outside D P C X → List (List ℕ) → Result (List ℕ) Stop → Type 0
 Comes tells outside words ending =
     (AreNoRow words × UsesNothing outside × (ending ≡ Err BadWords))

@@ -18,7 +18,7 @@ IsNoNumber least most word = (number : ℕ) → IsNumber least most word number 
 abbrev pub IsSecret : List ℕ → List ℕ → Type 0
 IsSecret word secret = decode_sized word SECRET_SIZE ≡ Ok secret
 
--- the word is no secret
+-- the word isn't a secret
 abbrev pub IsNoSecret : List ℕ → Type 0
 IsNoSecret word = (secret : List ℕ) → IsSecret word secret → ⊥
 
@@ -30,6 +30,6 @@ is_key_digit digit = (nat_le 48 digit && nat_le digit 57) || (nat_le 97 digit &&
 abbrev pub IsKey : List ℕ → List ℕ → Type 0
 IsKey word key = (word ≡ key) × (length word ≡ KEY_DIGITS) × AllPass is_key_digit word
 
--- the word is no key
+-- the word isn't a key
 abbrev pub IsNoKey : List ℕ → Type 0
 IsNoKey word = (key : List ℕ) → IsKey word key → ⊥

@@ -1,4 +1,4 @@
-// What holds of words and of whole runs, for all of them: each law is the contract of a function that does nothing.
+// Laws that hold for all words of a command and for all whole runs. Each is the contract of a function that does nothing.
 ghost use Rattle.std.specs.Prelude.{◌≡◌, ◌⊎◌, ℕ, List, Result, Some};
 ghost use Rattle.command_results.specs.Endings.{owed};
 ghost use Rattle.command_results.specs.ObjectUse.{Ends, HasWritten, IsSound, ObjectUse};

@@ -14,7 +14,7 @@ use host_commands::{dump, headline_law, make, serve_port};
 use host_journal::events_law;
 use input_commands::{input_answer_law, input_ending};
 use search_workers::{Means, Workers};
-use split_base::{Clock, Dial, Disk, Failed, Gate, NoMemory, Port, Sink, Source, write_all};
+use split_base::{Clock, Dial, Disk, Failed, Gate, Port, Sink, Source, write_all};
 use std::alloc::Global;
 use std::thread::Threads;
 use trial_runs::trial_text;
@@ -199,8 +199,5 @@ fn trial<R: Threads + Sync, G: Gate + Sync>(
 ) -> Result<Text, Stop>
     ensures { Tries number (ending_of result) }
 {
-    match trial_text(means, workers, number) {
-        Ok(text) => Ok(Text::Kept(text)),
-        Err(NoMemory) => Err(Stop::NoMemory),
-    }
+    Ok(Text::Kept(trial_text(means, workers, number)?))
 }

@@ -1,4 +1,4 @@
-// A division that is checked by its certificate.
+// Checks a division by its certificate.
 ghost use Rattle.std.specs.Prelude.{OnOk};
 ghost use Rattle.bid_rules.specs.Facts.{IsValidCase};
 ghost use Rattle.certificates.specs.Division.{IsDivisionOf};
@@ -14,7 +14,7 @@ use std::alloc::Global;
 // Writes the certificate of a division in memory, reads it back and judges it. The verdict is yes: certificate text gets one verdict, and
 // all rules hold for a canonical certificate.
 //
-// `NoMemory` comes only if memory runs out.
+// `NoMemory` is returned only if memory runs out.
 pub(crate) fn check_division(
     alloc: Global,
     case: &Case,

@@ -1,7 +1,7 @@
 //! The trial of a number: three cases drawn from it, solved, their certificates judged, and the summary of them.
 //!
-//! Proved is the verdict on the canonical certificates; no clause asks that they be read back. Only
-//! the lack of memory is refused.
+//! The verdict on the canonical certificates is proved; no clause requires that they are read back. A trial can
+//! fail only for lack of memory.
 #![tactic(auto)]
 
 mod checking;

@@ -9,7 +9,7 @@ abbrev pub latest : List ℕ → ℕ
 latest [] = 0
 latest (good ∷ moved) = good
 
--- whether the player has given the good up, by the good that they gave up last, or 0 if none
+-- whether the player has given the good up, by the good that they gave up last, or 0 if there is none
 abbrev pub is_gone : GoodsCase → ℕ → ℕ → ℕ → Bool
 is_gone case player last good = not (last == 0) && may_move case player good && ((good == last) || moves_before case good last)
 

@@ -56,7 +56,7 @@ EndsBy case richer rich poor last parts share =
 abbrev pub parts_moved : List ℕ → ℕ → ℕ → ℕ → ℕ → ℕ
 parts_moved moved last parts share good = cond (good == last) share (cond (has_moved moved good) parts 0)
 
--- player 1's parts of a good then
+-- player 1's parts of a good at that point
 abbrev pub first_share : GoodsCase → List ℕ → ℕ → ℕ → ℕ → ℕ → ℕ
 first_share case moved last parts share good =
     cond (first_owner case good == 1) (parts - parts_moved moved last parts share good) (parts_moved moved last parts share good)

@@ -1,5 +1,5 @@
--- The adjusted winner's division (Brams and Taylor 1996): each good goes to who gives it more points, then goods move from the richer player to the poorer in
--- rising ratio until both have the same points.
+-- The adjusted winner's division (Brams and Taylor 1996): each good goes to the player who gives it more points, then goods move from the richer player to the
+-- poorer in rising ratio until both have the same points.
 use Rattle.std.specs.Prelude.{◌≡◌, ℕ, ◌-◌, ◌*◌, ◌≤◌, List, map, min, max, cond, nat_lt, nat_le, ◌==◌, ◌&&◌, ◌||◌, Bool, true, ◌⊎◌}
 use Rattle.std.specs.List.{range_with_len}
 use Rattle.bid_rules.specs.declared.goods.GoodsCase.{GoodsCase}
@@ -22,7 +22,8 @@ lesser_points case good = min (points case 1 good) (points case 2 good)
 abbrev pub may_move : GoodsCase → ℕ → ℕ → Bool
 may_move case player good = (first_owner case good == player) && nat_lt 0 (lesser_points case good)
 
--- whether the first good moves before the second: the ratio of its greater points to its lesser is lower, or it is the same and the number of the good is lower
+-- whether the first good moves before the second: the ratio of its greater points to its lesser ones is lower, or it is the same and the number of the good is
+-- lower
 abbrev pub moves_before : GoodsCase → ℕ → ℕ → Bool
 moves_before case good other =
     nat_lt (greater_points case good * lesser_points case other) (greater_points case other * lesser_points case good)

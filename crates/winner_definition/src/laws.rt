@@ -1,4 +1,4 @@
-// What holds of divisions between two players, for all cases: each law is the contract of a function that does nothing.
+// Laws about divisions between two players, which hold for all cases. Each is the contract of a function that does nothing.
 ghost use Rattle.std.specs.Prelude.{◌≡◌, ◌*◌, ◌<◌, ◌≤◌, ℕ, List};
 ghost use Rattle.bid_rules.specs.declared.goods.GoodsCase.{GoodsCase};
 ghost use Rattle.bid_rules.specs.Fractions.{Fraction};
@@ -10,8 +10,7 @@ ghost use Rattle.winner_definition.specs.Shown.{AreShares, AreTotals, IsShown};
 ghost use Rattle.winner_definition.specs.Winners.{IsMoved, IsWinner, first_owner};
 ghost use Rattle.bid_rules.specs.declared.limits.TheConstants.{PAIR};
 
-/// Weights show that a division is efficient, against divisions into however many parts; if it is equitable too, they show that it
-/// is envy-free.
+/// Weights show that a division is efficient, compared with divisions into any number of parts; if it is equitable too, they show that it is envy-free.
 pub fn weights_law()
     ensures efficient { (case : GoodsCase) (parts : ℕ) (held : List ℕ) (first second : ℕ)
         → IsDivision case parts held → AreWeights case parts held first second
@@ -42,7 +41,7 @@ pub fn shown_law()
 {}
 
 /// Proper shares, a total that both players have and weights, as they are printed, show a division that is equitable, envy-free and efficient and splits at
-/// most one good, whatever rule made it. What is shown keeps these rules.
+/// most one good, whatever rule made it. Conversely, such a division satisfies these rules.
 pub fn printed_law()
     ensures fair { (case : GoodsCase) (shares : List Fraction) (total : Fraction) (first second : ℕ)
         → IsValidGoodsCase case → player_count case ≡ PAIR → AreProperShares case shares
@@ -60,8 +59,8 @@ pub fn printed_law()
         → SupportShares case shares first second }
 {}
 
-/// What the rule comes to as it is carried out, good by good, is the division by the rule, which names the last good alone. Who is richer while goods move
-/// was so before.
+/// Carrying out the rule good by good leads to the division by the rule, which names only the last good. Whoever is richer while goods move was richer from
+/// the start.
 pub fn procedure_law()
     ensures winner { (case : GoodsCase) (parts : ℕ) (held : List ℕ) (first second : ℕ)
         → IsOutcome case parts held first second → IsWinner case parts held first second }

@@ -1,11 +1,11 @@
 //! The rule of adjusted winner for two players (Brams and Taylor 1996), and what follows from it
 //! for all cases.
 //!
-//! Each law is the contract of a function that does nothing. Solvers and checkers cite them.
+//! Each law is the contract of a function that does nothing. Solvers and checkers rely on them.
 //!
-//! Weights show a division efficient against divisions into however many parts, whatever rule made
-//! it (`weights_law`). The rule of adjusted winner comes to one division, good by good
-//! (`winner_law`, `procedure_law`, `one_winner_law`).
+//! Weights show that a division is efficient compared with divisions into any number of parts,
+//! whatever rule made it (`weights_law`). The rule of adjusted winner leads to just one division,
+//! good by good (`winner_law`, `procedure_law`, `one_winner_law`).
 #![tactic(auto)]
 
 mod laws;

@@ -1,4 +1,4 @@
-// How goods move one by one, for solvers that carry out the rule: each law is the contract of a function that does nothing.
+// Laws about how goods move one by one, for solvers that carry out the rule. Each is the contract of a function that does nothing.
 ghost use Rattle.std.specs.Prelude.{◌≡◌, ◌⊎◌, ℕ, ◌+◌, ◌-◌, ◌*◌, ◌<◌, ◌≤◌, List, map, false, true};
 ghost use Rattle.std.specs.List.{range_with_len};
 ghost use Rattle.bid_rules.specs.declared.goods.GoodsCase.{GoodsCase};

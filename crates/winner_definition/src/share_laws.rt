@@ -1,4 +1,4 @@
-// Shares as fractions and in equal parts, and what they come to: each law is the contract of a function that does nothing.
+// Laws about shares as fractions and in equal parts, and what they add up to. Each is the contract of a function that does nothing.
 ghost use Rattle.std.specs.Prelude.{◌≡◌, ◌↔◌, ℕ, pos, ◌*◌, ◌<◌, ◌≤◌, List, All, length, slice_index_or, true};
 ghost use Rattle.std.specs.List.{AllZip};
 ghost use Rattle.bid_rules.specs.declared.goods.GoodsCase.{GoodsCase};
@@ -10,8 +10,8 @@ ghost use Rattle.winner_definition.specs.Parts.{is_split, parts_list, parts_of};
 ghost use Rattle.winner_definition.specs.Printed.{AreProperShares, HaveTotal, IsShare};
 ghost use Rattle.winner_definition.specs.Shown.{AreShares, AreTotals, HasOneSplit};
 
-/// Shares split at most one good if their parts do, and exactly if at most one of them lies strictly between 0 and 1. Proper shares are those of a division
-/// into the parts of the one that is split, and both players have the total exactly if they have it in parts.
+/// Shares split at most one good if their parts do, and exactly when at most one of them lies strictly between 0 and 1. Proper shares are those of a
+/// division into the parts of the one that is split, and both players have the total exactly when they have it in parts.
 pub fn share_law()
     ensures one_split { (case : GoodsCase) (shares : List Fraction) (parts : ℕ) (held : List ℕ)
         → IsDivision case parts held

@@ -27,7 +27,7 @@ IsWinnerCertificate bytes = IsPairJudged bytes Yes
 abbrev pub PrintsFair : List ℕ → Type 0
 PrintsFair bytes = (view : PairView) × IsPairText bytes view × IsValidGoodsCase (printed_case view) × (player_count (printed_case view) ≡ PAIR) × AreFairShares (printed_case view) view.shares
 
--- the bytes taken from the source are the text of a pair, the answer is the verdict of its rules, and the source has ended; or the answer is why they are none
+-- the bytes taken from the source are the text of a pair, the answer is the verdict of its rules, and the source has ended; or the answer is why they are not
 abbrev pub IsPairJudgement : Option (List ℕ) → List ℕ → Result Verdict TextEnd → Type 0
 IsPairJudgement left taken (Ok verdict) = IsPairJudged taken verdict × (length taken ≤ MOST_BYTES) × IsAtEnd left
 IsPairJudgement left taken (Err end) = IsEndOf Pairs end left taken

@@ -1,22 +1,19 @@
--- The four rules that the text of adjusted winner keeps: they show its division equitable, envy-free and efficient (Brams and Taylor 1996).
-use Rattle.std.specs.Prelude.{◌≡◌, ℕ, pos, ◌≤ℤ◌, List, [], ◌∷◌, All, length, map, unsigned_abs}
+-- The four rules that the text of adjusted winner keeps. They show that its division is equitable, envy-free and efficient (Brams and Taylor 1996).
+use Rattle.std.specs.Prelude.{◌≡◌, ℕ, pos, ◌≤ℤ◌, List, [], ◌∷◌, All, length}
 use Rattle.bid_rules.specs.declared.goods.GoodsCase.{GoodsCase}
-use Rattle.bid_rules.specs.declared.limits.TheConstants.{MOST_MEMBERS, MOST_STEPS, PAIR}
+use Rattle.bid_rules.specs.declared.limits.TheConstants.{MOST_STEPS, PAIR}
 use Rattle.bid_rules.specs.Goods.{IsValidGoodsCase}
 use Rattle.winner_definition.specs.Printed.{AreProperShares, HaveTotal, SupportShares}
 use Rattle.cert_reader.specs.Layout.{PairView}
+use Rattle.rule_verdicts.specs.PrintedGoods.{printed_goods}
 use Rattle.rule_verdicts.specs.Verdicts.{rule_at}
 
--- the case that the text prints, each number without its sign. The text says neither how many members there are nor a step limit, so both are as great as they
--- may be
+-- the case that the text prints, each number without its sign. The text does not say a step limit, so it is as great as it may be
 abbrev pub printed_case : PairView → GoodsCase
-printed_case view = record {
-  facts = record { members = MOST_MEMBERS; goods = view.goods; limit = MOST_STEPS };
-  who = record { items = map unsigned_abs view.who };
-  values = record { items = map (λ row. record { items = map unsigned_abs row }) view.values };
-}
+printed_case view = printed_goods view.goods MOST_STEPS view.who view.values
 
--- rule 1: the printed numbers are 0 or more, and they are a valid case of two players: members up to 12 in rising order, and points of each that sum to 1000
+-- rule 1: the printed numbers are 0 or more, and they form a valid case of two players: members from 1 to 12 in rising order, and for each player points that
+-- sum to 1000
 pub record HasCase (view : PairView) : Type 0 where
   pub two : length view.who ≡ PAIR
   pub who : All (λ member. pos 0 ≤ℤ member) view.who

@@ -12,12 +12,13 @@ use cert_reader::{ReadEnd, TextEnd, read_answer, read_pair};
 use rule_verdicts::Verdict;
 use split_base::Source;
 
-/// Reads the text of adjusted winner, and answers whether all its rules hold, or the first that does not. It takes no memory. Once a read has
-/// met the end it does not read again.
+/// Reads the text of adjusted winner, and says whether all its rules hold, or else the first that does not. It takes no memory. Once a read has met the
+/// end, it does not read again.
 ///
-/// - `NotText` comes exactly if the input has at most 4,000,000 bytes and is not the text of a pair, with its first broken line. It was read to its end.
-/// - `TooLong` comes exactly if it has more, whatever its lines. 4,000,001 bytes were read.
-/// - `ReadFault` comes only if the source's count of faults has risen, and at once: the failed read is not tried again.
+/// - `NotText` is returned exactly when the input has at most 4,000,000 bytes and is not the text of a pair, with its first broken line. It was read to
+///   its end.
+/// - `TooLong` is returned exactly when it has more, whatever its lines. 4,000,001 bytes were read.
+/// - `ReadFault` is returned only if the source's count of faults has risen, and at once: the failed read is not tried again.
 pub fn check_pair_text<S: Source>(source: &mut S) -> Result<Verdict, TextEnd>
     ensures judged { (taken : List ℕ) × Consumes (S.left source.old) (S.left source.new) taken
         × IsPairJudgement (S.left source.new) taken result }
@@ -32,14 +33,12 @@ pub fn check_pair_text<S: Source>(source: &mut S) -> Result<Verdict, TextEnd>
     ensures beside { S.beside source.new ≡ S.beside source.old }
 {
     winner_verdict_law();
-    match read_pair(source) {
-        Err(end) => Err(end),
-        Ok(text) => Ok(check_pair(&text)),
-    }
+    let text = read_pair(source)?;
+    Ok(check_pair(&text))
 }
 
-/// Checks the text of adjusted winner as `check_pair_text` does, and answers with the reasons of a reader who keeps what it reads. `NoMemory` never comes.
-/// The program asks `check_pair_text`; this is for a caller who handles the ends of `read_certificate` and wants the same ones here.
+/// Checks the text of adjusted winner as `check_pair_text` does, and answers with the reasons of a reader who keeps what it reads. `NoMemory` is never
+/// returned. The program asks `check_pair_text`; this is for a caller who handles the ends of `read_certificate` and wants the same ones here.
 pub fn check_winner<S: Source>(source: &mut S) -> Result<Verdict, ReadEnd>
     ensures judged { (taken : List ℕ) × Consumes (S.left source.old) (S.left source.new) taken
         × OfAnswer (IsPairJudgement (S.left source.new) taken) result }

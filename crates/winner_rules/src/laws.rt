@@ -1,4 +1,4 @@
-// What the rules show.
+// Laws about what the rules of adjusted winner show. Each is the contract of a function that only calls other laws.
 ghost use Rattle.std.specs.Prelude.{◌≡◌, ℕ, List};
 ghost use Rattle.bid_rules.specs.Goods.{IsValidGoodsCase, player_count};
 ghost use Rattle.winner_definition.specs.Printed.{AreFairShares};

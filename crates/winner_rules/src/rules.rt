@@ -8,12 +8,12 @@ ghost use Rattle.split_frac.specs.Frac.{fraction_of};
 ghost use Rattle.rule_verdicts.specs.Verdicts.{IsVerdictOf};
 ghost use Rattle.winner_rules.specs.Rules.{rules_of_winner};
 
-use crate::case::{PrintedRow, case_of};
+use crate::case::case_of;
 use crate::shares::are_proper;
 use crate::totals::have_total;
 use crate::weights::are_weights;
 use cert_reader::PairText;
-use rule_verdicts::Verdict;
+use rule_verdicts::{PrintedRow, Verdict};
 use split_frac::Frac;
 
 // The verdict on what is printed: how many goods, the members who are the players, their points by good, player 1's share of each good, the weights, and what
@@ -57,7 +57,7 @@ fn check_lines(
     Verdict::Yes
 }
 
-/// Whether all rules hold of a text, or the first that does not.
+/// Whether all rules hold of a text, or else the first that does not.
 pub fn check_pair(text: &PairText) -> Verdict
     ensures { IsVerdictOf (rules_of_winner (pair_view text.now)) result }
 {

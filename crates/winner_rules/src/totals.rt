@@ -1,5 +1,5 @@
-// What both players have by printed shares.
-ghost use Rattle.std.specs.Prelude.{◌≡◌, ◌-◌, ◌*◌, ◌≤◌, ◌^◌, ◌↔◌, IsTrue, map, unsigned_abs};
+// Checks what both players have under the printed shares.
+ghost use Rattle.std.specs.Prelude.{◌≡◌, ◌-◌, ◌*◌, ◌≤◌, ◌↔◌, IsTrue, map, unsigned_abs};
 ghost use Rattle.bid_rules.specs.Fractions.{IsQuotient};
 ghost use Rattle.bid_rules.specs.Goods.{IsValidGoodsCase, player_count, points};
 ghost use Rattle.cert_reader.specs.Numbers.{AreShort, IsSmall};
@@ -91,7 +91,8 @@ fn is_quotient(fraction: &Frac, whole: i128, parts: u64) -> bool
     requires num { IsSmall fraction.now.num }
     requires den { fraction.now.den ≤ MOST_PRINTED_DENOMINATOR }
     requires parts { parts ≤ MOST_PRINTED_DENOMINATOR }
-    requires whole { unsigned_abs whole ≤ 10 ^ 27 }
+    requires whole { unsigned_abs whole
+        ≤ MOST_GOODS * (MOST_PRINTED_DENOMINATOR * WHOLE_POINTS) }
     ensures { IsTrue result ↔ IsQuotient (fraction_of fraction.now) whole parts }
 {
     fraction.num * i128::from(parts) == whole * i128::from(fraction.den)

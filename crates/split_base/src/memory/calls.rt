@@ -1,4 +1,4 @@
-// The calls of an object in memory: they are numbered from 1, and those that are listed fail.
+// Counts the calls of an object in memory: they are numbered from 1, and the listed ones fail.
 ghost use Rattle.std.specs.Prelude.{◌≡◌, ◌↔◌, Contains, IsTrue};
 ghost use Rattle.split_base.specs.Memory.{counted};
 
@@ -23,7 +23,7 @@ impl Calls {
         }
     }
 
-    // Counts a call, and tells whether it is listed.
+    // Counts a call, and says whether it is listed.
     pub(crate) fn begin(&mut self) -> bool
         ensures listed { IsTrue result ↔ Contains self.old.fails.items (counted self.old.made) }
         ensures made { self.new.made ≡ counted self.old.made }

@@ -1,4 +1,4 @@
-// A clock in memory.
+// A clock in memory, which gives the moments that a test lists.
 ghost use Rattle.std.specs.Prelude.{◌≡◌, ◌<◌, ◌≤◌, ◌↔◌, All, Contains, IfOk, IsErr, MatchResult, Some, length};
 ghost use Rattle.split_base.specs.Faults.{HasCause, IsCounted, counted};
 ghost use Rattle.split_base.specs.Clocks.{answer_of};
@@ -9,7 +9,7 @@ use super::calls::Calls;
 use crate::{Clock, Failed};
 use std::marker::Model;
 
-/// A clock that tells its moments in order, and the last of them again and again.
+/// A clock that gives its moments in order, and then repeats the last one.
 ///
 /// Its calls are numbered from 1. A call whose number is listed as failing fails, and uses up no
 /// moment. No call takes memory.
@@ -67,7 +67,7 @@ impl Clock for MemClock {
         ensures cause { HasCause self.old.faults self.new.faults result }
         ensures count { IsCounted self.old.faults self.new.faults result }
 
-        // It fails exactly if its number is listed, and then has no effect but on the counts.
+        // It fails exactly when its number is listed, and then changes nothing but the counts.
         ensures fails { IsErr result ↔ Contains self.old.fails (counted self.old.calls) }
         ensures told { IfOk result (λ moment. first_of self.old.moments ≡ Some moment) }
         ensures after { MatchResult result (λ _. self.new ≡ after_moment self.old)

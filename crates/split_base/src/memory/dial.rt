@@ -1,4 +1,4 @@
-// A dialer in memory.
+// A dialer in memory, which opens the links that a test lists.
 ghost use Rattle.std.specs.Prelude.{◌≡◌, ◌↔◌, ◌⊎◌, ◌<◌, ◌-◌, [], All, Contains, IfOk, IsErr, MatchResult, Some, length};
 ghost use Rattle.split_base.specs.Faults.{HasCause, IsCounted, counted};
 ghost use Rattle.split_base.specs.Ports.{Dials, TakesBack};
@@ -14,7 +14,7 @@ use std::marker::Model;
 /// A dialer that gives its links in order.
 ///
 /// Its calls of `dial` are numbered from 1. A call whose number is listed as failing fails, and so
-/// does one for which no link is left. Such a call gives no link. No call after `new` takes memory.
+/// does one when no links are left. A failed call gives no link. No call after `new` takes memory.
 #[derive(Debug, Drop)]
 pub struct MemDial {
     links: Links,
@@ -32,11 +32,11 @@ impl Model for MemDial {
 }
 
 impl MemDial {
-    /// A dialer with these links to give, and with places for as many that are given back. No link
-    /// has had a fault, which `MemLink::has_fault` shows. `fails` has the numbers of the calls that
-    /// fail, from 1.
+    /// A dialer with these links to give, and with a place for each of them when it is given back.
+    /// None of them may have had a fault, which `MemLink::has_fault` shows. `fails` has the numbers
+    /// of the calls that fail, from 1.
     ///
-    /// `NoMemory` comes for want of the memory for those places.
+    /// `NoMemory` means that there was no memory for those places.
     pub fn new(alloc: Global, links: Vec<MemLink>, fails: Vec<u64>) -> Result<Self, NoMemory>
         requires { All (λ link. faults_of_link link ≡ 0) links.items }
         ensures { IfOk result (λ dial.
@@ -53,7 +53,7 @@ impl MemDial {
         self.links.given_back()
     }
 
-    /// How often it was asked to open a link, and to which port last.
+    /// How often it has been asked to open a link, and to which port most recently.
     pub fn asked(&self) -> Asked
         ensures { result ≡ self.now.asked }
     {
@@ -85,7 +85,7 @@ impl Dial for MemDial {
         ensures places { self.new.places ≡ self.old.places }
         ensures back { Some self.new.given_back ≡ Some self.old.given_back }
 
-        // It fails exactly if its number is listed or no link is left.
+        // It fails exactly when its number is listed or no link is left.
         ensures fails { IsErr result
             ↔ (Contains self.old.fails (counted self.old.calls) ⊎ (self.old.to_come ≡ [])) }
         ensures after { MatchResult result

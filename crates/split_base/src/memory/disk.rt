@@ -1,4 +1,4 @@
-// A disk in memory.
+// A disk in memory, which knows what a crash might have left.
 ghost use Rattle.std.specs.Prelude.{◌≡◌, ◌≤◌, ◌<◌, ◌↔◌, ◌⊎◌, ◌+◌, ◌-◌, ◌^◌, ◌++◌, [], min, ℕ, List, length, take, drop, replicate, vec_len, vec_capacity, IfOk, OnOk, OnErr, IsErr, IsTrue, MatchResult};
 ghost use Rattle.split_base.specs.Faults.{HasCause, HasRisen, IsCounted};
 ghost use Rattle.split_base.specs.Disk.{IsWritten, IsSameOutside, IsStableTo, Only, Rests, MayTear};
@@ -12,7 +12,7 @@ use crate::{Disk, Failed};
 use std::alloc::Global;
 use std::marker::Model;
 
-// What a call takes of the list of calls, beside the bytes that it writes.
+// How much room a call takes in the list of calls, besides the bytes that it writes.
 const CALL_SIZE: usize = 32;
 
 #[derive(Clone, Copy, Debug, Drop)]
@@ -21,14 +21,14 @@ pub(crate) enum Call {
     Synced,
 }
 
-/// A disk in memory. It keeps each call that has changed it, so that what a crash might have left
-/// is known.
+/// A disk in memory, which knows what a crash might have left. It keeps each call that has changed it, so that what
+/// a crash might have left is known.
 ///
-/// Its calls of all four kinds are numbered together from 1. A call whose number is listed as
-/// failing fails, and so does each call from the one at which the disk stops. A write that ends
-/// past the room for the file fails too, and so does a write or sync for which too little is left
-/// of the list of calls: a write takes its bytes and 32 more of it, a sync 32. A call that fails
-/// changes no byte. No call after `new` takes memory, except for `crash`.
+/// Its calls of all four kinds are numbered together from 1. A call whose number is listed as failing fails, and so
+/// does each call from the one at which the disk stops. A write that ends past the room for the file fails too, and
+/// so does a write or sync that doesn't fit in the list of calls: a write takes 32 bytes of the list besides its
+/// own, and a sync takes 32. A call that fails changes no byte. No call after `new` takes memory, except for
+/// `crash`.
 #[derive(Debug, Drop)]
 pub struct MemDisk {
     first: Vec<u8>,
@@ -59,7 +59,7 @@ impl MemDisk {
     /// bytes and for a list of its calls of `room` bytes. `fails` has the numbers of the calls that
     /// fail, from 1; from call `stop` on every call fails.
     ///
-    /// `NoMemory` comes for want of that memory.
+    /// `NoMemory` means that this memory could not be had.
     pub fn new(
         alloc: Global,
         bytes: Vec<u8>,
@@ -93,7 +93,7 @@ impl MemDisk {
         })
     }
 
-    // Counts a call, and tells whether it fails by its number.
+    // Counts a call, and says whether it is one of those that fail.
     fn begin(&mut self) -> bool
         ensures down { IsTrue result ↔ IsDown self.old }
         ensures after { self.new ≡ after_call self.old }
@@ -111,7 +111,8 @@ impl MemDisk {
         self.calls.fail()
     }
 
-    /// The bytes that a read gives: the whole file. It isn't a call that may fail.
+    /// The bytes that a read gives, which are the whole file. It doesn't count as a call of the disk, so it can't
+    /// fail.
     pub fn bytes(&self) -> &[u8]
         ensures { result.now ≡ seen_of self.now }
     {
@@ -160,8 +161,8 @@ impl MemDisk {
     /// What a crash leaves that keeps the first `keep` bytes of the writes since the last sync: the
     /// stable bytes with those on top, as a new disk with that room, no failing calls and no stop.
     ///
-    /// The room has to be at least the file's size, which `bytes` shows. `NoMemory` comes for want of
-    /// memory; the disk is lost then.
+    /// The room has to be at least the file's size, which `bytes` shows. `NoMemory` means that memory ran out; the
+    /// disk is lost then.
     pub fn crash(self, alloc: Global, keep: usize, room: usize) -> Result<Self, NoMemory>
         requires { length (seen_of self) ≤ room }
         ensures left { IfOk result (λ disk. disk ≡ new_disk (after_crash self keep) room [] None) }
@@ -235,7 +236,7 @@ fn write_within(file: &mut Vec<u8>, place: usize, bytes: &[u8])
     write_over(file, place, bytes).unwrap();
 }
 
-// The caller has seen that there is room, so the list doesn't grow its memory and can't fail.
+// The caller has seen that there is room, so the list needn't take more memory and can't fail.
 fn extend_within(bytes: &mut Vec<u8>, more: &[u8])
     requires { vec_len bytes.old + length more.now ≤ vec_capacity bytes.old }
     ensures bytes { bytes.new.items ≡ bytes.old.items ++ more.now }
@@ -244,7 +245,7 @@ fn extend_within(bytes: &mut Vec<u8>, more: &[u8])
     bytes.extend_from_slice(more).unwrap();
 }
 
-// Fills up a file that is shorter with zeros.
+// Fills a shorter file up with zeros.
 fn grow(file: &mut Vec<u8>, end: usize) -> Result<(), NoMemory>
     ensures ok { OnOk result
         (file.new.items ≡ file.old.items ++ replicate (end - length file.old.items) 0) }
@@ -266,7 +267,7 @@ fn copy_to(file: &mut [u8], place: usize, bytes: &[u8])
     file[place..place + bytes.len()].copy_from_slice(bytes);
 }
 
-// Copies the bytes of a file from the place on, as many as there are and the buffer holds.
+// Copies the bytes of a file from the place on, as many as there are or as the buffer holds.
 fn copy_from(file: &[u8], place: u64, into: &mut [u8]) -> usize
     ensures count { result ≡ min (length into.old) (length file.now - place) }
     ensures bytes { take result into.new ≡ take result (drop place file.now) }
@@ -317,7 +318,7 @@ impl Disk for MemDisk {
         ensures tick { moment_of self.new ≡ moment_of self.old }
         ensures rests { Rests seen_of images_at moment_of left_of self.old self.new }
 
-        // It fails exactly if its number is listed or the disk has stopped.
+        // It fails exactly when its number is listed or the disk has stopped.
         ensures fails { IsErr result ↔ IsDown self.old }
         ensures after { MatchResult result (λ _. self.new ≡ after_call self.old)
             (λ _. self.new ≡ after_fault (after_call self.old)) }
@@ -342,7 +343,7 @@ impl Disk for MemDisk {
         ensures tick { moment_of self.new ≡ moment_of self.old }
         ensures rests { Rests seen_of images_at moment_of left_of self.old self.new }
 
-        // It fails exactly if its number is listed or the disk has stopped.
+        // It fails exactly when its number is listed or the disk has stopped.
         ensures fails { IsErr result ↔ IsDown self.old }
         ensures after { MatchResult result (λ _. self.new ≡ after_call self.old)
             (λ _. self.new ≡ after_fault (after_call self.old)) }
@@ -366,7 +367,8 @@ impl Disk for MemDisk {
         ensures tears { MayTear images_at moment_of left_of place (length bytes.now) self.old
             self.new }
 
-        // It fails exactly if its number is listed, the disk has stopped, or it lacks room in the file or the list.
+        // It fails exactly when its number is listed, the disk has stopped, or it lacks room in the file or the
+        // list.
         ensures fails { IsErr result
             ↔ (IsDown self.old ⊎ (self.old.room < place + length bytes.now)
             ⊎ IsFull self.old (length bytes.now + CALL_SIZE)) }
@@ -392,7 +394,7 @@ impl Disk for MemDisk {
         ensures tick { OnOk result (moment_of self.new ≡ moment_of self.old + 1) }
         ensures rests { Rests seen_of images_at moment_of left_of self.old self.new }
 
-        // It fails exactly if its number is listed, the disk has stopped, or it lacks room in the list.
+        // It fails exactly when its number is listed, the disk has stopped, or it lacks room in the list.
         ensures fails { IsErr result ↔ (IsDown self.old ⊎ IsFull self.old CALL_SIZE) }
         ensures after { MatchResult result
             (λ _. self.new ≡ after_act (after_call self.old) Synced CALL_SIZE)

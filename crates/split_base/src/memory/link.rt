@@ -1,4 +1,4 @@
-// A link in memory.
+// A link in memory: a source and a sink joined.
 ghost use Rattle.std.specs.Prelude.{◌≡◌, ◌<◌, ◌↔◌, ◌⊎◌, Contains, length, min, IfOk, MatchResult, IsErr, IsTrue, Some};
 ghost use Rattle.std.proofs.Common.{refl};
 ghost use Rattle.split_base.specs.Faults.{HasCause, IsCounted};
@@ -10,8 +10,8 @@ use super::{MemSink, MemSource};
 use crate::{Failed, Link, Sink, Source};
 use std::marker::Model;
 
-/// A source and a sink in memory, joined: reads go to the one, writes to the other. Each numbers
-/// its own calls. No call takes memory.
+/// A source and a sink in memory, joined: reads go to the one, writes to the other. Each of them numbers its own
+/// calls. No call takes memory.
 #[derive(Debug, Drop)]
 pub struct MemLink {
     input: MemSource,
@@ -37,7 +37,7 @@ impl MemLink {
         MemLink { input, output }
     }
 
-    /// One of its calls has failed, on either side.
+    /// Whether one of its calls has failed, on either side.
     pub fn has_fault(&self) -> bool
         ensures { IsTrue result ↔ (0 < faults_of_link self.now) }
     {
@@ -69,7 +69,7 @@ impl Source for MemLink {
         ensures cause { HasCause self.old.input.faults self.new.input.faults result }
         ensures count { IsCounted self.old.input.faults self.new.input.faults result }
 
-        // It fails exactly if the source's number is listed, and leaves the sink as it is.
+        // It fails exactly when the source's number is listed, and leaves the sink as it is.
         ensures fails { IsErr result
             ↔ Contains self.old.input.fails (counted self.old.input.calls) }
         ensures taken { IfOk result (λ n.
@@ -102,7 +102,8 @@ impl Sink for MemLink {
         ensures cause { HasCause self.old.output.faults self.new.output.faults result }
         ensures count { IsCounted self.old.output.faults self.new.output.faults result }
 
-        // It fails exactly if the sink's number is listed or the piece doesn't fit, and leaves the source as it is.
+        // It fails exactly when the sink's number is listed or the piece doesn't fit, and leaves the source as it
+        // is.
         ensures fails { IsErr result
             ↔ (Contains self.old.output.fails (counted self.old.output.calls)
             ⊎ (self.old.output.room < length piece.now)) }

@@ -9,7 +9,7 @@ use crate::{Asked, Failed};
 use std::alloc::Global;
 use std::marker::Model;
 
-// In contracts it is what is seen of a port in memory.
+// Contracts see it as the state of a port in memory.
 #[derive(Debug, Drop)]
 pub(crate) struct Links {
     to_come: Vec<MemLink>,
@@ -56,7 +56,7 @@ impl Links {
         })
     }
 
-    // Counts a call, and tells whether it is listed.
+    // Counts a call, and says whether it is listed.
     pub(crate) fn begin(&mut self) -> bool
         ensures listed { IsTrue result ↔ Contains self.old.fails (counted self.old.calls) }
         ensures after { self.new ≡ after_call self.old }
@@ -64,7 +64,7 @@ impl Links {
         self.calls.begin()
     }
 
-    // Keeps for which port it is asked.
+    // Records the port that was asked for.
     pub(crate) fn ask(&mut self, port: u16)
         ensures { self.new ≡ after_asking port self.old }
     {
@@ -92,7 +92,7 @@ impl Links {
         Some(self.to_come.remove(0))
     }
 
-    // A link is kept for the test to look at, if there is still a place for it.
+    // Keeps a link for the test to look at, if there is still a place for it.
     pub(crate) fn take_back(&mut self, link: MemLink)
         ensures { self.new ≡ after_done self.old link }
     {
@@ -102,14 +102,14 @@ impl Links {
         }
     }
 
-    // Tests look at how often a port or a dialer was asked, and for which number last.
+    // How often a port or a dialer was asked, and the last number asked for, for tests to look at.
     pub(crate) fn asked(&self) -> Asked
         ensures { result ≡ self.now.asked }
     {
         self.asked
     }
 
-    // Tests look at what was written to these links.
+    // The links that were given back, so that tests can see what was written to them.
     pub(crate) fn given_back(&self) -> &[MemLink]
         ensures { result.now ≡ self.now.given_back }
     {

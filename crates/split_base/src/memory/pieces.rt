@@ -4,7 +4,7 @@ ghost use Rattle.split_base.specs.Memory.{next_piece};
 
 use std::marker::Model;
 
-// In contracts it is the list of the sizes that are still to come.
+// Contracts see it as the list of the sizes still to come.
 #[derive(Debug, Drop)]
 pub(crate) struct Pieces {
     sizes: Vec<usize>,

@@ -1,4 +1,4 @@
-// A port in memory.
+// A port in memory, which hands out the links that a test lists.
 ghost use Rattle.std.specs.Prelude.{◌≡◌, ◌↔◌, ◌<◌, ◌-◌, [], Contains, IfOk, IsErr, IsNone, IsTrue, MatchResult, Some, false, length};
 ghost use Rattle.split_base.specs.Faults.{HasCause, IsCounted, counted};
 ghost use Rattle.split_base.specs.Ports.{Accepts, AnswersNone, TakesBack, handed_out};
@@ -35,10 +35,10 @@ impl Model for MemPort {
 }
 
 impl MemPort {
-    /// A port with these links to hand out, and with places for as many that are given back.
-    /// `fails` has the numbers of the calls that fail, from 1.
+    /// A port with these links to hand out, and with a place for each of them when it is given
+    /// back. `fails` has the numbers of the calls that fail, from 1.
     ///
-    /// `NoMemory` comes for want of the memory for those places.
+    /// `NoMemory` means that there was no memory for those places.
     pub fn new(alloc: Global, links: Vec<MemLink>, fails: Vec<u64>) -> Result<Self, NoMemory>
         ensures { IfOk result (λ port. port ≡ record {
           links = new_port links.items (length links.items) fails.items;
@@ -61,7 +61,7 @@ impl MemPort {
         self.links.given_back()
     }
 
-    /// How often it was asked to listen, and at which port last.
+    /// How often it has been asked to listen, and at which port most recently.
     pub fn asked(&self) -> Asked
         ensures { result ≡ self.now.links.asked }
     {
@@ -101,7 +101,7 @@ impl Port for MemPort {
         ensures come { Some self.new.links.to_come ≡ Some self.old.links.to_come }
         ensures back { Some self.new.links.given_back ≡ Some self.old.links.given_back }
 
-        // It fails exactly if its number is listed.
+        // It fails exactly when its number is listed.
         ensures fails { IsErr result
             ↔ Contains self.old.links.fails (counted self.old.links.calls) }
         ensures after { MatchResult result (λ _. self.new.links ≡ after_listen port self.old.links)
@@ -128,7 +128,7 @@ impl Port for MemPort {
         ensures places { self.new.links.places ≡ self.old.links.places }
         ensures back { Some self.new.links.given_back ≡ Some self.old.links.given_back }
 
-        // It fails exactly if its number is listed.
+        // It fails exactly when its number is listed.
         ensures fails { IsErr result
             ↔ Contains self.old.links.fails (counted self.old.links.calls) }
         ensures after { MatchResult result (λ _. self.new.links ≡ after_link self.old.links)

@@ -1,4 +1,4 @@
-// A sink in memory.
+// A sink in memory, which keeps what is written to it.
 ghost use Rattle.std.specs.Prelude.{◌≡◌, ◌<◌, ◌↔◌, ◌⊎◌, ℕ, [], Contains, length, IfOk, MatchResult, IsErr, IsTrue, Some};
 ghost use Rattle.split_base.specs.Faults.{HasCause, IsCounted};
 ghost use Rattle.split_base.specs.Streams.{Writes};
@@ -12,9 +12,9 @@ use std::marker::Model;
 
 /// A sink that takes each piece whole, up to its room.
 ///
-/// Its calls of `write` are numbered from 1. A call whose number is listed as failing fails, and
-/// so does one whose piece doesn't fit the room that is left. Such a call writes nothing. No call
-/// after `new` takes memory.
+/// Its calls of `write` are numbered from 1. A call whose number is listed as failing fails, and so does one
+/// whose piece doesn't fit in the room that is left. A failed call writes nothing. No call after `new` takes
+/// memory.
 #[derive(Debug, Drop)]
 pub struct MemSink {
     bytes: Vec<u8>,
@@ -45,7 +45,7 @@ impl MemSink {
     /// An empty sink with the memory for `room` bytes. `fails` has the numbers of the calls that
     /// fail, from 1.
     ///
-    /// `NoMemory` comes for want of that memory.
+    /// `NoMemory` means that this memory could not be had.
     pub fn new(alloc: Global, room: usize, fails: Vec<u64>) -> Result<Self, NoMemory>
         ensures { IfOk result (λ sink.
             sink
@@ -76,7 +76,7 @@ impl MemSink {
         &self.bytes
     }
 
-    /// How many of its calls were given no byte.
+    /// How many of its calls were given no bytes.
     pub fn empty_writes(&self) -> u64
         ensures { result ≡ self.now.empty_writes }
     {
@@ -105,7 +105,8 @@ impl Sink for MemSink {
         ensures cause { HasCause self.old.faults self.new.faults result }
         ensures count { IsCounted self.old.faults self.new.faults result }
 
-        // It fails exactly if its number is listed or the piece doesn't fit, and then has no effect but on the counts.
+        // It fails exactly when its number is listed or the piece doesn't fit, and then changes nothing but the
+        // counts.
         ensures fails { IsErr result
             ↔ (Contains self.old.fails (counted self.old.calls)
             ⊎ (self.old.room < length piece.now)) }
@@ -123,7 +124,7 @@ impl Sink for MemSink {
     }
 }
 
-// A count of the calls that were given no byte, after a call with this piece.
+// The count of calls that were given no bytes, after a call with this piece.
 fn counted_empty(count: u64, piece: &[u8]) -> u64
     ensures { result ≡ with_empty piece.now count }
 {

@@ -1,4 +1,4 @@
-// A source in memory.
+// A source in memory, which gives its bytes in pieces of listed sizes.
 ghost use Rattle.std.specs.Prelude.{◌≡◌, ◌<◌, ◌≤◌, ◌↔◌, ℕ, All, Contains, length, min, take, drop, IfOk, MatchResult, IsErr, IsTrue, Some};
 ghost use Rattle.split_base.specs.Faults.{HasCause, IsCounted};
 ghost use Rattle.split_base.specs.Streams.{CountsEmpty, Reads};
@@ -9,11 +9,11 @@ use super::pieces::Pieces;
 use crate::{Failed, Source};
 use std::marker::Model;
 
-/// A source that gives its bytes in pieces: by each call at most the next listed number of bytes,
-/// and whole buffers once the list is used up.
+/// A source that gives its bytes in pieces: each call gives at most the next listed number of
+/// bytes, and once the list is used up, calls fill the whole buffer.
 ///
 /// Its calls of `read` are numbered from 1. A call whose number is listed as failing fails: it
-/// takes no byte and uses up no piece.
+/// takes no bytes and uses up no piece.
 #[derive(Debug, Drop)]
 pub struct MemSource {
     bytes: Vec<u8>,
@@ -42,8 +42,8 @@ impl Model for MemSource {
 }
 
 impl MemSource {
-    /// A source of `bytes`: `pieces` has for each of its first reads that don't fail the most
-    /// bytes that it gives, and `fails` the numbers of the calls that fail, from 1.
+    /// A source of `bytes`. `pieces` lists the most bytes that each of its first successful reads
+    /// gives, and `fails` has the numbers of the calls that fail, from 1.
     pub fn new(bytes: Vec<u8>, pieces: Vec<usize>, fails: Vec<u64>) -> Self
         requires { All (λ p. 0 < p) pieces.items }
         ensures { result
@@ -90,7 +90,7 @@ pub(super) fn copy_front(from: &[u8], into: &mut [u8], most: usize) -> usize
     count
 }
 
-// A count of the reads that gave nothing, after a read of so many bytes.
+// The count of reads that gave nothing, after a read of this many bytes.
 fn counted_empty(count: u64, read: usize) -> u64
     ensures { result ≡ with_nothing read count }
 {
@@ -114,7 +114,7 @@ impl Source for MemSource {
         ensures cause { HasCause self.old.faults self.new.faults result }
         ensures count { IsCounted self.old.faults self.new.faults result }
 
-        // It fails exactly if its number is listed, and then has no effect but on the counts.
+        // It fails exactly when its number is listed, and then changes nothing but the counts.
         ensures fails { IsErr result ↔ Contains self.old.fails (counted self.old.calls) }
         ensures taken { IfOk result (λ n.
             n ≡ min (next_piece self.old.pieces) (min (length into.old) (length self.old.left))) }

@@ -5,9 +5,9 @@ use super::source::copy_front;
 use crate::{Failed, Source};
 use std::marker::Model;
 
-/// Text in memory, which is read without a fault: its count of faults stays 0.
+/// Text in memory, which is read without faults: its count of faults stays 0.
 ///
-/// In contracts it is the bytes that are left to read.
+/// Contracts see it as the bytes that are left to read.
 #[derive(Drop)]
 pub struct TextSource<'a> {
     left: &'a [u8],
@@ -22,7 +22,7 @@ impl<'a> Model for TextSource<'a> {
 }
 
 impl<'a> TextSource<'a> {
-    /// The text, none of which was read.
+    /// The text, none of which has been read.
     pub fn new(text: &'a [u8]) -> Self
         ensures { result ≡ text.now }
     {

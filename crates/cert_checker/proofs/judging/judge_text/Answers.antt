@@ -172,12 +172,6 @@ unreachable-requires-in-Ok-Mark g c =
     let none = c.new-pieces.ensures.start in
     omega (arith, some, none)
 
-pub new-lines-requires : goal.new-lines-requires
-new-lines-requires g c =
-    let next = rw c.in-Ok-Kind.field-0-is at c.in-Ok-Kind.ensures in
-    let told = next.piece.2 [] [] c.new-pieces.ensures.read in
-    (told.2.0, told.2.2)
-
 pub lines-init : goal.lines-init
 lines-init g c =
     let next = rw c.in-Ok-Kind.field-0-is at c.in-Ok-Kind.ensures in

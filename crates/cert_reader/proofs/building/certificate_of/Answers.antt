@@ -31,7 +31,7 @@ fares_text-requires-clause-lines c =
     let lines = subst (λ counts. CanSayAll (forms_of counts) (whole_said c.args.lines.now c.args.marks.items)) c.in-Fares.is c.requires.lines in
     subst (CanSayAll (forms_of (Fares c.in-Fares.riders c.in-Fares.places))) (fares_bare c.in-Fares.riders c.in-Fares.places c.args.lines.now c.args.marks.items lines) lines
 
-pub returns-in-Ok-clause-said : goal.returns-in-Ok-clause-said
-returns-in-Ok-clause-said c =
+pub returns-in_ok-fares_text-in-Fares-clause-said : goal.returns-in_ok-fares_text-in-Fares-clause-said
+returns-in_ok-fares_text-in-Fares-clause-said c =
     let lines = subst (λ counts. CanSayAll (forms_of counts) (whole_said c.args.lines.now c.args.marks.items)) c.in-Fares.is c.requires.lines in
-    c.in-Ok.ensures.said ∙ sym (fares_bare c.in-Fares.riders c.in-Fares.places c.args.lines.now c.args.marks.items lines)
+    c.in_ok-fares_text-in-Fares.ensures.said ∙ sym (fares_bare c.in-Fares.riders c.in-Fares.places c.args.lines.now c.args.marks.items lines)

@@ -16,10 +16,10 @@ use Rattle.input_commands.proofs.weighing.weigh.Goals as goal
 abbrev shown_proposal : Result (CaseInput × ArrayVec ℕ ITEM_ROOM (Unit {0})) BodyFault → Result (CaseData × List ℕ) BodyFault
 shown_proposal read = result_map_both (λ proposal. (case_data_of proposal.0, proposal.1.items)) (λ fault. fault) read
 
-pub returns-in-Ok-Ok : goal.returns-in-Ok-Ok
-returns-in-Ok-Ok c =
-    let given = case_data_of c.in-Ok-Ok.proposal.0 in
+pub returns-in-Ok : goal.returns-in-Ok
+returns-in-Ok c =
+    let given = case_data_of c.in-Ok.proposal.0 in
     let ending = ending_of c.weigh_proposal.result in
-    let held : proposal_in c.args.bytes.now ≡ Ok (given, c.in-Ok-Ok.proposal.1.items) = sym c.in-Ok-Ok.ensures.proposal ∙ ap shown_proposal c.in-Ok-Ok.field-0-is in
-    in_body proposal_in OfProposal c.args.bytes.now (given, c.in-Ok-Ok.proposal.1.items) ending (λ fault h. h.2) held
+    let held : proposal_in c.args.bytes.now ≡ Ok (given, c.in-Ok.proposal.1.items) = sym c.in_ok-proposal.ensures.proposal ∙ ap shown_proposal c.in-Ok.is in
+    in_body proposal_in OfProposal c.args.bytes.now (given, c.in-Ok.proposal.1.items) ending (λ fault h. h.2) held
     (subst (λ (members : List ℕ). UpToMemory (OfProposal (given, members)) ending) c.as_slice.ensures.value c.weigh_proposal.ensures)

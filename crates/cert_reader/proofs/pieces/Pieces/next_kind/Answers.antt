@@ -1,4 +1,5 @@
-use Rattle.std.proofs.Common.{arith}
+use Rattle.std.proofs.Common.{arith, refl}
+use Rattle.cert_reader.specs.Kinds.{kind_number}
 use Rattle.cert_reader.proofs.FormPlaces.{lines_some}
 use Rattle.cert_reader.proofs.TreePlaces.{first_lines}
 use Rattle.cert_reader.proofs.HeadAndEnd.{kind_read, kind_unread}
@@ -23,8 +24,8 @@ returns-in-Err-next_line-clause-piece g c =
 
 pub returns-in-Ok-next_line-clause-piece : goal.returns-in-Ok-next_line-clause-piece
 returns-in-Ok-next_line-clause-piece g c =
-    kind_read c.args.self.now c.next_line.new.self c.next_line-in-Ok.new.self _ _ _ c.next_line.new.numbers c.next_line-in-Ok.new.numbers c.number.result c.requires.lines
-    (let none = c.requires.lines in let one = c.in-Ok.ensures.lines in let two = c.in-Ok-next_line.ensures.lines in omega arith) (c.kind.result, c.kind.ensures, c.number.ensures) c.in-Ok.ensures.line c.in-Ok-next_line.ensures.line
+    kind_read c.args.self.now c.next_line.new.self c.next_line-in-Ok.new.self _ _ _ c.next_line.new.numbers c.next_line-in-Ok.new.numbers (kind_number c.kind.result) c.requires.lines
+    (let none = c.requires.lines in let one = c.in-Ok.ensures.lines in let two = c.in-Ok-next_line.ensures.lines in omega arith) (c.kind.result, c.kind.ensures, refl) c.in-Ok.ensures.line c.in-Ok-next_line.ensures.line
 
 pub returns-in-Ok-next_line-clause-more : goal.returns-in-Ok-next_line-clause-more
 returns-in-Ok-next_line-clause-more g c =

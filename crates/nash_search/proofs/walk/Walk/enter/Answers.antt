@@ -19,11 +19,11 @@ offered c = record { rules = c.offer.new.self.rules; table = c.offer.new.self.ta
 
 -- its path is as it was
 path_again : (c : goal.After-pop) → (offered c).path.items ≡ c.args.self.now.path.items
-path_again c = pop_front c.offer.new.self.path.items c.pop.new.self.items c.args.self.now.path.items c.args.turn.now.owner (c.offer.ensures.path ∙ c.descend-lanes.ensures.path) c.pop.ensures.rest
+path_again c = pop_front c.offer.new.self.path.items c.pop.new.self.items c.args.self.now.path.items c.args.turn.now.owner ((ap (λ (w : Walk). w.path.items) c.offer.ensures.frame) ∙ c.descend-lanes.ensures.path) c.pop.ensures.rest
 
 -- and so are its levels
 levels_again : (c : goal.After-pop) → (offered c).levels.items ≡ c.args.self.now.levels.items
-levels_again c = c.offer.ensures.levels ∙ c.descend-lanes.ensures.levels
+levels_again c = (ap (λ (w : Walk). w.levels.items) c.offer.ensures.frame) ∙ (ap (λ (w : Walk). w.levels.items) c.descend-lanes.ensures.frame)
 
 -- the allocation is one step, and is kept
 one_step : (c : goal.After-pop) → (let x = c.args.self.now.path.items ++ c.args.turn.now.owner ∷ [] in let case = c.args.case.now in let rules = c.args.self.now.rules in
@@ -35,8 +35,8 @@ one_step c =
 
 pub returns-then-len-case-clause-walk : goal.returns-then-len-case-clause-walk
 returns-then-len-case-clause-walk c =
-    walk_from c.args.case.now c.args.self.now (offered c) c.requires.walk (c.offer.ensures.table ∙ c.descend-lanes.ensures.table) (path_again c) (levels_again c)
-    (c.offer.ensures.rules ∙ c.descend-lanes.ensures.rules) c.offer.ensures.kept
+    walk_from c.args.case.now c.args.self.now (offered c) c.requires.walk ((ap (λ (w : Walk). w.table) c.offer.ensures.frame) ∙ (ap (λ (w : Walk). w.table) c.descend-lanes.ensures.frame)) (path_again c) (levels_again c)
+    ((ap (λ (w : Walk). w.rules) c.offer.ensures.frame) ∙ (ap (λ (w : Walk). w.rules) c.descend-lanes.ensures.frame)) c.offer.ensures.kept
 
 pub returns-then-len-case-clause-count : goal.returns-then-len-case-clause-count
 returns-then-len-case-clause-count c =
@@ -52,7 +52,7 @@ returns-then-len-case-clause-best c =
     let above = c.args.self.now.rules.above in
     let x = c.args.self.now.path.items ++ c.args.turn.now.owner ∷ [] in
     let kept : list_of c.offer.new.self.best ≡ best c.args.case.now floor above (c.args.case.now.facts.goods - length x) x (list_of c.args.self.now.best) =
-    c.offer.ensures.best ∙ rw (c.descend-lanes.ensures.best, c.descend-lanes.ensures.path) (sym (one_step c).1) in
+    c.offer.ensures.best ∙ rw ((ap (λ (w : Walk). w.best) c.descend-lanes.ensures.frame), c.descend-lanes.ensures.path) (sym (one_step c).1) in
     ap (λ ws. best_all c.args.case.now floor above ws (list_of c.offer.new.self.best)) (come_from c.args.self.now (offered c) (path_again c) (levels_again c))
     ∙ ap (best_all c.args.case.now floor above (to_come c.args.self.now)) kept
 
@@ -61,7 +61,7 @@ look-requires-clause-open c = record { valid = c.requires.case; short = longer_s
 
 -- the path with the owner
 longer : (c : goal.After-look) → c.look.new.self.path.items ≡ c.args.self.now.path.items ++ c.args.turn.now.owner ∷ []
-longer c = c.look.ensures.path ∙ c.descend-lanes.ensures.path
+longer c = (ap (λ (w : Walk). w.path.items) c.look.ensures.frame) ∙ c.descend-lanes.ensures.path
 
 -- it has no owner for some good yet
 short : (c : goal.After-look) → length (c.args.self.now.path.items ++ c.args.turn.now.owner ∷ []) < c.args.case.now.facts.goods
@@ -74,14 +74,14 @@ more c = c.look.ensures.levels.0
 
 -- the levels with it
 levels : (c : goal.After-look) → c.look.new.self.levels.items ≡ c.args.self.now.levels.items ++ more c ∷ []
-levels c = c.look.ensures.levels.1 ∙ ap (λ (ls : List Level). ls ++ more c ∷ []) c.descend-lanes.ensures.levels
+levels c = c.look.ensures.levels.1 ∙ ap (λ (ls : List Level). ls ++ more c ∷ []) (ap (λ (w : Walk). w.levels.items) c.descend-lanes.ensures.frame)
 
 -- who waits at it
 waits : (c : goal.After-look) → reverse (more c).owners.items
     ≡ filter (λ o. is_counted c.args.case.now c.args.self.now.rules.floor c.args.self.now.rules.above (c.look.new.self.path.items ++ o ∷ [])) (range_with_len 1 (player_count c.args.case.now))
 waits c =
     let counted : Rules → List ℕ → List ℕ = λ rules path. filter (λ o. is_counted c.args.case.now rules.floor rules.above (path ++ o ∷ [])) (range_with_len 1 (player_count c.args.case.now)) in
-    c.look.ensures.levels.4 ∙ ap (λ (r : Rules). counted r c.descend-lanes.new.self.path.items) c.descend-lanes.ensures.rules ∙ ap (counted c.args.self.now.rules) (sym c.look.ensures.path)
+    c.look.ensures.levels.4 ∙ ap (λ (r : Rules). counted r c.descend-lanes.new.self.path.items) (ap (λ (w : Walk). w.rules) c.descend-lanes.ensures.frame) ∙ ap (counted c.args.self.now.rules) (sym (ap (λ (w : Walk). w.path.items) c.look.ensures.frame))
 
 -- the counted prefixes with one owner more
 abbrev below : goal.After-look → List (List ℕ)
@@ -102,8 +102,8 @@ one_more c =
 pub returns-else-len-case-clause-walk : goal.returns-else-len-case-clause-walk
 returns-else-len-case-clause-walk c =
     walk_deeper c.args.case.now c.args.self.now c.look.new.self c.args.turn.now.owner (more c) c.requires.walk c.requires.here c.requires.owner_low c.requires.owner_high (longer c) (levels c) c.look.ensures.levels.2 (waits c)
-    (subst (λ xs. length xs < c.args.case.now.facts.goods) (sym (longer c)) (short c)) (c.look.ensures.table ∙ c.descend-lanes.ensures.table) (subst (λ xs. IsFork c.args.case.now xs (more c).lanes) (sym c.look.ensures.path) c.look.ensures.levels.3)
-    (c.look.ensures.rules ∙ c.descend-lanes.ensures.rules) (subst (IsKept c.args.case.now) (sym (c.look.ensures.best ∙ c.descend-lanes.ensures.best)) c.requires.walk.kept)
+    (subst (λ xs. length xs < c.args.case.now.facts.goods) (sym (longer c)) (short c)) ((ap (λ (w : Walk). w.table) c.look.ensures.frame) ∙ (ap (λ (w : Walk). w.table) c.descend-lanes.ensures.frame)) (subst (λ xs. IsFork c.args.case.now xs (more c).lanes) (sym (ap (λ (w : Walk). w.path.items) c.look.ensures.frame)) c.look.ensures.levels.3)
+    ((ap (λ (w : Walk). w.rules) c.look.ensures.frame) ∙ (ap (λ (w : Walk). w.rules) c.descend-lanes.ensures.frame)) (subst (IsKept c.args.case.now) (sym ((ap (λ (w : Walk). w.best) c.look.ensures.frame) ∙ (ap (λ (w : Walk). w.best) c.descend-lanes.ensures.frame))) c.requires.walk.kept)
 
 pub returns-else-len-case-clause-count : goal.returns-else-len-case-clause-count
 returns-else-len-case-clause-count c =
@@ -122,6 +122,6 @@ returns-else-len-case-clause-best c =
     let above = c.args.self.now.rules.above in
     let before = to_come c.args.self.now in
     ap (λ ws. best_all c.args.case.now floor above ws (list_of c.look.new.self.best)) (come c)
-    ∙ ap (best_all c.args.case.now floor above (below c ++ before)) (ap list_of (c.look.ensures.best ∙ c.descend-lanes.ensures.best))
+    ∙ ap (best_all c.args.case.now floor above (below c ++ before)) (ap list_of ((ap (λ (w : Walk). w.best) c.look.ensures.frame) ∙ (ap (λ (w : Walk). w.best) c.descend-lanes.ensures.frame)))
     ∙ best_all-append c.args.case.now floor above (below c) before (list_of c.args.self.now.best)
     ∙ ap (best_all c.args.case.now floor above before) (sym (one_more c).1)
