@@ -7,15 +7,14 @@ use Rattle.std.proofs.lemmas.Fmt.{decimal_injective}
 use Rattle.split_base.specs.declared.disk.Disk.{Ghosts}
 use Rattle.split_base.specs.Faults.{HasRisen, counted}
 use Rattle.host_journal.specs.States.{State, host_in, ready_with}
-use Rattle.host_results.specs.declared.contents.ContentType.TheVariants.{Json}
-use Rattle.host_results.specs.Contents.{ContentView}
-use Rattle.host_results.specs.Publications.{IsPublication, case_data}
+use Rattle.reply_texts.specs.declared.contents.ContentType.TheVariants.{Json}
+use Rattle.reply_texts.specs.Contents.{ContentView, memory_told, method_told, refusal_told, told_as}
+use Rattle.publications.specs.Publications.{IsPublication, case_data}
 use Rattle.reply_texts.specs.declared.refusals.ServiceRefusal.TheVariants as service
 use Rattle.reply_texts.specs.Replies.{status_of, text_of}
 use Rattle.requests.specs.Cases.{Responds, Settles, Steps}
 use Rattle.requests.specs.Commands.{command_of}
 use Rattle.requests.specs.Replies.{Replies, Shows}
-use Rattle.requests.specs.Said.{SaidView, content_said, memory_said, method_said, refused_said}
 use Rattle.sealed_core.specs.declared.commands.What.{What}
 use Rattle.sealed_core.specs.declared.replies.Reply.{Reply}
 use Rattle.sealed_core.specs.declared.replies.Reply.TheVariants as reply
@@ -71,11 +70,11 @@ stepped_to s t command = ready_with s.secret (s.kept ++ option_to_list (step (ho
 state_is : (s : State) → s.waiting ≡ None → s ≡ ready_with s.secret s.kept
 state_is s ready = λ i. record { secret = s.secret; kept = s.kept; waiting = ready i }
 
-data Answers (s new : State) (head : Head) (body : List ℕ) (moment : ℕ) (said : SaidView) : Type 0 where
-  no_route : IsRouted head.verb head.path (Err NoRoute) → new ≡ s → said ≡ refused_said service.NoRoute → Answers s new head body moment said
-  method : (allow : Allow) → IsRouted head.verb head.path (Err (Method allow)) → new ≡ s → said ≡ method_said allow → Answers s new head body moment said
+data Answers (s new : State) (head : Head) (body : List ℕ) (moment : ℕ) (said : ContentView) : Type 0 where
+  no_route : IsRouted head.verb head.path (Err NoRoute) → new ≡ s → said ≡ refusal_told service.NoRoute → Answers s new head body moment said
+  method : (allow : Allow) → IsRouted head.verb head.path (Err (Method allow)) → new ≡ s → said ≡ method_told allow → Answers s new head body moment said
   stepped : (route : Route) (told : ContentView) → IsRouted head.verb head.path (Ok route) → new ≡ stepped_to s moment (command_of route.place route.id head.key body) → IsSound new
-      → Shows (host_in new) (step (host_in s) moment (command_of route.place route.id head.key body)).reply told → said ≡ content_said told → Answers s new head body moment said
+      → Shows (host_in new) (step (host_in s) moment (command_of route.place route.id head.key body)).reply told → said ≡ told → Answers s new head body moment said
 
 -- what holds of publications and of the host after an event
 pub record OneWay : Type 0 where
@@ -94,7 +93,7 @@ one_found o i j one two = let same : Some i ≡ Some j = sym one ∙ two in cc
 
 shows_once : OneWay → (h : HostView) (r : Reply) (told other : ContentView) → AreCheckedInstances h.instances → Shows h r told → Shows h r other → told ≡ other
 shows_once laws h r told other sound (Shows.own bytes text is) (Shows.own bytes' text' is') =
-    is ∙ ap (λ (b : List ℕ). record { status = status_of r; content_type = Json; text = b }) (own_text h r bytes bytes' text text') ∙ sym is'
+    is ∙ ap (λ (b : List ℕ). told_as (status_of r) Json b) (own_text h r bytes bytes' text text') ∙ sym is'
 shows_once laws h r told other sound (Shows.own bytes text is) (Shows.published id asked i was found so) = absurd (no_text h r id asked bytes was text)
 shows_once laws h r told other sound (Shows.published id asked i was found so) (Shows.own bytes text is) = absurd (no_text h r id asked bytes was text)
 shows_once laws h r told other sound (Shows.published id asked i was found so) (Shows.published id' asked' j was' found' so') =
@@ -115,10 +114,10 @@ counted_rises n =
 not_waiting : (s : State) (e : EventView) → s.waiting ≡ None → s.waiting ≡ Some e → ⊥
 not_waiting s e none some = absurd (cc)
 
-lacks_none : (said : SaidView) → said.memory ≡ false → said ≡ memory_said → ⊥
-lacks_none said plain is = true≢false (sym (ap (λ (x : SaidView). x.memory) is) ∙ plain)
+lacks_none : (said : ContentView) → said.memory ≡ false → said ≡ memory_told → ⊥
+lacks_none said plain is = true≢false (sym (ap (λ (x : ContentView). x.memory) is) ∙ plain)
 
-module _ {D : Type 0} (d : Ghosts D) (laws : OneWay) (head : Head) (body : List ℕ) (moment : ℕ) (w new : D × State) (said : SaidView) (ready : w.1.waiting ≡ None) (sound : IsSound w.1)
+module _ {D : Type 0} (d : Ghosts D) (laws : OneWay) (head : Head) (body : List ℕ) (moment : ℕ) (w new : D × State) (said : ContentView) (ready : w.1.waiting ≡ None) (sound : IsSound w.1)
     (still : HasRisen (d.faults w.0) (d.faults new.0) → ⊥) (plain : said.memory ≡ false) where
   goes_no_further : Settles d w.0 new.0 w.1 new.1 (Some said) → ⊥
   goes_no_further (Settles.ready none same is so) = absurd (cc)
@@ -137,7 +136,7 @@ module _ {D : Type 0} (d : Ghosts D) (laws : OneWay) (head : Head) (body : List 
     asks = command_of route.place route.id head.key body
 
     by_step : (told : ContentView) (o : Option EventView) → (step (host_in w.1) moment asks).event ≡ o → new.1 ≡ ready_with w.1.secret (w.1.kept ++ option_to_list o) → with_event (host_in w.1) o ≡ host_in new.1
-        → IsSound new.1 → Replies (host_in w.1) moment asks told → said ≡ content_said told → Answers w.1 new.1 head body moment said
+        → IsSound new.1 → Replies (host_in w.1) moment asks told → said ≡ told → Answers w.1 new.1 head body moment said
     by_step told o event is leaves good replies so = Answers.stepped route told routed
         (is ∙ ap (λ (p : Option EventView). ready_with w.1.secret (w.1.kept ++ option_to_list p)) (sym event)) good
         (subst (λ (h : HostView). Shows h (step (host_in w.1) moment asks).reply told) (ap (with_event (host_in w.1)) event ∙ leaves) replies) so
@@ -161,7 +160,7 @@ module _ {D : Type 0} (d : Ghosts D) (laws : OneWay) (head : Head) (body : List 
       from_step route routed between rest (subst (λ (s : State). Steps d between new.0 moment (command_of route.place route.id head.key body) s new.1 said) same steps)
   answers_so (Responds.memory way led reads same is so) = absurd (lacks_none said plain so)
 
-module _ (laws : OneWay) (s : State) (head : Head) (body : List ℕ) (moment : ℕ) (new other : State) (said told : SaidView) where
+module _ (laws : OneWay) (s : State) (head : Head) (body : List ℕ) (moment : ℕ) (new other : State) (said told : ContentView) where
   same_answers : Answers s new head body moment said → Answers s other head body moment told → (new ≡ other) × (said ≡ told)
   same_answers (Answers.no_route routed is so) (Answers.no_route routed' is' so') = (is ∙ sym is', so ∙ sym so')
   same_answers (Answers.no_route routed is so) (Answers.method allow (p, e, v) is' so') = absurd (none_some (option_and_then endpoint_of head.path) (p, allow) routed e)
@@ -169,7 +168,7 @@ module _ (laws : OneWay) (s : State) (head : Head) (body : List ℕ) (moment : �
       let (allow, e, v) = leads head.verb head.path route routed' in absurd (none_some (option_and_then endpoint_of head.path) (route.place, allow) routed e)
   same_answers (Answers.method allow (p, e, v) is so) (Answers.no_route routed' is' so') = absurd (none_some (option_and_then endpoint_of head.path) (p, allow) routed' e)
   same_answers (Answers.method allow (p, e, v) is so) (Answers.method allow' (q, f, w) is' so') =
-      (is ∙ sym is', so ∙ ap method_said (same_place (p, allow) (q, allow') (sym e ∙ f)).1 ∙ sym so')
+      (is ∙ sym is', so ∙ ap method_told (same_place (p, allow) (q, allow') (sym e ∙ f)).1 ∙ sym so')
   same_answers (Answers.method allow (p, e, v) is so) (Answers.stepped route content routed' is' good shows so') =
       let (allow', f, w) = leads head.verb head.path route routed' in
       absurd (verb_apart allow' allow head.verb (same_place (route.place, allow') (p, allow) (sym f ∙ e)).1 w v)
@@ -186,10 +185,10 @@ module _ (laws : OneWay) (s : State) (head : Head) (body : List ℕ) (moment : �
       subst (λ (c : CommandView). Shows (host_in new) (step (host_in s) moment c).reply content') (sym command_is)
       (subst (λ (n : State). Shows (host_in n) (step (host_in s) moment (command_of route'.place route'.id head.key body)).reply content') (sym state_is) shows') in
       let content_is = shows_once laws (host_in new) (step (host_in s) moment (command_of route.place route.id head.key body)).reply content content' (sound_state new good) shows shows_there in
-      (state_is, so ∙ ap content_said content_is ∙ sym so')
+      (state_is, so ∙ content_is ∙ sym so')
 
 -- what is left by an answer is ready and sound
-left_ready : (s new : State) (head : Head) (body : List ℕ) (moment : ℕ) (said : SaidView) → s.waiting ≡ None → IsSound s → Answers s new head body moment said → (new.waiting ≡ None) × IsSound new
+left_ready : (s new : State) (head : Head) (body : List ℕ) (moment : ℕ) (said : ContentView) → s.waiting ≡ None → IsSound s → Answers s new head body moment said → (new.waiting ≡ None) × IsSound new
 left_ready s new head body moment said ready sound (Answers.no_route routed is so) = (ap (λ (x : State). x.waiting) is ∙ ready, subst IsSound (sym is) sound)
 left_ready s new head body moment said ready sound (Answers.method allow routed is so) = (ap (λ (x : State). x.waiting) is ∙ ready, subst IsSound (sym is) sound)
 left_ready s new head body moment said ready sound (Answers.stepped route content routed is good shows so) = (ap (λ (x : State). x.waiting) is, good)

@@ -12,8 +12,8 @@ use Rattle.certificates.specs.declared.division.Division.TheVariants as divided
 use Rattle.certificates.specs.Division.{IsDivisionOf}
 use Rattle.host_journal.specs.States.{State, host_in}
 use Rattle.serving.specs.Exchanges.{Exchange}
-use Rattle.host_results.specs.Contents.{ContentView}
-use Rattle.host_results.specs.Publications.{IsPublication, TellsBest, TellsEnd, case_data, refusal_of_fault}
+use Rattle.reply_texts.specs.Contents.{ContentView, refusal_told}
+use Rattle.publications.specs.Publications.{IsPublication, TellsBest, TellsEnd, case_data, refusal_of_fault}
 use Rattle.reply_texts.specs.declared.refusals.ServiceRefusal.{ServiceRefusal}
 use Rattle.reply_texts.specs.declared.refusals.ServiceRefusal.TheVariants as service
 use Rattle.reply_texts.specs.Refusals.{is_refusal_status, refusal_row, service_row}
@@ -21,7 +21,6 @@ use Rattle.reply_texts.specs.Replies.{status_of, text_of}
 use Rattle.requests.specs.Cases.{Responds, Settles, Steps}
 use Rattle.requests.specs.Commands.{command_of}
 use Rattle.requests.specs.Replies.{Replies, Shows}
-use Rattle.requests.specs.Said.{SaidView, content_said, refused_said}
 use Rattle.sealed_core.specs.declared.commands.Ask.TheVariants as asks
 use Rattle.sealed_core.specs.declared.commands.What.{What}
 use Rattle.sealed_core.specs.declared.commands.What.TheVariants as what
@@ -56,8 +55,8 @@ not_row refusals status r is success = true≢false (sym (subst (λ (n : ℕ). I
 not_refused : (status : ℕ) (r : ServiceRefusal) → ((service_row r).status == 200) ≡ false → status ≡ (service_row r).status → status ≡ 200 → ⊥
 not_refused status r other is success = true≢false (sym (ap (λ (n : ℕ). n == 200) (sym is ∙ success)) ∙ other)
 
-said_other : (said : SaidView) (r : ServiceRefusal) → ((service_row r).status == 200) ≡ false → said ≡ refused_said r → said.status ≡ 200 → ⊥
-said_other said r other is success = not_refused said.status r other (ap (λ (s : SaidView). s.status) is) success
+said_other : (said : ContentView) (r : ServiceRefusal) → ((service_row r).status == 200) ≡ false → said ≡ refusal_told r → said.status ≡ 200 → ⊥
+said_other said r other is success = not_refused said.status r other (ap (λ (s : ContentView). s.status) is) success
 
 -- who asks for what is published is told it or refused
 abbrev ToldOrRefused : ℕ → What → Reply → Type 0
@@ -91,21 +90,21 @@ shows_published refusals h r told id asked (inr (why, is)) success (Shows.publis
     let one : reply.Publish other another ≡ reply.Refused why = sym same ∙ is in absurd (cc)
 
 -- a step that has such a reply leaves the host of which it tells
-abbrev TellsOf : State → ℕ → What → SaidView → Type 0
+abbrev TellsOf : State → ℕ → What → ContentView → Type 0
 TellsOf new id asked said =
-    (told : ContentView) × (i : InstanceView) × (instance_at (host_in new) id ≡ Some i) × (i.closed ≡ true) × (said ≡ content_said told) × (told.status ≡ 200) × IsPublication (case_data i) asked told
+    (told : ContentView) × (i : InstanceView) × (instance_at (host_in new) id ≡ Some i) × (i.closed ≡ true) × (said ≡ told) × (told.status ≡ 200) × IsPublication (case_data i) asked told
 
 module _ (refusals : AreRefusals) (one_more : (secret : List ℕ) (events : List EventView) (e : EventView) → host_of secret (events ++ e ∷ []) ≡ apply (host_of secret events) e)
     (shut : (h : HostView) (t id : ℕ) (command : CommandView) (asked : What) → (step h t command).reply ≡ reply.Publish id asked → is_closed (host_after h t command) id ≡ true) where
-  step_tells : (h : HostView) (moment : ℕ) (command : CommandView) (new : State) (said : SaidView) (told : ContentView) (id : ℕ) (key : Option (List ℕ)) (asked : What)
-      → command ≡ To id key (asks.Publish asked) → said.status ≡ 200 → said ≡ content_said told → host_after h moment command ≡ host_in new → Replies h moment command told → TellsOf new id asked said
+  step_tells : (h : HostView) (moment : ℕ) (command : CommandView) (new : State) (said : ContentView) (told : ContentView) (id : ℕ) (key : Option (List ℕ)) (asked : What)
+      → command ≡ To id key (asks.Publish asked) → said.status ≡ 200 → said ≡ told → host_after h moment command ≡ host_in new → Replies h moment command told → TellsOf new id asked said
   step_tells h moment command new said told id key asked is success so leaves replies =
-      let told_200 : told.status ≡ 200 = sym (ap (λ (x : SaidView). x.status) so) ∙ success in
+      let told_200 : told.status ≡ 200 = sym (ap (λ (x : ContentView). x.status) so) ∙ success in
       let either = subst (λ (c : CommandView). ToldOrRefused id asked (step h moment c).reply) (sym is) (told_or_refused (max moment h.moment) id asked (caller_of h id key)) in
       let (i, published, found, publication) = shows_published refusals (host_after h moment command) (step h moment command).reply told id asked either told_200 replies in
       (told, i, subst (λ (g : HostView). instance_at g id ≡ Some i) leaves found, sym (ap is_shut found) ∙ shut h moment id command asked published, so, told_200, publication)
 
-  steps_tell : {D : Type 0} (d : Ghosts D) (disk after : D) (moment : ℕ) (command : CommandView) (s new : State) (said : SaidView) (id : ℕ) (key : Option (List ℕ)) (asked : What)
+  steps_tell : {D : Type 0} (d : Ghosts D) (disk after : D) (moment : ℕ) (command : CommandView) (s new : State) (said : ContentView) (id : ℕ) (key : Option (List ℕ)) (asked : What)
       → command ≡ To id key (asks.Publish asked) → said.status ≡ 200 → Steps d disk after moment command s new said → TellsOf new id asked said
   steps_tell d disk after moment command s new said id key asked is success (Steps.no_event told none still replies same so) =
       step_tells (host_in s) moment command new said told id key asked is success so (ap (with_event (host_in s)) none ∙ ap host_in (sym same)) replies
@@ -113,14 +112,14 @@ module _ (refusals : AreRefusals) (one_more : (secret : List ℕ) (events : List
       step_tells (host_in s) moment command new said told id key asked is success so (ap (with_event (host_in s)) event ∙ sym (one_more s.secret s.kept e) ∙ ap host_in (sym same)) replies
   steps_tell d disk after moment command s new said id key asked is success (Steps.failed e event faults same so) = absurd (said_other said service.StoreFault refl so success)
   steps_tell d disk after moment command s new said id key asked is success (Steps.memory other what published still same so) =
-      absurd (not_refused said.status service.Memory refl (ap (λ (x : SaidView). x.status) so) success)
+      absurd (not_refused said.status service.Memory refl (ap (λ (x : ContentView). x.status) so) success)
 
 -- a request that goes no further has another status
-settles_other : {D : Type 0} (d : Ghosts D) (disk after : D) (s new : State) (said : SaidView) → said.status ≡ 200 → Settles d disk after s new (Some said) → ⊥
+settles_other : {D : Type 0} (d : Ghosts D) (disk after : D) (s new : State) (said : ContentView) → said.status ≡ 200 → Settles d disk after s new (Some said) → ⊥
 settles_other d disk after s new said success (Settles.ready none still same is) = absurd (cc)
-settles_other d disk after s new said success (Settles.store_fault e waits faults torn same is) = let one : said ≡ refused_said service.StoreFault = cc in said_other said service.StoreFault refl one success
+settles_other d disk after s new said success (Settles.store_fault e waits faults torn same is) = let one : said ≡ refusal_told service.StoreFault = cc in said_other said service.StoreFault refl one success
 settles_other d disk after s new said success (Settles.damaged e place waits faults first never same is) =
-    let one : said ≡ refused_said (service.StoreDamaged place) = cc in said_other said (service.StoreDamaged place) refl one success
+    let one : said ≡ refusal_told (service.StoreDamaged place) = cc in said_other said (service.StoreDamaged place) refl one success
 settles_other d disk after s new said success (Settles.opened e secret kept waits faults settled can same is) = absurd (cc)
 
 -- a request has one place, and that says what it asks for
@@ -219,7 +218,7 @@ module _ (laws : CaseLaws) where
 
     pub publishes : AsksFor x asked → Responds d x.before.0 x.after.0 x.head x.body x.moment x.before.1 x.after.1 x.due.said → Publishes x asked
     publishes asks (Responds.no_route routed still same so) = absurd (said_other x.due.said service.NoRoute refl so success)
-    publishes asks (Responds.method allow routed still same so) = absurd (not_refused x.due.said.status service.Method refl (ap (λ (s : SaidView). s.status) so) success)
+    publishes asks (Responds.method allow routed still same so) = absurd (not_refused x.due.said.status service.Method refl (ap (λ (s : ContentView). s.status) so) success)
     publishes asks (Responds.at_once route routed settles) = absurd (settles_other d x.before.0 x.after.0 x.before.1 x.after.1 x.due.said success settles)
     publishes (route, routed, command) (Responds.stepped other between settled led settles one steps two) =
         let place_is = one_place x.head.verb x.head.path route other routed led in
@@ -228,4 +227,4 @@ module _ (laws : CaseLaws) where
         (asks_at route.place route.id other.id x.head.key x.body asked command) in
         told_publishes other led
         (steps_tell laws.refusals laws.one_more laws.shut d between x.after.0 x.moment (command_of other.place other.id x.head.key x.body) settled x.after.1 x.due.said other.id x.head.key asked asked_there success steps)
-    publishes asks (Responds.memory way led reads still same so) = absurd (not_refused x.due.said.status service.Memory refl (ap (λ (s : SaidView). s.status) so) success)
+    publishes asks (Responds.memory way led reads still same so) = absurd (not_refused x.due.said.status service.Memory refl (ap (λ (s : ContentView). s.status) so) success)

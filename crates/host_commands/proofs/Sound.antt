@@ -15,7 +15,7 @@ use Rattle.sealed_core.specs.Host.{AreCheckedInstances, BidKept, CanApply, Close
 use Rattle.sealed_core.specs.Runs.{CanApplyAll, apply_all}
 use Rattle.sealed_core.specs.Sealed.{empty}
 use Rattle.sealed_core.specs.Step.{CommandView}
-use Rattle.requests.specs.Said.{SaidView}
+use Rattle.reply_texts.specs.Contents.{ContentView}
 
 sound_fresh : (c : CreationView) → IsCheckedCreation c → IsCheckedInstance (new_instance c)
 sound_fresh c right = record {
@@ -99,13 +99,13 @@ still_sound : (s new : State) → new ≡ s → IsSound s → IsSound new
 still_sound s new same sound = subst IsSound (sym same) sound
 
 module _ {D : Type 0} (d : Ghosts D) where
-  sound_settled : (disk after : D) (s new : State) (result : Option SaidView) → Settles d disk after s new result → IsSound s → IsSound new
+  sound_settled : (disk after : D) (s new : State) (result : Option ContentView) → Settles d disk after s new result → IsSound s → IsSound new
   sound_settled disk after s new result (Settles.ready none still same is) sound = still_sound s new same sound
   sound_settled disk after s new result (Settles.store_fault e waits faults torn same is) sound = still_sound s new same sound
   sound_settled disk after s new result (Settles.damaged e place waits faults first never same is) sound = still_sound s new same sound
   sound_settled disk after s new result (Settles.opened e secret kept waits faults settled can same is) sound = subst IsSound (sym same) can
 
-  pub sound_step : (disk after : D) (moment : ℕ) (command : CommandView) (s new : State) (said : SaidView) → Steps d disk after moment command s new said → IsSound s → IsSound new
+  pub sound_step : (disk after : D) (moment : ℕ) (command : CommandView) (s new : State) (said : ContentView) → Steps d disk after moment command s new said → IsSound s → IsSound new
   sound_step disk after moment command s new said (Steps.no_event told none still replies same so) sound = still_sound s new same sound
   sound_step disk after moment command s new said (Steps.kept told e event can faults appended replies same so) sound = subst IsSound (sym same) (can_push (empty s.secret) s.kept e sound can)
   sound_step disk after moment command s new said (Steps.failed e event faults same so) sound = subst IsSound (sym same) sound

@@ -13,10 +13,9 @@ use Rattle.certificates.specs.Division.{IsDivisionOf}
 use Rattle.host_journal.specs.States.{State, host_in}
 use Rattle.serving.specs.Exchanges.{Exchange}
 use Rattle.nash_search.specs.Division.{HasBestOwners}
-use Rattle.host_results.specs.Contents.{ContentView}
-use Rattle.host_results.specs.Publications.{IsPublication, IsPublished, case_data}
+use Rattle.reply_texts.specs.Contents.{ContentView}
+use Rattle.publications.specs.Publications.{IsPublication, IsPublished, case_data}
 use Rattle.requests.specs.Commands.{command_of}
-use Rattle.requests.specs.Said.{content_said}
 use Rattle.sealed_core.specs.declared.commands.Ask.TheVariants as asks
 use Rattle.sealed_core.specs.declared.commands.What.{What}
 use Rattle.sealed_core.specs.declared.commands.What.TheVariants as what
@@ -69,7 +68,7 @@ pub record Publishes {D : Type 0} (x : Exchange (D × State)) (asked : What) : T
   pub routed : IsRouted x.head.verb x.head.path (Ok route)
   pub stands : instance_at (host_in x.after.1) route.id ≡ Some i
   pub closed : i.closed ≡ true
-  pub said : x.due.said ≡ content_said told
+  pub said : x.due.said ≡ told
   pub published : IsPublication (case_data i) asked told
   pub best : IsOfDivision asked → TellsBestOf i asked told
   pub one : (other : ContentView) → IsPublication (case_data i) asked other → other ≡ told

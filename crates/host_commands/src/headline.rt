@@ -9,7 +9,7 @@ use bid_rules::case_law;
 use cert_checker::certificate_verdict_law;
 use certificates::certificate_law;
 use host_journal::{events_law, files_law};
-use host_results::{instance_law, one_publication_law};
+use publications::{instance_law, one_publication_law};
 use reply_texts::refusal_status_law;
 use sealed_core::{machine_law, publication_law};
 use serving::link_law;

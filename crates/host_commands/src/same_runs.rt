@@ -8,7 +8,7 @@ ghost use Rattle.host_journal.specs.States.{State};
 ghost use Rattle.serving.specs.Served.{tells_of};
 
 use host_journal::events_law;
-use host_results::{instance_law, one_publication_law};
+use publications::{instance_law, one_publication_law};
 use sealed_core::machine_law;
 use serving::link_law;
 use serving_laws::{ends_law, writing_law};

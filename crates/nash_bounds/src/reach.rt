@@ -136,7 +136,6 @@ fn by_level(lanes: &Lanes, at: &Fitting, goal: &Goal, beyond: bool) -> Option<bo
 }
 
 // Whether the greatest pair of a list between the lanes' low and high, and within their top, reaches the goal.
-#[inline(always)]
 fn judge(lanes: &Lanes, start: u32, goal: &Goal, beyond: bool) -> Reached
     requires lanes { IsSpan lanes.now }
     requires goal { IsGoal goal.now }

@@ -236,7 +236,6 @@ impl Walk {
     }
 
     // Counts up to this many further prefixes, and says whether all have been counted.
-    #[inline(always)]
     pub(crate) fn run(&mut self, case: &GoodsCase, most: u32) -> bool
         requires case { IsValidGoodsCase case.now }
         requires walk { IsWalk case.now self.old }

@@ -14,7 +14,7 @@ use Rattle.sealed_core.specs.declared.commands.What.TheVariants as what
 use Rattle.split_http.specs.declared.head.Verb.TheVariants as verb
 use Rattle.program_laws.specs.Brought.{IsToBring}
 use Rattle.program_laws.specs.Certificates.{IsOfCertificates}
-use Rattle.requests.specs.Said.{SaidView}
+use Rattle.reply_texts.specs.Contents.{ContentView}
 
 -- what the law of one reply says
 abbrev pub SaysOfReplies : (List ℕ → Type 0) → Type 0
@@ -27,12 +27,12 @@ module _ {D : Type 0} (so : List ℕ → Type 0) (service : Service (D × State)
       → (rest : List ℕ) → so (x.bytes ++ rest)
   one_certificate law x published is get rest =
       let best = published.best tt in
-      law best.one x.due x.bytes rest published.told.text best.valid best.text.2
+      law best.one x.due x.bytes rest published.told.text best.valid best.text.1
       (record {
-        status = ap (λ (said : SaidView). said.status) published.said ∙ best.text.0;
-        allow = ap (λ (said : SaidView). said.allow) published.said;
+        status = ap (λ (said : ContentView). said.status) published.said ∙ ap (λ (said : ContentView). said.status) best.text.0;
+        allow = ap (λ (said : ContentView). said.allow) published.said ∙ ap (λ (said : ContentView). said.allow) best.text.0;
         whole = ap (λ (manner : Manner). manner.bodiless) is.manner.1 ∙ ap is_head get;
-        is_text = ap (λ (said : SaidView). said.text) published.said;
+        is_text = ap (λ (said : ContentView). said.text) published.said;
       })
       is.are_bytes
 

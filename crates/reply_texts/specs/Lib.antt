@@ -1,3 +1,4 @@
+pub mod Contents
 pub mod Divisions
 pub mod Objects
 pub mod Pages

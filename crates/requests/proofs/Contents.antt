@@ -1,8 +1,8 @@
 -- What a publication tells, over the host after the event.
-use Rattle.std.proofs.Common.{◌≡◌, ℕ, List, Option, None, Some, Result, Ok, Err, IfOk, OnErr, IsSome, inl, inr, max, refl, sym, ap, subst, ◌∙◌, true≢false}
-use Rattle.host_results.specs.declared.contents.ContentType.TheVariants.{Json}
-use Rattle.host_results.specs.Contents.{ContentView}
-use Rattle.host_results.specs.Publications.{IsPublication, case_data}
+use Rattle.std.proofs.Common.{◌≡◌, ℕ, List, Option, None, Some, Result, Ok, Err, IfOk, IsSome, inl, inr, max, refl, sym, ap, subst, ◌∙◌, true≢false}
+use Rattle.reply_texts.specs.declared.contents.ContentType.TheVariants.{Json}
+use Rattle.reply_texts.specs.Contents.{ContentView, told_as}
+use Rattle.publications.specs.Publications.{IsPublication, case_data}
 use Rattle.reply_texts.specs.Replies.{status_of, text_of}
 use Rattle.reply_texts.specs.Telling.{IsAnswered}
 use Rattle.sealed_core.specs.declared.commands.Ask.TheVariants as asks
@@ -13,11 +13,6 @@ use Rattle.sealed_core.specs.Host.{Closed, EventView, HostView, InstanceView, ap
 use Rattle.sealed_core.specs.Sealed.{IsLateClose, with_event}
 use Rattle.sealed_core.specs.Step.{Answer, CommandView, To, step}
 use Rattle.requests.specs.Replies.{Shows}
-
--- what holds anyway holds where a call has failed
-pub if_failed : {A E P : Type 0} (r : Result A E) → P → OnErr r P
-if_failed (Ok a) p = tt
-if_failed (Err e) p = p
 
 -- what holds of a result
 pub if_ok : {A E : Type 0} (r : Result A E) (P Q : A → Type 0) → ((a : A) → P a → Q a) → IfOk r P → IfOk r Q
@@ -51,8 +46,5 @@ published_stands h stands a (t, command, right, is) id asked publishes gone =
     true≢false (sym (subst (λ (x : Option InstanceView). IsSome x) gone there))
 
 -- a reply that has a text of its own
-pub own_shows : (h : HostView) (r : Reply) (status : ℕ) (bytes : List ℕ) → status ≡ status_of r → text_of h r ≡ Some bytes → Shows h r (record { status = status; content_type = Json; text = bytes })
-own_shows h r status bytes is text = Shows.own bytes text (ap (with_status bytes) is)
-  where
-    with_status : List ℕ → ℕ → ContentView
-    with_status bytes n = record { status = n; content_type = Json; text = bytes }
+pub own_shows : (h : HostView) (r : Reply) (status : ℕ) (bytes : List ℕ) → status ≡ status_of r → text_of h r ≡ Some bytes → Shows h r (told_as status Json bytes)
+own_shows h r status bytes is text = Shows.own bytes text (ap (λ (n : ℕ). told_as n Json bytes) is)

@@ -1,3 +1,4 @@
+mod Alone
 mod AskedCommands
 mod Contents
 mod Leading

@@ -9,9 +9,9 @@ use Rattle.split_http.specs.Places.{IsRouted}
 use Rattle.requests.specs.Cases.{Responds, Steps}
 use Rattle.requests.specs.Commands.{command_of}
 use Rattle.requests.specs.Keeping.{Performs}
-use Rattle.requests.specs.Said.{SaidView}
+use Rattle.reply_texts.specs.Contents.{ContentView}
 
-pub performed_responds : {D : Type 0} (d : Ghosts D) (disk after : D) (head : Head) (body : List ℕ) (moment : ℕ) (s new : State) (said : SaidView) (route : Route)
+pub performed_responds : {D : Type 0} (d : Ghosts D) (disk after : D) (head : Head) (body : List ℕ) (moment : ℕ) (s new : State) (said : ContentView) (route : Route)
     → IsRouted head.verb head.path (Ok route) → (command : CommandView) → command ≡ command_of route.place route.id head.key body → Performs d disk after moment command s new said
     → Responds d disk after head body moment s new said
 performed_responds d disk after head body moment s new said route routed command is (Performs.at_once settles) = Responds.at_once route routed settles

@@ -1,6 +1,6 @@
 -- Where the instance isn't closed after the step, no reply is a publication; so what is told is what the caller is told.
 use Rattle.std.proofs.Common.{◌≡◌, ℕ, true, false, List, Option, Some, ap, sym, ◌∙◌, subst, true≢false}
-use Rattle.host_results.specs.Contents.{ContentView}
+use Rattle.reply_texts.specs.Contents.{ContentView}
 use Rattle.sealed_core.specs.declared.commands.Ask.{Ask}
 use Rattle.sealed_core.specs.declared.commands.Ask.TheVariants as asks
 use Rattle.sealed_core.specs.declared.commands.What.{What}

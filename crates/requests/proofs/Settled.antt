@@ -12,7 +12,7 @@ use Rattle.sealed_core.specs.Runs.{CanApplyAll}
 use Rattle.sealed_core.specs.Sealed.{empty}
 use Rattle.requests.specs.Cases.{Settles}
 use Rattle.requests.specs.Keeping.{FaultSays}
-use Rattle.requests.specs.Said.{SaidView, refused_said}
+use Rattle.reply_texts.specs.Contents.{ContentView, refusal_told}
 
 module _ {D T : Type 0} (d : Ghosts D) (disk after : D) (s new : State) where
   pub settled_ok : (x : T) → CanApplyAll (empty new.secret) new.kept → Reopens {T = T} d disk after s new (Ok x) → Settles d disk after s new None
@@ -20,25 +20,25 @@ module _ {D T : Type 0} (d : Ghosts D) (disk after : D) (s new : State) where
   settled_ok x can (Reopens.failed e waits bad count torn is) = absurd (cc)
   settled_ok x can (Reopens.damaged e place waits bad count first never is) = absurd (cc)
 
-  settled_fault : (said : SaidView) → said ≡ refused_said service.StoreFault → Reopens {T = T} d disk after s new (Err fault.Disk) → Settles d disk after s new (Some said)
+  settled_fault : (said : ContentView) → said ≡ refusal_told service.StoreFault → Reopens {T = T} d disk after s new (Err fault.Disk) → Settles d disk after s new (Some said)
   settled_fault said same (Reopens.opened e secret kept waits ok count told is) = absurd (cc)
   settled_fault said same (Reopens.failed e waits was count torn is) = Settles.store_fault e waits count torn is (ap Some same)
   settled_fault said same (Reopens.damaged e place waits bad count first never is) = absurd (cc)
 
-  settled_damaged : (place : ℕ) (said : SaidView) → FaultSays (fault.NotALog place) said → Reopens {T = T} d disk after s new (Err (fault.NotALog place)) → Settles d disk after s new (Some said)
+  settled_damaged : (place : ℕ) (said : ContentView) → FaultSays (fault.NotALog place) said → Reopens {T = T} d disk after s new (Err (fault.NotALog place)) → Settles d disk after s new (Some said)
   settled_damaged place said same (Reopens.opened e secret kept waits ok count told is) = absurd (cc)
   settled_damaged place said same (Reopens.failed e waits bad count torn is) = absurd (cc)
   settled_damaged place said same (Reopens.damaged e other waits was count first never is) =
       let same_place : other ≡ place = cc was in
       Settles.damaged e place waits count (λ tells. subst (λ (p : ℕ). IsFirstFault p (d.seen disk)) same_place (first tells)) never is (ap Some same)
 
-  settled_memory : (said : SaidView) → Reopens {T = T} d disk after s new (Err fault.NoMemory) → Settles d disk after s new (Some said)
+  settled_memory : (said : ContentView) → Reopens {T = T} d disk after s new (Err fault.NoMemory) → Settles d disk after s new (Some said)
   settled_memory said (Reopens.opened e secret kept waits ok count told is) = absurd (cc)
   settled_memory said (Reopens.failed e waits bad count torn is) = absurd (cc)
   settled_memory said (Reopens.damaged e place waits bad count first never is) = absurd (cc)
 
   -- what is said of a fault is what the case says
-  pub settled_by : (f : LogFault) (said : SaidView) → FaultSays f said → Reopens {T = T} d disk after s new (Err f) → Settles d disk after s new (Some said)
+  pub settled_by : (f : LogFault) (said : ContentView) → FaultSays f said → Reopens {T = T} d disk after s new (Err f) → Settles d disk after s new (Some said)
   settled_by fault.Disk said says p = settled_fault said says p
   settled_by (fault.NotALog place) said says p = settled_damaged place said says p
   settled_by fault.NoMemory said says p = settled_memory said p

@@ -1,8 +1,6 @@
 -- Each reply of the host has a status with which a host replies.
-use Rattle.std.proofs.Common.{◌≡◌, ◌⊎◌, ℕ, ◌||◌, ◌==◌, true, false, Bool, IsTrue, refl, sym, subst, ⊎_elim}
-use Rattle.host_results.specs.Contents.{ContentView, refusal_told}
-use Rattle.reply_texts.specs.declared.refusals.ServiceRefusal.{ServiceRefusal}
-use Rattle.reply_texts.specs.Refusals.{is_refusal_status, refusal_row, service_row}
+use Rattle.std.proofs.Common.{ℕ, ◌||◌, ◌==◌, true, false, Bool, IsTrue, refl}
+use Rattle.reply_texts.specs.Refusals.{is_refusal_status, refusal_row}
 use Rattle.reply_texts.specs.Replies.{status_of}
 use Rattle.sealed_core.specs.declared.replies.Refusal.{Refusal}
 use Rattle.sealed_core.specs.declared.replies.Reply.{Reply}
@@ -27,10 +25,3 @@ module _ (refusal_status : (r : Refusal) → IsTrue (is_refusal_status (refusal_
   reply_status reply.Closed = refl
   reply_status (reply.Publish id what) = refl
   reply_status (reply.Refused r) = refusal_known (refusal_row r).0 (refusal_status r)
-
--- a success or a refusal of the service
-pub told_status : ((r : ServiceRefusal) → IsTrue (is_refusal_status (service_row r).status)) → (told : ContentView) → (told.status ≡ 200) ⊎ ((r : ServiceRefusal) × (told ≡ refusal_told r))
-    → IsTrue (is_host_status told.status)
-told_status service_status told either = ⊎_elim
-    (λ success. subst (λ n. IsTrue (is_host_status n)) (sym success) refl)
-    (λ refused. subst (λ (x : ContentView). IsTrue (is_host_status x.status)) (sym refused.1) (refusal_known (service_row refused.0).status (service_status refused.0))) either

@@ -1,4 +1,3 @@
-pub mod Said
 pub mod Commands
 pub mod Replies
 pub mod Cases

@@ -1,8 +1,8 @@
 -- What the reply to a command says, over the host after the event.
 use Rattle.std.specs.Prelude.{◌≡◌, ℕ, List, Some}
-use Rattle.host_results.specs.declared.contents.ContentType.TheVariants.{Json}
-use Rattle.host_results.specs.Contents.{ContentView}
-use Rattle.host_results.specs.Publications.{IsPublication, case_data}
+use Rattle.reply_texts.specs.declared.contents.ContentType.TheVariants.{Json}
+use Rattle.reply_texts.specs.Contents.{ContentView, told_as}
+use Rattle.publications.specs.Publications.{IsPublication, case_data}
 use Rattle.reply_texts.specs.Replies.{status_of, text_of}
 use Rattle.sealed_core.specs.declared.commands.What.{What}
 use Rattle.sealed_core.specs.declared.replies.Reply.{Reply}
@@ -14,7 +14,7 @@ use Rattle.sealed_core.specs.Step.{CommandView, step}
 -- A reply with a text of its own gives it as JSON, with its status. A publication has none of its own: it says what is asked for about the
 -- instance that it names.
 pub data Shows (h : HostView) (r : Reply) (told : ContentView) : Type 0 where
-  own : (bytes : List ℕ) → text_of h r ≡ Some bytes → told ≡ record { status = status_of r; content_type = Json; text = bytes } → Shows h r told
+  own : (bytes : List ℕ) → text_of h r ≡ Some bytes → told ≡ told_as (status_of r) Json bytes → Shows h r told
   published : (id : ℕ) (asked : What) (i : InstanceView) → r ≡ reply.Publish id asked → instance_at h id ≡ Some i → IsPublication (case_data i) asked told → Shows h r told
 
 -- what the reply to a command at a moment says

@@ -1,6 +1,6 @@
 -- The part of a reply that the caller is told.
 use Rattle.std.specs.Prelude.{Some}
-use Rattle.host_results.specs.Contents.{ContentView}
+use Rattle.reply_texts.specs.Contents.{ContentView}
 use Rattle.reply_texts.specs.Sealing.{Told}
 
 -- the HTTP status and the text

@@ -1,14 +1,15 @@
 // A law that holds for every reply to a step. It is the contract of a function that does nothing.
 ghost use Rattle.std.specs.Prelude.{◌≡◌, ℕ, List, Option, false};
-ghost use Rattle.host_results.specs.Contents.{ContentView};
+ghost use Rattle.reply_texts.specs.Contents.{ContentView, told_as};
 ghost use Rattle.reply_texts.specs.Sealing.{sealed_told};
 ghost use Rattle.requests.specs.Replies.{Replies};
 ghost use Rattle.requests.specs.Sent.{status_and_text};
 ghost use Rattle.sealed_core.specs.Host.{HostView};
 ghost use Rattle.sealed_core.specs.Sealed.{caller_number, host_after, is_closed, view};
-ghost use Rattle.sealed_core.specs.Step.{To};
+ghost use Rattle.sealed_core.specs.Step.{CommandView, To};
 ghost use Rattle.sealed_core.specs.declared.commands.Ask.{Ask};
 
+use publications::publication_status_law;
 use reply_texts::text_sealing_law;
 use sealed_core::{publication_law, sealing_law};
 
@@ -29,4 +30,12 @@ pub fn sent_sealing_law()
     publication_law();
     sealing_law();
     text_sealing_law();
+}
+
+/// What is told in reply to a step is a text with its status, and nothing besides: no methods, and not that memory ran out.
+pub fn step_reply_law()
+    ensures { (h : HostView) (t : ℕ) (command : CommandView) (told : ContentView)
+        → Replies h t command told → told ≡ told_as told.status told.content_type told.text }
+{
+    publication_status_law();
 }

@@ -12,14 +12,12 @@ mod commands;
 mod laws;
 mod replies;
 mod responding;
-mod said;
 mod settling;
 mod stepping;
 mod telling;
 mod tools;
 
 pub use commands::command_of;
-pub use laws::sent_sealing_law;
+pub use laws::{sent_sealing_law, step_reply_law};
 pub use responding::respond;
-pub use said::{ReplyText, Said};
 pub use tools::Tools;

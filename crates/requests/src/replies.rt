@@ -4,12 +4,11 @@ ghost use Rattle.reply_texts.specs.Telling.{IsAnswered, is_publication};
 ghost use Rattle.sealed_core.specs.declared.commands.What.{What};
 ghost use Rattle.sealed_core.specs.Sealed.{with_event};
 ghost use Rattle.sealed_core.specs.Step.{answer_view};
-ghost use Rattle.requests.specs.Keeping.{SaysShown};
-ghost use Rattle.requests.specs.Said.{said_view};
+ghost use Rattle.requests.specs.Replies.{Shows};
+ghost use Rattle.reply_texts.specs.Contents.{content_view};
 
-use crate::said::Said;
-use host_results::{publication, publication_status_law};
-use reply_texts::{refusal_status_law, reply_bytes, reply_status};
+use publications::publication;
+use reply_texts::{ReplyContent, refusal_status_law, reply_bytes, reply_status};
 use sealed_core::{Answered, Host, Reply, instance_at, machine_law, publication_law};
 use split_base::{Gate, NoMemory};
 use split_solve::Solver;
@@ -21,39 +20,36 @@ pub(crate) fn content<R: Threads + Sync, G: Gate + Sync>(
     solver: &mut Solver<'_, R, G>,
     host: &Host,
     answered: &Answered,
-) -> Result<Said, NoMemory>
+) -> Result<ReplyContent, NoMemory>
     requires answered { IsAnswered host.now.content (answer_view answered.now) }
     ensures shown { IfOk result (λ said.
-        SaysShown (with_event host.now.content (answer_view answered.now).event) answered.now.reply
-        (said_view said)) }
+        Shows (with_event host.now.content (answer_view answered.now).event) answered.now.reply
+        (content_view said)) }
     ensures memory { OnErr result
         ((id : ℕ) × (asked : What) × (answered.now.reply ≡ Reply.Publish id asked)) }
 {
     machine_law();
     publication_law();
-    publication_status_law();
-    refusal_status_law();
     match answered.reply {
         Reply::Publish { id, what } => {
             let Some(instance) = instance_at(host, id) else {
                 unreachable!();
             };
-            let told = publication(solver, instance, what)?;
-            Ok(Said::told(told))
+            publication(solver, instance, what)
         }
         _ => Ok(own_content(host, answered)),
     }
 }
 
 // What is said in a reply that isn't a publication. It takes no memory.
-fn own_content(host: &Host, answered: &Answered) -> Said
+fn own_content(host: &Host, answered: &Answered) -> ReplyContent
     requires answered { IsAnswered host.now.content (answer_view answered.now) }
     requires reply { is_publication answered.now.reply ≡ false }
-    ensures { SaysShown (with_event host.now.content (answer_view answered.now).event)
-        answered.now.reply (said_view result) }
+    ensures { Shows (with_event host.now.content (answer_view answered.now).event)
+        answered.now.reply (content_view result) }
 {
     refusal_status_law();
     let status = reply_status(&answered.reply);
     let text = reply_bytes(host, answered);
-    Said::own(status, text)
+    ReplyContent::own(status, text)
 }

@@ -6,15 +6,14 @@ ghost use Rattle.requests.specs.Cases.{Responds};
 ghost use Rattle.sealed_core.specs.Step.{IsCheckedCommand, command_view};
 ghost use Rattle.split_http.specs.Places.{IsRouted};
 ghost use Rattle.requests.specs.Keeping.{Performs, unrouted_said};
-ghost use Rattle.requests.specs.Said.{said_view};
+ghost use Rattle.reply_texts.specs.Contents.{content_view};
 
 use crate::commands::command_of;
-use crate::said::Said;
 use crate::settling::settle;
 use crate::stepping::step;
 use crate::tools::Tools;
 use host_journal::{Serving, passing_law};
-use reply_texts::ServiceRefusal;
+use reply_texts::{ReplyContent, ServiceRefusal};
 use sealed_core::Command;
 use split_base::{Disk, Gate, NoMemory};
 use split_http::{Head, Route, RouteFault, Routes};
@@ -40,10 +39,10 @@ pub fn respond<D: Disk, R: Threads + Sync, G: Gate + Sync>(
     head: &Head,
     body: &[u8],
     moment: u64,
-) -> Said
+) -> ReplyContent
     ensures responds { (s : State) → HasState D.Disk serving.old disk.old s
         → ReachesState D.Disk serving.new disk.old disk.new s (λ new.
-        Responds D.Disk disk.old disk.new head.now body.now moment s new (said_view result)) }
+        Responds D.Disk disk.old disk.new head.now body.now moment s new (content_view result)) }
 
     // These hold whatever state the serving is in.
     ensures count { D.faults disk.old ≤ D.faults disk.new }
@@ -53,7 +52,7 @@ pub fn respond<D: Disk, R: Threads + Sync, G: Gate + Sync>(
     match route_of(tools.routes, head) {
         Err(fault) => unrouted(fault),
         Ok(route) => match command_of(tools.solver.means.alloc, route, head.key, body) {
-            Err(NoMemory) => Said::out_of_memory(),
+            Err(NoMemory) => ReplyContent::out_of_memory(),
             Ok(command) => perform(&mut tools.solver, serving, disk, moment, command),
         },
     }
@@ -67,12 +66,12 @@ fn route_of(routes: &Routes, head: &Head) -> Result<Route, RouteFault>
 }
 
 // What is said if a request leads nowhere.
-fn unrouted(fault: RouteFault) -> Said
-    ensures { said_view result ≡ unrouted_said fault }
+fn unrouted(fault: RouteFault) -> ReplyContent
+    ensures { content_view result ≡ unrouted_said fault }
 {
     match fault {
-        RouteFault::NoRoute => Said::refused(&ServiceRefusal::NoRoute),
-        RouteFault::Method { allow } => Said::refused_method(allow),
+        RouteFault::NoRoute => ReplyContent::refused(&ServiceRefusal::NoRoute),
+        RouteFault::Method { allow } => ReplyContent::refused_method(allow),
     }
 }
 
@@ -83,11 +82,12 @@ fn perform<D: Disk, R: Threads + Sync, G: Gate + Sync>(
     disk: &mut D,
     moment: u64,
     command: Command,
-) -> Said
+) -> ReplyContent
     requires command { IsCheckedCommand (command_view command) }
     ensures performed { (s : State) → HasState D.Disk serving.old disk.old s
         → ReachesState D.Disk serving.new disk.old disk.new s (λ new.
-        Performs D.Disk disk.old disk.new moment (command_view command) s new (said_view result)) }
+        Performs D.Disk disk.old disk.new moment (command_view command) s new
+        (content_view result)) }
     ensures count { D.faults disk.old ≤ D.faults disk.new }
     ensures honest { D.is_honest disk.old ↔ D.is_honest disk.new }
 {

@@ -6,12 +6,12 @@ ghost use Rattle.sealed_core.specs.Host.{CanApply, event_view};
 ghost use Rattle.sealed_core.specs.Step.{IsCheckedCommand, command_view};
 ghost use Rattle.requests.specs.Cases.{Steps};
 ghost use Rattle.requests.specs.Keeping.{KeepsSaid};
-ghost use Rattle.requests.specs.Said.{said_view};
+ghost use Rattle.reply_texts.specs.Contents.{content_view};
 
 use crate::replies::content;
-use crate::said::Said;
 use crate::telling::failure;
 use host_journal::{Serving, keep, passing_law};
+use reply_texts::ReplyContent;
 use sealed_core::{Command, Event, answer};
 use split_base::{Disk, Gate, NoMemory};
 use split_solve::Solver;
@@ -25,19 +25,19 @@ pub(crate) fn step<D: Disk, R: Threads + Sync, G: Gate + Sync>(
     disk: &mut D,
     moment: u64,
     command: Command,
-) -> Said
+) -> ReplyContent
     requires ready { serving.old.waiting ≡ None }
     requires command { IsCheckedCommand (command_view command) }
     ensures stepped { (s : State) → HasState D.Disk serving.old disk.old s
         → ReachesState D.Disk serving.new disk.old disk.new s (λ new.
-        Steps D.Disk disk.old disk.new moment (command_view command) s new (said_view result)) }
+        Steps D.Disk disk.old disk.new moment (command_view command) s new (content_view result)) }
     ensures count { D.faults disk.old ≤ D.faults disk.new }
     ensures honest { D.is_honest disk.old ↔ D.is_honest disk.new }
 {
     passing_law::<D>();
     let answered = answer(&serving.host, moment, command);
     match content(solver, &serving.host, &answered) {
-        Err(NoMemory) => Said::out_of_memory(),
+        Err(NoMemory) => ReplyContent::out_of_memory(),
         Ok(said) => {
             let event = answered.event;
             match event {
@@ -49,13 +49,18 @@ pub(crate) fn step<D: Disk, R: Threads + Sync, G: Gate + Sync>(
 }
 
 // Keeps an event, and says this then. It takes no memory.
-fn keep_first<D: Disk>(serving: &mut Serving, disk: &mut D, event: Event, due: Said) -> Said
+fn keep_first<D: Disk>(
+    serving: &mut Serving,
+    disk: &mut D,
+    event: Event,
+    due: ReplyContent,
+) -> ReplyContent
     requires ready { serving.old.waiting ≡ None }
     requires can { CanApply serving.old.host.content (event_view event) }
     ensures kept { (s : State) → HasState D.Disk serving.old disk.old s
         → ReachesState D.Disk serving.new disk.old disk.new s (λ new.
-        KeepsSaid D.Disk disk.old disk.new (event_view event) (said_view due) s new
-        (said_view result)) }
+        KeepsSaid D.Disk disk.old disk.new (event_view event) (content_view due) s new
+        (content_view result)) }
     ensures count { D.faults disk.old ≤ D.faults disk.new }
     ensures honest { D.is_honest disk.old ↔ D.is_honest disk.new }
 {

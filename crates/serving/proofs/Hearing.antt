@@ -16,7 +16,7 @@ use Rattle.serving.specs.Dues.{DueView, closes, closing, is_head, manner_of}
 use Rattle.serving.specs.Ends.{Ending, end_as, reads_after, writes_after}
 use Rattle.serving.specs.Runs.{BodyStops, Refuses, Replies, SaysHead, Service, Stops}
 use Rattle.serving.specs.Served.{CountsEnd, HaveCome, HeardQuiet, HeardRefused, HeardRequest, LinkView, CountsStay, Replied}
-use Rattle.requests.specs.Said.{SaidView}
+use Rattle.reply_texts.specs.Contents.{ContentView}
 
 -- what was told after some bytes were taken was told before too, after those bytes
 pub told_back : (a b : Option (List ℕ)) (text rest : List ℕ) → Consumes a b text → IsToldAs b rest → IsToldAs a (text ++ rest)
@@ -215,7 +215,7 @@ module _ {W : Type 0} (service : Service W) (link now : LinkView) (asked : List 
     goes = λ still. absurd (never_closes (service.refuses refusal).memory (sym (ap closes is) ∙ still));
   }
 
-  pub due_to_request : (head : Head) (body : List ℕ) (moment : ℕ) (new : W) (said : SaidView) → HeardRequest link now asked head body moment → stands new
+  pub due_to_request : (head : Head) (body : List ℕ) (moment : ℕ) (new : W) (said : ContentView) → HeardRequest link now asked head body moment → stands new
       → service.responds head body moment w new said → due ≡ record { said = said; manner = manner_of last head moment } → Replied service link now asked stands last w due
   due_to_request head body moment new said heard st responds is = record {
     answer = Some moment;

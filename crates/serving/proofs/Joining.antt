@@ -11,7 +11,7 @@ use Rattle.serving.specs.Ports.{PortRun}
 use Rattle.serving.specs.Served.{LinkTells}
 use Rattle.serving.proofs.Hearing.{never_closes}
 use Rattle.serving.specs.Runs.{After, Asks, LinkRun, Refuses, Replies, Run, Service, end_of}
-use Rattle.requests.specs.Said.{SaidView}
+use Rattle.reply_texts.specs.Contents.{ContentView}
 
 module _ {W : Type 0} (service : Service W) where
   -- after no request
@@ -60,7 +60,7 @@ module _ {W : Type 0} (service : Service W) where
   refused_run more all rest answer answers later w mid interim tail out new end refusal bodiless due r none same is asked wrote (After.on bytes next open_still are rest_is goes) =
       absurd (never_closes (service.refuses refusal).memory (sym (ap closes is) ∙ open_still))
 
-  module _ (last : Bool) (all rest : List ℕ) (w mid : W) (head : Head) (body : List ℕ) (moment : ℕ) (said : SaidView) (asks : Asks all rest head body) (responds : service.responds head body moment w mid said) where
+  module _ (last : Bool) (all rest : List ℕ) (w mid : W) (head : Head) (body : List ℕ) (moment : ℕ) (said : ContentView) (asks : Asks all rest head body) (responds : service.responds head body moment w mid said) where
     -- the request that was answered, with the bytes of its reply and what was written of them
     abbrev exchange : List ℕ → List ℕ → Exchange W
     exchange bytes part = record {

@@ -3,7 +3,7 @@ use Rattle.std.specs.Prelude.{◌≡◌, ◌<◌, ℕ, Bool, true, false, ◌||�
 use Rattle.split_http.specs.declared.head.Head.{Head}
 use Rattle.split_http.specs.declared.head.Verb.{Verb}
 use Rattle.split_http.specs.declared.head.Verb.TheVariants as verb
-use Rattle.requests.specs.Said.{SaidView}
+use Rattle.reply_texts.specs.Contents.{ContentView, is_plain}
 use Rattle.split_http.specs.declared.replies.HttpReply.{HttpReply}
 use Rattle.split_http.specs.Replies.{IsReply}
 
@@ -15,7 +15,7 @@ pub record Manner : Type 0 where
 
 -- a reply that is due: what it says, and how it is given
 pub record DueView : Type 0 where
-  pub said : SaidView
+  pub said : ContentView
   pub manner : Manner
 
 -- the method is HEAD, whose reply has no body
@@ -41,7 +41,7 @@ closes due = due.said.memory || due.manner.closes
 pub record SaysDue (due : DueView) (reply : HttpReply) : Type 0 where
   pub status : reply.status ≡ due.said.status
   pub text : reply.text.now ≡ due.said.text
-  pub plain : reply.plain ≡ due.said.plain
+  pub plain : reply.plain ≡ is_plain due.said.content_type
   pub moment : reply.moment ≡ due.manner.moment
   pub allow : reply.allow ≡ due.said.allow
   pub bodiless : reply.bodiless ≡ due.manner.bodiless

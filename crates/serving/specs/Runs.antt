@@ -9,12 +9,12 @@ use Rattle.serving.specs.declared.refusals.HeadRefusal.{HeadRefusal}
 use Rattle.serving.specs.declared.refusals.HeadRefusal.TheVariants as refusals
 use Rattle.serving.specs.Dues.{AreBytes, DueView, IsPartOf, closes, closing, is_head, manner_of}
 use Rattle.serving.specs.Ends.{Ending}
-use Rattle.requests.specs.Said.{SaidView}
+use Rattle.reply_texts.specs.Contents.{ContentView}
 
 -- What a service says: to a head that is refused, and to a head with its body at a moment, from one state of the world to another.
 pub record Service (W : Type 0) : Type 1 where
-  pub refuses : HeadRefusal → SaidView
-  pub responds : Head → List ℕ → ℕ → W → W → SaidView → Type 0
+  pub refuses : HeadRefusal → ContentView
+  pub responds : Head → List ℕ → ℕ → W → W → ContentView → Type 0
 
 -- a run over what is left: bytes, clock answers, world, bytes written, world after, and the ending
 abbrev pub Run : Type 0 → Type 1
@@ -49,7 +49,7 @@ pub record Asks (all rest : List ℕ) (head : Head) (body : List ℕ) : Type 0 w
 pub data Replies {W : Type 0} (service : Service W) (last : Bool) (all rest : List ℕ) (answer : Option ℕ) (w : W) (interim : List ℕ) (new : W) (due : DueView) : Type 0 where
   refused : (refusal : HeadRefusal) (bodiless : Bool) → Refuses all rest answer refusal bodiless → interim ≡ [] → new ≡ w
       → due ≡ record { said = service.refuses refusal; manner = closing answer bodiless } → Replies service last all rest answer w interim new due
-  answered : (head : Head) (body : List ℕ) (moment : ℕ) (said : SaidView) → Asks all rest head body → answer ≡ Some moment → interim ≡ interim_of head.expects
+  answered : (head : Head) (body : List ℕ) (moment : ℕ) (said : ContentView) → Asks all rest head body → answer ≡ Some moment → interim ≡ interim_of head.expects
       → service.responds head body moment w new said → due ≡ record { said = said; manner = manner_of last head moment } → Replies service last all rest answer w interim new due
 
 -- The bytes after a head that isn't refused, and no reply to it: they end within its body; a write of the interim line, which is due, failed,

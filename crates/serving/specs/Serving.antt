@@ -9,9 +9,9 @@ use Rattle.serving.specs.Dues.{DueView}
 use Rattle.serving.specs.Runs.{Service}
 use Rattle.reply_texts.specs.declared.refusals.ServiceRefusal.{ServiceRefusal}
 use Rattle.reply_texts.specs.declared.refusals.ServiceRefusal.TheVariants as service
-use Rattle.requests.specs.declared.said.Said.{Said}
+use Rattle.reply_texts.specs.declared.contents.ReplyContent.{ReplyContent}
 use Rattle.requests.specs.Cases.{Responds}
-use Rattle.requests.specs.Said.{SaidView, memory_said, refused_said, said_view}
+use Rattle.reply_texts.specs.Contents.{ContentView, content_view, memory_told, refusal_told}
 use Rattle.split_http.specs.declared.limits.TheConstants.{BAD_HOST, BAD_LENGTH, FRAMING, LENGTH_MISSING}
 
 -- the refusal of a head by its number
@@ -24,11 +24,11 @@ stated_refusal row =
     else service.BodyTooLarge
 
 -- what is said to a head that is refused
-abbrev pub refusal_said : HeadRefusal → SaidView
-refusal_said refusals.BadHead = refused_said service.BadHead
-refusal_said refusals.ClockFault = refused_said service.ClockFault
-refusal_said (refusals.Stated row) = refused_said (stated_refusal row)
-refusal_said refusals.Memory = memory_said
+abbrev pub refusal_said : HeadRefusal → ContentView
+refusal_said refusals.BadHead = refusal_told service.BadHead
+refusal_said refusals.ClockFault = refusal_told service.ClockFault
+refusal_said (refusals.Stated row) = refusal_told (stated_refusal row)
+refusal_said refusals.Memory = memory_told
 
 -- The host before its disk. The world is the disk and the state. While a request changes it, a crash at any moment leaves a file of the state
 -- before or after.
@@ -43,5 +43,5 @@ abbrev pub StandsAt : {D : Type 0} → Ghosts D → Serving → D → D × State
 StandsAt d serving disk w = (w.0 ≡ disk) × HasState d serving disk w.1
 
 -- what is due when this is said, in this manner
-abbrev pub due_of : Said → Option ℕ → Bool → Bool → DueView
-due_of said moment bodiless closes = record { said = said_view said; manner = record { moment = moment; bodiless = bodiless; closes = closes } }
+abbrev pub due_of : ReplyContent → Option ℕ → Bool → Bool → DueView
+due_of said moment bodiless closes = record { said = content_view said; manner = record { moment = moment; bodiless = bodiless; closes = closes } }

@@ -4,48 +4,47 @@ ghost use Rattle.http.specs.StatusCode.{reason_phrase};
 ghost use Rattle.split_base.specs.declared.limits.TheConstants.{LAST_MOMENT};
 ghost use Rattle.serving.specs.Dues.{Manner, SaysDue};
 ghost use Rattle.serving.specs.Served.{FinishSays, link_view, tells_of};
-ghost use Rattle.requests.specs.Said.{said_view};
+ghost use Rattle.reply_texts.specs.Contents.{content_view};
 ghost use Rattle.serving.specs.Serving.{due_of, refusal_said as said_of, stated_refusal as stated_by};
 
 use crate::{HeadRefusal, LinkEnd, finish};
-use reply_texts::ServiceRefusal;
-use requests::Said;
+use reply_texts::{ReplyContent, ServiceRefusal};
 use split_base::Link;
 use split_http::{BAD_HOST, BAD_LENGTH, FRAMING, HttpReply, LENGTH_MISSING, phrase_law};
 
 // What is said to a head that is refused. It takes no memory.
-pub(crate) fn refusal_said(refusal: HeadRefusal) -> Said
-    ensures { said_view result ≡ said_of refusal }
+pub(crate) fn refusal_said(refusal: HeadRefusal) -> ReplyContent
+    ensures { content_view result ≡ said_of refusal }
 {
     match refusal {
-        HeadRefusal::BadHead => Said::refused(&ServiceRefusal::BadHead),
-        HeadRefusal::ClockFault => Said::refused(&ServiceRefusal::ClockFault),
+        HeadRefusal::BadHead => ReplyContent::refused(&ServiceRefusal::BadHead),
+        HeadRefusal::ClockFault => ReplyContent::refused(&ServiceRefusal::ClockFault),
         HeadRefusal::Stated { row } => stated_said(row),
-        HeadRefusal::Memory => Said::out_of_memory(),
+        HeadRefusal::Memory => ReplyContent::out_of_memory(),
     }
 }
 
 // What is said to a head whose refusal has this number.
-fn stated_said(row: u8) -> Said
-    ensures { said_view result ≡ said_of (HeadRefusal.Stated row) }
+fn stated_said(row: u8) -> ReplyContent
+    ensures { content_view result ≡ said_of (HeadRefusal.Stated row) }
 {
     if row == BAD_HOST {
-        Said::refused(&ServiceRefusal::BadHost)
+        ReplyContent::refused(&ServiceRefusal::BadHost)
     } else if row == FRAMING {
-        Said::refused(&ServiceRefusal::Framing)
+        ReplyContent::refused(&ServiceRefusal::Framing)
     } else if row == BAD_LENGTH {
-        Said::refused(&ServiceRefusal::BadLength)
+        ReplyContent::refused(&ServiceRefusal::BadLength)
     } else if row == LENGTH_MISSING {
-        Said::refused(&ServiceRefusal::LengthMissing)
+        ReplyContent::refused(&ServiceRefusal::LengthMissing)
     } else {
-        Said::refused(&ServiceRefusal::BodyTooLarge)
+        ReplyContent::refused(&ServiceRefusal::BodyTooLarge)
     }
 }
 
 // Writes what is said, and answers the end of the link after it, or none where the link goes on.
 pub(crate) fn write_said<L: Link>(
     link: &mut L,
-    said: &Said,
+    said: &ReplyContent,
     moment: Option<u64>,
     bodiless: bool,
     closes: bool,
@@ -65,7 +64,7 @@ pub(crate) fn write_said<L: Link>(
 }
 
 // The reply as it is written.
-fn reply_of(said: &Said, moment: Option<u64>, bodiless: bool, closes: bool) -> HttpReply<'_>
+fn reply_of(said: &ReplyContent, moment: Option<u64>, bodiless: bool, closes: bool) -> HttpReply<'_>
     ensures tells { SaysDue (due_of said.now moment bodiless closes) result }
 {
     HttpReply {

@@ -12,7 +12,7 @@ use Rattle.split_http.specs.declared.routes.Route.{Route}
 use Rattle.split_http.specs.Places.{IsRouted}
 use Rattle.serving_laws.specs.Accepting.{Accepts, AreMade, IsMade}
 use Rattle.serving_laws.proofs.Chains.{passes_first, responds_first}
-use Rattle.requests.specs.Said.{SaidView}
+use Rattle.reply_texts.specs.Contents.{ContentView}
 
 module _ {W : Type 0} (run : List (Exchange W)) (first : State) where
   -- what came of one state by requests of the run
@@ -52,7 +52,7 @@ module _ {W : Type 0} (run : List (Exchange W)) (first : State) where
   ready_waits : (secret : List ℕ) (kept : List EventView) → Waits (ready_with secret kept)
   ready_waits secret kept e is = absurd (cc)
 
-  settles_come : {D : Type 0} (d : Ghosts D) (disk after : D) (s new : State) (result : Option SaidView) → d.is_honest disk → Waits s → Settles d disk after s new result → Comes s new
+  settles_come : {D : Type 0} (d : Ghosts D) (disk after : D) (s new : State) (result : Option ContentView) → d.is_honest disk → Waits s → Settles d disk after s new result → Comes s new
   settles_come d disk after s new result honest waits (Settles.ready a b is c) = comes_none s new is waits
   settles_come d disk after s new result honest waits (Settles.store_fault e a up torn is c) = comes_none s new is waits
   settles_come d disk after s new result honest waits (Settles.damaged e place a same first never is c) = comes_none s new is waits
@@ -66,7 +66,7 @@ module _ {W : Type 0} (run : List (Exchange W)) (first : State) where
       settled.either
 
   module _ (x : Exchange W) (among : Contains run x) (route : Route) (routed : IsRouted x.head.verb x.head.path (Ok route)) where
-    steps_come : {D : Type 0} (d : Ghosts D) (disk after : D) (s new : State) (said : SaidView) → Waits s
+    steps_come : {D : Type 0} (d : Ghosts D) (disk after : D) (s new : State) (said : ContentView) → Waits s
         → Steps d disk after x.moment (command_of route.place route.id x.head.key x.body) s new said → Comes s new
     steps_come d disk after s new said waits (Steps.no_event told a b r is c) = comes_none s new is waits
     steps_come d disk after s new said waits (Steps.kept told e a can same appended r is c) = record {
@@ -85,7 +85,7 @@ module _ {W : Type 0} (run : List (Exchange W)) (first : State) where
     }
     steps_come d disk after s new said waits (Steps.memory id what p a is b) = comes_none s new is waits
 
-  responds_come : {D : Type 0} (d : Ghosts D) (x : Exchange W) → Contains run x → (disk after : D) (s new : State) (said : SaidView) → d.is_honest disk → Waits s
+  responds_come : {D : Type 0} (d : Ghosts D) (x : Exchange W) → Contains run x → (disk after : D) (s new : State) (said : ContentView) → d.is_honest disk → Waits s
       → Responds d disk after x.head x.body x.moment s new said → Comes s new
   responds_come d x among disk after s new said honest waits (Responds.no_route a b is c) = comes_none s new is waits
   responds_come d x among disk after s new said honest waits (Responds.method allow a b is c) = comes_none s new is waits

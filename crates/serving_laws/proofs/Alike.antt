@@ -15,7 +15,7 @@ use Rattle.serving.specs.Ends.{Ending}
 use Rattle.serving.specs.Exchanges.{refused_due}
 use Rattle.serving_laws.specs.Writing.{IsDone}
 use Rattle.serving.specs.Runs.{After, Asks, BodyStops, LinkRun, Refuses, Replies, Run, SaysHead, Service, Stops, end_of}
-use Rattle.requests.specs.Said.{SaidView}
+use Rattle.reply_texts.specs.Contents.{ContentView}
 
 -- one turn comes first of the same bytes, and the same is left
 abbrev TurnsOnce : Type 0
@@ -27,7 +27,7 @@ WritesOnce = (reply : HttpReply) (a b : List ℕ) → IsReply reply a → IsRepl
 
 -- at worlds that are alike the service answers a request in one way, and leaves worlds that are alike
 abbrev pub AnswersOnce : {W : Type 0} → Service W → (W → W → Type 0) → Type 0
-AnswersOnce {W} service Same = (head : Head) (body : List ℕ) (moment : ℕ) (w v new other : W) (said told : SaidView) → Same w v
+AnswersOnce {W} service Same = (head : Head) (body : List ℕ) (moment : ℕ) (w v new other : W) (said told : ContentView) → Same w v
     → service.responds head body moment w new said → service.responds head body moment v other told → Same new other × (said ≡ told)
 
 -- the head is at the front, and this is left after it
@@ -96,7 +96,7 @@ one_text once due a b (r, t, is_a) (q, u, (date, dated, is_b)) =
         cc
 
 module _ {W : Type 0} (service : Service W) where
-  abbrev due_to : Bool → Head → ℕ → SaidView → DueView
+  abbrev due_to : Bool → Head → ℕ → ContentView → DueView
   due_to last head moment said = record { said = said; manner = manner_of last head moment }
 
   record Closes (due : DueView) (later : List (Option ℕ)) (w : W) (out : List ℕ) (new : W) (end : Ending) : Type 0 where
@@ -107,10 +107,10 @@ module _ {W : Type 0} (service : Service W) where
 
   data Behind (n : ℕ) (last : Bool) (left : List ℕ) (later : List (Option ℕ)) (moment : ℕ) (head : Head) (w : W) (out : List ℕ) (new : W) (end : Ending) : Type 0 where
     cut : later ≡ [] → length left < head.length → out ≡ interim_of head.expects → new ≡ w → end ≡ Ending.cut → Behind n last left later moment head w out new end
-    over : later ≡ [] → (body rest : List ℕ) (mid : W) (said : SaidView) (tail : List ℕ) → left ≡ body ++ rest → length body ≡ head.length → service.responds head body moment w mid said
+    over : later ≡ [] → (body rest : List ℕ) (mid : W) (said : ContentView) (tail : List ℕ) → left ≡ body ++ rest → length body ≡ head.length → service.responds head body moment w mid said
         → closes (due_to last head moment said) ≡ true → AreBytes (due_to last head moment said) tail → out ≡ interim_of head.expects ++ tail → new ≡ mid → end ≡ end_of (due_to last head moment said)
         → Behind n last left later moment head w out new end
-    on : (body rest : List ℕ) (mid : W) (said : SaidView) (bytes next : List ℕ) → left ≡ body ++ rest → length body ≡ head.length → service.responds head body moment w mid said
+    on : (body rest : List ℕ) (mid : W) (said : ContentView) (bytes next : List ℕ) → left ≡ body ++ rest → length body ≡ head.length → service.responds head body moment w mid said
         → closes (due_to last head moment said) ≡ false → AreBytes (due_to last head moment said) bytes → out ≡ interim_of head.expects ++ (bytes ++ next)
         → LinkRun service n rest later mid next new end → Behind n last left later moment head w out new end
 
@@ -175,7 +175,7 @@ module _ {W : Type 0} (service : Service W) where
         absurd (out_of_memory lacks answer bodiless later w out new end done (subst (λ r. Closes (refused_due service r answer bodiless) later w out new end) is c))
 
     answered_element : (n : ℕ) (last : Bool) (all rest : List ℕ) (answer : Option ℕ) (answers later : List (Option ℕ)) (w mid : W) (interim tail out : List ℕ) (new : W) (end : Ending) (due : DueView)
-        (head : Head) (body : List ℕ) (moment : ℕ) (said : SaidView) → Asks all rest head body → answer ≡ Some moment → interim ≡ interim_of head.expects → service.responds head body moment w mid said
+        (head : Head) (body : List ℕ) (moment : ℕ) (said : ContentView) → Asks all rest head body → answer ≡ Some moment → interim ≡ interim_of head.expects → service.responds head body moment w mid said
         → due ≡ due_to last head moment said → answers ≡ answer ∷ later → out ≡ interim ++ tail → IsDone end → After (LinkRun service n) rest later mid due tail new end
         → Element n last all answers w out new end
     answered_element n last all rest answer answers later w mid interim tail out new end due head body moment said asks came line responds is asked wrote done (After.torn bytes a b c still torn) =
@@ -229,7 +229,7 @@ module _ {W : Type 0} (service : Service W) where
     }
 
     -- two bodies after one head, and what was answered to them
-    same_answer : (last : Bool) (moment : ℕ) (head : Head) (w v : W) (left body rest body' rest' : List ℕ) (mid mid' : W) (said said' : SaidView) → Same w v → left ≡ body ++ rest → left ≡ body' ++ rest'
+    same_answer : (last : Bool) (moment : ℕ) (head : Head) (w v : W) (left body rest body' rest' : List ℕ) (mid mid' : W) (said said' : ContentView) → Same w v → left ≡ body ++ rest → left ≡ body' ++ rest'
         → length body ≡ head.length → length body' ≡ head.length → service.responds head body moment w mid said → service.responds head body' moment v mid' said'
         → (rest ≡ rest') × Same mid mid' × (said ≡ said')
     same_answer last moment head w v left body rest body' rest' mid mid' said said' alike is is' size size' r r' =
@@ -265,25 +265,25 @@ module _ {W : Type 0} (service : Service W) where
     same_behind n again last left later later' more more' moment head w v out other new new' end end' alike clock done done' (Behind.over none body rest mid said tail is size r c are wrote still ends)
         (Behind.over none' body' rest' mid' said' tail' is' size' r' c' are' wrote' still' ends') =
         let (rests, mids, saids) = same_answer last moment head w v left body rest body' rest' mid mid' said said' alike is is' size size' r r' in
-        let text = one_text writes_once (due_to last head moment said) tail tail' are (subst (λ (s : SaidView). AreBytes (due_to last head moment s) tail') (sym saids) are') in
+        let text = one_text writes_once (due_to last head moment said) tail tail' are (subst (λ (s : ContentView). AreBytes (due_to last head moment s) tail') (sym saids) are') in
         record {
           wrote = wrote ∙ ap (λ t. interim_of head.expects ++ t) text ∙ sym wrote';
           leaves = same_after mid mid' new new' mids still still';
-          ends = ends ∙ ap (λ (s : SaidView). end_of (due_to last head moment s)) saids ∙ sym ends';
+          ends = ends ∙ ap (λ (s : ContentView). end_of (due_to last head moment s)) saids ∙ sym ends';
           clock = none ∙ sym none';
         }
     same_behind n again last left later later' more more' moment head w v out other new new' end end' alike clock done done' (Behind.over none body rest mid said tail is size r c are wrote still ends)
         (Behind.on body' rest' mid' said' bytes' next' is' size' r' c' are' wrote' goes') =
         let (rests, mids, saids) = same_answer last moment head w v left body rest body' rest' mid mid' said said' alike is is' size size' r r' in
-        absurd (true_false (closes (due_to last head moment said)) c (ap (λ (s : SaidView). closes (due_to last head moment s)) saids ∙ c'))
+        absurd (true_false (closes (due_to last head moment said)) c (ap (λ (s : ContentView). closes (due_to last head moment s)) saids ∙ c'))
     same_behind n again last left later later' more more' moment head w v out other new new' end end' alike clock done done' (Behind.on body rest mid said bytes next is size r c are wrote goes)
         (Behind.over none' body' rest' mid' said' tail' is' size' r' c' are' wrote' still' ends') =
         let (rests, mids, saids) = same_answer last moment head w v left body rest body' rest' mid mid' said said' alike is is' size size' r r' in
-        absurd (true_false (closes (due_to last head moment said')) c' (sym (ap (λ (s : SaidView). closes (due_to last head moment s)) saids) ∙ c))
+        absurd (true_false (closes (due_to last head moment said')) c' (sym (ap (λ (s : ContentView). closes (due_to last head moment s)) saids) ∙ c))
     same_behind n again last left later later' more more' moment head w v out other new new' end end' alike clock done done' (Behind.on body rest mid said bytes next is size r c are wrote goes)
         (Behind.on body' rest' mid' said' bytes' next' is' size' r' c' are' wrote' goes') =
         let (rests, mids, saids) = same_answer last moment head w v left body rest body' rest' mid mid' said said' alike is is' size size' r r' in
-        let text = one_text writes_once (due_to last head moment said) bytes bytes' are (subst (λ (s : SaidView). AreBytes (due_to last head moment s) bytes') (sym saids) are') in
+        let text = one_text writes_once (due_to last head moment said) bytes bytes' are (subst (λ (s : ContentView). AreBytes (due_to last head moment s) bytes') (sym saids) are') in
         let goes_on = subst (λ (l : List ℕ). LinkRun service n l later' mid' next' new' end') (sym rests) goes' in
         let so = again rest later later' more more' mid mid' next next' new new' end end' mids clock done done' goes goes_on in
         record {

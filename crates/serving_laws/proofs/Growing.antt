@@ -9,7 +9,7 @@ use Rattle.sealed_core.specs.Step.{CommandView}
 use Rattle.split_http.specs.declared.head.Head.{Head}
 use Rattle.serving.specs.Serving.{host_service}
 use Rattle.serving_laws.proofs.Chains.{passes_first, responds_first}
-use Rattle.requests.specs.Said.{SaidView}
+use Rattle.reply_texts.specs.Contents.{ContentView}
 
 -- the events of the later state are those of the earlier one, and others after them
 pub record Grows (s new : State) : Type 0 where
@@ -27,7 +27,7 @@ grows_join a b c p q = record {
   kept = q.kept ∙ ap (λ (l : List EventView). l ++ q.more) p.kept ∙ append_assoc a.kept p.more q.more;
 }
 
-settles_grows : {D : Type 0} (d : Ghosts D) (disk after : D) (s new : State) (result : Option SaidView) → d.is_honest disk → Settles d disk after s new result → Grows s new
+settles_grows : {D : Type 0} (d : Ghosts D) (disk after : D) (s new : State) (result : Option ContentView) → d.is_honest disk → Settles d disk after s new result → Grows s new
 settles_grows d disk after s new result honest (Settles.ready a b is c) = grows_none s new is
 settles_grows d disk after s new result honest (Settles.store_fault e a up torn is c) = grows_none s new is
 settles_grows d disk after s new result honest (Settles.damaged e place a same first never is c) = grows_none s new is
@@ -39,7 +39,7 @@ settles_grows d disk after s new result honest (Settles.opened e secret kept a s
     (λ (grown : kept ≡ s.kept ++ e ∷ []). record { secret = one; more = e ∷ []; kept = ap (λ (x : State). x.kept) is ∙ grown })
     settled.either
 
-steps_grow : {D : Type 0} (d : Ghosts D) (disk after : D) (moment : ℕ) (command : CommandView) (s new : State) (said : SaidView) → Steps d disk after moment command s new said → Grows s new
+steps_grow : {D : Type 0} (d : Ghosts D) (disk after : D) (moment : ℕ) (command : CommandView) (s new : State) (said : ContentView) → Steps d disk after moment command s new said → Grows s new
 steps_grow d disk after moment command s new said (Steps.no_event told a b r is c) = grows_none s new is
 steps_grow d disk after moment command s new said (Steps.kept told e a can same appended r is c) =
     record { secret = ap (λ (x : State). x.secret) is; more = e ∷ []; kept = ap (λ (x : State). x.kept) is }
@@ -47,7 +47,7 @@ steps_grow d disk after moment command s new said (Steps.failed e a up is c) =
     record { secret = ap (λ (x : State). x.secret) is; more = []; kept = ap (λ (x : State). x.kept) is ∙ sym (append-nil s.kept) }
 steps_grow d disk after moment command s new said (Steps.memory id what p a is b) = grows_none s new is
 
-pub responds_grows : {D : Type 0} (d : Ghosts D) (disk after : D) (head : Head) (body : List ℕ) (moment : ℕ) (s new : State) (said : SaidView) → d.is_honest disk
+pub responds_grows : {D : Type 0} (d : Ghosts D) (disk after : D) (head : Head) (body : List ℕ) (moment : ℕ) (s new : State) (said : ContentView) → d.is_honest disk
     → Responds d disk after head body moment s new said → Grows s new
 responds_grows d disk after head body moment s new said honest (Responds.no_route a b is c) = grows_none s new is
 responds_grows d disk after head body moment s new said honest (Responds.method allow a b is c) = grows_none s new is

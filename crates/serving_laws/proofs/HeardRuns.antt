@@ -5,12 +5,11 @@ use Rattle.split_base.specs.declared.disk.Disk.{Ghosts}
 use Rattle.split_base.specs.Faults.{HasRisen, counted}
 use Rattle.host_journal.specs.States.{State, host_in, ready_with, waits_with}
 use Rattle.serving.specs.Exchanges.{Answered, Exchange}
-use Rattle.host_results.specs.Contents.{ContentView}
+use Rattle.reply_texts.specs.Contents.{ContentView, memory_told}
 use Rattle.reply_texts.specs.Sealing.{Told, told, told_all, told_of}
 use Rattle.requests.specs.Cases.{Responds, Settles, Steps}
 use Rattle.requests.specs.Commands.{command_of}
 use Rattle.requests.specs.Replies.{Replies}
-use Rattle.requests.specs.Said.{SaidView, content_said, memory_said}
 use Rattle.requests.specs.Sent.{status_and_text}
 use Rattle.sealed_core.specs.declared.commands.Ask.{Ask}
 use Rattle.sealed_core.specs.Host.{EventView, HostView, apply}
@@ -21,7 +20,7 @@ use Rattle.serving.specs.Serving.{host_service}
 use Rattle.split_http.specs.declared.routes.Route.{Route}
 use Rattle.split_http.specs.Places.{IsRouted}
 use Rattle.serving_laws.specs.Heard.{Finds, HasKept, IsStepAt, IsStep, IsUnrouted, Taken, Takes, TakesSteps, WaitsByStep, asked_of, got_all, is_own, replied_of}
-use Rattle.serving_laws.specs.Sealing.{TellsNoStep, got}
+use Rattle.serving_laws.specs.Sealing.{TellsNoStep}
 use Rattle.serving_laws.proofs.Answered.{PublishesClosed, due_result, not_counted}
 use Rattle.serving_laws.proofs.OwnSteps.{asked, kept_step, plain_step}
 
@@ -46,9 +45,9 @@ applied_is one_more secret kept (Some e) = one_more secret kept e
 -- ---- what was said in reply to the steps
 
 -- what was said in reply to a step is its reply
-abbrev ToldBy : HostView → Asked → Option SaidView → Type 0
+abbrev ToldBy : HostView → Asked → Option ContentView → Type 0
 ToldBy h a None = Unit {0}
-ToldBy h a (Some said) = (content : ContentView) × Replies h a.moment a.command content × (said ≡ content_said content)
+ToldBy h a (Some said) = (content : ContentView) × Replies h a.moment a.command content × (said ≡ content)
 
 abbrev AreTold : HostView → List Taken → Type 0
 AreTold h [] = Unit {0}
@@ -102,27 +101,27 @@ until_shown : (shut : Bool) (x y : Option Told) (xs ys : List (Option Told)) (b 
 until_shown true x y xs ys b bs first rest = refl
 until_shown false x y xs ys b bs first rest = λ i. first refl i ∷ rest i
 
-nothing_got : (b : Bool) → (if b then option_map got None else None) ≡ None
+nothing_got : (b : Bool) → (if b then option_map status_and_text None else None) ≡ None
 nothing_got true = refl
 nothing_got false = refl
 
 module _ (sends : SendsTold) (id : ℕ) (caller : Caller) where
-  own_told : (h : HostView) (said : SaidView) (t : ℕ) (command : CommandView) (content : ContentView) → Replies h t command content → said ≡ content_said content
-      → is_closed (host_after h t command) id ≡ false → (if is_own h id caller command then Some (got said) else None) ≡ told_of h id caller t command
+  own_told : (h : HostView) (said : ContentView) (t : ℕ) (command : CommandView) (content : ContentView) → Replies h t command content → said ≡ content
+      → is_closed (host_after h t command) id ≡ false → (if is_own h id caller command then Some (status_and_text said) else None) ≡ told_of h id caller t command
   own_told h said t (Create body) content replies is still = refl
   own_told h said t (To other key ask) content replies is still =
-      where_both (other == id) (same_caller (caller_number h other key) caller) (got said) (told h t (To other key ask)) (λ same.
-      ap got is ∙ sends h t other key ask content (subst (λ (k : ℕ). is_closed (host_after h t (To other key ask)) k ≡ false) (sym (eqb-true other id same)) still) replies)
+      where_both (other == id) (same_caller (caller_number h other key) caller) (status_and_text said) (told h t (To other key ask)) (λ same.
+      ap status_and_text is ∙ sends h t other key ask content (subst (λ (k : ℕ). is_closed (host_after h t (To other key ask)) k ≡ false) (sym (eqb-true other id same)) still) replies)
 
-  own_got : (h : HostView) (a : Asked) (said : Option SaidView) → ToldBy h a said → is_closed (next h a) id ≡ false
-      → (if is_own h id caller a.command then option_map got said else None) ≡ (if is_some said then told_of h id caller a.moment a.command else None)
+  own_got : (h : HostView) (a : Asked) (said : Option ContentView) → ToldBy h a said → is_closed (next h a) id ≡ false
+      → (if is_own h id caller a.command then option_map status_and_text said else None) ≡ (if is_some said then told_of h id caller a.moment a.command else None)
   own_got h a None none still = nothing_got (is_own h id caller a.command)
   own_got h a (Some said) (content, replies, is) still = own_told h said a.moment a.command content replies is still
 
   got_shown : (h : HostView) (steps : List Taken) → AreTold h steps → got_all h id caller steps ≡ shown (replied_of steps) (told_all h id caller (asked_of steps))
   got_shown h [] none = refl
   got_shown h (s ∷ steps) (one, rest) =
-      until_shown (is_closed (next h s.asked) id) (if is_own h id caller s.asked.command then option_map got s.said else None) (told_of h id caller s.asked.moment s.asked.command)
+      until_shown (is_closed (next h s.asked) id) (if is_own h id caller s.asked.command then option_map status_and_text s.said else None) (told_of h id caller s.asked.moment s.asked.command)
       (got_all (next h s.asked) id caller steps) (told_all (next h s.asked) id caller (asked_of steps)) (is_some s.said) (replied_of steps)
       (own_got h s.asked s.said one) (got_shown (next h s.asked) steps rest)
 
@@ -139,8 +138,8 @@ same_shown bs cs all others same alike = λ i. shown (same i) (alike i)
 pub never_waits : (o : Option EventView) (e : EventView) → o ≡ None → o ≡ Some e → ⊥
 never_waits o e none some = absurd (cc)
 
-not_memory : (said : SaidView) → said.memory ≡ false → said ≡ memory_said → ⊥
-not_memory said plain is = true≢false (sym (ap (λ (s : SaidView). s.memory) is) ∙ plain)
+not_memory : (said : ContentView) → said.memory ≡ false → said ≡ memory_told → ⊥
+not_memory said plain is = true≢false (sym (ap (λ (s : ContentView). s.memory) is) ∙ plain)
 
 settled_still : {D : Type 0} (d : Ghosts D) (disk between : D) (s settled : State) → s.waiting ≡ None → Settles d disk between s settled None → (settled ≡ s) × (between ≡ disk)
 settled_still d disk between s settled ready (Settles.ready a same is c) = (is, same)
@@ -148,7 +147,7 @@ settled_still d disk between s settled ready (Settles.store_fault e a up torn is
 settled_still d disk between s settled ready (Settles.damaged e place a same first never is c) = absurd (cc)
 settled_still d disk between s settled ready (Settles.opened e secret kept a same told can is c) = absurd (never_waits s.waiting e ready a)
 
-never_at_once : {D : Type 0} (d : Ghosts D) (disk after : D) (s new : State) (said : SaidView) → s.waiting ≡ None → Settles d disk after s new (Some said) → ⊥
+never_at_once : {D : Type 0} (d : Ghosts D) (disk after : D) (s new : State) (said : ContentView) → s.waiting ≡ None → Settles d disk after s new (Some said) → ⊥
 never_at_once d disk after s new said ready (Settles.ready a same is c) = absurd (cc)
 never_at_once d disk after s new said ready (Settles.store_fault e a up torn is c) = never_waits s.waiting e ready a
 never_at_once d disk after s new said ready (Settles.damaged e place a same first never is c) = never_waits s.waiting e ready a

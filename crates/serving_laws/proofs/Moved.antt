@@ -9,15 +9,15 @@ use Rattle.split_http.specs.declared.routes.Route.{Route}
 use Rattle.split_http.specs.Places.{IsRouted}
 use Rattle.sealed_core.specs.Host.{EventView}
 use Rattle.serving_laws.specs.Moving.{IsAnsweredAt, IsReadyFor, IsReopened, Moves}
-use Rattle.requests.specs.Said.{SaidView}
+use Rattle.reply_texts.specs.Contents.{ContentView}
 
-pub settles_reopen : {D : Type 0} (d : Ghosts D) (disk after : D) (s new : State) (result : Option SaidView) → Settles d disk after s new result → IsReopened d disk s new
+pub settles_reopen : {D : Type 0} (d : Ghosts D) (disk after : D) (s new : State) (result : Option ContentView) → Settles d disk after s new result → IsReopened d disk s new
 settles_reopen d disk after s new result (Settles.ready a b is c) = inl is
 settles_reopen d disk after s new result (Settles.store_fault e a up torn is c) = inl is
 settles_reopen d disk after s new result (Settles.damaged e place a same first never is c) = inl is
 settles_reopen d disk after s new result (Settles.opened e secret kept a same told can is c) = inr (e, secret, kept, a, told.read, is)
 
-settles_ready : {D : Type 0} (d : Ghosts D) (disk after : D) (s new : State) (result : Option SaidView) → d.is_honest disk → Settles d disk after s new result → IsReadyFor s new
+settles_ready : {D : Type 0} (d : Ghosts D) (disk after : D) (s new : State) (result : Option ContentView) → d.is_honest disk → Settles d disk after s new result → IsReadyFor s new
 settles_ready d disk after s new result honest (Settles.ready a b is c) = inl is
 settles_ready d disk after s new result honest (Settles.store_fault e a up torn is c) = inl is
 settles_ready d disk after s new result honest (Settles.damaged e place a same first never is c) = inl is
@@ -31,7 +31,7 @@ module _ {D : Type 0} (d : Ghosts D) (x : Exchange (D × State)) where
   pub answered_before : IsAnsweredAt d x x.before.1
   answered_before = (inl refl, λ honest. inl refl)
 
-  pub answered_at : (between : D) (settled : State) (result : Option SaidView) → Settles d x.before.0 between x.before.1 settled result → IsAnsweredAt d x settled
+  pub answered_at : (between : D) (settled : State) (result : Option ContentView) → Settles d x.before.0 between x.before.1 settled result → IsAnsweredAt d x settled
   answered_at between settled result settles =
       (settles_reopen d x.before.0 between x.before.1 settled result settles, λ honest. settles_ready d x.before.0 between x.before.1 settled result honest settles)
 

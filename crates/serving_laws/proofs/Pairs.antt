@@ -7,7 +7,7 @@ use Rattle.serving.specs.Exchanges.{Answered, Exchange}
 use Rattle.serving.specs.Serving.{host_service}
 use Rattle.reply_texts.specs.declared.refusals.ServiceRefusal.TheVariants as service
 use Rattle.requests.specs.Commands.{command_of}
-use Rattle.requests.specs.Said.{SaidView, memory_said, method_said, refused_said}
+use Rattle.reply_texts.specs.Contents.{ContentView, memory_told, method_told, refusal_told}
 use Rattle.sealed_core.specs.Host.{EventView, HostView}
 use Rattle.sealed_core.specs.Sealed.{AreAlike, Asked, Caller, KeepsBid, RunAlike, with_event, next}
 use Rattle.sealed_core.specs.Step.{step}
@@ -24,13 +24,14 @@ use Rattle.serving_laws.specs.Moving.{IsReadyFor}
 use Rattle.serving_laws.specs.Pairs.{ArePairs, AskAlike, IsPair, MakesBid, RepliesAlike, ReplyAlike}
 use Rattle.serving_laws.specs.Sealing.{MayLackMemory, TellsNoStep}
 use Rattle.serving_laws.proofs.HeardRuns.{OneMore, applied_is, has_kept, host_is, never_waits}
+use Rattle.serving_laws.proofs.MemoryReplies.{StepsTell}
 use Rattle.serving_laws.proofs.OwnSteps.{asked}
 use Rattle.serving_laws.proofs.Routed.{never_routed, one_fault, one_route}
 
 -- what is said where a request leads nowhere
-abbrev refusal_of : RouteFault → SaidView
-refusal_of NoRoute = refused_said service.NoRoute
-refusal_of (Method allow) = method_said allow
+abbrev refusal_of : RouteFault → ContentView
+refusal_of NoRoute = refusal_told service.NoRoute
+refusal_of (Method allow) = method_told allow
 
 refusal_plain : (fault : RouteFault) → (refusal_of fault).memory ≡ false
 refusal_plain NoRoute = refl
@@ -102,7 +103,7 @@ module _ (id : ℕ) (caller : Caller) where
     waits = waits;
   }
 
-  module _ (one_more : OneMore) where
+  module _ (one_more : OneMore) (alone : StepsTell) where
     goes_to : (b s : State) (a : Asked) (e : EventView) → (step (host_in b) a.moment a.command).event ≡ Some e → s ≡ ready_with b.secret (b.kept ++ e ∷ []) → host_in s ≡ next (host_in b) a
     goes_to b s a e event is = ap host_in is ∙ one_more b.secret b.kept e ∙ ap (with_event (host_in b)) (sym event)
 
@@ -187,13 +188,13 @@ module _ (id : ℕ) (caller : Caller) where
       -- why a request has no step, and leaves the state as it is
       data HasNoStep (x : Exchange (D × State)) (s : State) : Type 0 where
         by_refusal : (fault : RouteFault) → IsRouted x.head.verb x.head.path (Err fault) → x.due.said ≡ refusal_of fault → HasNoStep x s
-        by_lack : MayLackMemory x s → x.due.said ≡ memory_said → HasNoStep x s
-        by_waiting : (e : EventView) (route : Route) → IsRouted x.head.verb x.head.path (Ok route) → s.waiting ≡ Some e → x.due.said ≡ refused_said service.StoreFault → HasNoStep x s
+        by_lack : MayLackMemory x s → x.due.said ≡ memory_told → HasNoStep x s
+        by_waiting : (e : EventView) (route : Route) → IsRouted x.head.verb x.head.path (Ok route) → s.waiting ≡ Some e → x.due.said ≡ refusal_told service.StoreFault → HasNoStep x s
 
       -- a request leaves the state as it is; or with an event that waits; or it goes by a step
       data Leaves (x : Exchange (D × State)) (s : State) : Type 0 where
         stays_so : HasNoStep x s → TellsNoStep x s → x.after.1 ≡ s → Leaves x s
-        leaves_waiting : (e : EventView) → s.waiting ≡ None → Makes x s.secret s.kept e → x.after.1 ≡ waits_with s e → x.due.said ≡ refused_said service.StoreFault → Leaves x s
+        leaves_waiting : (e : EventView) → s.waiting ≡ None → Makes x s.secret s.kept e → x.after.1 ≡ waits_with s e → x.due.said ≡ refusal_told service.StoreFault → Leaves x s
         goes_by : (a : Asked) → s.waiting ≡ None → IsStepAt x s a → x.after.1.waiting ≡ None → Leaves x s
 
       leaves : (d : Ghosts D) (x : Exchange (D × State)) (s : State) → d.is_honest x.before.0 → HasAnswer d x s → Leaves x s
@@ -210,7 +211,7 @@ module _ (id : ℕ) (caller : Caller) where
           → (t.waiting ≡ None → s.waiting ≡ None) → (MayLackMemory x s → x.due.said.memory ≡ y.due.said.memory) → HasNoStep x s → t.waiting ≡ None → IsStepAt y t a → ⊥
       never_apart x y s t a apart opened lack (HasNoStep.by_refusal fault none so) ready at = apart fault at.route none at.routed
       never_apart x y s t a apart opened lack (HasNoStep.by_lack may so) ready at =
-          true≢false (sym (ap (λ (p : SaidView). p.memory) so) ∙ lack may ∙ ap (λ (p : SaidView). p.memory) at.said)
+          true≢false (sym (ap (λ (p : ContentView). p.memory) so) ∙ lack may ∙ ap (λ (p : ContentView). p.memory) (at.said ∙ alone (host_in t) a.moment a.command at.told at.replies))
       never_apart x y s t a apart opened lack (HasNoStep.by_waiting e route routed waits so) ready at = never_waits s.waiting e (opened ready) waits
 
       -- the steps of the requests themselves
@@ -251,13 +252,13 @@ module _ (id : ℕ) (caller : Caller) where
         one_refusal fault other (inr (came, (k, m, apart, (now, turn, given, (way, led, event)), makes))) p q = absurd (never_routed x.head.verb x.head.path fault way p led)
 
         -- memory ran out in one alone
-        first_lacks : (q : SaidView) → x.due.said ≡ memory_said → y.due.said ≡ q → q.memory ≡ false → MayLackMemory x s → ⊥
+        first_lacks : (q : ContentView) → x.due.said ≡ memory_told → y.due.said ≡ q → q.memory ≡ false → MayLackMemory x s → ⊥
         first_lacks q so is plain may =
-            true≢false (sym (ap (λ (r : SaidView). r.memory) so) ∙ pair.lack (inl may) ∙ ap (λ (r : SaidView). r.memory) is ∙ plain)
+            true≢false (sym (ap (λ (r : ContentView). r.memory) so) ∙ pair.lack (inl may) ∙ ap (λ (r : ContentView). r.memory) is ∙ plain)
 
-        second_lacks : (p : SaidView) → x.due.said ≡ p → y.due.said ≡ memory_said → p.memory ≡ false → MayLackMemory y t → ⊥
+        second_lacks : (p : ContentView) → x.due.said ≡ p → y.due.said ≡ memory_told → p.memory ≡ false → MayLackMemory y t → ⊥
         second_lacks p is so plain may =
-            true≢false (sym (ap (λ (r : SaidView). r.memory) so) ∙ sym (pair.lack (inr may)) ∙ ap (λ (r : SaidView). r.memory) is ∙ plain)
+            true≢false (sym (ap (λ (r : ContentView). r.memory) so) ∙ sym (pair.lack (inr may)) ∙ ap (λ (r : ContentView). r.memory) is ∙ plain)
 
         -- two requests without a step have one reply
         one_reply : HasNoStep x s → HasNoStep y t → x.due.said ≡ y.due.said
@@ -266,9 +267,9 @@ module _ (id : ℕ) (caller : Caller) where
         one_reply (HasNoStep.by_refusal fault led so) (HasNoStep.by_waiting e route routed wait is) = absurd (first_refused x y s t fault route pair.ask led routed)
         one_reply (HasNoStep.by_lack may so) (HasNoStep.by_refusal fault led is) = absurd (first_lacks (refusal_of fault) so is (refusal_plain fault) may)
         one_reply (HasNoStep.by_lack may so) (HasNoStep.by_lack can is) = so ∙ sym is
-        one_reply (HasNoStep.by_lack may so) (HasNoStep.by_waiting e route routed wait is) = absurd (first_lacks (refused_said service.StoreFault) so is refl may)
+        one_reply (HasNoStep.by_lack may so) (HasNoStep.by_waiting e route routed wait is) = absurd (first_lacks (refusal_told service.StoreFault) so is refl may)
         one_reply (HasNoStep.by_waiting e route routed wait so) (HasNoStep.by_refusal fault led is) = absurd (second_refused x y s t fault route pair.ask led routed)
-        one_reply (HasNoStep.by_waiting e route routed wait so) (HasNoStep.by_lack may is) = absurd (second_lacks (refused_said service.StoreFault) so is refl may)
+        one_reply (HasNoStep.by_waiting e route routed wait so) (HasNoStep.by_lack may is) = absurd (second_lacks (refusal_told service.StoreFault) so is refl may)
         one_reply (HasNoStep.by_waiting e route routed wait so) (HasNoStep.by_waiting f way led waited is) = so ∙ sym is
 
         own_alike : Leaves x s → Leaves y t → Own x y s t

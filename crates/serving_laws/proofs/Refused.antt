@@ -3,7 +3,7 @@ use Rattle.std.proofs.Common.{◌≡◌, ◌⊎◌, ℕ, true, Option, Some, ref
 use Rattle.split_base.specs.declared.disk.Disk.{Ghosts}
 use Rattle.host_journal.specs.States.{State, host_in}
 use Rattle.serving.specs.Exchanges.{Exchange}
-use Rattle.host_results.specs.Contents.{ContentView}
+use Rattle.reply_texts.specs.Contents.{ContentView}
 use Rattle.reply_texts.specs.Replies.{status_of}
 use Rattle.requests.specs.Cases.{Settles, Steps}
 use Rattle.requests.specs.Commands.{command_of}
@@ -18,7 +18,6 @@ use Rattle.split_http.specs.declared.routes.Route.{Route}
 use Rattle.split_http.specs.Places.{IsRouted}
 use Rattle.serving_laws.specs.Refusing.{IsSuccess, StaysBut}
 use Rattle.serving_laws.proofs.Quiet.{quiet_step}
-use Rattle.requests.specs.Said.{SaidView}
 
 -- the event beside a publication is none or such a close
 abbrev pub PublishesQuietly : Type 0
@@ -41,7 +40,7 @@ shown_quiet publishes h t command told none (Shows.own bytes text is) =
 shown_quiet publishes h t command told none (Shows.published id asked i was there tells) = publishes h t id command asked was
 
 -- a request that goes no further leaves the state
-pub at_once_stays : {D : Type 0} (d : Ghosts D) (disk after : D) (s new : State) (said : SaidView) → Settles d disk after s new (Some said) → new ≡ s
+pub at_once_stays : {D : Type 0} (d : Ghosts D) (disk after : D) (s new : State) (said : ContentView) → Settles d disk after s new (Some said) → new ≡ s
 at_once_stays d disk after s new said (Settles.ready a b is c) = is
 at_once_stays d disk after s new said (Settles.store_fault e a up torn is c) = is
 at_once_stays d disk after s new said (Settles.damaged e place a same first never is c) = is
@@ -53,7 +52,7 @@ module _ {D : Type 0} (d : Ghosts D) (x : Exchange (D × State)) (publishes : Pu
   steps_stay route between settled routed (Steps.no_event told a b r is c) = inl is
   steps_stay route between settled routed (Steps.kept told e a can count appended r is c) =
       let command = command_of route.place route.id x.head.key x.body in
-      let failed : IsSuccess told.status → ⊥ = λ success. none (subst IsSuccess (sym (ap (λ (s : SaidView). s.status) c)) success) in
+      let failed : IsSuccess told.status → ⊥ = λ success. none (subst IsSuccess (sym (ap (λ (s : ContentView). s.status) c)) success) in
       let late : IsLateClose (host_in settled) x.moment command (Some e) =
       subst (λ (o : Option EventView). IsLateClose (host_in settled) x.moment command o) a (shown_quiet publishes (host_in settled) x.moment command told failed r) in
       inr (e, inl ((route, routed, a, late), is))

@@ -3,19 +3,19 @@ use Rattle.std.specs.Prelude.{◌≡◌, ◌⊎◌, ℕ, ◌==◌, ◌&&◌, Boo
 use Rattle.std.specs.Option.{option_map, option_to_list}
 use Rattle.host_journal.specs.States.{State, host_in}
 use Rattle.serving.specs.Exchanges.{Exchange}
-use Rattle.host_results.specs.Contents.{ContentView}
+use Rattle.reply_texts.specs.Contents.{ContentView, method_told, refusal_told}
 use Rattle.reply_texts.specs.declared.refusals.ServiceRefusal.TheVariants as service
 use Rattle.reply_texts.specs.Sealing.{Told}
 use Rattle.requests.specs.Commands.{command_of}
 use Rattle.requests.specs.Replies.{Replies}
-use Rattle.requests.specs.Said.{SaidView, content_said, method_said, refused_said}
+use Rattle.requests.specs.Sent.{status_and_text}
 use Rattle.sealed_core.specs.Host.{EventView, HostView}
 use Rattle.sealed_core.specs.Sealed.{Asked, Caller, caller_number, is_closed, next, same_caller}
 use Rattle.sealed_core.specs.Step.{CommandView, Create, To, step}
 use Rattle.split_http.specs.declared.replies.Allow.{Allow}
 use Rattle.split_http.specs.declared.routes.Route.{Route}
 use Rattle.split_http.specs.Places.{IsRouted}
-use Rattle.serving_laws.specs.Sealing.{TellsNoStep, got}
+use Rattle.serving_laws.specs.Sealing.{TellsNoStep}
 
 -- the request takes this step of the machine from a state: it has the step's reply, and the step's event, if it makes one, was kept after those before
 pub record IsStepAt {D : Type 0} (x : Exchange (D × State)) (s : State) (a : Asked) : Type 0 where
@@ -25,7 +25,7 @@ pub record IsStepAt {D : Type 0} (x : Exchange (D × State)) (s : State) (a : As
   pub moment : a.moment ≡ x.moment
   pub command : a.command ≡ command_of route.place route.id x.head.key x.body
   pub replies : Replies (host_in s) a.moment a.command told
-  pub said : x.due.said ≡ content_said told
+  pub said : x.due.said ≡ told
   pub secret : x.after.1.secret ≡ s.secret
   pub kept : x.after.1.kept ≡ s.kept ++ option_to_list (step (host_in s) a.moment a.command).event
 
@@ -35,13 +35,13 @@ IsStep x a = IsStepAt x x.before.1 a
 
 -- the path or the method of the request is refused, and nothing changes
 abbrev pub IsUnrouted : {D : Type 0} → Exchange (D × State) → Type 0
-IsUnrouted x = (x.after.1 ≡ x.before.1) × ((x.due.said ≡ refused_said service.NoRoute) ⊎ ((allow : Allow) × (x.due.said ≡ method_said allow)))
+IsUnrouted x = (x.after.1 ≡ x.before.1) × ((x.due.said ≡ refusal_told service.NoRoute) ⊎ ((allow : Allow) × (x.due.said ≡ method_told allow)))
 
 -- a step that the machine took in a run, and what was said in reply to it: nothing if its append failed, which was told, and its event was in the
 -- file when that was opened again
 pub record Taken : Type 0 where
   pub asked : Asked
-  pub said : Option SaidView
+  pub said : Option ContentView
 
 -- the event that waits is that of a step
 abbrev pub WaitsByStep : State → Type 0
@@ -61,7 +61,7 @@ pub data Finds (s settled : State) (steps : List Taken) : Type 0 where
 -- disk (`IsSealedReply`); or the one step that it takes
 pub data Takes {D : Type 0} (x : Exchange (D × State)) (settled : State) (steps : List Taken) : Type 0 where
   nothing : TellsNoStep x settled → HasKept x.after.1 settled.secret settled.kept → steps ≡ [] → Takes x settled steps
-  damaged : (place : ℕ) → x.due.said ≡ refused_said (service.StoreDamaged place) → HasKept x.after.1 settled.secret settled.kept → steps ≡ [] → Takes x settled steps
+  damaged : (place : ℕ) → x.due.said ≡ refusal_told (service.StoreDamaged place) → HasKept x.after.1 settled.secret settled.kept → steps ≡ [] → Takes x settled steps
   one : (a : Asked) → IsStepAt x settled a → steps ≡ record { asked = a; said = Some x.due.said } ∷ [] → Takes x settled steps
 
 -- in these requests, each answered at its state, the machine takes these steps, in order, and no others
@@ -90,4 +90,4 @@ abbrev pub got_all : HostView → ℕ → Caller → List Taken → List (Option
 got_all h id caller [] = []
 got_all h id caller (s ∷ steps) =
     if is_closed (next h s.asked) id then []
-    else (if is_own h id caller s.asked.command then option_map got s.said else None) ∷ got_all (next h s.asked) id caller steps
+    else (if is_own h id caller s.asked.command then option_map status_and_text s.said else None) ∷ got_all (next h s.asked) id caller steps

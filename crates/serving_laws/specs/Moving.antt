@@ -5,7 +5,7 @@ use Rattle.host_journal.specs.Journal.{HoldsEvents}
 use Rattle.host_journal.specs.States.{State, ready_with, waits_with}
 use Rattle.serving.specs.Exchanges.{Exchange}
 use Rattle.reply_texts.specs.declared.refusals.ServiceRefusal.TheVariants as service
-use Rattle.requests.specs.Said.{refused_said}
+use Rattle.reply_texts.specs.Contents.{refusal_told}
 use Rattle.sealed_core.specs.Host.{EventView}
 use Rattle.serving_laws.specs.Accepting.{Makes}
 
@@ -34,4 +34,4 @@ abbrev pub Moves : {D : Type 0} → Exchange (D × State) → State → Type 0
 Moves x settled =
     (x.after.1 ≡ settled)
     ⊎ ((event : EventView) × Makes x settled.secret settled.kept event
-    × ((x.after.1 ≡ ready_with settled.secret (settled.kept ++ event ∷ [])) ⊎ ((x.after.1 ≡ waits_with settled event) × (x.due.said ≡ refused_said service.StoreFault))))
+    × ((x.after.1 ≡ ready_with settled.secret (settled.kept ++ event ∷ [])) ⊎ ((x.after.1 ≡ waits_with settled event) × (x.due.said ≡ refusal_told service.StoreFault))))

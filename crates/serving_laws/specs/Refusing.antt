@@ -4,7 +4,7 @@ use Rattle.host_journal.specs.States.{State, host_in, ready_with, waits_with}
 use Rattle.serving.specs.Exchanges.{Exchange}
 use Rattle.reply_texts.specs.declared.refusals.ServiceRefusal.TheVariants as service
 use Rattle.requests.specs.Commands.{command_of}
-use Rattle.requests.specs.Said.{refused_said}
+use Rattle.reply_texts.specs.Contents.{refusal_told}
 use Rattle.sealed_core.specs.Host.{EventView}
 use Rattle.sealed_core.specs.Sealed.{IsLateClose}
 use Rattle.sealed_core.specs.Step.{step}
@@ -30,7 +30,7 @@ StaysBut x settled =
     (x.after.1 ≡ settled)
     ⊎ ((event : EventView)
     × ((MakesLateClose x settled event × (x.after.1 ≡ ready_with settled.secret (settled.kept ++ event ∷ [])))
-    ⊎ (Makes x settled.secret settled.kept event × (x.after.1 ≡ waits_with settled event) × (x.due.said ≡ refused_said service.StoreFault))))
+    ⊎ (Makes x settled.secret settled.kept event × (x.after.1 ≡ waits_with settled event) × (x.due.said ≡ refusal_told service.StoreFault))))
 
 -- a request that is refused, or in which something failed, changes nothing else
 abbrev pub RefusesQuietly : {D : Type 0} → Exchange (D × State) → State → Type 0

@@ -4,12 +4,12 @@ use Rattle.split_base.specs.declared.disk.Disk.{Ghosts}
 use Rattle.host_journal.specs.Journal.{IsFirstFault}
 use Rattle.host_journal.specs.States.{State, host_in}
 use Rattle.serving.specs.Exchanges.{Exchange}
-use Rattle.host_results.specs.Contents.{ContentView}
+use Rattle.reply_texts.specs.Contents.{ContentView, memory_told, method_told, refusal_told}
 use Rattle.reply_texts.specs.declared.refusals.ServiceRefusal.TheVariants as service
 use Rattle.reply_texts.specs.Sealing.{Told, sealed_told}
 use Rattle.requests.specs.Commands.{command_of, reads_body}
 use Rattle.requests.specs.Replies.{Replies}
-use Rattle.requests.specs.Said.{SaidView, content_said, memory_said, method_said, refused_said}
+use Rattle.requests.specs.Sent.{status_and_text}
 use Rattle.sealed_core.specs.declared.commands.Ask.{Ask}
 use Rattle.sealed_core.specs.declared.commands.What.{What}
 use Rattle.sealed_core.specs.declared.replies.Reply.TheVariants as reply
@@ -32,11 +32,7 @@ pub record AsksOf {D : Type 0} (x : Exchange (D × State)) (id : ℕ) (key : Opt
   pub ready : IsReadyFor x.before.1 settled
   pub host : h ≡ host_in settled
   pub replies : Replies h x.moment (To id key ask) told
-  pub said : x.due.said ≡ content_said told
-
--- the HTTP status and the text of what is said
-abbrev pub got : SaidView → Told
-got said = record { status = said.status; text = Some said.text }
+  pub said : x.due.said ≡ told
 
 -- the body of the request is read: it is a creation, a bid or a withdrawal
 abbrev pub ReadsBody : {W : Type 0} → Exchange W → Type 0
@@ -58,10 +54,10 @@ MayLackMemory x s = ReadsBody x ⊎ IsDueResult x s
 -- The reply isn't that of a step: the path or the method of the request is refused; the store failed; or memory ran out, for a body that is read or for a
 -- result of a closed instance.
 pub data TellsNoStep {D : Type 0} (x : Exchange (D × State)) (s : State) : Type 0 where
-  no_route : IsRouted x.head.verb x.head.path (Err NoRoute) → x.due.said ≡ refused_said service.NoRoute → TellsNoStep x s
-  method : (allow : Allow) → IsRouted x.head.verb x.head.path (Err (Method allow)) → x.due.said ≡ method_said allow → TellsNoStep x s
-  store_fault : x.due.said ≡ refused_said service.StoreFault → TellsNoStep x s
-  memory : MayLackMemory x s → x.due.said ≡ memory_said → TellsNoStep x s
+  no_route : IsRouted x.head.verb x.head.path (Err NoRoute) → x.due.said ≡ refusal_told service.NoRoute → TellsNoStep x s
+  method : (allow : Allow) → IsRouted x.head.verb x.head.path (Err (Method allow)) → x.due.said ≡ method_told allow → TellsNoStep x s
+  store_fault : x.due.said ≡ refusal_told service.StoreFault → TellsNoStep x s
+  memory : MayLackMemory x s → x.due.said ≡ memory_told → TellsNoStep x s
 
 -- The reply says of the file of a host that waits that it isn't a journal, with a place. This never happens on an honest disk, and if the disk reveals
 -- its bytes, the place is that of the file's first fault.
@@ -71,7 +67,7 @@ pub record TellsDamage {D : Type 0} (d : Ghosts D) (x : Exchange (D × State)) :
   pub waits : x.before.1.waiting ≡ Some event
   pub first : d.tells x.before.0 → IsFirstFault place (d.seen x.before.0)
   pub never : d.is_honest x.before.0 → ⊥
-  pub said : x.due.said ≡ refused_said (service.StoreDamaged place)
+  pub said : x.due.said ≡ refusal_told (service.StoreDamaged place)
 
 -- if the command asks something of an instance that isn't closed after it, the caller gets the status and the text that follow from what they may
 -- know of it, the command and the moment
@@ -85,4 +81,4 @@ pub data IsSealedReply {D : Type 0} (d : Ghosts D) (x : Exchange (D × State)) (
   nothing : TellsNoStep x settled → IsSealedReply d x settled
   damaged : TellsDamage d x → IsSealedReply d x settled
   told : (route : Route) → IsRouted x.head.verb x.head.path (Ok route)
-      → IsSealedTold (host_in settled) x.moment (command_of route.place route.id x.head.key x.body) (got x.due.said) → IsSealedReply d x settled
+      → IsSealedTold (host_in settled) x.moment (command_of route.place route.id x.head.key x.body) (status_and_text x.due.said) → IsSealedReply d x settled

@@ -10,11 +10,11 @@ use Rattle.sealed_core.specs.Runs.{CanApplyAll}
 use Rattle.sealed_core.specs.Sealed.{empty}
 use Rattle.split_http.specs.declared.head.Head.{Head}
 use Rattle.requests.specs.Cases.{Responds}
-use Rattle.requests.specs.Said.{SaidView}
+use Rattle.reply_texts.specs.Contents.{ContentView}
 
 -- how the machine, with its disk and its memory, answers a request with this head and body at a moment: the world after it, and what is said
 abbrev pub Answering : Type 0 → Type 0
-Answering D = Head → List ℕ → ℕ → D × State → (D × State) × SaidView
+Answering D = Head → List ℕ → ℕ → D × State → (D × State) × ContentView
 
 -- the host that answers each request in this way
 abbrev pub answering_so : {D : Type 0} → Ghosts D → Answering D → Service (D × State)
@@ -32,7 +32,7 @@ IsDone Ending.write_fault = ⊥
 IsDone Ending.memory = ⊥
 
 -- the host answers a request, no call of its disk fails in it, and memory suffices
-pub record IsUnfailing {D : Type 0} (d : Ghosts D) (head : Head) (body : List ℕ) (moment : ℕ) (w new : D × State) (said : SaidView) : Type 0 where
+pub record IsUnfailing {D : Type 0} (d : Ghosts D) (head : Head) (body : List ℕ) (moment : ℕ) (w new : D × State) (said : ContentView) : Type 0 where
   pub responds : Responds d w.0 new.0 head body moment w.1 new.1 said
   pub still : HasRisen (d.faults w.0) (d.faults new.0) → ⊥
   pub plain : said.memory ≡ false
@@ -43,5 +43,5 @@ OneState w v = (w.1 ≡ v.1) × (w.1.waiting ≡ None) × CanApplyAll (empty w.1
 
 -- hosts of one state say the same to a request, and come to one state, if no call of their disks fails in it and there is enough memory
 abbrev pub AnswerAlike : {D : Type 0} → Ghosts D → Type 0
-AnswerAlike {D} d = (head : Head) (body : List ℕ) (moment : ℕ) (w v new other : D × State) (said told : SaidView) → OneState w v
+AnswerAlike {D} d = (head : Head) (body : List ℕ) (moment : ℕ) (w v new other : D × State) (said told : ContentView) → OneState w v
     → IsUnfailing d head body moment w new said → IsUnfailing d head body moment v other told → OneState new other × (said ≡ told)

@@ -10,7 +10,7 @@ ghost use Rattle.serving.specs.Ends.{Ending, end_as};
 ghost use Rattle.serving.specs.Exchanges.{Answered, Exchange, IsExchange, LinkExchanges};
 ghost use Rattle.serving.specs.Runs.{LinkRun};
 ghost use Rattle.serving.specs.Served.{CountsEnd, LinkView};
-ghost use Rattle.requests.specs.Said.{memory_said};
+ghost use Rattle.reply_texts.specs.Contents.{memory_told};
 ghost use Rattle.serving.specs.Serving.{host_service};
 ghost use Rattle.serving_laws.specs.Accepting.{Accepts};
 ghost use Rattle.serving_laws.specs.Crashes.{Acknowledges, Since};
@@ -28,7 +28,7 @@ ghost use Rattle.serving_laws.specs.Sealing.{AsksOf};
 ghost use Rattle.serving_laws.specs.Writing.{AnswerAlike, Answering, IsDone, OneState, answering_so};
 
 use reply_texts::text_sealing_law;
-use requests::sent_sealing_law;
+use requests::{sent_sealing_law, step_reply_law};
 use sealed_core::{machine_law, publication_law, sameness_law};
 use serving::link_law;
 use split_base::Disk;
@@ -54,12 +54,13 @@ pub fn ends_law<D: Disk>()
         ↔ ((last ≡ Last.read_failed) ⊎ (last ≡ Last.write_failed)) }
     ensures said { (due : DueView) (w : D × State) (all : List ℕ) (answers : List (Option ℕ))
         (out : List ℕ) (new : D × State) → IsWritten (host_service D.Disk) due w all answers out new
-        → due.said.memory ≡ true → due.said ≡ memory_said }
+        → due.said.memory ≡ true → due.said ≡ memory_told }
     ensures counted { (link now : LinkView) (ending : Ending) → end_as ending ≡ ends.LinkFault
         → CountsEnd link now ending
         → HasRisen link.reads now.reads ⊎ HasRisen link.writes now.writes }
 {
     link_law::<D>();
+    step_reply_law();
 }
 
 /// On an honest disk a crash at any moment since a request was answered leaves a file of the state that it left or of one that came later,
@@ -202,5 +203,6 @@ pub fn sealed_runs_law<D: Disk>()
 {
     machine_law();
     sent_sealing_law();
+    step_reply_law();
     text_sealing_law();
 }

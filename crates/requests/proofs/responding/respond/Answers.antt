@@ -1,7 +1,7 @@
 use Rattle.std.proofs.Common.{refl}
 use Rattle.requests.proofs.Leading.{leads_as, leads_still}
 use Rattle.requests.specs.Cases.{Responds}
-use Rattle.requests.specs.Said.{said_view}
+use Rattle.reply_texts.specs.Contents.{content_view}
 use Rattle.requests.proofs.Performed.{performed_responds}
 use Rattle.requests.proofs.Unrouted.{unrouted_responds}
 use Rattle.requests.proofs.responding.respond.Goals as goal
@@ -9,7 +9,7 @@ use Rattle.requests.proofs.responding.respond.Goals as goal
 pub returns-in-Err-clause-responds : goal.returns-in-Err-clause-responds
 returns-in-Err-clause-responds g c s stands =
     leads_still g.D.Disk c.passing_law.ensures.still c.args.serving.now c.args.disk.now s _ stands
-    (unrouted_responds g.D.Disk c.args.disk.now c.args.head.now c.args.body.now c.args.moment s c.in-Err.fault (said_view c.unrouted.result) c.in-Err.ensures c.unrouted.ensures)
+    (unrouted_responds g.D.Disk c.args.disk.now c.args.head.now c.args.body.now c.args.moment s c.in-Err.fault (content_view c.unrouted.result) c.in-Err.ensures c.unrouted.ensures)
 
 pub returns-in-Err-command_of-clause-responds : goal.returns-in-Err-command_of-clause-responds
 returns-in-Err-command_of-clause-responds g c s stands =
@@ -19,4 +19,4 @@ returns-in-Err-command_of-clause-responds g c s stands =
 pub returns-in-Ok-command_of-clause-responds : goal.returns-in-Ok-command_of-clause-responds
 returns-in-Ok-command_of-clause-responds g c s stands =
     leads_as g.D.Disk _ _ _ s _ _ (c.perform.ensures.performed s stands)
-    (λ new p. performed_responds g.D.Disk _ _ c.args.head.now c.args.body.now c.args.moment s new (said_view c.perform.result) c.in-Ok.route c.in-Ok.ensures _ c.in-Ok-command_of.ensures.command p)
+    (λ new p. performed_responds g.D.Disk _ _ c.args.head.now c.args.body.now c.args.moment s new (content_view c.perform.result) c.in-Ok.route c.in-Ok.ensures _ c.in-Ok-command_of.ensures.command p)

@@ -1,5 +1,5 @@
 use Rattle.requests.proofs.Leading.{leads_as}
-use Rattle.requests.specs.Said.{said_view}
+use Rattle.reply_texts.specs.Contents.{content_view}
 use Rattle.requests.proofs.Settled.{settled_by, settled_ok}
 use Rattle.requests.proofs.settling.open_again.Goals as goal
 
@@ -10,4 +10,4 @@ returns-in-Ok-clause-settled g c s stands =
 
 pub returns-in-Err-clause-settled : goal.returns-in-Err-clause-settled
 returns-in-Err-clause-settled g c s stands =
-    leads_as g.D.Disk _ _ _ s _ _ (c.in-Err.ensures.reopened s stands) (λ new p. settled_by g.D.Disk _ _ s new c.in-Err.fault (said_view c.failure.result) c.failure.ensures p)
+    leads_as g.D.Disk _ _ _ s _ _ (c.in-Err.ensures.reopened s stands) (λ new p. settled_by g.D.Disk _ _ s new c.in-Err.fault (content_view c.failure.result) c.failure.ensures p)

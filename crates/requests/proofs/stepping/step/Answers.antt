@@ -6,7 +6,7 @@ use Rattle.sealed_core.specs.declared.replies.Reply.TheVariants as reply
 use Rattle.sealed_core.specs.Host.{CanApply, HostView, event_view}
 use Rattle.sealed_core.specs.Step.{answer_view, command_view}
 use Rattle.requests.specs.Cases.{Steps}
-use Rattle.requests.specs.Said.{said_view}
+use Rattle.reply_texts.specs.Contents.{content_view}
 use Rattle.requests.proofs.Stepped.{event_is, replied, reply_is, stepped}
 use Rattle.requests.proofs.stepping.step.Goals as goal
 
@@ -23,10 +23,10 @@ returns-in-None-clause-stepped g c s stands =
     let command = command_view c.args.command in
     let a = answer_view c.answer-answered.result in
     let is = c.answer-answered.ensures.step in
-    let (told, shown, says) = c.in-Ok.ensures.shown in
+    let told = content_view c.in-Ok.said in
     leads_still g.D.Disk c.passing_law.ensures.still c.args.serving.now c.args.disk.now s _ stands
     (Steps.no_event told (event_is h s stands.host.is_host c.args.moment command a is None (ap (option_map event_view) c.in-None.is)) refl
-    (replied h s stands.host.is_host c.args.moment command a is told shown) refl says)
+    (replied h s stands.host.is_host c.args.moment command a is told c.in-Ok.ensures.shown) refl refl)
 
 pub returns-in-Some-clause-stepped : goal.returns-in-Some-clause-stepped
 returns-in-Some-clause-stepped g c s stands =
@@ -34,11 +34,11 @@ returns-in-Some-clause-stepped g c s stands =
     let command = command_view c.args.command in
     let a = answer_view c.answer-answered.result in
     let is = c.answer-answered.ensures.step in
-    let (told, shown, says) = c.in-Ok.ensures.shown in
+    let told = content_view c.in-Ok.said in
     let event = event_view c.in-Some.event in
     leads_as g.D.Disk _ _ _ s _ _ (c.keep_first.ensures.kept s stands)
-    (λ new p. stepped g.D.Disk _ _ event told (said_view c.in-Ok.said) s new _ c.args.moment command
+    (λ new p. stepped g.D.Disk _ _ event told told s new _ c.args.moment command
     (event_is h s stands.host.is_host c.args.moment command a is (Some event) (ap (option_map event_view) c.in-Some.is))
     (subst (λ (x : HostView). CanApply x event) stands.host.is_host
     (subst (λ (o : Option Event). IfSome o (λ e. CanApply h (event_view e))) c.in-Some.is c.answer-answered.ensures.applicable))
-    (replied h s stands.host.is_host c.args.moment command a is told shown) says p)
+    (replied h s stands.host.is_host c.args.moment command a is told c.in-Ok.ensures.shown) refl p)

@@ -6,7 +6,7 @@ use Rattle.serving.proofs.Finishing.{finish_held}
 use Rattle.serving.proofs.Going.{counts_finished, head_quiet, head_served}
 use Rattle.serving.proofs.Hearing.{due_to_refused, due_to_request}
 use Rattle.serving.specs.Served.{with_carry, link_view, tells_of}
-use Rattle.requests.specs.Said.{SaidView, said_view}
+use Rattle.reply_texts.specs.Contents.{ContentView, content_view}
 use Rattle.serving.specs.Serving.{StandsAt, due_of, host_service}
 use Rattle.serving.proofs.Worlds.{responded}
 use Rattle.serving.proofs.links.serve_head.Goals as goal
@@ -31,7 +31,7 @@ returns-in-Refused-clause-says g c w stands =
     let due = due_of c.refusal_said.result c.in-Refused.answer c.in-Refused.bodiless true in
     head_served (host_service g.D.Disk) link mid c.hear.new.carry now asked stand c.args.last w due c.write_said.result (ap (prepend_known c.hear.new.carry) c.write_said.ensures.left)
     (due_to_refused (host_service g.D.Disk) link mid asked stand c.args.last w due c.in-Refused.refusal c.in-Refused.answer c.in-Refused.bodiless c.in-Refused.ensures.says stands
-    (ap (λ (s : SaidView). record { said = s; manner = record { moment = c.in-Refused.answer; bodiless = c.in-Refused.bodiless; closes = true } }) c.refusal_said.ensures))
+    (ap (λ (s : ContentView). record { said = s; manner = record { moment = c.in-Refused.answer; bodiless = c.in-Refused.bodiless; closes = true } }) c.refusal_said.ensures))
     (finish_held c.hear.new.carry (link_view tells c.hear.new.link) (link_view tells c.write_said.new.link) due c.write_said.result c.write_said.ensures.says)
 
 pub returns-in-Refused-clause-counts : goal.returns-in-Refused-clause-counts
@@ -50,7 +50,7 @@ returns-in-Request-clause-says g c w stands =
     let stand = StandsAt g.D.Disk c.respond-said.new.serving c.respond-said.new.disk in
     let head = c.in-Request.head in
     let moment = c.in-Request.moment in
-    let said = said_view c.respond-said.result in
+    let said = content_view c.respond-said.result in
     let due = due_of c.respond-said.result (Some moment) c.is_head-bodiless.result c.closes.result in
     let (new, at, responds) =
     responded g.D.Disk c.respond-said.new.serving c.args.disk.now c.respond-said.new.disk w head c.in-Request.body.items c.deref.result.now moment said stands.0 c.deref.ensures.value

@@ -23,7 +23,7 @@ pub returns-clause-fault : goal.returns-clause-fault
 returns-clause-fault g c last = fault_where last
 
 pub returns-clause-said : goal.returns-clause-said
-returns-clause-said g c due w all answers out new written says = memory_written g.D.Disk due w all answers out new written says
+returns-clause-said g c due w all answers out new written says = memory_written c.step_reply_law.ensures g.D.Disk due w all answers out new written says
 
 pub returns-clause-counted : goal.returns-clause-counted
 returns-clause-counted g c link now ending is counts = fault_counted link now ending is counts

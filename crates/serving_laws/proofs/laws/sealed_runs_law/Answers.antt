@@ -19,7 +19,7 @@ returns-clause-step g c x is ready none plain = goes_by_step g.D.Disk x none pla
 
 pub returns-clause-same : goal.returns-clause-same
 returns-clause-same g c id caller run others states twins w v new after one two honest true_too ready set look handled second pairs =
-    let all = ready_alike id caller c.machine_law.ensures.one_more g.D.Disk w v run others states twins new after one two honest true_too ready set handled second pairs in record {
+    let all = ready_alike id caller c.machine_law.ensures.one_more c.step_reply_law.ensures g.D.Disk w v run others states twins new after one two honest true_too ready set handled second pairs in record {
       steps = all.steps;
       besides = all.besides;
       taken = all.taken;
