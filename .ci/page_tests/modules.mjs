@@ -56,7 +56,7 @@ for (const [typed, code] of [['eur', 'EUR'], [' XAF ', 'XAF'], ['', ''], ['euro'
 for (const [typed, n] of [['400', 400], [' 7 ', 7], ['4.5', NaN], ['', NaN], ['-3', NaN]]) same(`whole of ${typed}`, money.whole(typed), n);
 same('plain', [money.plain(145050), money.plain(5)], ['1450.50', '0.05']);
 money.setCurrency('EUR', 'en-GB');
-same('money', [money.money(145050), money.money(-5), money.money(12n), money.money({ n: 100n, d: 3n })], ['€1,450.50', '−€0.05', '€0.12', '≈\u2009€0.33']);
+same('money', [money.money(145050), money.money(-5), money.money(12n), money.money({ n: 100n, d: 3n })], ['€1,450.50', '−€0.05', '€0.12', '≈\u202f€0.33']);
 money.setCurrency('', 'de');
 same('money in German', [money.money(145050), money.plain(145050)], ['1.450,50', '1450,50']);
 same('what was written is read again', money.cents(money.plain(145050)), 145050);

@@ -76,5 +76,5 @@ export const plain = (amount) => `${Math.floor(amount / 100)}${habits.point}${St
 /** An amount of cents, whole or a fraction { n, d }, for people. What is no whole cent is rounded, and says so. */
 export function money(amount) {
   const { n, d } = typeof amount === 'object' ? amount : { n: amount, d: 1n };
-  return (d === 1n ? '' : '≈\u2009') + shape.format(Number(n) / Number(d) / 100).replace('-', '−');
+  return (d === 1n ? '' : '≈\u202f') + shape.format(Number(n) / Number(d) / 100).replace('-', '−');
 }

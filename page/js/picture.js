@@ -187,7 +187,8 @@ function goods(scene) {
 /** For two: the division by adjusted winner, in which one thing may be split. */
 export function winnerCard({ shares, total, who, members, things }, more, open) {
   const part = (share) => h('td', { 'data-exact': exact(share) }, `${number(near(share) * 100, 1)} %`);
-  const points = h('strong', { 'data-exact': exact(total) }, (total.d === 1n ? '' : '≈ ') + number(near(total), 1));
+  const points = h('strong', { 'data-exact': exact(total) },
+    (total.d === 1n ? '' : '≈\u202f') + number(near(total), 1));
   const row = (thing, g) => h('tr', {}, h('th', { scope: 'row' }, name(thing)),
     part(shares[g]), part(minus(frac(1n), shares[g])));
   return h('details', { class: 'card', id: 'winner', open },

@@ -93,7 +93,7 @@ export const words = {
     title: 'Prüf es selbst', what: 'Im Zertifikat stehen alle Gebote, das Ergebnis und die Zahlen, die zeigen, dass es das beste ist. Du musst dem Server nicht vertrauen:',
     download: 'Speichere das Zertifikat und die Namen in einer Datei.', downloadButton: 'Herunterladen',
     file: 'Öffne diese Datei in der Prüfseite. {link}: Sie kommt ohne Netz aus. Das bewiesene Programm steckt in ihr. Noch besser ist, du bekommst sie von jemandem, dem du vertraust.',
-    judge: 'Oder speichere unten das Zertifikat allein, und lass es auf deinem eigenen Rechner vom Programm {program} prüfen: {command}. Es ist bewiesen, dass es {yes} nur für die beste Aufteilung der aufgeführten Gebote schreibt.',
+    judge: 'Oder speichere unten das Zertifikat allein, und lass es auf deinem eigenen Rechner vom Programm {program} prüfen: {command}. Es ist bewiesen, dass es {yes} nur für die beste Aufteilung für die aufgeführten Gebote schreibt.',
     printed: 'Sieh nach, ob dein Gebot so dasteht, wie du es gesendet hast: Im Zertifikat steht {bid}.', printedNone: 'Seht nach, ob jedes Gebot so dasteht, wie es gesendet wurde.',
     here: 'Was in diesem Browser geprüft wurde', hereHow: 'Alles oben wurde aus dem Zertifikat berechnet. Das Urteil ist das des bewiesenen Programms; was folgt, ist die zweite Prüfung durch ein Skript. *Die Seite darum herum ist nicht bewiesen*, und sie kommt vom selben Rechner wie das Ergebnis: Ein Server, der lügt, könnte eine Seite senden, die lügt.',
   },
@@ -140,7 +140,7 @@ export const words = {
     },
     check: {
       title: 'Ein Zertifikat prüfen', 1: 'In einem Zertifikat stehen alle Gebote, das Ergebnis und die Zahlen, die zeigen, dass es das beste ist. Öffne hier die Datei, oder füge ihren Text ein.',
-      2: 'Ja heißt: Das ist die beste Aufteilung der aufgeführten Gebote. Nein heißt: Vertrau diesem Ergebnis nicht.', 3: 'Die Prüfung kann nicht wissen, ob es die Gebote sind, die gesendet wurden: Vergleiche sie mit dem, was du weißt.',
+      2: 'Ja heißt: Das ist die beste Aufteilung für die aufgeführten Gebote. Nein heißt: Vertrau diesem Ergebnis nicht.', 3: 'Die Prüfung kann nicht wissen, ob es die Gebote sind, die gesendet wurden: Vergleiche sie mit dem, was du weißt.',
       4: 'Nichts verlässt dieses Gerät.',
     },
     divide: {

@@ -81,7 +81,7 @@ export const words = {
     title: 'Compruébalo tú', what: 'El certificado contiene todas las ofertas, el resultado y las cifras que muestran que es el mejor. No tienes que fiarte del servidor:',
     download: 'Guarda el certificado y los nombres en un archivo.', downloadButton: 'Descargar',
     file: 'Abre ese archivo en la página de comprobación. {link}: funciona sin conexión. Dentro está el programa demostrado. Mejor aún, consigue la página de alguien de confianza.',
-    judge: 'O guarda solo el certificado, abajo, y haz que lo juzgue en tu propio ordenador el programa {program}: {command}. Está demostrado que solo escribe {yes} para el mejor reparto de las ofertas que aparecen.',
+    judge: 'O guarda solo el certificado, abajo, y haz que lo juzgue en tu propio ordenador el programa {program}: {command}. Está demostrado que solo escribe {yes} para el mejor reparto para las ofertas que aparecen.',
     printed: 'Mira si tu oferta aparece tal como la enviaste: el certificado dice {bid}.', printedNone: 'Mirad si cada oferta aparece tal como se envió.',
     here: 'Lo que se ha comprobado en este navegador', hereHow: 'Todo lo anterior se ha calculado a partir del certificado. El veredicto es del programa demostrado; lo que sigue es la segunda comprobación, hecha por un script. *La página que los rodea no está demostrada*, y vino de la misma máquina que el resultado: un servidor que miente podría enviar una página que miente.',
   },
@@ -140,7 +140,7 @@ export const words = {
     },
     check: {
       title: 'Comprobar un certificado', 1: 'Un certificado contiene todas las ofertas, el resultado y las cifras que muestran que es el mejor. Abre aquí el archivo o pega su texto.',
-      2: '«Sí» significa que este es el mejor reparto de las ofertas que aparecen. «No» significa que no debes fiarte del resultado.', 3: 'La comprobación no puede saber si esas ofertas son las que se enviaron: compáralas con lo que sabes.',
+      2: '«Sí» significa que este es el mejor reparto para las ofertas que aparecen. «No» significa que no debes fiarte del resultado.', 3: 'La comprobación no puede saber si esas ofertas son las que se enviaron: compáralas con lo que sabes.',
       4: 'Nada sale de este dispositivo.',
     },
     divide: {

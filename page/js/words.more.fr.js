@@ -60,8 +60,8 @@ export const words = {
     link: 'Tout le monde est là : partager sans serveur', title: 'Partager sans serveur', file: 'Enregistrer cette page comme fichier',
     lead: 'Tout se passe sur cet appareil : rien n’est envoyé, et rien n’est gardé quand tu fermes la page. La répartition et le verdict viennent de code prouvé ; *la page autour d’eux n’est pas prouvée correcte*.',
     what: 'Que voulez-vous partager ?', who: 'Qui saisit les offres ?', pass: 'L’appareil passe de main en main : chaque personne saisit son offre en privé', type: 'Je saisis toutes les offres',
-    begin: 'Passer aux offres', handTo: 'Passe l’appareil à *{name}*', hidden: 'Les offres déjà faites sont cachées. C’est le tour de {name} : que personne d’autre ne regarde.', take: 'C’est moi, {name}',
-    bidOf: 'L’offre de *{name}*', next: 'Suivant', last: 'Montrer le résultat', back: 'Retour', skip: 'Continuer sans {name}', done: 'Toutes les offres sont là', allHere: 'Réunissez-vous, puis montrez le résultat.', show: 'Montrer le résultat',
+    begin: 'Passer aux offres', handTo: 'Passe l’appareil à *{name}*', hidden: 'Les offres déjà faites sont cachées. C’est à {name} maintenant : que personne d’autre ne regarde.', take: 'C’est moi, {name}',
+    bidOf: 'Offre : *{name}*', next: 'Suivant', last: 'Montrer le résultat', back: 'Retour', skip: 'Continuer sans {name}', done: 'Toutes les offres sont là', allHere: 'Réunissez-vous, puis montrez le résultat.', show: 'Montrer le résultat',
     working: 'Calcul de la répartition…', stop: 'Arrêter', stopped: 'Arrêté. Rien n’est perdu : vous pouvez réessayer.', tooFew: 'Il faut les offres d’au moins deux personnes.',
     noModule: 'Le programme prouvé qui calcule la répartition ne peut pas tourner dans ce navigateur. Essaie avec une version récente de Firefox, Chrome, Edge ou Safari.', refused: 'Ce cas ne peut pas être partagé ({what}).', unproved: 'Le programme de vérification n’a pas dit oui à cette répartition : elle n’est donc pas montrée. Il a dit : {says}',
     anew: 'Changer quelque chose',
@@ -81,7 +81,7 @@ export const words = {
     title: 'Vérifie toi-même', what: 'Le certificat contient toutes les offres, le résultat et les nombres qui montrent que c’est le meilleur. Tu n’as pas besoin de faire confiance au serveur :',
     download: 'Enregistre le certificat et les noms dans un fichier.', downloadButton: 'Télécharger',
     file: 'Ouvre ce fichier dans la page de vérification. {link} : elle fonctionne sans réseau. Le programme prouvé est dedans. Mieux encore, demande cette page à quelqu’un en qui tu as confiance.',
-    judge: 'Ou enregistre le certificat seul, ci-dessous, et fais-le juger sur ton propre ordinateur par le programme {program} : {command}. Il est prouvé qu’il n’écrit {yes} que pour la meilleure répartition des offres indiquées.',
+    judge: 'Ou enregistre le certificat seul, ci-dessous, et fais-le juger sur ton propre ordinateur par le programme {program} : {command}. Il est prouvé qu’il n’écrit {yes} que pour la meilleure répartition pour les offres indiquées.',
     printed: 'Vérifie que ton offre y figure telle que tu l’as envoyée : le certificat dit {bid}.', printedNone: 'Vérifie que chaque offre y figure telle qu’elle a été envoyée.',
     here: 'Ce qui a été vérifié dans ce navigateur', hereHow: 'Tout ce qui précède a été calculé à partir du certificat. Le verdict est celui du programme prouvé ; ce qui suit est la seconde vérification, par un script. *La page autour d’eux n’est pas prouvée correcte*, et elle vient de la même machine que le résultat : un serveur qui ment pourrait envoyer une page qui ment.',
   },
@@ -140,7 +140,7 @@ export const words = {
     },
     check: {
       title: 'Vérifier un certificat', 1: 'Un certificat contient toutes les offres, le résultat, et les nombres qui montrent que c’est le meilleur. Ouvre le fichier ici, ou colle son texte.',
-      2: 'Oui veut dire : c’est la meilleure répartition des offres indiquées. Non veut dire : ne te fie pas à ce résultat.', 3: 'La vérification ne peut pas savoir si ces offres sont celles qui ont été envoyées : compare-les avec ce que tu sais.',
+      2: 'Oui veut dire : c’est la meilleure répartition pour les offres indiquées. Non veut dire : ne te fie pas à ce résultat.', 3: 'La vérification ne peut pas savoir si ces offres sont celles qui ont été envoyées : compare-les avec ce que tu sais.',
       4: 'Rien ne quitte cet appareil.',
     },
     divide: {

@@ -81,7 +81,7 @@ export const words = {
     title: 'Verificalo tu', what: 'Il certificato elenca tutte le offerte, il risultato e i numeri che mostrano che è il migliore. Non devi fidarti del server:',
     download: 'Salva il certificato e i nomi in un file.', downloadButton: 'Scarica',
     file: 'Apri quel file nella pagina di verifica. {link}: funziona senza rete. Dentro c’è il programma dimostrato. Ancora meglio, fatti dare la pagina da qualcuno di cui ti fidi.',
-    judge: 'Oppure salva il solo certificato, qui sotto, e fallo giudicare sul tuo computer dal programma {program}: {command}. È dimostrato che scrive {yes} solo per la migliore divisione delle offerte elencate.',
+    judge: 'Oppure salva il solo certificato, qui sotto, e fallo giudicare sul tuo computer dal programma {program}: {command}. È dimostrato che scrive {yes} solo per la migliore divisione per le offerte elencate.',
     printed: 'Guarda se la tua offerta è elencata come l’hai inviata: il certificato dice {bid}.', printedNone: 'Guardate se ogni offerta è elencata come è stata inviata.',
     here: 'Che cosa è stato verificato in questo browser', hereHow: 'Tutto quello che precede è stato calcolato dal certificato. Il verdetto è del programma dimostrato; quello che segue è la seconda verifica, fatta da uno script. *La pagina intorno non è dimostrata corretta*, e viene dalla stessa macchina del risultato: un server che mente potrebbe inviare una pagina che mente.',
   },
@@ -140,7 +140,7 @@ export const words = {
     },
     check: {
       title: 'Verificare un certificato', 1: 'Un certificato elenca tutte le offerte, il risultato e i numeri che mostrano che è il migliore. Apri qui il file, oppure incolla il suo testo.',
-      2: 'Sì vuol dire: questa è la migliore divisione delle offerte elencate. No vuol dire: non fidarti di questo risultato.', 3: 'La verifica non può sapere se quelle offerte sono quelle inviate: confrontale con quello che sai.',
+      2: 'Sì vuol dire: questa è la migliore divisione per le offerte elencate. No vuol dire: non fidarti di questo risultato.', 3: 'La verifica non può sapere se quelle offerte sono quelle inviate: confrontale con quello che sai.',
       4: 'Nulla lascia questo dispositivo.',
     },
     divide: {

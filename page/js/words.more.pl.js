@@ -81,7 +81,7 @@ export const words = {
     title: 'Sprawdź to samodzielnie', what: 'Certyfikat zawiera wszystkie oferty, wynik i liczby, które pokazują, że jest on najlepszy. Nie musisz ufać serwerowi:',
     download: 'Zapisz certyfikat i nazwy w jednym pliku.', downloadButton: 'Pobierz',
     file: 'Otwórz ten plik na stronie sprawdzającej. {link}: działa bez sieci. Jest w niej udowodniony program. Jeszcze lepiej weź tę stronę od kogoś, komu ufasz.',
-    judge: 'Albo zapisz poniżej sam certyfikat i daj go do oceny na własnym komputerze programowi {program}: {command}. Udowodniono, że pisze on {yes} tylko przy najlepszym podziale podanych ofert.',
+    judge: 'Albo zapisz poniżej sam certyfikat i daj go do oceny na własnym komputerze programowi {program}: {command}. Udowodniono, że pisze on {yes} tylko wtedy, gdy to najlepszy podział przy podanych ofertach.',
     printed: 'Zobacz, czy twoja oferta jest tam taka, jak została wysłana: w certyfikacie jest {bid}.', printedNone: 'Zobacz, czy każda oferta jest tam taka, jak została wysłana.',
     here: 'Co zostało sprawdzone w tej przeglądarce', hereHow: 'Wszystko powyżej obliczono z certyfikatu. Werdykt wydał udowodniony program; poniżej jest drugie sprawdzenie, przez skrypt. *Strona wokół nich nie jest udowodniona*, a przyszła z tej samej maszyny co wynik: serwer, który kłamie, mógłby wysłać stronę, która kłamie.',
   },
