@@ -91,6 +91,34 @@ def divided(p, address, case, is_passed, look_at, shots):
     shots(p, f'C-{case["kind"]}-{"http" if address.startswith("http") else "file"}')
 
 
+FAULTS = 'return [...document.querySelectorAll("main .fault, main .bad")].map((e) => e.innerText.trim()).filter(Boolean)'
+
+
+def mended(p, address):
+    """What is wrong with a field is told until the field is changed, and no longer."""
+    p.open(address)
+    p.click('.kind.rent')
+    p.press('On to the bids')
+    p.has('6 fields need your attention')
+    same('the first field that is wrong has the focus', p.focused()['id'], 'title')
+    p.type('#title', FLAT['title'])
+    same('a title that was entered', [p.values('#title', 'aria-invalid'), 'Enter a title.' in p.run(FAULTS), '5 fields need your attention' in p.run(FAULTS)],
+         [[None], False, True])
+    written(p, FLAT)
+    same('nothing is wrong any more', p.run(FAULTS), [])
+    p.put('#rent', 'much')
+    check('what is wrong again is told', any('Enter an amount' in words for words in p.run(FAULTS)), p.run(FAULTS))
+    p.open(address)
+    p.click('.kind.fares')
+    written(p, RIDE)
+    p.run('document.querySelectorAll("input[name=how]")[1].click()')
+    p.press('On to the bids')
+    p.press('Next')
+    same('no place is picked', p.run(FAULTS), ['Pick the place where you get off.'])
+    p.click('input[name=place]')
+    same('a place is picked', p.run(FAULTS), [])
+
+
 def alone(rig, olive, ann, ben, look_at, shots):
     """Divisions without a server: in the page, and in the file from a disk."""
     page, file = rig.url + '#divide', 'file://' + os.path.join(os.path.realpath(PAGE), 'divide.html')
@@ -100,6 +128,7 @@ def alone(rig, olive, ann, ben, look_at, shots):
     divided(ann, page, FLAT, True, look_at, shots)
     divided(ben, page, ESTATE, False, look_at, shots)
     divided(ben, file, RIDE, False, look_at, shots)
+    mended(ben, file)
     divided(ann, file, FLAT, True, look_at, shots)
     same('no host was asked for anything', len(rig.lossy.seen), asked)
     same('the file asked for nothing', [name for name in ann.run('return performance.getEntriesByType("resource").map((e) => e.name)')

@@ -17,7 +17,7 @@ function same(what, got, wanted) {
   console.log(`forms: ${what} gives ${a} and not ${b}`);
 }
 
-const { store } = install();
+const { root, store } = install();
 const passing = new Map();
 globalThis.sessionStorage = storage(passing);
 globalThis.location = { origin: 'https://split.example', pathname: '/h7/', hash: '' };
@@ -103,6 +103,67 @@ same('more envy than one item', weighed([[400, 400, 200], [300, 300, 400]], [1, 
 same('no envy', weighed([[500, 500], [500, 500]], [0, 1]).envies, []);
 const { alongRoad } = await import(`${JS}/ways.js`);
 same('along one road', alongRoad([700, 1200, 950, NaN]), [[0, 500, 250, ''], [500, 0, 250, ''], [250, 250, 0, ''], ['', '', '', '']]);
+
+// What is wrong in the form of a division is told once it is sent, and is judged anew after each change.
+const { learn } = await import(`${JS}/language.js`);
+const { DivideForm } = await import(`${JS}/divide_form.js`);
+await learn('en');
+const change = (form, id, value) => {
+  const target = document.getElementById(id);
+  target.value = value;
+  for (const node of [target, form]) node.listeners.input?.({ target }); // it bubbles
+};
+const told = () => root.querySelectorAll('.fault,.box').filter((node) => node.textContent).map((node) => node.textContent);
+/** A form on the page, and the cases that it gave. */
+function formOf(kind, start) {
+  const cases = [];
+  const { form } = new DivideForm(kind, start, (made) => cases.push(made));
+  root.replaceChildren();
+  root.append(form);
+  return { form, cases, send: () => form.listeners.submit({ preventDefault() {} }) };
+}
+const [NAME, RENT, LEFT] = ['Enter a name.', 'Enter an amount from £0.01 to £100,000.00.', (n) => (n === 1 ? '1 field needs your attention' : `${n} fields need your attention`)];
+const rentForm = formOf('rent', {});
+change(rentForm.form, 'title', '');
+same('nothing is told before a form is sent', told(), []);
+rentForm.send();
+same('all that is wrong', told(), ['Enter a title.', NAME, NAME, NAME, NAME, RENT, LEFT(6)]);
+change(rentForm.form, 'title', 'Flat');
+same('a title that was entered', [told(), document.getElementById('title').getAttribute('aria-invalid')], [[NAME, NAME, NAME, NAME, RENT, LEFT(5)], null]);
+for (const [id, value] of [['members-0', 'Ann'], ['members-1', 'Ben'], ['things-0', 'Attic'], ['rent', '1450.50']]) change(rentForm.form, id, value);
+same('what is left', told(), [NAME, LEFT(1)]);
+change(rentForm.form, 'title', 'x'.repeat(41));
+same('what is wrong since', told(), ['This is too long by 1 letter.', NAME, LEFT(2)]);
+change(rentForm.form, 'title', 'Flat');
+change(rentForm.form, 'things-1', 'Cellar');
+same('nothing is left', [told(), rentForm.cases.length], [[], 0]);
+change(rentForm.form, 'currency', 'E');
+same('a currency', told(), ['Enter the three letters of a currency, such as EUR, or nothing.', LEFT(1)]);
+change(rentForm.form, 'currency', 'EUR');
+rentForm.send();
+same('the case', rentForm.cases, [{ kind: 'rent', title: 'Flat', members: ['Ann', 'Ben'], rooms: ['Attic', 'Cellar'], rent: 145_050 }]);
+const roomy = formOf('rent', { title: 'Flat', people: ['Ann', 'Ben', ''], things: ['Attic', 'Cellar', 'Loft'], amount: '9' });
+roomy.send();
+same('more rooms than people', [told(), roomy.cases], [['There are 3 rooms for 2 people: add a name above, or clear this room.', LEFT(1)], []]);
+root.querySelectorAll('button').find((one) => one.getAttribute('aria-label') === 'Remove Housemate 3').click();
+same('a row that was removed', told(), []);
+const rideForm = formOf('fares', { title: 'Ride', people: ['Ann', 'Ben'], things: ['Station', 'Airport'], amount: '3' });
+rideForm.send();
+const TRIP = (to) => `From the start to ${to}: Enter an amount from £0.00 to £10,000.00.`;
+same('trips', told(), [TRIP('Station'), LEFT(4)]);
+change(rideForm.form, 'legs-0-0', '10');
+same('a trip that was entered', told(), [TRIP('Airport'), LEFT(3)]);
+change(rideForm.form, 'legs-0-1', '20');
+root.querySelector('.tick').querySelector('input').listeners.change({ target: { checked: true } });
+same('the others follow along one road', told(), []);
+const { PlaceField } = await import(`${JS}/place_field.js`);
+const field = new PlaceField({ places: ['Station', 'Airport'], flag: 300, legs: [[1000, 2000]] }, {});
+root.replaceChildren();
+root.append(field.set);
+field.complain('Pick a place');
+same('no place is picked', told(), ['Pick a place']);
+document.getElementById('place').listeners.input?.({});
+same('a place is picked', told(), []);
 
 // An appointment.
 const { calendarFile } = await import(`${JS}/calendar.js`);

@@ -58,7 +58,6 @@ class BidForm {
 
   /** What was wrong is told until something is changed. */
   calm() {
-    showFault('place', '');
     if (!this.open && this.message.querySelector('.bad')) fill(this.message);
   }
 

@@ -3,8 +3,9 @@ import { announce, box, byId, faultLine, field, fill, h, heading, p, showFault }
 import { entitle, locale, names, t, text } from './language.js';
 import { LIMITS, STEP, THINGS } from './rules.js';
 import { odds } from './odds.js';
-import { doubles, faults, rowsThatCount } from './faults.js';
-import { money, plain, setCurrency } from './money.js';
+import { doubles, rowsThatCount } from './faults.js';
+import { idOf, showFaults, wrongFields } from './form_faults.js';
+import { plain, setCurrency } from './money.js';
 import { SUGGESTED, codeOf, currencyOf } from './currencies.js';
 import { hostNow, isOpen, sentence } from './api.js';
 import { make, newTag, pending } from './creation.js';
@@ -33,9 +34,6 @@ export function again({ kind, title, members, rent, flag, legs, currency, ...mor
 }
 
 const shown = (value) => (value === undefined ? '' : typeof value === 'number' ? plain(value) : value);
-
-/** The id of a field of the form, by its name in a creation and the place in it. */
-const idOf = (of, at = '') => `${Object.values(THINGS).includes(of) ? 'things' : of}${at === '' ? '' : `-${at}`}`;
 
 /** How likely an answer is for so many people and things. */
 function chanceOf(people, things) {
@@ -184,42 +182,11 @@ class CreationForm {
       [THINGS[kind]]: named(things, 'things'), ...own, deadline } };
   }
 
-  /** The id of a field that is wrong, by its place in the creation. */
-  fieldOf(rows, of, at) {
-    if (of === 'legs') {
-      const [from, to] = at.split('-').map(Number);
-      return idOf(of, `${from ? rows.things[from - 1] + 1 : 0}-${rows.things[to]}`);
-    }
-    const row = rows[of === 'members' ? 'members' : 'things'];
-    return at === '' ? idOf(of) : idOf(of, row[at]);
-  }
-
-  /** A sentence for the id of each field that is wrong. */
-  wrong({ rows, creation }) {
-    const says = ([path, given]) => text(path, given?.least === undefined ? given
-      : { least: money(given.least), most: money(given.most) });
-    const found = new Map(faults(creation, hostNow()).map(({ field: of, at, says: why }) => {
-      const id = this.fieldOf(rows, of, at);
-      const field = { rent: this.rent, flag: this.flag, legs: this.ways }[of];
-      return [id, field ? field.fault(says(why), ...id.split('-').slice(1)) : says(why)];
-    }));
-    if (this.kind === 'rent') {
-      const given = { rooms: rows.things.length, people: rows.members.length };
-      for (const row of rows.things.slice(given.people)) found.set(`things-${row}`, text('faults.moreRooms', given));
-    }
-    if (codeOf(this.currency.value) === null) found.set('currency', text('faults.currency'));
-    return found;
-  }
-
   /** Shows what is wrong at the fields that were left, or at all once the form was sent; answers it. */
   check() {
     const read = this.read();
-    const wrong = this.wrong(read);
-    const says = (id) => (this.isSent || this.touched.has(id) ? wrong.get(id) ?? '' : '');
-    const rowsOf = ({ id, names: list }) => list.map((_, i) => `${id}-${i}`);
-    const ids = ['title', 'rent', 'flag', 'deadline', 'currency', ...rowsOf(this.people), ...rowsOf(this.things)];
-    for (const id of ids) showFault(id, says(id));
-    this.ways?.mark(says);
+    const wrong = wrongFields(this, read, hostNow());
+    showFaults(this, (id) => (this.isSent || this.touched.has(id) ? wrong.get(id) ?? '' : ''));
     const twice = [...doubles(this.people.names), ...doubles(this.things.names)];
     fill(this.notes, twice.length > 0 && box('note', t('form.twice', { names: names(twice) })));
     this.summarise(this.isSent ? wrong : new Map());

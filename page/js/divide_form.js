@@ -1,28 +1,28 @@
 // The form of a division without a server: who divides what, and who types the bids.
-import { box, byId, faultLine, field, fill, h, p, showFault } from './dom.js';
+import { box, byId, faultLine, field, fill, h, p } from './dom.js';
 import { locale, t, text } from './language.js';
 import { LIMITS, THINGS } from './rules.js';
-import { faults, rowsThatCount } from './faults.js';
-import { money, setCurrency } from './money.js';
+import { rowsThatCount } from './faults.js';
+import { showFaults, wrongFields } from './form_faults.js';
+import { setCurrency } from './money.js';
 import { SUGGESTED, codeOf, currencyOf } from './currencies.js';
 import { MoneyField } from './money_field.js';
 import { NameList } from './name_list.js';
 import { Ways } from './ways.js';
 
 const MINUTE = 60_000; // a division without a server has no deadline; the rules want one
-const idOf = (of, at) => `${Object.values(THINGS).includes(of) ? 'things' : of}${at === '' ? '' : `-${at}`}`;
 
 export class DivideForm {
   /** `start` is what the form held before; `done` gets the case, and whether the device is passed around. */
   constructor(kind, start, done) {
-    Object.assign(this, { kind, done, isPassed: start.isPassed ?? true });
+    Object.assign(this, { kind, done, isPassed: start.isPassed ?? true, isSent: false });
     this.currency = h('input', { value: start.currency ?? currencyOf(locale()), list: 'currencies', maxlength: 3,
       autocomplete: 'off', autocapitalize: 'characters', spellcheck: 'false', input: () => this.recur() });
     this.recur();
     this.title = h('input', { value: start.title ?? '', autocomplete: 'off' });
     this.amount = new MoneyField({ value: start.amount ?? '' }, () => {});
     this.lists(start);
-    this.ways = kind === 'fares' ? new Ways({ isBoth: true, ...start.ways }, this.things, () => {}) : null;
+    this.ways = kind === 'fares' ? new Ways({ isBoth: true, ...start.ways }, this.things, () => this.look()) : null;
     this.notes = h('div', { 'aria-live': 'polite' });
     this.form = this.drawn();
     this.people.draw();
@@ -34,11 +34,11 @@ export class DivideForm {
     const label = (which) => text(`kinds.${kind}.${which}`);
     const renamed = () => this.ways?.label();
     this.people = new NameList({ id: 'members', label: label('person'), names: [...people], least: 2, renamed,
-      most: LIMITS[kind === 'fares' ? 'riders' : 'members'][1], drawn: () => this.follow(),
+      most: LIMITS[kind === 'fares' ? 'riders' : 'members'][1], drawn: () => { this.follow(); this.look(); },
       removed: (i) => { if (kind === 'rent') this.things.names.splice(i, 1); } });
     this.things = new NameList({ id: 'things', label: label('thing'), names: [...(things ?? ['', ''])], least: 1,
       renamed, most: LIMITS[kind === 'goods' ? 'goods' : 'places'][1], isFixed: kind === 'rent',
-      drawn: () => this.ways?.draw(), removed: (i) => this.ways?.without(i) });
+      drawn: () => { this.ways?.draw(); this.look(); }, removed: (i) => this.ways?.without(i) });
   }
 
   /** Of a rent, as many rooms as people. */
@@ -48,7 +48,10 @@ export class DivideForm {
     this.things.draw();
   }
 
-  recur() { setCurrency(codeOf(this.currency.value) ?? '', locale()); }
+  recur() {
+    setCurrency(codeOf(this.currency.value) ?? '', locale());
+    this.amount?.look();
+  }
 
   group({ id, rows }) {
     const hint = id === 'things' && h('p', { class: 'hint' }, t(`kinds.${this.kind}.thingsHint`));
@@ -73,14 +76,15 @@ export class DivideForm {
   }
 
   drawn() {
-    return h('form', { novalidate: true, submit: (event) => this.send(event) },
+    return h('form', { novalidate: true, submit: (event) => this.send(event), input: () => this.look() },
       field('title', t('form.title'), this.title, t(`kinds.${this.kind}.example`)),
       this.group(this.people), this.group(this.things), this.kind !== 'goods' && this.amounts(), this.ways?.set,
       this.how(), this.notes, h('p', { class: 'row' }, h('button', { class: 'main' }, t('divide.begin'))));
   }
 
-  /** The case without its bids; empty rows are left out. `rows` says where in the form its names stand. */
-  read() {
+  /** The case without its bids, and with a deadline, which the rules want; empty rows are left out. `rows` says where
+      in the form its names stand. */
+  read(now) {
     const { kind, people, things } = this;
     const members = rowsThatCount(people.names, 2);
     const rows = { members, things: rowsThatCount(things.names, kind === 'rent' ? members.length : 1) };
@@ -89,37 +93,33 @@ export class DivideForm {
       rent: () => ({ rent: this.amount.cents }), goods: () => ({ limit: LIMITS.steps }),
       fares: () => ({ flag: this.amount.cents, legs: this.ways.between(rows.things) }),
     }[kind]();
-    return { rows, made: { kind, title: this.title.value.trim(), members: named(people, 'members'),
-      [THINGS[kind]]: named(things, 'things'), ...own } };
+    const made = { kind, title: this.title.value.trim(), members: named(people, 'members'),
+      [THINGS[kind]]: named(things, 'things'), ...own };
+    return { rows, made, creation: { ...made, deadline: new Date(now + MINUTE).toISOString() } };
   }
 
-  /** The sentences of what is wrong, by the ids of the fields. */
-  wrong({ rows, made }) {
-    const says = ([path, given]) => text(path, given?.least === undefined ? given
-      : { least: money(given.least), most: money(given.most) });
+  /** Shows at each field what is wrong with it. How many are wrong is told anew only if it changed, since a screen
+      reader reads it out. */
+  check() {
     const now = Date.now();
-    const deadline = new Date(now + MINUTE).toISOString();
-    return new Map(faults({ ...made, deadline }, now).map(({ field: of, at, says: why }) => {
-      if (of === 'legs') {
-        const [from, to] = at.split('-').map(Number);
-        return [`legs-${from ? rows.things[from - 1] + 1 : 0}-${rows.things[to]}`, says(why)];
-      }
-      const row = at === '' ? '' : rows[of === 'members' ? 'members' : 'things'][at];
-      return [idOf(of, row), says(why)];
-    }));
+    const read = this.read(now);
+    const wrong = wrongFields({ ...this, rent: this.amount, flag: this.amount }, read, now);
+    const n = wrong.size;
+    showFaults(this, (id) => wrong.get(id) ?? '');
+    if (n !== this.toldWrong) fill(this.notes, n > 0 && box('bad', p(t('form.mend', { n }))));
+    this.toldWrong = n;
+    return { made: read.made, first: [...wrong.keys()][0] };
   }
+
+  /** Once the form was sent, what is wrong is judged anew after each change. */
+  look() { if (this.isSent) this.check(); }
 
   send(event) {
     event.preventDefault();
-    const read = this.read();
-    const wrong = this.wrong(read);
-    const rowsOf = ({ id, names }) => names.map((_, i) => `${id}-${i}`);
-    const ids = ['title', 'rent', 'flag', ...rowsOf(this.people), ...rowsOf(this.things)];
-    for (const id of ids) showFault(id, wrong.get(id) ?? '');
-    this.ways?.mark((id) => wrong.get(id) ?? '');
-    fill(this.notes, wrong.size > 0 && box('bad', p(t('form.mend', { n: wrong.size }))));
-    if (wrong.size > 0) byId([...wrong.keys()][0])?.focus();
-    else this.done(read.made, this.draft);
+    Object.assign(this, { isSent: true, toldWrong: null });
+    const { made, first } = this.check();
+    if (first) byId(first)?.focus();
+    else this.done(made, this.draft);
   }
 
   /** What the form holds, so that one can come back to it. */

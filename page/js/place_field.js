@@ -10,7 +10,7 @@ export class PlaceField {
       h('span', {}, h('strong', {}, name(words)),
         h('small', {}, t('bid.alone', { amount: money(round.flag + round.legs[0][i]) }))));
     this.set = h('fieldset', { class: 'plain' }, h('legend', {}, t('bid.place')), faultLine('place'),
-      h('div', { class: 'places', id: 'place' }, round.places.map(place)));
+      h('div', { class: 'places', id: 'place', input: () => showFault('place', '') }, round.places.map(place)));
     this.sum = null;
   }
 
