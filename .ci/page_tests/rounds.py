@@ -300,7 +300,7 @@ def rent(rig, olive, ann, ben):
     ann.speak('de')
     ann.has('Prüf es selbst', seconds=60)
     same('the language of the page', ann.run('return document.documentElement.lang'), 'de')
-    check('German sentences and numbers', 'Du bekommst Attic und zahlst' in ann.text('.hero') and '733,00' in ann.text('.hero'), ann.text('.hero'))
+    check('German sentences and numbers', 'Dein Zimmer: Attic. Du zahlst' in ann.text('.hero') and '733,00' in ann.text('.hero'), ann.text('.hero'))
     check('no sentence is missing', not re.search(r'\b(rent|goods|result|proof|check|facts|rules|files|names|differ)\.[a-z]', ann.text()))
     shots(ann, '7-result-rent-german')
     look_at(ann, 'the result in German')

@@ -54,13 +54,28 @@ same('points in Polish', [5, 12, 22, 25, 101, 104, 1000].map((n) => text('points
 
 // A trip from the start, whose word has an article: no preposition stands before it on its own. And what is wrong with a trip stands behind a colon as this language writes it.
 const { Ways } = await import(`${JS}/ways.js`);
-const FIRST = { en: 'From the start to X', de: 'Vom Start nach X', es: 'Del inicio a X', fr: 'Du départ à X', it: 'Dalla partenza a X', pl: 'Przejazd: start → X' };
+const FIRST = { en: 'From the start to X', de: 'Strecke Start → X', es: 'Trayecto inicio → X', fr: 'Trajet départ → X', it: 'Tragitto partenza → X', pl: 'Przejazd start → X' };
 for (const [code, wanted] of Object.entries(FIRST)) {
   await learn(code);
   await learnMore();
   same(`a trip from the start in ${code}`, Ways.prototype.way.call({ places: { called: () => 'X' } }, 0, 0), wanted);
   same(`that it cost something else, in ${code}`, /\b(?:de|à|a|da) (?:el|le|la)\b/i.exec(text('differ.legFirst', { to: 'X', then: '1', now: '2' })), null);
   same(`the arrows of the table in ${code} stay with their words`, / [↓→]/.test(text('form.fromTo')), false);
+}
+
+// A name or a place stands as it was typed: no word is before it that changes before some letters, or that asks for a case of it.
+const TYPED = '(?:name|names|whose|from|to|place|room|thing|good|share|a|b)';
+const THING = '(?:from|to|place|room|thing|good|share)';
+const UNFIT = {
+  de: `(?:bekommst|bekommt|für|mit|nach|ohne|von) \\*?\\{${THING}\\}|\\{${THING}\\}\\*? (?:davon|daraus)`, es: `(?:y|o) \\*?\\{${TYPED}\\}`, fr: `(?:de|que|si) \\*?\\{${TYPED}\\}`,
+  it: `(?:a|e|o) \\*?\\{${TYPED}\\}`, pl: `(?:bez|brakuje|dla|do|dostajesz|od|o|z|za|zabrać z tego) \\*?\\{${TYPED}\\}`,
+};
+const sentences = (of) => (typeof of === 'string' ? [of] : Object.values(of).flatMap(sentences));
+for (const [code, unfit] of Object.entries(UNFIT)) {
+  for (const file of [`words.${code}`, `words.more.${code}`]) {
+    const { words } = await import(`${JS}/${file}.js`);
+    same(`names that do not fit their place in ${file}`, sentences(words).filter((sentence) => new RegExp(`(?:^|[^\\p{L}])(?:${unfit})`, 'iu').test(sentence)), []);
+  }
 }
 await learn('xx');
 same('a language that is not there', document.documentElement.lang, 'en');

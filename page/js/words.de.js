@@ -51,7 +51,7 @@ export const words = {
     both: 'Hin und zurück kostet gleich viel',
     along: 'Die Orte liegen an einer Strecke', alongHint: 'Gib an, was die Fahrt vom Start zu jedem Ort kostet. Was es von einem Ort zum anderen kostet, ist der Unterschied.',
     whence: 'Woher kommen diese Zahlen? Sieh in einer Taxi-App oder einem Routenplaner nach, oder rechne den Preis pro Kilometer mal die Entfernung.',
-    ways: 'Was jede Strecke kostet, ohne den Grundpreis', waysTable: 'Strecken vom Ort links zum Ort oben', fromTo: 'von ↓ nach →', origin: 'Start', way: 'Von {from} nach {to}', wayFirst: 'Vom Start nach {to}',
+    ways: 'Was jede Strecke kostet, ohne den Grundpreis', waysTable: 'Strecken vom Ort links zum Ort oben', fromTo: 'von ↓ nach →', origin: 'Start', way: 'Strecke {from} → {to}', wayFirst: 'Strecke Start → {to}',
     deadline: 'Bis wann kann geboten werden?', deadlineHint: 'Nach deiner Uhr ({zone}). Du kannst früher schließen, sobald alle geboten haben.',
     remove: '{what} entfernen',
     make: 'Links erstellen', making: 'Wird erstellt …',
@@ -83,7 +83,7 @@ export const words = {
   someBid: { one: '{n} von {of} hat geboten', other: '{n} von {of} haben geboten' }, allBid: 'Alle haben geboten',
   openUntil: 'Offen bis {time} (noch {left}).', ends: 'Dann schließt die Runde von selbst. Wer bis dahin nicht geboten hat, ist nicht dabei.', endsRent: 'Dann schließt die Runde von selbst. Hat bis dahin jemand nicht geboten, gibt es kein Ergebnis.',
   silent: 'Der Server antwortet gerade nicht. Was hier steht, ist vielleicht nicht mehr aktuell; bald wird wieder gefragt.',
-  close: 'Runde schließen', closeAll: 'Runde schließen und Ergebnis zeigen', closeOnce: 'Noch nicht: Es fehlt ein Gebot von {names}.',
+  close: 'Runde schließen', closeAll: 'Runde schließen und Ergebnis zeigen', closeOnce: 'Noch nicht. Bisher ohne Gebot: {names}.',
   closeSure: 'Runde schließen? Danach kann niemand mehr sein Gebot ändern.', closed: 'Die Runde ist geschlossen.',
   links: {
     title: 'Die Links', send: 'Schick nun jeder Person ihren Link',

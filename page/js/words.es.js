@@ -51,7 +51,7 @@ export const words = {
     both: 'Ida y vuelta cuestan lo mismo',
     along: 'Los lugares están a lo largo de un camino', alongHint: 'Escribe cuánto cuesta ir del inicio a cada lugar. Lo que cuesta ir de un lugar a otro es la diferencia.',
     whence: '¿De dónde salen estas cifras? Busca los trayectos en una aplicación de taxis o en un planificador de rutas, o multiplica el precio por kilómetro por la distancia.',
-    ways: 'Cuánto cuesta cada trayecto, sin la tarifa fija', waysTable: 'Trayectos del lugar de la izquierda al de arriba', fromTo: 'de ↓ a →', origin: 'el inicio', way: 'De {from} a {to}', wayFirst: 'Del inicio a {to}',
+    ways: 'Cuánto cuesta cada trayecto, sin la tarifa fija', waysTable: 'Trayectos del lugar de la izquierda al de arriba', fromTo: 'de ↓ a →', origin: 'el inicio', way: 'Trayecto {from} → {to}', wayFirst: 'Trayecto inicio → {to}',
     deadline: '¿Hasta cuándo se puede ofertar?', deadlineHint: 'Según tu reloj ({zone}). Puedes cerrar antes, cuando todos hayan hecho su oferta.',
     remove: 'Quitar {what}',
     make: 'Crear los enlaces', making: 'Creando…',
@@ -83,7 +83,7 @@ export const words = {
   someBid: { one: '{n} de {of} ha hecho su oferta', other: '{n} de {of} han hecho su oferta' }, allBid: 'Ya están todas las ofertas',
   openUntil: 'Abierta hasta el {time} (quedan {left}).', ends: 'Después la ronda se cierra sola. Quien no haya hecho su oferta no participa.', endsRent: 'Después la ronda se cierra sola. Si falta alguna oferta, no habrá resultado.',
   silent: 'El servidor no responde en este momento. Puede que lo que ves ya no esté al día; pronto se le volverá a preguntar.',
-  close: 'Cerrar la ronda', closeAll: 'Cerrar la ronda y mostrar el resultado', closeOnce: 'Todavía no: falta la oferta de {names}.',
+  close: 'Cerrar la ronda', closeAll: 'Cerrar la ronda y mostrar el resultado', closeOnce: 'Todavía no. Sin oferta por ahora: {names}.',
   closeSure: '¿Cerrar la ronda? Después nadie podrá cambiar su oferta.', closed: 'La ronda está cerrada.',
   links: {
     title: 'Los enlaces', send: 'Ahora envía a cada persona su enlace',

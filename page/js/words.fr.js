@@ -51,7 +51,7 @@ export const words = {
     both: 'L’aller et le retour coûtent autant',
     along: 'Les lieux se suivent le long d’une route', alongHint: 'Indique ce que coûte le trajet du départ jusqu’à chaque lieu. Entre deux lieux, le coût est la différence.',
     whence: 'Où trouver ces montants ? Cherche les trajets dans une appli de taxi ou un calculateur d’itinéraire, ou multiplie le prix au kilomètre par la distance.',
-    ways: 'Ce que coûte chaque trajet, sans la prise en charge', waysTable: 'Trajets du lieu à gauche au lieu en haut', fromTo: 'de ↓ à →', origin: 'le départ', way: 'De {from} à {to}', wayFirst: 'Du départ à {to}',
+    ways: 'Ce que coûte chaque trajet, sans la prise en charge', waysTable: 'Trajets du lieu à gauche au lieu en haut', fromTo: 'de ↓ à →', origin: 'le départ', way: 'Trajet {from} → {to}', wayFirst: 'Trajet départ → {to}',
     deadline: 'Jusqu’à quand peut-on faire une offre ?', deadlineHint: 'À l’heure de ton appareil ({zone}). Tu peux clore plus tôt, dès que tout le monde a fait son offre.',
     remove: 'Supprimer {what}',
     make: 'Créer les liens', making: 'Création…',
@@ -83,7 +83,7 @@ export const words = {
   someBid: { one: '{n} offre sur {of} est faite', other: '{n} offres sur {of} sont faites' }, allBid: 'Toutes les offres sont là',
   openUntil: 'Ouvert jusqu’au {time} (encore {left}).', ends: 'Ensuite, le partage se clôt tout seul. Sans offre d’ici là, on n’y participe pas.', endsRent: 'Ensuite, le partage se clôt tout seul. S’il manque une seule offre, il n’y aura pas de résultat.',
   silent: 'Le serveur ne répond pas pour l’instant. Ce que tu vois n’est peut-être plus à jour ; on l’interrogera bientôt de nouveau.',
-  close: 'Clore le partage', closeAll: 'Clore le partage et montrer le résultat', closeOnce: 'Pas encore : il manque une offre de la part de {names}.',
+  close: 'Clore le partage', closeAll: 'Clore le partage et montrer le résultat', closeOnce: 'Pas encore. Sans offre pour l’instant : {names}.',
   closeSure: 'Clore le partage ? Ensuite, personne ne pourra plus changer son offre.', closed: 'Le partage est clos.',
   links: {
     title: 'Les liens', send: 'Maintenant, envoie à chaque personne son lien',

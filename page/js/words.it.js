@@ -51,7 +51,7 @@ export const words = {
     both: 'Andata e ritorno costano uguale',
     along: 'I luoghi sono lungo una sola strada', alongHint: 'Scrivi quanto costa andare dalla partenza a ogni luogo. Da un luogo all’altro il costo è la differenza.',
     whence: 'Dove si trovano queste cifre? Cerca i tragitti in un’app di taxi o in un navigatore, oppure moltiplica il prezzo al chilometro per la distanza.',
-    ways: 'Quanto costa ogni tragitto, senza la quota fissa', waysTable: 'Tragitti dal luogo a sinistra al luogo in alto', fromTo: 'da ↓ a →', origin: 'la partenza', way: 'Da {from} a {to}', wayFirst: 'Dalla partenza a {to}',
+    ways: 'Quanto costa ogni tragitto, senza la quota fissa', waysTable: 'Tragitti dal luogo a sinistra al luogo in alto', fromTo: 'da ↓ a →', origin: 'la partenza', way: 'Tragitto {from} → {to}', wayFirst: 'Tragitto partenza → {to}',
     deadline: 'Fino a quando si può fare un’offerta?', deadlineHint: 'Secondo il tuo orologio ({zone}). Puoi chiudere prima, quando tutti hanno fatto la loro offerta.',
     remove: 'Togli {what}',
     make: 'Crea i link', making: 'Creazione…',
@@ -83,7 +83,7 @@ export const words = {
   someBid: { one: '{n} offerta su {of} è arrivata', other: '{n} offerte su {of} sono arrivate' }, allBid: 'Tutte le offerte sono arrivate',
   openUntil: 'Aperta fino a {time} (ancora {left}).', ends: 'Poi la ripartizione si chiude da sola. Chi non ha fatto l’offerta entro allora non partecipa.', endsRent: 'Poi la ripartizione si chiude da sola. Se entro allora manca anche una sola offerta, non c’è risultato.',
   silent: 'Il server al momento non risponde. Quello che vedi potrebbe non essere aggiornato; tra poco gli sarà chiesto di nuovo.',
-  close: 'Chiudi la ripartizione', closeAll: 'Chiudi la ripartizione e mostra il risultato', closeOnce: 'Non ancora: manca l’offerta di {names}.',
+  close: 'Chiudi la ripartizione', closeAll: 'Chiudi la ripartizione e mostra il risultato', closeOnce: 'Non ancora. Senza offerta per ora: {names}.',
   closeSure: 'Chiudere la ripartizione? Poi nessuno potrà più cambiare la propria offerta.', closed: 'La ripartizione è chiusa.',
   links: {
     title: 'I link', send: 'Ora invia a ogni persona il suo link',

@@ -93,7 +93,7 @@ export const words = {
     title: 'Check it yourself', what: 'The certificate lists every bid, the result, and the numbers that show it’s the best one. You don’t have to trust the server:',
     download: 'Save the certificate and the names in one file.', downloadButton: 'Download',
     file: 'Open that file in the checking page. {link}: it works without a network. The proved program is in it. Better still, get the page from someone you trust.',
-    judge: 'Or save the bare certificate, below, and have it judged on your own computer by the program {program}: {command}. It is proved that it writes {yes} only for the best division of the bids listed.',
+    judge: 'Or save the bare certificate, below, and have it judged on your own computer by the program {program}: {command}. It is proved to write {yes} only if this is the best division for the bids listed.',
     printed: 'See whether your bid is listed as you sent it: the certificate says {bid}.', printedNone: 'See whether each bid is listed as it was sent.',
     here: 'What was checked in this browser', hereHow: 'Everything above was worked out from the certificate. The verdict is the proved program’s; what follows is the second check, by a script. *The page around them is not proved correct*, and it came from the same machine as the result: a server that lies could send a page that lies.',
   },
@@ -140,7 +140,7 @@ export const words = {
     },
     check: {
       title: 'Checking a certificate', 1: 'A certificate lists every bid, the result, and the numbers that show it’s the best one. Open the file here, or paste its text.',
-      2: 'Yes means: this is the best division of the bids listed. No means: don’t trust this result.', 3: 'The check can’t know whether those bids are the ones that were sent: compare them with what you know.',
+      2: 'Yes means: this is the best division for the bids listed. No means: don’t trust this result.', 3: 'The check can’t know whether those bids are the ones that were sent: compare them with what you know.',
       4: 'Nothing leaves this device.',
     },
     divide: {

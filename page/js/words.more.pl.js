@@ -1,25 +1,25 @@
 // Zdania po polsku, których nikt nie potrzebuje do złożenia oferty: o wynikach, sprawdzaniu i podziale bez serwera oraz pomoc.
 export const words = {
   rent: {
-    title: 'Kto dostaje który pokój', mine: 'Dostajesz *{room}* i płacisz *{amount}*', minePaid: 'Dostajesz *{room}*, a do tego *{amount}*',
+    title: 'Kto dostaje który pokój', mine: 'Twój pokój: *{room}*. Płacisz *{amount}*', minePaid: 'Twój pokój: *{room}*. Do tego dostajesz *{amount}*',
     mineWorth: 'Według twojej oferty jest wart {worth}: o {gain} więcej, niż kosztuje.', worth: 'według oferty wart {worth}',
     bars: 'Pełny pasek: cena. Pasek z ramką: ile według tej osoby jest wart pokój. Razem: *{all}*.', fractions: 'Dokładne ceny mają ułamki groszy. Kwoty do zapłaty są zaokrąglone tak, żeby suma się zgadzała.',
     envy: 'Nikt nie wolałby się zamienić', envyWhy: 'Z innym pokojem w jego cenie nikt nie zyskałby więcej. Ze wszystkich takich cen te są najlepsze dla osoby najmniej zadowolonej ({least}).',
-    envyTable: 'Zysk z zamiany z', saidTable: 'Ile każdy pokój jest wart dla każdej osoby. Ramka pokazuje, kto go dostaje',
+    envyTable: 'Zysk z zamiany z osobą', saidTable: 'Ile każdy pokój jest wart dla każdej osoby. Ramka pokazuje, kto go dostaje',
   },
   goods: {
-    title: 'Kto co dostaje', mine: 'Dostajesz *{share}*', mineWorth: 'Dla ciebie jest to warte *{points}* z twoich 1000 punktów.', noBid: 'Przy zamknięciu rundy nie było twojej oferty, więc nie bierzesz udziału.',
+    title: 'Kto co dostaje', mine: 'Dostajesz: *{share}*', mineWorth: 'Dla ciebie jest to warte *{points}* z twoich 1000 punktów.', noBid: 'Przy zamknięciu rundy nie było twojej oferty, więc nie bierzesz udziału.',
     nothing: 'nic', points: { one: '{points} punkt: {share}', few: '{points} punkty: {share}', many: '{points} punktów: {share}', other: '{points} punktu: {share}' }, without: 'Bez oferty, a więc bez udziału: {names}.',
     bars: 'Każdy pasek pokazuje udział w 1000 punktów danej osoby. Coś dostaje jak najwięcej osób; wśród takich podziałów iloczyn punktów wszystkich jest największy z możliwych ({product}, dobrobyt Nasha).',
-    envy: 'Czy ktoś wolałby się zamienić?', content: 'Nie: nikt nikomu nie zazdrości.', envyOne: 'Dla osoby {a} lepsze byłoby to, co ma {b}, ale już nie, gdyby zabrać z tego *{good}* (EF1).', envyAll: 'Dla osoby {a} lepsze byłoby to, co ma {b}, którąkolwiek rzecz by z tego zabrać.',
-    pareto: 'Żaden inny podział nie daje wszystkim co najmniej tyle samo, a komuś więcej (Pareto).', envyTable: 'Zysk w punktach z zamiany z', saidTable: 'Punkty za każdą rzecz. Ramka pokazuje, kto ją dostaje', thing: 'rzecz',
+    envy: 'Czy ktoś wolałby się zamienić?', content: 'Nie: nikt nikomu nie zazdrości.', envyOne: 'Dla osoby {a} lepsze byłoby to, co ma {b}, ale już nie, gdyby zabrać z tego rzecz *{good}* (EF1).', envyAll: 'Dla osoby {a} lepsze byłoby to, co ma {b}, którąkolwiek rzecz by z tego zabrać.',
+    pareto: 'Żaden inny podział nie daje wszystkim co najmniej tyle samo, a komuś więcej (Pareto).', envyTable: 'Zysk w punktach z zamiany z osobą', saidTable: 'Punkty za każdą rzecz. Ramka pokazuje, kto ją dostaje', thing: 'rzecz',
   },
   fares: {
     title: 'Kto ile płaci', mine: 'Wysiadasz tutaj: *{place}*. Płacisz *{amount}*', minePaid: 'Wysiadasz tutaj: *{place}*. Dostajesz *{amount}*', mineSaves: 'Samodzielny przejazd kosztowałby cię {alone}: oszczędzasz {saved}.', mineAlone: 'Samodzielny przejazd kosztowałby cię {alone}.',
     noBid: 'Przy zamknięciu rundy nie było twojej oferty, więc nie jedziesz.',
     route: 'Trasa', start: 'Start', getOn: 'wsiada osób: {n}; opłata początkowa {flag}', way: 'przejazd {amount}', total: 'Przejazd kosztuje razem *{total}*. Żadna inna kolejność wysiadania nie jest tańsza.',
     alone: 'samodzielnie {amount}', bars: 'Pełny pasek: udział. Pasek z ramką: samodzielny przejazd. Udział to średnia, po wszystkich kolejnościach dołączania, tego, ile każdy pasażer dokłada do kosztu (Shapley 1953). Razem: {all}.',
-    groupsNone: 'Żadna z grup pasażerów ({of}) nie zapłaciłaby mniej za własny przejazd.', groups: 'Grupy pasażerów, które zapłaciłyby mniej za własny przejazd: {n} z {of}.', worst: 'Najwięcej zyskaliby razem: {names}, o {amount}.',
+    groupsNone: 'Żadna z grup pasażerów ({of}) nie zapłaciłaby mniej za własny przejazd.', groups: 'Grupy pasażerów, które zapłaciłyby mniej za własny przejazd: {n} z {of}.', worst: 'Najwięcej zaoszczędziliby razem: {names} ({amount}).',
     ways: 'Ile kosztują przejazdy', waysTable: 'Bez opłaty początkowej',
   },
   none: {
@@ -28,7 +28,7 @@ export const words = {
     void: '*Nie ma wyniku.* Bez oferty przy zamknięciu rundy: {names}. Zamknięta runda pozostaje zamknięta.', voidRent: '*Nie ma wyniku.* Bez oferty przy zamknięciu rundy: {names}. Do podziału czynszu potrzebne są wszystkie oferty, a zamknięta runda pozostaje zamknięta.',
     limit: '*Nie ma wyniku.* Szukanie wymaga więcej kroków niż {limit}, więc na tym się zatrzymało.', left: 'Co jeszcze możecie zrobić',
     proposal: 'Albo uzgodnijcie własny podział', proposalHow: 'Wpiszcie punkty wszystkich i wybierzcie, kto co dostaje. Od razu zobaczycie, kto komu by zazdrościł. Program fairsplit powie też, czy coś innego byłoby lepsze dla wszystkich.',
-    proposalTable: 'Kto dostaje każdą rzecz i punkty wszystkich', owner: 'dostaje', ownerOf: 'Kto dostaje: {thing}?', pointsOf: '{name}: punkty za {thing}',
+    proposalTable: 'Kto dostaje każdą rzecz i punkty wszystkich', owner: 'dostaje', ownerOf: 'Kto dostaje: {thing}?', pointsOf: '{name}: punkty za rzecz {thing}',
     pointsFault: '{name}: punkty muszą być liczbami całkowitymi o sumie {all}. Teraz suma wynosi {has}.',
     has: { one: '{name} ma {n} ze swoich 1000 punktów.', few: '{name} ma {n} ze swoich 1000 punktów.', many: '{name} ma {n} ze swoich 1000 punktów.', other: '{name} ma {n} ze swoich 1000 punktów.' },
     envyOne: 'Dla osoby {a} to, co ma {b}, jest lepsze (w punktach: o {n}), ale już nie, gdyby zabrać z tego jedną rzecz (EF1).', envyMore: 'Dla osoby {a} to, co ma {b}, jest lepsze (w punktach: o {n}), którąkolwiek rzecz by z tego zabrać.',
@@ -81,7 +81,7 @@ export const words = {
     title: 'Sprawdź to samodzielnie', what: 'Certyfikat zawiera wszystkie oferty, wynik i liczby, które pokazują, że jest on najlepszy. Nie musisz ufać serwerowi:',
     download: 'Zapisz certyfikat i nazwy w jednym pliku.', downloadButton: 'Pobierz',
     file: 'Otwórz ten plik na stronie sprawdzającej. {link}: działa bez sieci. Jest w niej udowodniony program. Jeszcze lepiej weź tę stronę od kogoś, komu ufasz.',
-    judge: 'Albo zapisz poniżej sam certyfikat i daj go do oceny na własnym komputerze programowi {program}: {command}. Udowodniono, że pisze on {yes} tylko wtedy, gdy to najlepszy podział przy podanych ofertach.',
+    judge: 'Albo zapisz poniżej sam certyfikat i daj go do oceny na własnym komputerze programowi {program}: {command}. Udowodniono, że pisze on {yes} tylko wtedy, gdy podział jest najlepszy przy podanych ofertach.',
     printed: 'Zobacz, czy twoja oferta jest tam taka, jak została wysłana: w certyfikacie jest {bid}.', printedNone: 'Zobacz, czy każda oferta jest tam taka, jak została wysłana.',
     here: 'Co zostało sprawdzone w tej przeglądarce', hereHow: 'Wszystko powyżej obliczono z certyfikatu. Werdykt wydał udowodniony program; poniżej jest drugie sprawdzenie, przez skrypt. *Strona wokół nich nie jest udowodniona*, a przyszła z tej samej maszyny co wynik: serwer, który kłamie, mógłby wysłać stronę, która kłamie.',
   },
@@ -103,7 +103,7 @@ export const words = {
     unseen: 'Ta przeglądarka nie ma niczego sprzed zamknięcia rundy, z czym mogłaby porównać. Tytuł, nazwy i to, kim z tych osób jesteś, to więc tylko słowo serwera: porównaj je z tym, co wiesz.',
   },
   differ: {
-    title: 'Przed zamknięciem tytuł brzmiał {then}. Teraz serwer podaje {now}.', members: 'Przed zamknięciem osobami byli: {then}. Teraz serwer podaje: {now}.',
+    title: 'Przed zamknięciem tytuł brzmiał {then}. Teraz serwer podaje {now}.', members: 'Przed zamknięciem w rundzie byli: {then}. Teraz serwer podaje: {now}.',
     things: 'Przed zamknięciem do podziału było: {then}. Teraz serwer podaje: {now}.', you: 'Przed zamknięciem ten link należał do osoby: {then}. Teraz serwer podaje: {now}.',
     rent: 'Przed zamknięciem czynsz wynosił {then}. W certyfikacie jest {now}.', flag: 'Przed zamknięciem opłata początkowa wynosiła {then}. W certyfikacie jest {now}.',
     leg: 'Przed zamknięciem przejazd {from} → {to} kosztował {then}. W certyfikacie jest {now}.',
