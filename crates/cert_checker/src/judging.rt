@@ -38,27 +38,22 @@ pub fn judge_text<S: Source>(source: &mut S) -> Result<Verdict, TextEnd>
     text_law();
     let mut pieces = Pieces::new();
     let mut numbers = LineNumbers::new();
-    let kind = match pieces.next_part(source, &mut numbers) {
-        Err(end) => return Err(end),
-        Ok(Part::Kind { kind }) => kind,
-        Ok(Part::Line) => unreachable!(),
-        Ok(Part::Mark { .. }) => unreachable!(),
-        Ok(Part::Done) => unreachable!(),
+    let kind = match pieces.next_part(source, &mut numbers)? {
+        Part::Kind { kind } => kind,
+        Part::Line => unreachable!(),
+        Part::Mark { .. } => unreachable!(),
+        Part::Done => unreachable!(),
     };
     let mut lines = Lines::new(kind);
     'lines: loop {
-        match pieces.next_part(source, &mut numbers) {
-            Err(end) => return Err(end),
-            Ok(Part::Line) => lines.take(&numbers),
-            Ok(Part::Mark { mark }) => {
+        match pieces.next_part(source, &mut numbers)? {
+            Part::Line => lines.take(&numbers),
+            Part::Mark { mark } => {
                 lines.take_mark(mark);
-                match take_marks(&mut pieces, source, &mut lines) {
-                    Err(end) => return Err(end),
-                    Ok(()) => {}
-                }
+                take_marks(&mut pieces, source, &mut lines)?;
             }
-            Ok(Part::Done) => return Ok(lines.verdict()),
-            Ok(Part::Kind { .. }) => unreachable!(),
+            Part::Done => return Ok(lines.verdict()),
+            Part::Kind { .. } => unreachable!(),
         }
     }
 }
@@ -106,10 +101,8 @@ fn take_marks<S: Source>(
 {
     text_law();
     'marks: while pieces.is_in_tree() {
-        match pieces.next_in_tree(source) {
-            Err(end) => return Err(end),
-            Ok(Some(mark)) => lines.take_mark(mark),
-            Ok(None) => {}
+        if let Some(mark) = pieces.next_in_tree(source)? {
+            lines.take_mark(mark);
         }
     }
     Ok(())

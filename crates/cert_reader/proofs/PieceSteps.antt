@@ -9,9 +9,10 @@ use Rattle.split_frac.specs.Frac.{fraction_of}
 use Rattle.cert_reader.specs.declared.ends.TextEnd.{TextEnd}
 use Rattle.cert_reader.specs.declared.ends.TextEnd.TheVariants.{NotText, ReadFault, TooLong}
 use Rattle.cert_reader.specs.declared.forms.Counts.{Counts}
+use Rattle.cert_reader.specs.declared.text_lines.TextLines.{TextLines}
 use Rattle.cert_reader.specs.Forms.{AreInRange, Series, forms_of}
 use Rattle.cert_reader.specs.Order.{AgreeUpTo, HasNoLine, form_in}
-use Rattle.cert_reader.specs.Reading.{Begins, ReadsOnIn, IsEndOf, IsLineRead, IsReadOf, Reading}
+use Rattle.cert_reader.specs.Reading.{Begins, ReadsOnIn, IsEndOf, IsLineRead, IsReadOf, Reading, as_reading}
 use Rattle.cert_reader.specs.Steps.{IsRefused, IsNextLineOrRefusal}
 use Rattle.cert_reader.specs.Stream.{Hands, Held, IsStopped, taken_count}
 use Rattle.cert_reader.specs.Text.{CanSay, IsBrokenTextOf, Numbers, Said, said_text, text_of}
@@ -124,21 +125,9 @@ refused_behind_all {series} a b c x y z lines known byte (NotText line) few all 
 refused_behind_all {series} a b c x y z lines known byte TooLong few all p stop = stop_end a x z lines known false TooLong (stops_after a b x y z (byte ∷ []) TooLong p stop)
 refused_behind_all {series} a b c x y z lines known byte ReadFault few all p stop = stop_end a x z lines known false ReadFault (stops_after a b x y z (byte ∷ []) ReadFault p stop)
 
--- a line was settled: a reading that is given by its fields has read it
-pub settled_line_at : {series : Series} → (r : Reading) (a b : Held) (x y : Option (List ℕ)) (lines : ℕ) (known counts : Counts) (in_tree : Bool) (numbers : ArrayVec Frac 24 (Unit {0})) → reading_at a lines known in_tree ≡ r → r.in_tree ≡ false
-    → IsNextLineOrRefusal a b x y lines known (Ok (counts, numbers)) → ReadsOnIn series r x y (λ taken said. IsLineRead series r (reading_at b (lines + 1) counts in_tree) y taken said (Ok numbers))
-settled_line_at {series} r a b x y lines known counts in_tree numbers e whole settled =
-    subst (λ t. ReadsOnIn series r x y (λ taken said. IsLineRead series r (reading_at b (lines + 1) counts t) y taken said (Ok numbers))) (sym (ap (λ s. s.in_tree) e ∙ whole))
-    (subst (λ s. ReadsOnIn series s x y (λ taken said. IsLineRead series s (reading_of b (lines + 1) counts) y taken said (Ok numbers))) (reading_is r a lines known in_tree false e whole) (settled_line a b x y lines known counts numbers settled))
-
--- where no line was settled, a reading that is given by its fields ends so
-pub settled_end_at : {series : Series} → (r : Reading) (a b : Held) (x y : Option (List ℕ)) (lines : ℕ) (known : Counts) (in_tree : Bool) (end : TextEnd) → reading_at a lines known in_tree ≡ r → r.in_tree ≡ false → taken_count b ≤ MOST_BYTES
-    → lines < length (forms_of known) → IsNextLineOrRefusal a b x y lines known (Err end) → ReadsOnIn series r x y (λ taken said. IsEndOf series end y taken)
-settled_end_at {series} r a b x y lines known in_tree end e whole few within stop =
-    subst (λ s. ReadsOnIn series s x y (λ taken said. IsEndOf series end y taken)) (reading_is r a lines known in_tree false e whole) (settled_end a b x y lines known end few within stop)
-
--- a byte after the last line ends a reading that is given by its fields
-pub refused_behind_all_at : {series : Series} → (r : Reading) (a b c : Held) (x y z : Option (List ℕ)) (lines : ℕ) (known : Counts) (in_tree : Bool) (byte : ℕ) (end : TextEnd) → reading_at a lines known in_tree ≡ r → r.in_tree ≡ false
-    → taken_count c ≤ MOST_BYTES → lines ≡ length (forms_of known) → Hands a b x y (byte ∷ []) → IsRefused b c y z (lines + 1) (λ _. Unit {0}) end → ReadsOnIn series r x z (λ taken said. IsEndOf series end z taken)
-refused_behind_all_at {series} r a b c x y z lines known in_tree byte end e whole few all p stop =
-    subst (λ s. ReadsOnIn series s x z (λ taken said. IsEndOf series end z taken)) (reading_is r a lines known in_tree false e whole) (refused_behind_all a b c x y z lines known byte end few all p stop)
+-- what lines show holds of a reading that is given by its fields and isn't within a tree
+pub of_lines : {series : Series} → (r : Reading) (before after : TextLines) (x y : Option (List ℕ)) (in_tree : Bool) (P : Reading → Reading → List ℕ → List Said → Type 0) → as_reading before in_tree ≡ r → r.in_tree ≡ false
+    → ReadsOnIn series (as_reading before false) x y (P (as_reading before false) (as_reading after false)) → ReadsOnIn series r x y (P r (as_reading after in_tree))
+of_lines {series} r before after x y in_tree P e whole h =
+    subst (λ t. ReadsOnIn series r x y (P r (as_reading after t))) (sym (ap (λ s. s.in_tree) e ∙ whole))
+    (subst (λ s. ReadsOnIn series s x y (P s (as_reading after false))) (reading_is r before.bytes before.lines before.counts in_tree false e whole) h)

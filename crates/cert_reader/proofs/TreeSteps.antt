@@ -1,6 +1,6 @@
 -- What an answer within a tree says of all bytes that were taken from the source.
 use Rattle.std.proofs.Common.{◌≡◌, ℕ, ◌+◌, ◌-◌, ◌<◌, ◌≤◌, List, [], ◌∷◌, ◌++◌, length, take, All, Bool, true, false, arith, refl, sym, ap, ◌∙◌, subst, length-append, append_assoc, append-nil}
-use Rattle.std.specs.Prelude.{Option, Some, None, Result, Ok, Err}
+use Rattle.std.specs.Prelude.{Option, Some, None, Result, Ok, Err, is_some}
 use Rattle.std.proofs.lemmas.List.{append_cancel_right}
 use Rattle.std.proofs.lemmas.List.Elements.{All-append, All-cons, All-nil}
 use Rattle.cert_reader.specs.declared.limits.TheConstants.{MOST_BYTES}
@@ -207,21 +207,26 @@ lines_back : (lines : ℕ) → 0 < lines → lines - 1 + 1 ≡ lines
 lines_back lines some = omega arith
 
 -- a reading within a tree that is given by its fields read one mark more
-pub mark_read_at : (r : Reading) (a b : Held) (x y : Option (List ℕ)) (lines : ℕ) (known : Counts) (in_tree : Bool) (mark : ℕ) → reading_at a lines known in_tree ≡ r → r.in_tree ≡ true → EndsInTree lines known
-    → IsNextMark a b x y lines (Ok (Some mark)) → ReadsOn r x y (λ taken said. IsTreeRead r (reading_at b lines known in_tree) y taken said (Ok (Some mark)))
+mark_read_at : (r : Reading) (a b : Held) (x y : Option (List ℕ)) (lines : ℕ) (known : Counts) (in_tree : Bool) (mark : ℕ) → reading_at a lines known in_tree ≡ r → r.in_tree ≡ true → EndsInTree lines known
+    → IsNextMark a b x y lines (Ok (Some mark)) → ReadsOn r x y (λ taken said. IsTreeRead r (reading_at b lines known true) y taken said (Ok (Some mark)))
 mark_read_at r a b x y lines known in_tree mark e within (some, tree) next =
-    subst (λ t. ReadsOn r x y (λ taken said. IsTreeRead r (reading_at b lines known t) y taken said (Ok (Some mark)))) (sym (ap (λ s. s.in_tree) e ∙ within))
-    (subst (λ s. ReadsOn s x y (λ taken said. IsTreeRead s (reading_at b lines known true) y taken said (Ok (Some mark)))) (reading_is r a lines known in_tree true e within)
+    subst (λ s. ReadsOn s x y (λ taken said. IsTreeRead s (reading_at b lines known true) y taken said (Ok (Some mark)))) (reading_is r a lines known in_tree true e within)
     (subst (λ n. ReadsOn (reading_at a n known true) x y (λ taken said. IsTreeRead (reading_at a n known true) (reading_at b n known true) y taken said (Ok (Some mark)))) (lines_back lines some)
-    (mark_read a b x y (lines - 1) known mark tree (subst (λ n. IsNextMark a b x y n (Ok (Some mark))) (sym (lines_back lines some)) next))))
+    (mark_read a b x y (lines - 1) known mark tree (subst (λ n. IsNextMark a b x y n (Ok (Some mark))) (sym (lines_back lines some)) next)))
 
 -- a reading within a tree that is given by its fields read the LF after its marks
-pub tree_closed_at : (r : Reading) (a b : Held) (x y : Option (List ℕ)) (lines : ℕ) (known : Counts) (in_tree : Bool) → reading_at a lines known in_tree ≡ r → r.in_tree ≡ true → EndsInTree lines known
+tree_closed_at : (r : Reading) (a b : Held) (x y : Option (List ℕ)) (lines : ℕ) (known : Counts) (in_tree : Bool) → reading_at a lines known in_tree ≡ r → r.in_tree ≡ true → EndsInTree lines known
     → IsNextMark a b x y lines (Ok None) → ReadsOn r x y (λ taken said. IsTreeRead r (reading_of b lines known) y taken said (Ok None))
 tree_closed_at r a b x y lines known in_tree e within (some, tree) next =
     subst (λ s. ReadsOn s x y (λ taken said. IsTreeRead s (reading_of b lines known) y taken said (Ok None))) (reading_is r a lines known in_tree true e within)
     (subst (λ n. ReadsOn (reading_at a n known true) x y (λ taken said. IsTreeRead (reading_at a n known true) (reading_of b n known) y taken said (Ok None))) (lines_back lines some)
     (tree_closed a b x y (lines - 1) known tree (subst (λ n. IsNextMark a b x y n (Ok None)) (sym (lines_back lines some)) next)))
+
+-- a reading within a tree that is given by its fields read on, and stays in the tree if that was a mark
+pub next_read_at : (r : Reading) (a b : Held) (x y : Option (List ℕ)) (lines : ℕ) (known : Counts) (in_tree : Bool) (next : Option ℕ) → reading_at a lines known in_tree ≡ r → r.in_tree ≡ true → EndsInTree lines known
+    → IsNextMark a b x y lines (Ok next) → ReadsOn r x y (λ taken said. IsTreeRead r (reading_at b lines known (is_some next)) y taken said (Ok next))
+next_read_at r a b x y lines known in_tree (Some mark) e within tree read = mark_read_at r a b x y lines known in_tree mark e within tree read
+next_read_at r a b x y lines known in_tree None e within tree read = tree_closed_at r a b x y lines known in_tree e within tree read
 
 -- where the tree goes on otherwise, a reading that is given by its fields ends so
 pub tree_unread_at : (r : Reading) (a b : Held) (x y : Option (List ℕ)) (lines : ℕ) (known : Counts) (in_tree : Bool) (end : TextEnd) → reading_at a lines known in_tree ≡ r → r.in_tree ≡ true → EndsInTree lines known

@@ -10,6 +10,7 @@ use Rattle.cert_reader.specs.declared.pieces.Piece.{Piece}
 use Rattle.cert_reader.specs.declared.pieces.Piece.TheVariants.{Done, Kind, Line, Mark}
 use Rattle.cert_reader.specs.declared.pieces.Part.{Part}
 use Rattle.cert_reader.specs.declared.pieces.Part.TheVariants as part
+use Rattle.cert_reader.specs.declared.text_lines.TextLines.{TextLines}
 use Rattle.cert_reader.specs.Forms.{AreCountsOf, Certificates, Series, Tree, forms_of}
 use Rattle.cert_reader.specs.Kinds.{TellsKind, kind_number}
 use Rattle.cert_reader.specs.Gathered.{Gathered}
@@ -37,6 +38,10 @@ pub record Reading : Type 0 where
 -- what the last line still lacks: its LF, if it is a tree that is still being read
 abbrev pub lacking : Reading → List ℕ
 lacking reading = cond reading.in_tree (10 ∷ []) []
+
+-- the reading of these lines, the last of which is a tree that is still being read or is not
+abbrev pub as_reading : TextLines → Bool → Reading
+as_reading text in_tree = record { ahead = text.bytes.ahead; given = text.bytes.given; lines = text.lines; counts = text.counts; in_tree = in_tree }
 
 -- the bytes taken from the source are lines of a text of the series that say this, except for what the last one still lacks, and then the bytes held
 pub record IsReadOf (series : Series) (reading : Reading) (taken : List ℕ) (said : List Said) : Type 0 where

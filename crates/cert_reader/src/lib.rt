@@ -27,6 +27,7 @@ mod rows;
 mod step;
 mod stream;
 mod table;
+mod text_lines;
 mod tree;
 mod tree_line;
 

@@ -6,7 +6,7 @@ ghost use Rattle.cert_reader.specs.Ends.{OfAnswer};
 ghost use Rattle.cert_reader.specs.Forms.{Certificates, Tree, forms_of};
 ghost use Rattle.cert_reader.specs.Kinds.{kind_of};
 ghost use Rattle.cert_reader.specs.Order.{AgreeUpTo, form_in};
-ghost use Rattle.cert_reader.specs.Reading.{ReadsOn, IsAnswer, IsEnd, IsLineRead, IsFinished, IsMarkRead, HasLineToCome, IsRead, IsTreeRead, ends_by_piece, left_in, with_numbers};
+ghost use Rattle.cert_reader.specs.Reading.{ReadsOn, IsAnswer, IsEnd, IsMarkRead, HasLineToCome, IsRead, IsTreeRead, ends_by_piece, with_numbers};
 ghost use Rattle.cert_reader.specs.Stream.{IsPlain, ends_at, ends_before, faults_after_reading, taken_count};
 ghost use Rattle.cert_reader.specs.Text.{Numbers, Said};
 ghost use Rattle.cert_reader.specs.declared.limits.TheConstants.{MOST_BYTES};
@@ -15,9 +15,8 @@ use crate::ends::{ReadEnd, TextEnd, read_answer};
 use crate::forms::Counts;
 use crate::kinds::Kind;
 use crate::line::LineNumbers;
-use crate::order::{is_tree, line_count};
-use crate::step::{next_settled, refuse};
-use crate::stream::Bytes;
+use crate::order::is_tree;
+use crate::text_lines::TextLines;
 use crate::tree_line::{first_mark, next_mark};
 use split_base::Source;
 use std::marker::Model;
@@ -81,22 +80,20 @@ fn with_numbers(answer: Result<Part, TextEnd>, numbers: LineNumbers) -> Result<P
 /// A certificate text that is being read, in fixed memory.
 #[derive(Debug, Drop)]
 pub struct Pieces {
-    bytes: Bytes,
-    lines: u32,
-    counts: Counts,
+    text: TextLines,
     in_tree: bool,
 }
 
 impl Model for Pieces {
     ghost use Rattle.std.specs.Prelude.{◌≡◌, ◌≤◌, length, true};
     ghost use Rattle.cert_reader.specs.Forms.{AreCounts, forms_of};
-    ghost use Rattle.cert_reader.specs.Reading.{EndsInTree, Reading};
+    ghost use Rattle.cert_reader.specs.Reading.{EndsInTree, Reading, as_reading};
 
     ghost Value = { Reading };
 
-    ghost view = { λ s. record { ahead = s.bytes.ahead; given = s.bytes.given; lines = s.lines; counts = s.counts; in_tree = s.in_tree } };
+    ghost view = { λ s. as_reading s.text s.in_tree };
 
-    ghost invariant = { λ s. AreCounts s.counts × (s.lines ≤ length (forms_of s.counts)) × (s.in_tree ≡ true → EndsInTree s.lines s.counts) };
+    ghost invariant = { λ s. AreCounts s.text.counts × (s.text.lines ≤ length (forms_of s.text.counts)) × (s.in_tree ≡ true → EndsInTree s.text.lines s.text.counts) };
 }
 
 impl Pieces {
@@ -107,9 +104,7 @@ impl Pieces {
         ensures open { HasLineToCome result }
     {
         Pieces {
-            bytes: Bytes::new(),
-            lines: 0,
-            counts: Counts::Rent { members: 1 },
+            text: TextLines::new(Counts::Rent { members: 1 }),
             in_tree: false,
         }
     }
@@ -118,14 +113,7 @@ impl Pieces {
     fn is_new(&self) -> bool
         ensures { IsTrue result ↔ self.now.lines ≡ 0 }
     {
-        self.lines == 0
-    }
-
-    // Whether a line is still to come.
-    fn is_open(&self) -> bool
-        ensures { IsTrue result ↔ HasLineToCome self.now }
-    {
-        (self.lines as usize) < line_count(self.counts)
+        self.text.lines == 0
     }
 
     /// Whether a tree is being read: its line has begun and not ended.
@@ -140,14 +128,14 @@ impl Pieces {
         requires { HasLineToCome self.now }
         ensures { IsTrue result ↔ form_in self.now.counts self.now.lines ≡ Tree }
     {
-        is_tree(self.counts, self.lines as usize)
+        is_tree(self.text.counts, self.text.lines as usize)
     }
 
     // The kind, if it has been read.
     fn kind(&self) -> Kind
         ensures { kind_of self.now.counts ≡ Some result }
     {
-        match self.counts {
+        match self.text.counts {
             Counts::Rent { .. } => Kind::Rent,
             Counts::Goods { .. } => Kind::Goods,
             Counts::Fares { .. } => Kind::Fares,
@@ -159,66 +147,7 @@ impl Pieces {
     pub(crate) fn counts(&self) -> Counts
         ensures { result ≡ self.now.counts }
     {
-        self.counts
-    }
-
-    // Takes the next line of numbers, if a text may go on with one, and leaves the numbers in the buffer.
-    fn next_line<S: Source>(
-        &mut self,
-        source: &mut S,
-        numbers: &mut LineNumbers,
-    ) -> Result<(), TextEnd>
-        requires open { HasLineToCome self.old }
-        requires whole { self.old.in_tree ≡ false }
-        requires line { form_in self.old.counts self.old.lines ≡ Tree → ⊥ }
-        ensures line { ReadsOn self.old (S.left source.old) (S.left source.new)
-            (λ taken said.
-            IsLineRead Certificates self.old self.new (S.left source.new) taken said
-            (left_in numbers.new result)) }
-        ensures lines { OnOk result (self.new.lines ≡ self.old.lines + 1) }
-        ensures within { self.new.lines ≤ length (forms_of self.new.counts) }
-        ensures whole { self.new.in_tree ≡ false }
-        ensures takes { OnOk result (self.old.given < self.new.given) }
-        ensures few { self.new.given ≤ MOST_BYTES }
-        ensures held { self.new.given + length self.new.ahead ≤ MOST_BYTES }
-        ensures faults { S.faults source.new ≡ faults_after_reading (S.faults source.old) result }
-        ensures empty { S.empty_reads source.new ≤ ends_before (S.empty_reads source.old) result }
-        ensures fault { IsErrOf result TextEnd.ReadFault
-            → HasRisen (S.faults source.old) (S.faults source.new) }
-        ensures count { S.faults source.old ≤ S.faults source.new }
-        ensures beside { S.beside source.new ≡ S.beside source.old }
-    {
-        match next_settled(&mut self.bytes, source, self.lines, self.counts, numbers) {
-            Err(end) => Err(end),
-            Ok(counts) => {
-                self.counts = counts;
-                self.lines += 1;
-                Ok(())
-            }
-        }
-    }
-
-    // Finds the end of the input after all lines, or reads on to it.
-    fn finish<S: Source>(&mut self, source: &mut S) -> Result<(), TextEnd>
-        requires lines { self.old.lines ≡ length (forms_of self.old.counts) }
-        requires whole { self.old.in_tree ≡ false }
-        ensures finish { ReadsOn self.old (S.left source.old) (S.left source.new)
-            (λ taken said. IsFinished Certificates self.new (S.left source.new) taken said result) }
-        ensures same { (self.new.lines ≡ self.old.lines) × (self.new.counts ≡ self.old.counts) }
-        ensures few { self.new.given ≤ MOST_BYTES }
-        ensures held { self.new.given + length self.new.ahead ≤ MOST_BYTES }
-        ensures faults { S.faults source.new ≡ faults_after_reading (S.faults source.old) result }
-        ensures empty { S.empty_reads source.new ≤ ends_at (S.empty_reads source.old) result }
-        ensures fault { IsErrOf result TextEnd.ReadFault
-            → HasRisen (S.faults source.old) (S.faults source.new) }
-        ensures count { S.faults source.old ≤ S.faults source.new }
-        ensures beside { S.beside source.new ≡ S.beside source.old }
-    {
-        match self.bytes.next_byte(source) {
-            Err(end) => Err(end),
-            Ok(None) => Ok(()),
-            Ok(Some(_)) => Err(refuse(&mut self.bytes, source, self.lines + 1)),
-        }
+        self.text.counts
     }
 
     // Takes the first two lines, which say the kind.
@@ -244,13 +173,9 @@ impl Pieces {
         ensures count { S.faults source.old ≤ S.faults source.new }
         ensures beside { S.beside source.new ≡ S.beside source.old }
     {
-        match self.next_line(source, numbers) {
-            Err(end) => Err(end),
-            Ok(()) => match self.next_line(source, numbers) {
-                Err(end) => Err(end),
-                Ok(()) => Ok(Part::Kind { kind: self.kind() }),
-            },
-        }
+        self.text.next_line(source, numbers)?;
+        self.text.next_line(source, numbers)?;
+        Ok(Part::Kind { kind: self.kind() })
     }
 
     // Takes the first character of a tree, with what comes before it.
@@ -271,14 +196,10 @@ impl Pieces {
         ensures count { S.faults source.old ≤ S.faults source.new }
         ensures beside { S.beside source.new ≡ S.beside source.old }
     {
-        match first_mark(&mut self.bytes, source, self.lines + 1) {
-            Err(end) => Err(end),
-            Ok(mark) => {
-                self.lines += 1;
-                self.in_tree = true;
-                Ok(mark)
-            }
-        }
+        let mark = first_mark(&mut self.text.bytes, source, self.text.lines + 1)?;
+        self.text.lines += 1;
+        self.in_tree = true;
+        Ok(mark)
     }
 
     /// The next character of the tree that is being read, or `None` at the end of its line. It takes no memory.
@@ -303,14 +224,9 @@ impl Pieces {
         ensures count { S.faults source.old ≤ S.faults source.new }
         ensures beside { S.beside source.new ≡ S.beside source.old }
     {
-        match next_mark(&mut self.bytes, source, self.lines) {
-            Err(end) => Err(end),
-            Ok(Some(mark)) => Ok(Some(mark)),
-            Ok(None) => {
-                self.in_tree = false;
-                Ok(None)
-            }
-        }
+        let mark = next_mark(&mut self.text.bytes, source, self.text.lines)?;
+        self.in_tree = mark.is_some();
+        Ok(mark)
     }
 
     // The next piece where a line begins, after the first two.
@@ -339,24 +255,15 @@ impl Pieces {
         ensures beside { S.beside source.new ≡ S.beside source.old }
     {
         if self.is_at_tree() {
-            return match self.begin_tree(source) {
-                Ok(mark) => Ok(Part::Mark { mark }),
-                Err(end) => Err(end),
-            };
+            let mark = self.begin_tree(source)?;
+            return Ok(Part::Mark { mark });
         }
-        match self.next_line(source, numbers) {
-            Err(end) => Err(end),
-            Ok(()) => {
-                if self.is_open() {
-                    Ok(Part::Line)
-                } else {
-                    match self.finish(source) {
-                        Ok(()) => Ok(Part::Done),
-                        Err(end) => Err(end),
-                    }
-                }
-            }
+        self.text.next_line(source, numbers)?;
+        if self.text.is_open() {
+            return Ok(Part::Line);
         }
+        self.text.finish(source)?;
+        Ok(Part::Done)
     }
 
     /// The next part of the text. This is the next piece, except that the numbers of a line are left in the buffer, whose earlier contents are lost.
@@ -387,10 +294,9 @@ impl Pieces {
         ensures beside { S.beside source.new ≡ S.beside source.old }
     {
         if self.is_in_tree() {
-            return match self.next_in_tree(source) {
-                Err(end) => Err(end),
-                Ok(Some(mark)) => Ok(Part::Mark { mark }),
-                Ok(None) => self.next_at_line(source, numbers),
+            return match self.next_in_tree(source)? {
+                Some(mark) => Ok(Part::Mark { mark }),
+                None => self.next_at_line(source, numbers),
             };
         }
         if self.is_new() {

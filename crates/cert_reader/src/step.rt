@@ -55,13 +55,12 @@ pub(crate) fn next_settled<S: Source>(
     ensures count { S.faults source.old ≤ S.faults source.new }
     ensures beside { S.beside source.new ≡ S.beside source.old }
 {
-    match bytes.next_line(source) {
-        Err(stop) => Err(stop),
-        Ok(Cut::Line) => match settle(bytes.line(), index as usize, known, numbers) {
+    match bytes.next_line(source)? {
+        Cut::Line => match settle(bytes.line(), index as usize, known, numbers) {
             Some(counts) => Ok(counts),
             None => Err(refuse(bytes, source, index + 1)),
         },
-        Ok(Cut::Long) => Err(refuse(bytes, source, index + 1)),
-        Ok(Cut::Unended) => Err(TextEnd::NotText { line: index + 1 }),
+        Cut::Long => Err(refuse(bytes, source, index + 1)),
+        Cut::Unended => Err(TextEnd::NotText { line: index + 1 }),
     }
 }

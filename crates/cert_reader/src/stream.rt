@@ -219,17 +219,14 @@ impl Bytes {
         'line: loop {
             let kept = self.keep_front();
             long |= !kept;
-            match self.next_byte(source) {
-                Err(stop) => return Err(stop),
-                Ok(None) => return Ok(Cut::Unended),
-                Ok(Some(byte)) => {
-                    if byte == b'\n' {
-                        return Ok(if long { Cut::Long } else { Cut::Line });
-                    }
-                    if !self.keep(byte) {
-                        long = true;
-                    }
-                }
+            let Some(byte) = self.next_byte(source)? else {
+                return Ok(Cut::Unended);
+            };
+            if byte == b'\n' {
+                return Ok(if long { Cut::Long } else { Cut::Line });
+            }
+            if !self.keep(byte) {
+                long = true;
             }
         }
     }
@@ -254,14 +251,11 @@ impl Bytes {
         ensures beside { S.beside source.new ≡ S.beside source.old }
     {
         for expected in front {
-            match self.next_byte(source) {
-                Err(stop) => return Err(stop),
-                Ok(None) => return Ok(Front::Ended),
-                Ok(Some(byte)) => {
-                    if byte != *expected {
-                        return Ok(Front::Other);
-                    }
-                }
+            let Some(byte) = self.next_byte(source)? else {
+                return Ok(Front::Ended);
+            };
+            if byte != *expected {
+                return Ok(Front::Other);
             }
         }
         Ok(Front::Whole)

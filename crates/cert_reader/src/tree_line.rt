@@ -43,19 +43,16 @@ pub(crate) fn next_mark<S: Source>(
     ensures count { S.faults source.old ≤ S.faults source.new }
     ensures beside { S.beside source.new ≡ S.beside source.old }
 {
-    match bytes.next_byte(source) {
-        Err(stop) => Err(stop),
-        Ok(None) => Err(TextEnd::NotText { line }),
-        Ok(Some(byte)) => {
-            if is_mark(byte) {
-                return Ok(Some(byte));
-            }
-            if byte == b'\n' {
-                return Ok(None);
-            }
-            Err(refuse(bytes, source, line))
-        }
+    let Some(byte) = bytes.next_byte(source)? else {
+        return Err(TextEnd::NotText { line });
+    };
+    if is_mark(byte) {
+        return Ok(Some(byte));
     }
+    if byte == b'\n' {
+        return Ok(None);
+    }
+    Err(refuse(bytes, source, line))
 }
 
 // Takes the first character of a tree, with what comes before it. If they don't come, reads on
@@ -75,14 +72,12 @@ pub(crate) fn first_mark<S: Source>(
     ensures count { S.faults source.old ≤ S.faults source.new }
     ensures beside { S.beside source.new ≡ S.beside source.old }
 {
-    match bytes.take_front(source, before_marks()) {
-        Err(stop) => Err(stop),
-        Ok(Front::Ended) => Err(TextEnd::NotText { line }),
-        Ok(Front::Other) => Err(refuse(bytes, source, line)),
-        Ok(Front::Whole) => match next_mark(bytes, source, line) {
-            Err(end) => Err(end),
-            Ok(Some(mark)) => Ok(mark),
-            Ok(None) => Err(refuse(bytes, source, line)),
+    match bytes.take_front(source, before_marks())? {
+        Front::Ended => Err(TextEnd::NotText { line }),
+        Front::Other => Err(refuse(bytes, source, line)),
+        Front::Whole => match next_mark(bytes, source, line)? {
+            Some(mark) => Ok(mark),
+            None => Err(refuse(bytes, source, line)),
         },
     }
 }

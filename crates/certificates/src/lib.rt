@@ -7,7 +7,9 @@
 //!
 //! Lines are put into a slice, and what doesn't fit is only counted (`put_rent`, `put_goods` and `put_fares`),
 //! so the writer takes no memory and can't fail. `write_certificate` takes as much memory as a text probably
-//! needs, and if the text is longer, puts it again into as much memory as was counted.
+//! needs, and if the text is longer, puts it again into as much memory as was counted. `write_certificate_by` lets
+//! workers make parts of a large tree of goods first, which are then put as they are: each is proved to be what
+//! the writer would put there.
 #![tactic(auto)]
 
 mod division;
@@ -17,7 +19,9 @@ mod fares;
 mod goods;
 mod goods_answer;
 mod goods_lines;
+mod hands;
 mod laws;
+mod levels;
 mod lines;
 mod marks;
 mod node;
@@ -26,6 +30,7 @@ mod rent;
 mod rent_lines;
 mod room;
 mod sets;
+mod trees;
 mod write;
 
 pub use division::Division;
@@ -38,4 +43,4 @@ pub use laws::certificate_law;
 pub use payments::rent_pays;
 pub use rent::put_rent;
 pub use rent_lines::rent_lines_law;
-pub use write::write_certificate;
+pub use write::{write_certificate, write_certificate_by};

@@ -71,9 +71,8 @@ pub fn dominating(
     let list = owners_in_order(case, order.as_slice(), owners);
     let whole = whole_lanes(case, &tables.points, list.as_slice());
     let start = first_path(case, &tables.points);
-    match search(case, &tables.lanes, &whole, start) {
-        Ok(None) => Ok(None),
-        Ok(Some(found)) => Ok(Some(owners_by_good(case, order.as_slice(), found.as_slice()))),
-        Err(over) => Err(over),
-    }
+    let Some(found) = search(case, &tables.lanes, &whole, start)? else {
+        return Ok(None);
+    };
+    Ok(Some(owners_by_good(case, order.as_slice(), found.as_slice())))
 }

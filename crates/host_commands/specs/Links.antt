@@ -26,8 +26,9 @@ abbrev pub requests_of : {W : Type 0} {service : Service W} {all : List ℕ} {an
 requests_of link = link.exchanges ++ last_request link.ends
 
 -- One link, as it was handed out and as it was given back. At most `MAX_REQUESTS` requests were read from the bytes that came of it. It got the bytes
--- of their replies, each whole but the last, which a failed write may tear. Then something came last, and the link ended by it. On each side its
--- count shows the failed call that ended it, and no other; and, if it counts empty writes, that there were none.
+-- of their replies, each after the interim line if its head asked for one, and each whole but the last, which a failed write may tear. Then something
+-- came last, and the link ended by it. On each side its count shows the failed call that ended it, and no other; and, if it counts empty writes, that
+-- there were none.
 pub record LinkAnswered {L W : Type 0} (service : Service W) (tells : LinkTells L) (begun ended : L) (answers : List (Option ℕ)) (w : W) (requests : List (Exchange W)) (new : W) : Type 0 where
   pub input : List ℕ
   pub out : List ℕ

@@ -39,13 +39,9 @@ pub fn reopen<D: Disk>(serving: &mut Serving, disk: &mut D) -> Result<(), LogFau
     ensures honest { D.is_honest disk.old ↔ D.is_honest disk.new }
 {
     events_law();
-    match open_in(&mut serving.again, disk) {
-        Ok(log) => {
-            go_on(serving, log);
-            Ok(())
-        }
-        Err(fault) => Err(fault),
-    }
+    let log = open_in(&mut serving.again, disk)?;
+    go_on(serving, log);
+    Ok(())
 }
 
 // Goes on with the host and the log that were just read. The old host's memory stays for the next reading.

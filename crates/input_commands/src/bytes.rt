@@ -1,5 +1,7 @@
 // How the commands end on bytes that a caller has in memory. Only the calling thread works.
-ghost use Rattle.std.specs.Prelude.{◌≡◌};
+ghost use Rattle.std.specs.Prelude.{◌≡◌, IfOk, Ok};
+ghost use Rattle.bid_rules.specs.Facts.{case_of};
+ghost use Rattle.certificates.specs.Division.{IsDivisionOf};
 ghost use Rattle.command_results.specs.Endings.{ending_of, verdict_ending};
 ghost use Rattle.split_json.specs.Reading.{IsReady, case_in, case_data_of};
 ghost use Rattle.input_commands.specs.Answers.{Answers, OfBody, OfCase};
@@ -9,14 +11,17 @@ ghost use Rattle.input_commands.specs.Steps.{IsTextOf, UpToMemory};
 ghost use Rattle.input_commands.specs.declared.command.InputCommand.TheVariants.{Check, CheckWinner};
 
 use crate::command::InputCommand;
-use crate::dividing::{DivisionText, solved_text};
+use crate::dividing::{DivisionText, stop_of};
 use crate::judging::judge_certificate;
 use crate::limits::LONGEST_INPUT;
 use crate::pairing::{judge_pair, pair};
 use crate::weighing::weigh;
+use bid_rules::{Case, case_law};
+use certificates::{Division, write_certificate};
 use command_results::{Stop, Text};
-use split_base::TextSource;
+use split_base::{NoMemory, TextSource};
 use split_json::{CaseInput, read_case};
+use split_reports::report;
 use split_solve::solve_alone;
 use std::alloc::Global;
 
@@ -99,6 +104,32 @@ fn divide_case(alloc: Global, sort: DivisionText, input: &CaseInput) -> Result<T
     requires input { IsReady (case_data_of input.now) }
     ensures { UpToMemory (OfCase (IsTextOf sort) (case_data_of input.now)) (ending_of result) }
 {
-    let solved = solve_alone(alloc, &input.facts, input.bids.as_slice());
-    solved_text(alloc, sort, input, solved)
+    match solve_alone(alloc, &input.facts, input.bids.as_slice()) {
+        Ok((case, division)) => {
+            let text = division_text(alloc, sort, input, &case, &division)?;
+            Ok(Text::Kept(text))
+        }
+        Err(fault) => Err(stop_of(fault)),
+    }
+}
+
+// The text of a case and its division.
+fn division_text(
+    alloc: Global,
+    sort: DivisionText,
+    input: &CaseInput,
+    case: &Case,
+    division: &Division,
+) -> Result<Vec<u8>, NoMemory>
+    requires input { IsReady (case_data_of input.now) }
+    requires case { case_of input.now.facts input.now.bids.items ≡ Ok case.now }
+    requires division { IsDivisionOf case.now division.now }
+    ensures { IfOk result (λ text.
+        IsTextOf sort (case_data_of input.now) case.now division.now text.items) }
+{
+    case_law();
+    match sort {
+        DivisionText::Certificate => write_certificate(alloc, case, division),
+        DivisionText::Report => report(alloc, input, case, division),
+    }
 }

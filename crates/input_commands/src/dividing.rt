@@ -1,22 +1,22 @@
 // The commands that read a case and find its best division.
-ghost use Rattle.std.specs.Prelude.{◌≡◌, Ok, IfOk};
+ghost use Rattle.std.specs.Prelude.{◌≡◌, Err, IfOk, Ok};
 ghost use Rattle.bid_rules.specs.Facts.{case_of};
 ghost use Rattle.certificates.specs.Division.{IsDivisionOf};
 ghost use Rattle.command_results.specs.Endings.{ending_of};
-ghost use Rattle.split_json.specs.Reading.{IsReady, case_in, case_data_of};
+ghost use Rattle.input_commands.specs.declared.dividing.DivisionText.{DivisionText};
+ghost use Rattle.split_json.specs.Reading.{CaseData, IsReady, case_in, case_data_of};
 ghost use Rattle.split_solve.specs.Solving.{IsSolved};
 ghost use Rattle.input_commands.specs.Answers.{OfBody, OfCase};
 ghost use Rattle.input_commands.specs.Steps.{IsTextOf, UpToMemory};
 
 use bid_rules::{Case, case_law};
-use certificates::{Division, write_certificate};
+use certificates::{Division, write_certificate_by};
 use command_results::{Stop, Text};
 use search_workers::{Means, Workers};
 use split_base::{Gate, NoMemory};
 use split_json::{CaseInput, read_case};
 use split_reports::report;
 use split_solve::{SolveFault, solve};
-use std::alloc::Global;
 use std::thread::Threads;
 
 /// What is written of a case and its division.
@@ -55,35 +55,32 @@ fn divide_case<R: Threads + Sync, G: Gate + Sync>(
 {
     let (alloc, count) = (means.alloc, workers.count());
     let bids = input.bids.as_slice();
-    let solved = solve(alloc, means.rt, &input.facts, bids, count, means.gate);
-    solved_text(alloc, sort, input, solved)
-}
-
-// The text of what facts and bids have: of their case and its best division, or why they have none.
-pub(crate) fn solved_text(
-    alloc: Global,
-    sort: DivisionText,
-    input: &CaseInput,
-    solved: Result<(Case, Division), SolveFault>,
-) -> Result<Text, Stop>
-    requires input { IsReady (case_data_of input.now) }
-    requires solved { IsSolved input.now.facts input.now.bids.items solved }
-    ensures { UpToMemory (OfCase (IsTextOf sort) (case_data_of input.now)) (ending_of result) }
-{
-    match solved {
+    match solve(alloc, means.rt, &input.facts, bids, count, means.gate) {
         Ok((case, division)) => {
-            let text = division_text(alloc, sort, input, &case, &division)?;
+            let text = division_text(means, workers, sort, input, &case, &division)?;
             Ok(Text::Kept(text))
         }
-        Err(SolveFault::Void { missing }) => Err(Stop::Void { missing }),
-        Err(SolveFault::OverLimit { limit }) => Err(Stop::OverLimit { limit }),
-        Err(SolveFault::NoMemory) => Err(Stop::NoMemory),
+        Err(fault) => Err(stop_of(fault)),
+    }
+}
+
+// The ending of a command whose facts and bids have no division.
+pub(crate) fn stop_of(fault: SolveFault) -> Stop
+    ensures { (sort : DivisionText) (given : CaseData)
+        → IsSolved given.facts given.bids (Err fault)
+        → UpToMemory (OfCase (IsTextOf sort) given) (Err result) }
+{
+    match fault {
+        SolveFault::Void { missing } => Stop::Void { missing },
+        SolveFault::OverLimit { limit } => Stop::OverLimit { limit },
+        SolveFault::NoMemory => Stop::NoMemory,
     }
 }
 
 // The text of a case and its division.
-fn division_text(
-    alloc: Global,
+fn division_text<R: Threads + Sync, G: Gate + Sync>(
+    means: &Means<'_, R, G>,
+    workers: Workers,
     sort: DivisionText,
     input: &CaseInput,
     case: &Case,
@@ -97,7 +94,7 @@ fn division_text(
 {
     case_law();
     match sort {
-        DivisionText::Certificate => write_certificate(alloc, case, division),
-        DivisionText::Report => report(alloc, input, case, division),
+        DivisionText::Certificate => write_certificate_by(means, workers, case, division),
+        DivisionText::Report => report(means.alloc, input, case, division),
     }
 }

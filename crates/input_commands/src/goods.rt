@@ -23,11 +23,10 @@ pub(crate) fn goods_case(input: &CaseInput) -> Result<GoodsCase, Missing>
     ensures valid { IfOk result IsValidGoodsCase }
 {
     case_law();
-    match make_case(&input.facts, input.bids.as_slice()) {
-        Ok(Case::Goods(case)) => Ok(case),
-        Ok(Case::Rent(_)) => unreachable!(),
-        Ok(Case::Fares(_)) => unreachable!(),
-        Err(missing) => Err(missing),
+    match make_case(&input.facts, input.bids.as_slice())? {
+        Case::Goods(case) => Ok(case),
+        Case::Rent(_) => unreachable!(),
+        Case::Fares(_) => unreachable!(),
     }
 }
 

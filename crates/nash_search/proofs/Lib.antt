@@ -3,7 +3,6 @@ pub mod WaitingOwners
 pub mod WalkMoves
 pub mod ReachedGoals
 pub mod LevelForks
-pub mod WalkPieces
 pub mod PartCounts
 pub mod PartWalks
 pub mod BestInOrder
@@ -13,5 +12,4 @@ pub mod SomeStart
 pub mod BetterFound
 pub mod BlockEnds
 pub mod OneDivision
-pub mod TaskEnds
 pub mod PartEnds

@@ -10,7 +10,7 @@ use Rattle.nash_bounds.specs.OwnerLists.{leaves}
 use Rattle.nash_bounds.specs.Counted.{is_counted, best}
 use Rattle.nash_search.specs.Best.{list_of}
 use Rattle.nash_search.specs.Waiting.{IsReadyForNext, IsWalk, to_come, count_all, best_all, WalksOn}
-use Rattle.nash_search.specs.Parts.{PartAdvanced, IsPartWalk, PartPieces, part_count, part_leaves}
+use Rattle.nash_search.specs.Parts.{Advanced, IsPartWalk, PartPieces, part_count, part_leaves}
 use Rattle.nash_search.specs.declared.found.Found.{Found}
 use Rattle.nash_search.specs.declared.rules.Rules.{Rules}
 use Rattle.nash_search.specs.declared.walk.Walk.{Walk}
@@ -91,7 +91,8 @@ PartKept = (case : GoodsCase) (owners : List ℕ) (k : ℕ) (floor : Pair) (abov
 -- a piece that ends with nothing to come, or after so many prefixes, advances so
 pub goes_far : PartKept → (case : GoodsCase) (old : PartPieces) (new : Walk) (most : ℕ) (done : Bool) → IsPartWalk case old → WalksOn case old.place new → IsWalk case new → IsReadyForNext new
     → new.nodes ≤ old.place.nodes + most → (done ≡ true → to_come new ≡ [])
-    → (done ≡ false → (new.nodes ≡ old.place.nodes + most) × (0 < count_all case old.place.rules.floor old.place.rules.above (to_come new))) → PartAdvanced case old (after_piece old new) most done
+    → (done ≡ false → (new.nodes ≡ old.place.nodes + most) × (0 < count_all case old.place.rules.floor old.place.rules.above (to_come new)))
+    → Advanced case (part_count case old.floor old.above old.owners) (part_leaves case old.floor old.above old.owners) old (after_piece old new) most done
 goes_far kept case old new most true is goes works settled few end more =
     let after = goes_part case old new is goes works settled in
     let n = after.count in
@@ -109,6 +110,6 @@ goes_far kept case old new most false is goes works settled few end more =
     (omega arith, omega arith)
 
 -- true exactly where all are counted
-pub all_or_left : (case : GoodsCase) (old new : PartPieces) (most : ℕ) (done : Bool) → PartAdvanced case old new most done → done ≡ true ↔ new.nodes ≡ part_count case old.floor old.above old.owners
-all_or_left case old new most true h = (λ e. h.1, λ e. refl)
-all_or_left case old new most false h = (λ e. cc, λ e. absurd (let l = h.1 in omega arith))
+pub all_or_left : (case : GoodsCase) (count : ℕ) (allocations : List (List ℕ)) (old new : PartPieces) (most : ℕ) (done : Bool) → Advanced case count allocations old new most done → done ≡ true ↔ new.nodes ≡ count
+all_or_left case count allocations old new most true h = (λ e. h.1, λ e. refl)
+all_or_left case count allocations old new most false h = (λ e. cc, λ e. absurd (let l = h.1 in omega arith))

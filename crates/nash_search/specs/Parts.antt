@@ -50,9 +50,8 @@ pub record IsPartWalk (case : GoodsCase) (pieces : PartPieces) : Type 0 where
   pub kept : best_all case pieces.floor pieces.above (to_come pieces.place) (list_of pieces.place.best)
       ≡ best case pieces.floor pieces.above (case.facts.goods - length pieces.owners) pieces.owners None
 
--- after a piece of at most this many prefixes, the part is done and its best allocation found, or exactly this many more prefixes are counted and
--- some are left
-abbrev pub PartAdvanced : GoodsCase → PartPieces → PartPieces → ℕ → Bool → Type 0
-PartAdvanced case old new most true =
-    (new.nodes ≤ old.nodes + most) × (new.nodes ≡ part_count case old.floor old.above old.owners) × IsFoundBest case (part_leaves case old.floor old.above old.owners) new.best
-PartAdvanced case old new most false = (new.nodes ≡ old.nodes + most) × (new.nodes < part_count case old.floor old.above old.owners)
+-- a walk has this many prefixes to count, and these allocations among them: after a piece of at most this many prefixes, all are counted and the best
+-- allocation is found, or exactly this many more prefixes are counted and some are left
+abbrev pub Advanced : GoodsCase → ℕ → List (List ℕ) → PartPieces → PartPieces → ℕ → Bool → Type 0
+Advanced case count allocations old new most true = (new.nodes ≤ old.nodes + most) × (new.nodes ≡ count) × IsFoundBest case allocations new.best
+Advanced case count allocations old new most false = (new.nodes ≡ old.nodes + most) × (new.nodes < count)

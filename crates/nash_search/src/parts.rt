@@ -8,7 +8,7 @@ ghost use Rattle.nash_bounds.specs.Counted.{count_task, counted_leaves, is_count
 ghost use Rattle.nash_bounds.specs.Prefixes.{IsPrefix};
 ghost use Rattle.nash_bounds.specs.Tasks.{task_list, tasks_of};
 ghost use Rattle.nash_search.specs.Ends.{EndsTask};
-ghost use Rattle.nash_search.specs.Parts.{IsPartWalk, PartAdvanced, can_cut, counted_owners, part_count, part_leaves};
+ghost use Rattle.nash_search.specs.Parts.{Advanced, IsPartWalk, can_cut, counted_owners, part_count, part_leaves};
 ghost use Rattle.nash_search.specs.Tables.{AreTables};
 
 use crate::found::{Found, copied};
@@ -159,7 +159,10 @@ impl PartWalk {
         ensures owners { self.new.owners ≡ self.old.owners }
         ensures floor { self.new.floor ≡ self.old.floor }
         ensures above { self.new.above ≡ self.old.above }
-        ensures advanced { PartAdvanced case.now self.old self.new most result }
+        ensures advanced { Advanced case.now
+            (part_count case.now self.old.floor self.old.above self.old.owners)
+            (part_leaves case.now self.old.floor self.old.above self.old.owners) self.old self.new
+            most result }
         ensures all { result ≡ true
             ↔ self.new.nodes ≡ part_count case.now self.old.floor self.old.above self.old.owners }
     {
@@ -189,7 +192,10 @@ impl PartWalk {
 }
 
 /// Counts the prefixes that begin with the owners of `prefix` and whose bound is at least `floor` and, if there is an `above`, greater than it, and
-/// finds the best allocation among them. It stops exactly when they are more than the allowance, as `search_by` does.
+/// finds the best allocation among them, the least list among equals.
+///
+/// `allowance` is at most `MOST_STEPS`. The search stops exactly when more prefixes are counted than the allowance, and then it has counted one
+/// more.
 pub fn search_part(
     case: &GoodsCase,
     tables: &Tables,

@@ -145,8 +145,6 @@ fn read_body<S: Source>(
     ensures count { S.faults source.old ≤ S.faults source.new }
     ensures beside { S.beside source.new ≡ S.beside source.old }
 {
-    match length_of(held, fields, spans) {
-        Err(end) => Err(end),
-        Ok(length) => judge_body(source, &held[spans.len..], length),
-    }
+    let length = length_of(held, fields, spans)?;
+    judge_body(source, &held[spans.len..], length)
 }

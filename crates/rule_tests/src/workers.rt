@@ -45,7 +45,8 @@ impl Gate for Hold {
     }
 }
 
-// Two workers come to the end of a block of 16 tasks, whose first is held until this many tasks are entered and this many left.
+// Two workers come to the end of a block of 16 tasks, whose first is held until this many tasks are entered and this many left. Each task has
+// to be entered and left: if the workers drew no parts, the calling thread would walk them all, and never call the gate.
 fn block_ends<R: Threads + Abort + Sync>(
     rt: &R,
     alloc: Global,
@@ -65,6 +66,8 @@ fn block_ends<R: Threads + Abort + Sync>(
     let end = run_block(alloc, rt, &case, 0, floor, None, MOST_STEPS, 2, &gate);
     assert!(rt; matches!(end, BlockEnd::Done { nodes: _, best: _ }));
     assert!(rt; !gate.gave_up.load(SeqCst));
+    assert_eq!(rt; gate.entered.load(SeqCst), 16);
+    assert_eq!(rt; gate.left.load(SeqCst), 16);
 }
 
 // The first task is let go only once a second worker has entered another.

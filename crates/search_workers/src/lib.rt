@@ -4,11 +4,12 @@
 //!
 //! `search` has the four clauses of `search_alone`, which mention neither the number of workers nor their order.
 //! What a worker brings back is proved to be right for the part that it walked (`IsEndOf`), and the end of a block
-//! takes each part once (`settle`). If there is no memory for the parts, one thread walks the tasks one after
-//! another.
+//! takes each part once, and walks those that are missing (`settle`). So the result is the same whatever the workers
+//! do. That they share the parts is only tested (`rule_tests`, `.ci/workers`). If there is no memory for the parts,
+//! one thread walks the tasks one after another.
 //!
-//! `work` is a simpler kind of worker, who draws whole tasks at a desk: each task is drawn once and walked whole
-//! (`drawn_tickets_law`, `walked_block_law`).
+//! `work` is a simpler kind of worker, which the search doesn't use. It draws whole tasks at a desk, where each task
+//! is proved to be drawn once and walked whole (`drawn_tickets_law`, `walked_block_law`).
 #![tactic(auto)]
 
 mod block;

@@ -46,7 +46,7 @@ impl Workers {
     }
 }
 
-/// What a command may use for its work: memory, threads, and the gate that is told when a worker begins and ends a task.
+/// What a command may use for its work: memory, threads, and the gate that is told when a task begins and when it has ended.
 #[derive(Drop)]
 pub struct Means<'a, R, G> {
     /// Where memory comes from.

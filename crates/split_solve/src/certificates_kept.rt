@@ -10,7 +10,7 @@ use crate::kept::{KeptSearches, same_case};
 use crate::limits::{MOST_KEPT_BYTES, MOST_KEPT_SEARCHES};
 use crate::solver::Solver;
 use bid_rules::{Case, GoodsCase};
-use certificates::{Division, write_certificate};
+use certificates::{Division, write_certificate, write_certificate_by};
 use split_base::{Gate, NoMemory};
 use std::alloc::Global;
 use std::marker::Model;
@@ -113,7 +113,8 @@ fn copy_of(alloc: Global, bytes: &[u8]) -> Option<Vec<u8>>
     }
 }
 
-/// What `write_certificate` gives, by the kept certificates: one of goods that is among them is copied, and another is kept.
+/// What `write_certificate` gives, by the kept certificates: one of goods that is among them is copied, and another is written by the
+/// workers and kept.
 ///
 /// They never change the text, since each is the canonical certificate of its whole case. Memory that is refused for keeping is not a
 /// fault. `NoMemory` is returned only when memory runs out.
@@ -126,30 +127,31 @@ pub fn certificate_once<R: Threads + Sync, G: Gate + Sync>(
     requires division { IsDivisionOf case.now division.now }
     ensures { IfOk result (λ text. IsCanonical case.now text.items) }
 {
-    let alloc = solver.means.alloc;
     match case {
-        Case::Goods(goods) => goods_certificate(alloc, case, goods, division, solver.searches),
-        Case::Rent(_) | Case::Fares(_) => write_certificate(alloc, case, division),
+        Case::Goods(goods) => goods_certificate(solver, case, goods, division),
+        Case::Rent(_) | Case::Fares(_) => { write_certificate(solver.means.alloc, case, division) }
     }
 }
 
 // The certificate of a case of goods, by the kept ones.
-fn goods_certificate(
-    alloc: Global,
+fn goods_certificate<R: Threads + Sync, G: Gate + Sync>(
+    solver: &mut Solver<'_, R, G>,
     case: &Case,
     goods: &GoodsCase,
     division: &Division,
-    searches: &mut KeptSearches,
 ) -> Result<Vec<u8>, NoMemory>
     requires goods { case.now ≡ cases.Goods goods.now }
     requires case { IsValidCase case.now }
     requires division { IsDivisionOf case.now division.now }
     ensures { IfOk result (λ text. IsCanonical case.now text.items) }
 {
-    if let Some(text) = searches.certificate(alloc, goods) {
+    let means = solver.means;
+    if let Some(text) = solver.searches.certificate(means.alloc, goods) {
         return Ok(text);
     }
-    let text = write_certificate(alloc, case, division)?;
-    searches.keep_certificate(alloc, goods, text.as_slice());
+    let text = write_certificate_by(means, solver.workers, case, division)?;
+    solver
+        .searches
+        .keep_certificate(means.alloc, goods, text.as_slice());
     Ok(text)
 }

@@ -13,8 +13,8 @@ use bid_rules::case_law;
 use certificates::division_law;
 use nash_search::limit_law;
 
-/// Unless memory runs out, facts and bids have exactly one end: a case with its best division, or one fault. So neither the number of
-/// workers nor their order changes it. Checked facts and bids have one division, too (`one_end`).
+/// Unless memory runs out, facts and bids have at most one end: one case, or one fault. If they are checked, the case has only one
+/// division, too (`one_end`). So neither the number of workers nor their order changes it.
 pub fn solve_law()
     ensures one_case { (facts : Facts) (bids : List (Option Bid)) (a b : Case × Division)
         → IsSolved facts bids (Ok a) → IsSolved facts bids (Ok b) → a.0 ≡ b.0 }

@@ -1,4 +1,5 @@
 use Rattle.std.proofs.Common.{arith, ◌∙◌, ◌++◌, [], append-nil, append_assoc, refl, subst, sym}
+use Rattle.std.proofs.lemmas.Result.{err_from_is_err_and}
 use Rattle.std.proofs.KnownBytes.{Consumes-nil, Consumes-trans}
 use Rattle.cert_reader.specs.Reading.{IsEnd, with_mark}
 use Rattle.cert_checker.specs.Lines.{IsUpTo}
@@ -17,13 +18,14 @@ marks-init g c = record {
   beside = refl;
 }
 
-pub returns-in-Err-clause-marks : goal.returns-in-Err-clause-marks
-returns-in-Err-clause-marks g c =
+pub returns-in_err-mark-clause-marks : goal.returns-in_err-mark-clause-marks
+returns-in_err-mark-clause-marks g c =
     let inv = c.marks.invariant in
-    let p = (rw c.in-Err.end-is at c.in-Err.ensures).mark in (
+    let e = err_from_is_err_and c.from_residual.result c.from_residual.ensures.1 in
+    let p = c.in_err-mark.ensures.mark in rw (e.1, e.2) (
       inv.more ++ p.0,
       Consumes-trans _ _ _ inv.more p.0 inv.took p.1,
-      λ taken up_to. (let up = inv.goes taken up_to in subst (IsEnd c.in-Err.end (g.S.Source.left c.next_in_tree.new.source)) (append_assoc taken inv.more p.0) (p.2 (taken ++ inv.more) up.said up.read)),
+      λ taken up_to. (let up = inv.goes taken up_to in subst (IsEnd c.in_err-mark.field-0.0 (g.S.Source.left c.next_in_tree.new.source)) (append_assoc taken inv.more p.0) (p.2 (taken ++ inv.more) up.said up.read)),
     )
 
 pub take_mark-requires : goal.take_mark-requires
@@ -31,19 +33,19 @@ take_mark-requires g c =
     let known = c.requires.known in
     let inv = c.marks.invariant in
     let up = inv.goes known.0 known.1 in
-    let next = rw c.in-Ok-Some.field-0-is at c.in-Ok-Some.ensures in
+    let next = rw c.in-Some.is at c.in_ok-mark.ensures in
     let p = next.mark in
-    let mark = c.in-Ok-Some.mark in
+    let mark = c.in-Some.mark in
     let told = p.2 (known.0 ++ inv.more) up.said up.read in
     let rest = c.text_law.ensures.completed c.next_in_tree.new.self ((known.0 ++ inv.more) ++ p.0) (with_mark up.said mark) told.1 in
     (up.said, next_mark_goes c.marks.lines c.marks.pieces c.next_in_tree.new.self (known.0 ++ inv.more) p.0 rest.0 mark up told.0 told.1 rest.1)
 
-pub marks-preserved-in-Ok-Some : goal.marks-preserved-in-Ok-Some
-marks-preserved-in-Ok-Some g c =
+pub marks-preserved-in-Some : goal.marks-preserved-in-Some
+marks-preserved-in-Some g c =
     let inv = c.marks.invariant in
-    let next = rw c.in-Ok-Some.field-0-is at c.in-Ok-Some.ensures in
+    let next = rw c.in-Some.is at c.in_ok-mark.ensures in
     let p = next.mark in
-    let mark = c.in-Ok-Some.mark in
+    let mark = c.in-Some.mark in
     let new = c.next_in_tree.new.self in
     record {
       more = inv.more ++ p.0;
@@ -66,7 +68,7 @@ marks-preserved-in-Ok-Some g c =
 pub marks-preserved : goal.marks-preserved
 marks-preserved g c =
     let inv = c.marks.invariant in
-    let next = rw c.in-Ok-None.field-0-is at c.in-Ok-None.ensures in
+    let next = rw c.in_default.is at c.in_ok-mark.ensures in
     let p = next.mark in
     let new = c.next_in_tree.new.self in
     record {

@@ -1,4 +1,5 @@
 use Rattle.std.proofs.Common.{arith, ◌∙◌, ◌++◌, ◌∷◌, [], ap, refl, subst, length, length-append, append-nil}
+use Rattle.std.proofs.lemmas.Result.{err_from_is_err_and}
 use Rattle.std.specs.Prelude.{not, ◌||◌}
 use Rattle.cert_reader.specs.Stream.{Hands}
 use Rattle.cert_reader.proofs.Handed.{front_kept, hands_from, hands_none, hands_trans, kept_more, line_handed, over_more, plain_more, stops_after}
@@ -19,29 +20,30 @@ line-init g c = record {
   beside = refl;
 }
 
-pub returns-in-Err-clause-stopped : goal.returns-in-Err-clause-stopped
-returns-in-Err-clause-stopped g c =
+pub returns-in_err-byte-clause-stopped : goal.returns-in_err-byte-clause-stopped
+returns-in_err-byte-clause-stopped g c =
+    let p = err_from_is_err_and c.from_residual.result c.from_residual.ensures.1 in
     let inv = front_kept _ _ c.keep_front-kept.new.self _ _ c.line.long c.keep_front-kept.result c.line.invariant.text c.line.invariant.so_far c.keep_front-kept.ensures.kept in
     let text = c.line.invariant.text ++ c.keep_front-kept.ensures.kept.front in
-    stops_after c.args.self.now c.keep_front-kept.new.self _ _ _ text c.in-Err.stop (hands_from _ _ _ _ _ _ c.clear.ensures inv.handed) (rw c.in-Err.stop-is at c.in-Err.ensures).stopped
+    rw (p.1, p.2) (stops_after c.args.self.now c.keep_front-kept.new.self _ _ _ text c.in_err-byte.field-0.0 (hands_from _ _ _ _ _ _ c.clear.ensures inv.handed) (c.in_err-byte.ensures).stopped)
 
-pub returns-in-Ok-None-clause-cut : goal.returns-in-Ok-None-clause-cut
-returns-in-Ok-None-clause-cut g c =
-    let next = rw c.in-Ok-None.field-0-is at c.in-Ok-None.ensures in
+pub returns-in_default-clause-cut : goal.returns-in_default-clause-cut
+returns-in_default-clause-cut g c =
+    let next = rw c.in_default.is at c.in_ok-byte.ensures in
     let inv = front_kept _ _ c.keep_front-kept.new.self _ _ c.line.long c.keep_front-kept.result c.line.invariant.text c.line.invariant.so_far c.keep_front-kept.ensures.kept in
     let text = c.line.invariant.text ++ c.keep_front-kept.ensures.kept.front in
     (text, inv.plain, subst (Hands _ _ _ _) (append-nil text) (hands_trans _ _ _ _ _ _ text [] (hands_from _ _ _ _ _ _ c.clear.ensures inv.handed) next.byte), next.end.0, next.end.1)
 
 pub returns-then-long-clause-cut : goal.returns-then-long-clause-cut
 returns-then-long-clause-cut g c =
-    let next = rw (c.in-Ok-Some.field-0-is, c.if-byte-eq10.true) at c.in-Ok-Some.ensures in
+    let next = rw (c.in-Some.is, c.if-byte-eq10.true) at c.in_ok-byte.ensures in
     let inv = front_kept _ _ c.keep_front-kept.new.self _ _ c.line.long c.keep_front-kept.result c.line.invariant.text c.line.invariant.so_far c.keep_front-kept.ensures.kept in
     let text = c.line.invariant.text ++ c.keep_front-kept.ensures.kept.front in
     (text, inv.over c.if-long.true, inv.plain, hands_trans _ _ _ _ _ _ text (10 ∷ []) (hands_from _ _ _ _ _ _ c.clear.ensures inv.handed) next.byte)
 
 pub returns-else-long-clause-cut : goal.returns-else-long-clause-cut
 returns-else-long-clause-cut g c =
-    let next = rw (c.in-Ok-Some.field-0-is, c.if-byte-eq10.true) at c.in-Ok-Some.ensures in
+    let next = rw (c.in-Some.is, c.if-byte-eq10.true) at c.in_ok-byte.ensures in
     let inv = front_kept _ _ c.keep_front-kept.new.self _ _ c.line.long c.keep_front-kept.result c.line.invariant.text c.line.invariant.so_far c.keep_front-kept.ensures.kept in
     let text = c.line.invariant.text ++ c.keep_front-kept.ensures.kept.front in
     let is = next.line ∙ inv.kept c.if-long.false in
@@ -51,8 +53,8 @@ pub line-preserved : goal.line-preserved
 line-preserved g c =
     let inv = front_kept _ _ c.keep_front-kept.new.self _ _ c.line.long c.keep_front-kept.result c.line.invariant.text c.line.invariant.so_far c.keep_front-kept.ensures.kept in
     let text = c.line.invariant.text ++ c.keep_front-kept.ensures.kept.front in
-    let byte = c.in-Ok-Some.byte in
-    let next = rw c.in-Ok-Some.field-0-is at c.in-Ok-Some.ensures in
+    let byte = c.in-Some.byte in
+    let next = rw c.in-Some.is at c.in_ok-byte.ensures in
     let keep = c.if-not-keep.ensures in
     record {
       text = text ++ byte ∷ [];
@@ -72,8 +74,8 @@ pub line-preserved-then-not-keep : goal.line-preserved-then-not-keep
 line-preserved-then-not-keep g c =
     let inv = front_kept _ _ c.keep_front-kept.new.self _ _ c.line.long c.keep_front-kept.result c.line.invariant.text c.line.invariant.so_far c.keep_front-kept.ensures.kept in
     let text = c.line.invariant.text ++ c.keep_front-kept.ensures.kept.front in
-    let byte = c.in-Ok-Some.byte in
-    let next = rw c.in-Ok-Some.field-0-is at c.in-Ok-Some.ensures in
+    let byte = c.in-Some.byte in
+    let next = rw c.in-Some.is at c.in_ok-byte.ensures in
     let keep = c.if-not-keep.ensures in
     record {
       text = text ++ byte ∷ [];
