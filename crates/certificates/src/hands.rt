@@ -51,7 +51,7 @@ fn made_tree(
         return None;
     };
     Some(MadeTree {
-        owners: node.copy().owners,
+        owners: walked.owners,
         marks,
     })
 }
@@ -118,7 +118,8 @@ fn made_hands<R: Threads + Sync>(
     requires case { IsValidGoodsCase case.now }
     requires division { IsGoodsDivision case.now division.now }
     requires workers { 0 < workers }
-    ensures { IfOk result (λ hands. AreMade case.now (answer_of case.now division.now) hands.items) }
+    ensures { IfOk result
+        (λ hands. AreMade case.now (answer_of case.now division.now) hands.items) }
 {
     let start = start_of(case, division);
     let enough = TREES_OF_WORKER.saturating_mul(workers);

@@ -23,7 +23,7 @@ fn push_child(
 ) -> Result<(), AllocError>
     requires start { IsStart case.now start.now }
     requires free { HasFreeGood case.now node.now.owners.items }
-    requires parent { IsParent case.now start.now.answer.goal.pair node.now.owners.items parent.now }
+    requires above { IsParent case.now start.now.answer.goal.pair node.now.owners.items parent.now }
     requires owner_low { 1 ≤ owner }
     requires owner_high { owner ≤ player_count case.now }
     requires node { IsOpenNode case.now start.now.answer node.now }

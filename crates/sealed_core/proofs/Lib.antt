@@ -7,6 +7,7 @@ pub mod Equality
 pub mod Fits
 pub mod Holders
 pub mod KeyDigits
+pub mod Keyed
 pub mod Machine
 pub mod Mapped
 pub mod Origin

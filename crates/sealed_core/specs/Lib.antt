@@ -1,5 +1,6 @@
 pub mod Causes
 pub mod Host
+pub mod Keyed
 pub mod Keys
 pub mod Origins
 pub mod Runs

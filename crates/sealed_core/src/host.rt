@@ -5,9 +5,11 @@ ghost use Rattle.bid_rules.specs.Facts.{IsCheckedBid};
 ghost use Rattle.sealed_core.specs.declared.limits.TheConstants.{MOST_INSTANCES};
 ghost use Rattle.bid_rules.specs.declared.limits.TheConstants.{MEMBER_ROOM};
 ghost use Rattle.sealed_core.specs.Host.{CanApply, Created, HasRoom, IsCheckedCreation, IsNextTurn, IsCheckedInstance, apply, as_closed, change, creation_view, event_view, new_instance, instance_at, instance_view, with_turn};
+ghost use Rattle.sealed_core.specs.Keyed.{AreKeyed, IsKeyed};
 
-use crate::Event;
-use crate::limits::MOST_INSTANCES;
+use crate::keys::keys_of;
+use crate::limits::{KEY_ROOM, MOST_INSTANCES};
+use crate::{Event, Key};
 use arrayvec::ArrayVec;
 use bid_rules::Bid;
 use bid_rules::limits::MEMBER_ROOM;
@@ -16,10 +18,12 @@ use split_base::NoMemory;
 use std::alloc::Global;
 use std::marker::Model;
 
-/// An instance: what was created, what the members have bid, and whether bidding is over.
-#[derive(Debug, Drop, PartialEq, Eq)]
+/// An instance: what was created, the keys of those who take part, what the members have bid, and whether bidding is over.
+#[derive(Drop)]
 pub struct Instance {
     pub creation: Creation,
+    // The organiser's key, and then each member's, which the secret gives. They are kept so that the key of a request is only compared.
+    pub(crate) keys: ArrayVec<Key, KEY_ROOM>,
     /// The kept turn of each member, 0 before the first.
     pub turns: ArrayVec<u8, MEMBER_ROOM>,
     /// The kept bid of each member, or none.
@@ -38,6 +42,7 @@ pub struct Host {
 impl Model for Host {
     ghost use Rattle.std.specs.Prelude.{◌≤◌, ◌-◌, map, length, All, vec_capacity, vec_len};
     ghost use Rattle.sealed_core.specs.Host.{HostView, Holding, AreCheckedInstances, instance_view, IsCheckedInstance};
+    ghost use Rattle.sealed_core.specs.Keyed.{AreKeyed};
 
     ghost Value = { Holding };
 
@@ -46,7 +51,8 @@ impl Model for Host {
       spare = vec_capacity h.instances - vec_len h.instances;
     } };
 
-    ghost invariant = { λ h. AreCheckedInstances (map instance_view h.instances.items) };
+    ghost invariant = { λ h. AreCheckedInstances (map instance_view h.instances.items)
+        × AreKeyed h.secret 1 h.instances.items };
 }
 
 impl Host {
@@ -81,6 +87,17 @@ impl Host {
         ensures each { All (λ i. IsCheckedInstance (instance_view i)) result.now }
         ensures sound { All IsCheckedInstance self.now.content.instances }
         ensures few { length self.now.content.instances ≤ MOST_INSTANCES }
+    {
+        self.keyed_instances()
+    }
+
+    // The instances in order of id, each with its keys.
+    pub(crate) fn keyed_instances(&self) -> &[Instance]
+        ensures views { map instance_view result.now ≡ self.now.content.instances }
+        ensures each { All (λ i. IsCheckedInstance (instance_view i)) result.now }
+        ensures sound { All IsCheckedInstance self.now.content.instances }
+        ensures few { length self.now.content.instances ≤ MOST_INSTANCES }
+        ensures keyed { AreKeyed self.now.content.secret 1 result.now }
     {
         &self.instances
     }
@@ -131,7 +148,9 @@ impl Host {
         ensures spare { self.new.spare + 1 ≡ self.old.spare }
     {
         self.moment = moment;
-        self.instances.push_reserved(fresh(creation));
+        let id = self.instances.len() as u32 + 1;
+        self.instances
+            .push_reserved(fresh(&self.secret, id, creation));
     }
 
     // Keeps a member's turn, and the bid that they now have, if any.
@@ -194,13 +213,16 @@ fn no_bids(members: usize) -> ArrayVec<Option<Bid>, MEMBER_ROOM>
 }
 
 // An instance in which nobody has bid.
-fn fresh(creation: Creation) -> Instance
-    ensures { instance_view result ≡ new_instance (creation_view creation) }
+fn fresh(secret: &[u8; 32], id: u32, creation: Creation) -> Instance
+    ensures view { instance_view result ≡ new_instance (creation_view creation) }
+    ensures keyed { IsKeyed secret.now id result }
 {
+    let keys = keys_of(secret, id, creation.members.len() as u8);
     let turns = no_turns(creation.members.len());
     let bids = no_bids(creation.members.len());
     Instance {
         creation,
+        keys,
         turns,
         bids,
         closed: false,
@@ -212,7 +234,10 @@ fn set_turn(instance: &mut Instance, member: u8, turn: u8, bid: Option<Bid>)
     requires least { 1 ≤ member }
     requires turns { member ≤ length instance.old.turns.items }
     requires bids { member ≤ length instance.old.bids.items }
-    ensures { instance_view instance.new ≡ with_turn member turn bid (instance_view instance.old) }
+    ensures view { instance_view instance.new
+        ≡ with_turn member turn bid (instance_view instance.old) }
+    ensures creation { instance.new.creation ≡ instance.old.creation }
+    ensures keys { instance.new.keys.items ≡ instance.old.keys.items }
 {
     let place = usize::from(member) - 1;
     instance.turns[place] = turn;

@@ -1,8 +1,13 @@
 // Keys of members and organisers: how they are made, and whose key one is.
-ghost use Rattle.std.specs.Prelude.{◌≡◌, ◌+◌, ◌≤◌, IfSome};
+ghost use Rattle.std.specs.Prelude.{◌≡◌, ◌<◌, ◌≤◌, length, IfSome, nat_eq};
+ghost use Rattle.std.specs.Cmp.Lexicographic.{pointwise};
+ghost use Rattle.std.specs.List.{position_from};
 ghost use Rattle.bid_rules.specs.declared.limits.TheConstants.{MEMBER_ROOM};
-ghost use Rattle.sealed_core.specs.Keys.{first_holder, key_text};
+ghost use Rattle.sealed_core.specs.declared.limits.TheConstants.{KEY_ROOM};
+ghost use Rattle.sealed_core.specs.Keys.{key_text, keys_of};
 
+use crate::limits::KEY_ROOM;
+use arrayvec::ArrayVec;
 use itoa::Buffer;
 use sha2::{Digest, Sha256};
 
@@ -27,17 +32,27 @@ pub fn key_of(secret: &[u8; 32], id: u32, member: u8) -> Key
     key
 }
 
-// The least number, from 0 to the count, to which this key belongs.
-#[tactic(auto, using(crate::proofs::Holders::first_here, crate::proofs::Holders::first_later))]
-pub(crate) fn holder_of(secret: &[u8; 32], id: u32, key: &Key, count: u8) -> Option<u8>
-    requires { count ≤ MEMBER_ROOM }
-    ensures least { result ≡ first_holder secret.now id key.now (count + 1) 0 }
-    ensures among { IfSome result (λ member. member ≤ count) }
+// The keys of the organiser and of this many members.
+pub(crate) fn keys_of(secret: &[u8; 32], id: u32, members: u8) -> ArrayVec<Key, KEY_ROOM>
+    requires { members ≤ MEMBER_ROOM }
+    ensures { result.items ≡ keys_of secret.now id members }
 {
-    for member in 0..count + 1 {
-        let own = key_of(secret, id, member);
-        if own.as_slice() == key.as_slice() {
-            return Some(member);
+    let mut keys = ArrayVec::new();
+    for member in 0..members + 1 {
+        keys.push(key_of(secret, id, member));
+    }
+    keys
+}
+
+// The first place at which this key stands: the number of the organiser or member whom it belongs to.
+pub(crate) fn holder_of(keys: &[Key], key: &Key) -> Option<u8>
+    requires { length keys.now ≤ KEY_ROOM }
+    ensures first { result ≡ position_from (λ own. pointwise nat_eq own key.now) 0 keys.now }
+    ensures among { IfSome result (λ place. place < length keys.now) }
+{
+    for place in 0..keys.len() {
+        if keys[place].as_slice() == key.as_slice() {
+            return Some(place as u8);
         }
     }
     None

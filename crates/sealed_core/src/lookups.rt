@@ -2,6 +2,7 @@
 ghost use Rattle.std.specs.Prelude.{◌≡◌, ◌≤◌, ◌+◌, length, map, is_none, is_some, MatchOption, MatchResult, IfOk, IfSome, Some, None, Ok, Err};
 ghost use Rattle.std.specs.List.{list_all};
 ghost use Rattle.sealed_core.specs.declared.limits.TheConstants.{MOST_INSTANCES, MOST_TURNS};
+ghost use Rattle.sealed_core.specs.Keyed.{IsKeyed};
 ghost use Rattle.sealed_core.specs.Host.{IsCheckedInstance, creation_view, instance_at, instance_view, kept_bid, kept_turn, text};
 ghost use Rattle.sealed_core.specs.Step.{caller_of, is_over, tagged_from};
 
@@ -16,10 +17,20 @@ pub fn instance_at<'a>(host: &'a Host, id: u32) -> Option<&'a Instance>
         (λ i. instance_at host.now.content id ≡ Some (instance_view i.now)) }
     ensures sound { IfSome result (λ i. IsCheckedInstance (instance_view i.now)) }
 {
+    keyed_instance_at(host, id)
+}
+
+// The same, with its keys.
+fn keyed_instance_at<'a>(host: &'a Host, id: u32) -> Option<&'a Instance>
+    ensures found { MatchOption result (instance_at host.now.content id ≡ None)
+        (λ i. instance_at host.now.content id ≡ Some (instance_view i.now)) }
+    ensures sound { IfSome result (λ i. IsCheckedInstance (instance_view i.now)) }
+    ensures keyed { IfSome result (λ i. IsKeyed host.now.content.secret id i.now) }
+{
     if id == 0 {
         return None;
     }
-    let instance = host.instances().get(id as usize - 1)?;
+    let instance = host.keyed_instances().get(id as usize - 1)?;
     Some(instance)
 }
 
@@ -36,14 +47,13 @@ pub(crate) fn caller<'a>(
     ensures sound { IfOk result (λ p. IsCheckedInstance (instance_view p.0.now)) }
     ensures member { IfOk result (λ p. p.1 ≤ length p.0.now.creation.members.items) }
 {
-    let Some(instance) = instance_at(host, id) else {
+    let Some(instance) = keyed_instance_at(host, id) else {
         return Err(Refusal::NoInstance);
     };
     let Some(key) = key else {
         return Err(Refusal::NoKey);
     };
-    let count = instance.creation.members.len() as u8;
-    match holder_of(host.secret(), id, &key, count) {
+    match holder_of(instance.keys.as_slice(), &key) {
         Some(member) => Ok((instance, member)),
         None => Err(Refusal::WrongKey),
     }
