@@ -1,4 +1,4 @@
--- How the words of a command follow from the arguments that the program was started with.
+-- How the arguments that the system passes to the program become the words of a command.
 use Rattle.std.specs.Prelude.{◌≡◌, ◌<◌, ◌≤◌, ◌⊎◌, ℕ, List, [], All, drop, get_or, length, Option, Some, None}
 use Rattle.std.specs.Str.{IsUtf8}
 

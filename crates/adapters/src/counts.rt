@@ -1,4 +1,4 @@
-// How the adapters count their faults.
+// How the real outside counts its faults, and answers with them.
 ghost use Rattle.std.specs.Prelude.{◌≡◌, ◌≤◌};
 ghost use Rattle.split_base.specs.Faults.{HasCause, HasRisen, IsCounted, counted};
 ghost use Rattle.adapters.specs.Answers.{IsAnswered};

@@ -1,4 +1,4 @@
--- What the text of adjusted winner says: the case, player 1's share of each good, the weights, and the points of each player.
+-- What the solver of adjusted winner writes of its answer: the case, player 1's share of each good, the weights, and the points of each player.
 use Rattle.std.specs.Prelude.{pos, map}
 use Rattle.adjusted_winner.specs.declared.winner.Winner.{Winner}
 use Rattle.bid_rules.specs.declared.goods.GoodsCase.{GoodsCase}

@@ -1,4 +1,4 @@
--- The text of adjusted winner: a case of two players, player 1's share of each good, the weights, and the points of each player.
+-- How the answer of adjusted winner is written as text: the case of two players, player 1's share of each good, the weights, and the points of each player.
 use Rattle.std.specs.Prelude.{◌≡◌, ℕ, List, [], ◌∷◌, ◌++◌, codes, flat_map, map}
 use Rattle.std.specs.Fmt.{decimal}
 use Rattle.bid_rules.specs.declared.goods.GoodsCase.{GoodsCase}

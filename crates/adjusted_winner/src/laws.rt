@@ -1,4 +1,4 @@
-// Laws about the players' shares by adjusted winner, which hold for all cases. Each is the contract of a function that does nothing.
+// Laws about the answer that the solver of adjusted winner finds, and about its text, which hold for all cases. Each is the contract of a function that does nothing.
 ghost use Rattle.std.specs.Prelude.{◌≡◌, ℕ, List, map};
 ghost use Rattle.bid_rules.specs.declared.goods.GoodsCase.{GoodsCase};
 ghost use Rattle.bid_rules.specs.Goods.{IsValidGoodsCase, player_count};

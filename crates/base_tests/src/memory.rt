@@ -1,4 +1,4 @@
-// Clocks, ports and dialers in memory.
+// Tests of the outside in memory: its clocks, ports and dialers.
 ghost use Rattle.std.specs.Prelude.{◌≡◌, IsTrue};
 
 use split_base::{

@@ -1,4 +1,4 @@
-// The objects in memory that the tests begin with.
+// Links and disks in memory, with which the tests of the outside and of `gate_log` begin.
 use split_base::{MemDisk, MemLink, MemSink, MemSource};
 use std::alloc::Global;
 use std::process::Abort;

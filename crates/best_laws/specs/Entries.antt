@@ -1,4 +1,4 @@
--- Tables of what routes cost, by the place of departure and the set of riders.
+-- For the laws that follow from the definition of the best fares: tables of what routes cost, by the place of departure and the set of riders.
 use Rattle.std.specs.Prelude.{◌≡◌, ℕ, ◌+◌, ◌-◌, ◌^◌, ◌<◌, ◌≤◌, List, [], ◌∷◌, map, Contains}
 use Rattle.bid_rules.specs.declared.cases.FareCase.{FareCase}
 use Rattle.bid_rules.specs.Coalitions.{riders_in, start_of}

@@ -1,4 +1,4 @@
--- Sums of marginal costs over the orders of some riders.
+-- For the laws that follow from the definition of the best fares: sums of marginal costs over the orders of some riders.
 use Rattle.std.specs.Prelude.{ℕ, ℤ, pos, ◌-ℤ◌, ◌*ℤ◌, ◌==◌, List, cond, length}
 use Rattle.bid_rules.specs.declared.cases.FareCase.{FareCase}
 use Rattle.bid_rules.specs.Coalitions.{riders_in}

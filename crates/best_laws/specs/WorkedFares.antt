@@ -1,4 +1,4 @@
--- Two shared fares that are small enough to work out by hand.
+-- Two shared fares that are small enough to work out by hand, for a law that applies the definitions of the best division to them.
 use Rattle.std.specs.Prelude.{[], ◌∷◌}
 use Rattle.bid_rules.specs.declared.cases.FareCase.{FareCase}
 

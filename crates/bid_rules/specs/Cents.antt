@@ -1,4 +1,4 @@
--- Cent plans: whole cents in place of exact amounts. Each amount is floored, and the cents left over go to the greatest remainders.
+-- What a cent plan is: the exact amounts of a best division in whole cents. Each amount is floored, and the cents left over go to the greatest remainders.
 use Rattle.std.specs.Prelude.{◌≡◌, ℕ, ℤ, pos, ◌+ℤ◌, ◌-ℤ◌, ◌*ℤ◌, ◌≤ℤ◌, ◌-◌, ◌*◌, ◌<◌, Bool, if◌then◌else◌, int_lt, List, length, map, count_by, slice_index_or, unsigned_abs}
 use Rattle.std.specs.List.{range_with_len}
 use Rattle.std.specs.Int.{int_div_euclid}

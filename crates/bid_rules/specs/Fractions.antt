@@ -1,4 +1,4 @@
--- Fractions as pairs of whole numbers, compared by cross products.
+-- The fractions in which a best division is defined, such as prices and fares: pairs of whole numbers, compared by cross products.
 use Rattle.std.specs.Prelude.{◌≡◌, ℕ, ℤ, pos, ◌+ℤ◌, ◌*ℤ◌, ◌*◌, ◌<◌, List, [], ◌∷◌}
 
 -- a fraction: its numerator and its denominator

@@ -1,4 +1,4 @@
--- Keys of members and rooms: the assignment with the greatest sum of keys is the first one of greatest welfare, and dual numbers show that it is.
+-- Keys of members and rooms, defined for the best division of a rent: the greatest sum of keys is that of the first assignment of greatest welfare, and dual numbers show it.
 use Rattle.std.specs.Prelude.{◌≡◌, ◌≢◌, ℕ, ℤ, pos, ◌-◌, ◌*◌, ◌^◌, ◌<◌, ◌≤◌, ◌+ℤ◌, ◌-ℤ◌, ◌*ℤ◌, ◌≤ℤ◌, List, length, slice_index}
 use Rattle.std.specs.Cmp.Lexicographic.{slice_cmp}
 use Rattle.std.specs.Ordering.{nat_cmp}

@@ -1,5 +1,4 @@
--- What the maximin prices are computed from: steps of envy, the longest walks over them, and the least utility that these leave (Gal and others
--- 2016).
+-- What the best division of a rent is by the formula for maximin prices: steps of envy, the longest walks over them, and the least utility that these leave (Gal and others 2016).
 use Rattle.std.specs.Prelude.{◌≡◌, ℕ, ℤ, pos, ◌-◌, ◌<◌, ◌+ℤ◌, ◌-ℤ◌, ◌*ℤ◌, List, length, slice_index, slice_index_or}
 use Rattle.bid_rules.specs.declared.rents.RentCase.{RentCase}
 use Rattle.bid_rules.specs.Fractions.{Fraction, IsQuotient}

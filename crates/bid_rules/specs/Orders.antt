@@ -1,4 +1,4 @@
--- The list of all orders of a list, and their number.
+-- For the definition of the best fares: the list of all orders of a list, and their number.
 use Rattle.std.specs.Prelude.{ℕ, ◌+◌, ◌*◌, suc, zero, List, [], ◌∷◌, length, map, flat_map, insert}
 use Rattle.std.specs.List.{range_with_len}
 

@@ -1,4 +1,4 @@
--- Sums of signed numbers over lists.
+-- For the definitions of a best division and of cent plans: sums of signed numbers over lists.
 use Rattle.std.specs.Prelude.{ℤ, pos, ◌+ℤ◌, List, [], ◌∷◌}
 
 -- the sum of a function over a list

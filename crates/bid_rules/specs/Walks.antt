@@ -1,4 +1,4 @@
--- Walks over numbered vertices, their weights, and the greatest of them.
+-- For the definitions about the best division of a rent: walks over numbered vertices, their weights, the greatest of these, and the fewest steps that reach it.
 use Rattle.std.specs.Prelude.{◌≡◌, ℕ, ℤ, pos, ◌+◌, ◌<◌, ◌≤◌, ◌+ℤ◌, ◌≤ℤ◌, ◌⊎◌, List, [], ◌∷◌, ◌++◌, length, All, slice_index, slice_index_or}
 
 -- the weight of a walk to a vertex: the sum of its steps, with the vertices before it listed from the last one back to the first

@@ -1,4 +1,5 @@
-//! Facts, bids and cases, the rules that they keep, and what a best division of a case is.
+//! Facts, bids and cases, the rules that they keep, and what a best division of a case is, with the sums,
+//! orders, walks, keys and cent plans that laws, solvers and checkers share.
 //!
 //! Facts and bids are accepted exactly when their rules hold, and otherwise have a first fault,
 //! with its number. Checked facts and bids make a valid case, or bids are missing (`make_case`).

@@ -1,4 +1,4 @@
-/// How many players have positive utility, and the product of the positive utilities, which is 1 if there are none.
+/// What makes one division of goods better than another: how many players have positive utility, and then the product of the positive utilities, which is 1 if there are none.
 ///
 /// Pairs are compared by the count, then by the product: the derived order reads the fields in their order. An allocation with the greatest pair has the greatest Nash welfare
 /// (Caragiannis, Kurokawa, Moulin, Procaccia, Shah and Wang 2016).

@@ -1,4 +1,4 @@
-// The body of a bid or of a withdrawal, as its fields were read.
+// The fields of the body of a bid or of a withdrawal, as they were read.
 use bid_rules::limits::Values;
 
 /// The body of a bid or of a withdrawal. A field is `None` if it is absent or of another form.

@@ -1,4 +1,4 @@
--- The lines of a certificate of fares in order, and what the judge knows after each.
+-- How the judge takes the lines of a certificate of fares: their order, and what it knows after each.
 use Rattle.std.specs.Prelude.{◌≡◌, ℕ, ℤ, pos, ◌+◌, ◌^◌, ◌<◌, ◌≤◌, List, [], ◌∷◌, ◌++◌, length, map, All, true, false, ⊤}
 use Rattle.std.specs.List.{enumerate_from}
 use Rattle.bid_rules.specs.declared.limits.TheConstants.{MOST_PLACES, MOST_RIDERS}

@@ -1,4 +1,4 @@
--- What the rules of goods ask of a `-`, in terms of the bound's definition: the greatest pair of any list that a node allows.
+-- For the laws about the judge's verdict on goods: what is asked of a `-`, in terms of the bound's definition, the greatest pair of any list that a node allows.
 use Rattle.std.specs.Prelude.{◌≡◌, ℕ, ◌<◌, ◌≤◌, ◌⊎◌, List, length, take}
 use Rattle.std.specs.Cmp.Lexicographic.{slice_cmp}
 use Rattle.std.specs.Ordering.{nat_cmp}

@@ -1,4 +1,4 @@
--- The lines of a certificate of goods in order, and what the judge knows after each.
+-- How the judge takes the lines of a certificate of goods: their order, and what it knows after each.
 use Rattle.std.specs.Prelude.{◌≡◌, ℕ, pos, ◌≤◌, List, [], ◌∷◌, ◌++◌, length, map, All, ⊤}
 use Rattle.bid_rules.specs.declared.limits.TheConstants.{MOST_GOODS, MOST_MEMBERS}
 use Rattle.cert_reader.specs.Gathered.{Gathered, line_said}

@@ -1,4 +1,4 @@
-// Keeps lines until their part of the text is complete.
+// Keeps the lines that the judge takes until their part of the certificate is complete.
 ghost use Rattle.std.specs.Prelude.{◌≡◌, ◌<◌, ◌++◌, ◌∷◌, []};
 ghost use Rattle.arrayvec.specs.ArrayVec.{array_vec_len};
 

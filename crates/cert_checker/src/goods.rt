@@ -1,5 +1,4 @@
-// Takes the lines of a certificate of goods: those before the tree are gathered, and the marks of the tree are judged as
-// they come.
+// How the judge takes the lines of a certificate of goods: it gathers those before the tree, and hands the marks of the tree to the rules as they come.
 ghost use Rattle.std.specs.Prelude.{◌≡◌, ℕ, ◌++◌, ◌∷◌, [], List, map};
 ghost use Rattle.cert_checker.specs.FaresLines.{front_said};
 ghost use Rattle.cert_checker.specs.GoodsLines.{GoodsGoOn, HasNoTree, IsAtGoods, IsWholeGoods, before_tree};

@@ -1,4 +1,4 @@
-// Takes the lines of a certificate of a rent, which are gathered and judged together.
+// How the judge takes the lines of a certificate of a rent: it gathers them, and asks the rules once all have come.
 ghost use Rattle.std.specs.Prelude.{◌≡◌, ◌-◌, ◌<◌, ◌++◌, ◌∷◌, [], length};
 ghost use Rattle.cert_reader.specs.declared.forms.Counts.TheVariants as count;
 ghost use Rattle.cert_reader.specs.Forms.{AreCounts, rent_forms};

@@ -1,4 +1,4 @@
--- How bytes are cut before the first byte of some value, and into lines without their LF.
+-- How the bytes of a certificate are cut as it is read: into lines without their LF, and before the first byte of some value.
 use Rattle.std.specs.Prelude.{◌≡◌, ◌≢◌, ℕ, ◌<◌, ◌≤◌, List, ◌++◌, length, slice_index}
 use Rattle.bid_rules.specs.Fractions.{Fraction}
 use Rattle.split_frac.specs.Texts.{numbers_text}

@@ -1,4 +1,4 @@
--- Why reading ends: reasons for a reader that keeps nothing, and for one that keeps what it reads.
+-- Why the reading of a certificate or of the text of adjusted winner ends without one: reasons for a reader that takes no memory, and for one that keeps what it reads.
 use Rattle.std.specs.Prelude.{◌≡◌, ◌⊎◌, Result, Ok, Err}
 use Rattle.cert_reader.specs.declared.ends.ReadEnd.{ReadEnd}
 use Rattle.cert_reader.specs.declared.ends.ReadEnd.TheVariants as reads

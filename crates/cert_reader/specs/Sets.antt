@@ -1,4 +1,4 @@
--- The sets of riders, and what stands in the line of each.
+-- The `set` lines in the text of a certificate of fares: which set of riders each is about, from where its routes start, and how many costs it has.
 use Rattle.std.specs.Prelude.{ℕ, ◌-◌, ◌^◌, not, List, ◌∷◌, length, map}
 use Rattle.std.specs.List.{filter, range_with_len}
 use Rattle.bid_rules.specs.Coalitions.{has_rider}

@@ -1,4 +1,4 @@
--- The line of a tree, read character by character.
+-- The text of a certificate of goods, as it is read: the line of its tree, character by character.
 use Rattle.std.specs.Prelude.{◌≡◌, ◌≢◌, ℕ, ◌≤◌, List, [], ◌∷◌, ◌++◌, length, All, Option, Some, None, Result, Ok, Err}
 use Rattle.cert_reader.specs.declared.ends.TextEnd.{TextEnd}
 use Rattle.cert_reader.specs.declared.forms.Word.TheVariants as word

@@ -1,4 +1,4 @@
-// The reasons why reading ends without a text.
+// The reasons why the reading of a certificate, or of the text of adjusted winner, ends without one.
 ghost use Rattle.std.specs.Prelude.{◌≡◌, IfOk, IsErrOf, Ok};
 ghost use Rattle.cert_reader.specs.Ends.{read_answer};
 

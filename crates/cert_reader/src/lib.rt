@@ -1,5 +1,5 @@
-//! The text of certificates and of adjusted winner: what it says, and the first broken line of
-//! other bytes.
+//! The text of certificates and of adjusted winner, as it is read: what it says, and the first broken
+//! line of other bytes.
 //!
 //! `next_piece` reads from any source in fixed memory. It answers `NotText` exactly when the bytes
 //! aren't a text, with the first broken line, and `TooLong` after one byte more than a text may

@@ -1,4 +1,4 @@
-// The characters of the tree of a certificate of goods. Each node comes before the nodes below it.
+// What each character of the tree says in the text of a certificate of goods. Each node comes before the nodes below it.
 
 /// A node whose children follow.
 pub const INNER_NODE: u8 = b'+';

@@ -1,4 +1,4 @@
-// The text of a pair: what adjusted winner gives two players.
+// What the text of adjusted winner says, once it has been read.
 ghost use Rattle.std.specs.Prelude.{◌≡◌, ◌≤◌, [], ◌∷◌, ◌++◌, All, length, map};
 ghost use Rattle.std.proofs.Props.{props};
 ghost use Rattle.bid_rules.specs.declared.limits.TheConstants.{MOST_GOODS, PAIR};

@@ -1,4 +1,4 @@
-// Reads the text of a pair line by line from a source.
+// Reads the text of adjusted winner line by line from a source, or finds the first broken line of other bytes.
 ghost use Rattle.std.specs.Prelude.{◌≡◌, ◌≤◌, ℕ, List, IsErrOf};
 ghost use Rattle.std.specs.Io.KnownBytes.{Consumes};
 ghost use Rattle.split_base.specs.Faults.{HasRisen};

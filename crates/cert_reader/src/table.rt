@@ -1,4 +1,4 @@
-// The table of a certificate of fares.
+// The text of a certificate of fares, as it is read: what its `set` lines say, their costs as one table.
 ghost use Rattle.std.specs.Prelude.{◌≡◌};
 
 use std::marker::Model;

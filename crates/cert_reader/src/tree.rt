@@ -1,4 +1,4 @@
-// The tree of a certificate of goods.
+// What the line of the tree says in the text of a certificate of goods, once it has been read: the characters of all nodes.
 ghost use Rattle.std.specs.Prelude.{◌≡◌};
 
 use std::marker::Model;

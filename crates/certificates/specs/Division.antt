@@ -1,4 +1,4 @@
--- The division that a solver gives for a case.
+-- The division of a case of any kind, as its solver gives it.
 use Rattle.bid_rules.specs.declared.cases.Case.{Case}
 use Rattle.bid_rules.specs.declared.cases.Case.TheVariants as case
 use Rattle.certificates.specs.declared.division.Division.{Division}

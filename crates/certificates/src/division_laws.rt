@@ -1,4 +1,4 @@
-// A law about divisions, which holds for all cases. It is the contract of a function that does nothing.
+// A law about the division of a case of any kind, which holds for all cases. It is the contract of a function that does nothing.
 ghost use Rattle.std.specs.Prelude.{◌≡◌};
 ghost use Rattle.bid_rules.specs.declared.cases.Case.{Case};
 ghost use Rattle.bid_rules.specs.Facts.{IsValidCase};

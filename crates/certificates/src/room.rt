@@ -1,4 +1,4 @@
-// Puts bytes after others in a buffer, if there is room for them.
+// Puts bytes of a certificate after others in a buffer, if there is room for them.
 ghost use Rattle.certificates.specs.Puts.{Puts};
 
 // Puts some bytes after the first `used` bytes of a buffer, and returns how many bytes are used then. Bytes that don't fit are only

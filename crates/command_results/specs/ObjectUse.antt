@@ -1,4 +1,4 @@
--- What a source and a sink reveal before and after a command.
+-- How a command has used its source and its sink when it ends: what it read and wrote, and whether their calls failed.
 use Rattle.std.specs.Prelude.{◌≡◌, ◌⊎◌, ℕ, ◌+◌, ◌<◌, ◌≤◌, List, Option, length, take}
 use Rattle.std.specs.Io.KnownBytes.{Appends, Consumes, IsAtEnd}
 use Rattle.split_base.specs.Faults.{HasRisen, counted}

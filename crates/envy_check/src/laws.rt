@@ -1,4 +1,4 @@
-// Laws about cent plans and about envy over goods, which hold for all cases. Each is the contract of a function that does nothing.
+// Laws about who envies whom by cent plans and over goods, which hold for all cases. Each is the contract of a function that does nothing.
 ghost use Rattle.std.specs.Prelude.{◌≡◌, ◌↔◌, Contains, ℕ, ℤ, pos, negsuc, ◌<◌, ◌≤◌, ◌+ℤ◌, ◌-ℤ◌, ◌≤ℤ◌, List, [], ◌∷◌, slice_index, slice_index_or, ◌*ℤ◌, ◌<ℤ◌, All, count_by, nat_lt, length};
 ghost use Rattle.std.specs.List.{range_with_len};
 ghost use Rattle.bid_rules.specs.declared.goods.GoodsCase.{GoodsCase};

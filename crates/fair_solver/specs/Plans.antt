@@ -1,4 +1,4 @@
--- Whole cents in place of the exact amounts of a division, and how they are handed out.
+-- How the C functions that solve cases of numbers hand out what each person pays, in whole cents in place of exact amounts.
 use Rattle.std.specs.Prelude.{◌≡◌, ◌≤◌, ◌<◌, ◌⊎◌, ℕ, ℤ, pos, List, length, take}
 use Rattle.bid_rules.specs.Cents.{IsCentPlan, prices_by_member}
 use Rattle.bid_rules.specs.Fares.{FareBest, coalition_cost, riders_of}

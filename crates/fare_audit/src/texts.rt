@@ -1,4 +1,4 @@
-// Writes the text of an audit of fares.
+// Writes what the audit of shared fares finds, as text.
 ghost use Rattle.std.specs.Prelude.{◌≡◌, ◌<◌, ◌≤◌, ◌^◌, ◌++◌, length, map, IfOk, OnOk, string_bytes};
 ghost use Rattle.std.specs.Option.{ForSome};
 ghost use Rattle.bid_rules.specs.Facts.{IsValidFareCase};

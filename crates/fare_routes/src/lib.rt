@@ -1,6 +1,6 @@
-//! What each set of riders costs, and the least of the cheapest routes, by the recursion over sets of riders.
+//! The whole table of what each set of riders costs, in memory of its own, and the least of the cheapest routes.
 //!
-//! It makes the rows of all sets in memory of their own, or says that there is no memory.
+//! It makes the rows of all sets, or says that there is no memory for them.
 #![tactic(auto)]
 
 mod filling;

@@ -1,4 +1,4 @@
-// Reads the case that the head of a certificate prints.
+// For the rules of a certificate of fares: the case that its head prints.
 ghost use Rattle.std.specs.Prelude.{◌≡◌, pos, ◌≤◌, ◌≤ℤ◌, All, MatchOption, length, map, unsigned_abs};
 ghost use Rattle.fare_rules.specs.Head.{head_of};
 ghost use Rattle.fare_rules.specs.Rules.{HasCase};

@@ -1,4 +1,4 @@
--- The bytes that were read ahead.
+-- The bytes of a journal's file that were read ahead and are not yet taken, and the room for more.
 use Rattle.std.specs.Prelude.{ℕ, ◌-◌, List, slice_range}
 use Rattle.gate_log.specs.declared.ahead.Ahead.{Ahead}
 use Rattle.gate_log.specs.declared.limits.TheConstants.{PIECE}

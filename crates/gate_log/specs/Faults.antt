@@ -1,4 +1,4 @@
--- Where a file stops being a journal: the place of its first fault.
+-- Where the first fault of a file is, in its header or in its records.
 use Rattle.std.specs.Prelude.{◌≡◌, ◌≢◌, ◌⊎◌, ℕ, ◌+◌, ◌≤◌, ◌<◌, List, [], ◌∷◌, ◌++◌, length, take, slice_index, All, ◌^◌}
 use Rattle.std.specs.Int.{from_le_bytes, w32}
 use Rattle.gate_log.specs.Records.{start_line, header, IsVersion, IsLength, IsRun, Begins, Stands, place_after}

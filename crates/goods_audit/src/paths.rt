@@ -1,4 +1,4 @@
-// The prefix that a search has come to. It is changed in place.
+// The prefix that the audit's search for a dominating allocation has come to. It is changed in place.
 ghost use Rattle.std.specs.Prelude.{◌≡◌, ◌⊎◌, ℕ, ◌+◌, ◌<◌, ◌≤◌, List, [], ◌∷◌, ◌++◌, length, true, false};
 ghost use Rattle.bid_rules.specs.Goods.{AreOwners, IsValidGoodsCase, player_count};
 ghost use Rattle.nash_bounds.specs.Lanes.{IsLaneTable};

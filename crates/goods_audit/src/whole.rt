@@ -1,4 +1,4 @@
-// An allocation as a prefix in which each good has its owner.
+// The audited allocation as a prefix in which each good has its owner, and its Nash welfare.
 ghost use Rattle.std.specs.Prelude.{◌≡◌, length};
 ghost use Rattle.bid_rules.specs.Goods.{AreOwners, IsAllocation, IsValidGoodsCase, in_search_order, pair_of};
 ghost use Rattle.nash_bounds.specs.Prefixes.{HasBound, IsPrefix};

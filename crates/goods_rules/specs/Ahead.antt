@@ -1,4 +1,4 @@
--- What is still to come of a tree once a walk has come this far.
+-- Which marks may still come in the tree if the rules of a certificate of goods are to hold, once their walk has come this far.
 use Rattle.std.specs.Prelude.{◌≡◌, ℕ, zero, suc, ◌+◌, ◌-◌, ◌<◌, ◌≤◌, List, [], ◌∷◌, length, reverse, Bool, true, false, IsTrue, ◌⊎◌}
 use Rattle.std.specs.List.{range_with_len}
 use Rattle.bid_rules.specs.declared.goods.GoodsCase.{GoodsCase}

@@ -1,4 +1,4 @@
--- The main theorem: what holds of a whole run of the host, whatever its port, its links and its clock gave.
+-- The main theorem, the law over a whole run of `serve`: what holds of it, whatever its port, its links and its clock gave.
 use Rattle.std.specs.Prelude.{◌≡◌, ◌⊎◌, ℕ, List, Option, None, IfSome, length, map, take, Contains}
 use Rattle.host_journal.specs.Calls.{IsFound}
 use Rattle.host_journal.specs.Journal.{HasEvents, HoldsEvents}

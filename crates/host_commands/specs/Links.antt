@@ -1,4 +1,4 @@
--- The links of a port in order, with the requests that were answered on them.
+-- For the law over a whole run of `serve`: the links that it gets from its port, in order, with the requests that were answered on them.
 use Rattle.std.specs.Prelude.{◌≡◌, ℕ, List, [], ◌∷◌, ◌++◌, Option}
 use Rattle.std.specs.Io.KnownBytes.{Appends}
 use Rattle.serving.specs.declared.limits.TheConstants.{MAX_REQUESTS}

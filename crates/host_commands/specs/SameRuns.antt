@@ -1,4 +1,4 @@
--- Two runs of a host over the same links.
+-- Two runs of the command `serve` over links that bring the same bytes.
 use Rattle.std.specs.Prelude.{◌≡◌, ℕ, List, [], ◌∷◌, Option, Some, Result}
 use Rattle.command_results.specs.declared.stop.Stop.{Stop}
 use Rattle.split_base.specs.declared.clock.Clock.{Ghosts as ClockSide}

@@ -1,4 +1,4 @@
-// States the main theorem, as the contract of a function that does nothing.
+// States the main theorem, the law over a whole run of `serve`, as the contract of a function that does nothing.
 ghost use Rattle.std.specs.Prelude.{◌≡◌, ◌⊎◌, ℕ, List, Ok, Result};
 ghost use Rattle.command_results.specs.declared.stop.Stop.{Stop};
 ghost use Rattle.serving.specs.Served.{tells_of};

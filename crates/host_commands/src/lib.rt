@@ -1,4 +1,4 @@
-//! What `init`, `dump` and `serve` do with file, port and clock, and the law over a whole run.
+//! What `init`, `dump` and `serve` do with file, port and clock, and the law over a whole run of `serve`.
 //!
 //! `make` leaves a journal of 50 bytes by two calls that write or sync, or a filled file as it was.
 //! `serve_port` makes the routes, opens the file, listens and serves, in that order.

@@ -1,4 +1,4 @@
-// Makes the file of a host.
+// Makes the file of a host for the command `init`.
 ghost use Rattle.std.specs.Prelude.{◌≤◌, ◌↔◌};
 ghost use Rattle.command_results.specs.Endings.{ending_of};
 ghost use Rattle.host_commands.specs.Files.{Makes};

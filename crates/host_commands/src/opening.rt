@@ -1,4 +1,4 @@
-// Opens the file of a host.
+// Opens the file of a host for `dump` and `serve`, and says how a command ends whose file could not be made or opened.
 ghost use Rattle.std.specs.Prelude.{◌≡◌};
 ghost use Rattle.host_commands.specs.Files.{Opens, stop_of};
 

@@ -1,4 +1,4 @@
-// States that two runs of a host write the same, as the contract of a function that does nothing.
+// States when two runs of `serve` write the same to their links, as the contract of a function that does nothing.
 ghost use Rattle.std.specs.Prelude.{◌≡◌, ◌++◌, ℕ, List, Option, Result};
 ghost use Rattle.command_results.specs.declared.stop.Stop.{Stop};
 ghost use Rattle.host_commands.specs.Headline.{Headline};

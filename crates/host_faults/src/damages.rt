@@ -1,4 +1,4 @@
-// Hosts that wait, and get a damaged file.
+// Tries hosts in memory that wait after a failed call, and then get a damaged file.
 use crate::disks::STORE_FAULT;
 use crate::dues::Dues;
 use crate::hosts::{Host, disk_of, fault_in};

@@ -1,4 +1,4 @@
-// A host in memory, and what its links get.
+// A host in memory that is tried over a round of requests with calls that fail, and what its links get.
 use crate::rounds::Sent;
 use gate_log::{Log, LogFault};
 use host_journal::{Serving, open};

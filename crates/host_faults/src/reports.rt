@@ -1,4 +1,4 @@
-// What a table has shown.
+// Reports how many rounds of requests with a failing call were tried, and how many differed from the rule, and tells which replies refuse for a fault.
 use split_http::INTERIM;
 use std::io;
 use std::io::Print;

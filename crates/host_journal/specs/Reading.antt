@@ -1,4 +1,4 @@
--- Reading a body from left to right: a value, and the bytes after it.
+-- Reading an event from the body of its record, from left to right: a value, and the bytes after it.
 use Rattle.std.specs.Prelude.{ℕ, zero, suc, ◌+◌, List, [], ◌∷◌, length, take, drop, Option, Some, None, nat_lt, ◌==◌, if◌then◌else◌, ⊤}
 use Rattle.std.specs.Int.{Width, w32, w64, byte_len, from_le_bytes}
 use Rattle.std.specs.Str.{is_utf8}

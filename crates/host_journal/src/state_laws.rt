@@ -1,4 +1,4 @@
-// Laws about the states of a serving host, which hold on any disk.
+// Laws about the states of a host before a disk, which hold on any disk.
 ghost use Rattle.std.specs.Prelude.{◌≡◌, ◌⊎◌, ℕ, List, [], ◌∷◌, ◌++◌, Some};
 ghost use Rattle.split_base.specs.Disk.{Each, LeavesOnly};
 ghost use Rattle.sealed_core.specs.Host.{EventView};

@@ -1,4 +1,4 @@
--- How whole numbers are written in decimal.
+-- How the fields of HTTP heads write whole numbers: in decimal, with digits only.
 use Rattle.std.specs.Prelude.{ℕ, nat_lt, Bool, ◌&&◌, List, length, min, Option, Some, None, if◌then◌else◌}
 use Rattle.std.specs.List.{list_all}
 use Rattle.std.specs.Char.{is_ascii_digit}

@@ -1,4 +1,4 @@
-// The bytes that were read from a source and not taken yet.
+// The bytes that a host or a client has read and not yet taken as part of an HTTP message.
 ghost use Rattle.std.specs.Prelude.{◌≡◌, ◌<◌, ◌≤◌, ◌+◌, ◌++◌, ℕ, List, [], length, drop, IfOk, OnErr};
 ghost use Rattle.std.specs.Io.KnownBytes.{Keeps, IsAtEnd, prepend_known};
 ghost use Rattle.split_base.specs.Faults.{HasCause, IsCounted};

@@ -1,5 +1,5 @@
-//! What hosts and clients both need of HTTP/1.1: to find a head in bytes that come in pieces, its
-//! fields, whole numbers.
+//! What hosts and clients both need of HTTP/1.1: bytes that were read and not taken yet, to find a head
+//! in them, its fields, whole numbers.
 //!
 //! Bytes that are held and not taken stay the same, however the input is cut into pieces. A
 //! failed read is counted and ends the search.

@@ -1,4 +1,4 @@
--- Which player a member is.
+-- For the command `weigh`: which player a member is in the division that its input proposes.
 use Rattle.std.specs.Prelude.{ℕ, ◌+◌, ◌==◌, List, map}
 use Rattle.std.specs.List.{position_or_len}
 use Rattle.bid_rules.specs.declared.goods.GoodsCase.{GoodsCase}

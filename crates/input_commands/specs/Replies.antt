@@ -1,4 +1,4 @@
--- How a caller that is not written in Rattle is answered.
+-- How a command that reads an input ends on bytes of a caller that is not written in Rattle, and how that ending is handed out.
 use Rattle.std.specs.Prelude.{ℕ, List, Result}
 use Rattle.command_results.specs.Handing.{HandsOut}
 use Rattle.command_results.specs.declared.stop.Stop.{Stop}

@@ -1,4 +1,4 @@
--- How the steps of a command may end. Only contracts of private functions use this.
+-- How the steps by which a command answers its input may end. Only contracts of private functions use this.
 use Rattle.std.specs.Prelude.{◌≡◌, ◌≢◌, ℕ, List, Result, Ok, Err}
 use Rattle.bid_rules.specs.declared.cases.Case.{Case}
 use Rattle.bid_rules.specs.declared.goods.GoodsCase.{GoodsCase}

@@ -1,4 +1,4 @@
-// The case of goods that facts and bids make, and its players.
+// For the commands `weigh` and `winner`: the case of goods in the input, and which players the members in a proposal are.
 ghost use Rattle.std.specs.Prelude.{◌≡◌, ◌≤◌, ◌==◌, All, Contains, Err, IfOk, MatchResult, Ok, length};
 ghost use Rattle.std.specs.List.{position_or_len};
 ghost use Rattle.bid_rules.specs.declared.cases.Case.TheVariants.{Goods};

@@ -1,4 +1,4 @@
-// Laws about the definitions of the commands, which hold for all inputs. Each is the contract of a function that does nothing.
+// Laws about the commands that read an input, which hold for all inputs. Each is the contract of a function that does nothing.
 ghost use Rattle.std.specs.Prelude.{◌≡◌, ◌≢◌, ℕ, List, Err, IfSome, Ok, Result};
 ghost use Rattle.cert_checker.specs.Judged.{IsCertificate, PrintsBest};
 ghost use Rattle.command_results.specs.Endings.{yes_line};

@@ -1,4 +1,4 @@
--- Blocks of tasks.
+-- Blocks of tasks, as the step count is defined by them: how many tasks are in one and before it, and what is counted in it.
 use Rattle.std.specs.Prelude.{ℕ, ◌-◌, ◌*◌, List, Option, min}
 use Rattle.bid_rules.specs.declared.goods.GoodsCase.{GoodsCase}
 use Rattle.bid_rules.specs.declared.pair.Pair.{Pair}

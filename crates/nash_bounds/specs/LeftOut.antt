@@ -1,4 +1,4 @@
--- Which prefixes may be left out of a tree that shows the best allocation.
+-- Which prefixes, by their bounds, a tree that shows the best allocation may leave out.
 use Rattle.std.specs.Prelude.{ℕ, List, [], length, take, count_by, not, Bool, true, false, ◌==◌, ◌&&◌, ◌||◌}
 use Rattle.std.specs.Cmp.Lexicographic.{slice_cmp}
 use Rattle.std.specs.Ordering.{nat_cmp}

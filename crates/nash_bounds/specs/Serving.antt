@@ -1,4 +1,4 @@
--- What a search may have found instead of the best of all allocations so far.
+-- What may stand in for the best of all allocations so far in the definition of the step count: that best one, or nothing while it is below the floor.
 use Rattle.std.specs.Prelude.{◌≡◌, ℕ, List, Option, Some, None}
 use Rattle.bid_rules.specs.declared.goods.GoodsCase.{GoodsCase}
 use Rattle.bid_rules.specs.declared.pair.Pair.{Pair}

@@ -1,4 +1,4 @@
-// What each player has and may have, in a vector with one lane for each player.
+// What bounds are computed from: what each player has by a prefix and may have, in a vector with one lane for each player.
 ghost use Rattle.std.specs.Prelude.{◌≡◌, ℕ, List, ◌+◌, ◌-◌, ◌<◌, ◌≤◌, ◌^◌, [], ◌∷◌, ◌++◌, length, All, slice_index, slice_set};
 ghost use Rattle.bid_rules.specs.declared.goods.GoodsCase.{GoodsCase};
 ghost use Rattle.bid_rules.specs.Goods.{IsValidGoodsCase, player_count, points, order_of};

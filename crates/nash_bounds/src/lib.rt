@@ -1,7 +1,7 @@
-//! What a search for the best allocation of goods stands on: the search order, prefixes of allocations, and their bounds.
+//! What a search for the best allocation of goods stands on, but no search: the search order, prefixes and their
+//! bounds, tasks and blocks, the start value, and the definition of the step count.
 //!
-//! It also defines the start value, counted prefixes and the step count. These definitions are about allocations and
-//! don't mention any search.
+//! The definitions are about allocations, and don't say how anything is searched.
 //!
 //! The bound of a prefix is the greatest pair of any list between what the players have and what each could have
 //! (`bound_law`), and filling one point at a time gives the same pair (`slow_filling_law`). `open_prefixes_law` says

@@ -1,4 +1,4 @@
-// Laws about tasks, counted prefixes and the step count, which hold for all cases. Each is the contract of a function that does nothing.
+// Laws about tasks, counted prefixes and the definition of the step count, which hold for all cases. Each is the contract of a function that does nothing.
 ghost use Rattle.std.specs.Prelude.{◌≡◌, ◌≢◌, ℕ, ◌+◌, ◌-◌, ◌*◌, ◌^◌, ◌<◌, ◌≤◌, ◌↔◌, ◌⊎◌, List, [], ◌∷◌, ◌++◌, length, take, AllPairs, All, Contains, Option, Some, None, flat_map, not, true};
 ghost use Rattle.std.specs.List.{range_with_len};
 ghost use Rattle.std.specs.Option.{option_to_list};

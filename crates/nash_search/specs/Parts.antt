@@ -1,4 +1,4 @@
--- Parts of tasks: how many prefixes that begin with some owners are counted, and which allocations these have.
+-- Walks through a part of a task: how many prefixes that begin with some owners are counted, which allocations these have, and how far a walk has come.
 use Rattle.std.specs.Prelude.{◌≡◌, ℕ, ◌+◌, ◌-◌, ◌<◌, ◌≤◌, ◌++◌, ◌∷◌, [], List, Option, None, Bool, true, false, ◌&&◌, length, nat_lt}
 use Rattle.std.specs.List.{filter, range_with_len}
 use Rattle.bid_rules.specs.declared.goods.GoodsCase.{GoodsCase}

@@ -1,4 +1,4 @@
--- A walk through a task, in pieces.
+-- A walk through one task that stops and goes on later: the walk through the part that begins with the task's owners.
 use Rattle.std.specs.Prelude.{◌≡◌, ℕ, ◌<◌}
 use Rattle.bid_rules.specs.declared.goods.GoodsCase.{GoodsCase}
 use Rattle.nash_bounds.specs.Tasks.{task_list, tasks_of}

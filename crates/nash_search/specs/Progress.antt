@@ -1,4 +1,4 @@
--- What a search has counted and found so far: in the first tasks of a row, and in the blocks before the next one.
+-- What the walks of a search have counted and found so far: in the first tasks of a row, and in the blocks before the next one.
 use Rattle.std.specs.Prelude.{◌≡◌, ℕ, ◌+◌, ◌*◌, ◌<◌, ◌≤◌, Option, Bool, true, false}
 use Rattle.bid_rules.specs.declared.goods.GoodsCase.{GoodsCase}
 use Rattle.bid_rules.specs.declared.pair.Pair.{Pair}

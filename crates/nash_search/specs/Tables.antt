@@ -1,4 +1,4 @@
--- The tables of a case, made once for a whole search.
+-- The search's two tables of a case, one for prefixes and one for walks, made once for a whole search.
 use Rattle.bid_rules.specs.declared.goods.GoodsCase.{GoodsCase}
 use Rattle.nash_bounds.specs.Lanes.{IsLaneTable}
 use Rattle.nash_bounds.specs.Tables.{IsTable}

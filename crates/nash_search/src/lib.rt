@@ -1,4 +1,5 @@
-//! The search for the allocation with the greatest Nash welfare, on one thread, with its exact step count.
+//! The search for the allocation with the greatest Nash welfare on one thread, and what a search by several shares with
+//! it: tables, walks through tasks and their parts, what is found so far, and the answer with the exact step count.
 //!
 //! Bounds, tasks, counted prefixes and the step count are defined in `nash_bounds`, the best allocation in `bid_rules`.
 //!

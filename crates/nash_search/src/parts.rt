@@ -1,4 +1,4 @@
-// Parts of tasks: the cut of a prefix into those with one more owner, and a walk through what begins with a prefix.
+// Walks through a part of a task, which is all that begins with one prefix, and the cut of a prefix into those with one more owner.
 ghost use Rattle.std.specs.Prelude.{◌≡◌, ℕ, ◌+◌, ◌<◌, ◌≤◌, ◌↔◌, ◌^◌, ◌++◌, ◌∷◌, [], List, Option, cond, flat_map, length, reverse, true, None};
 ghost use Rattle.std.specs.List.{sum_by};
 ghost use Rattle.bid_rules.specs.declared.goods.GoodsCase.{GoodsCase};

@@ -1,4 +1,4 @@
-// Keeps track of how far a whole search has come, block by block, and when it goes over the limit.
+// Keeps what the walks of a whole search have counted and found so far, block by block, and gives its answer: the best division, or that the limit is passed.
 use crate::division::{GoodsDivision, OverLimit};
 use crate::found::{Found, better, pair_found};
 use crate::start::start_value;

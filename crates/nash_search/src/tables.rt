@@ -1,4 +1,4 @@
-// The tables of a case that a whole search makes once.
+// The search's two tables of a case, one for prefixes and one for walks, made once for a whole search.
 use arrayvec::ArrayVec;
 use bid_rules::GoodsCase;
 use nash_bounds::{LaneTable, PointTable, lane_table, point_table, search_order};

@@ -1,4 +1,4 @@
-// What the tasks of a block have counted and found, added up in their order.
+// What the walks through the tasks of a block have counted and found so far, added up task by task.
 use crate::found::{Found, better};
 use crate::task::TaskEnd;
 use nash_bounds::tasks_in_row_law;

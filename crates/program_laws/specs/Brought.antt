@@ -1,4 +1,4 @@
--- Replies that bring a text.
+-- For the laws on what a fetch makes of a host's replies: which replies bring a text.
 use Rattle.std.specs.Prelude.{◌≡◌, ℕ, false, List, None}
 use Rattle.serving.specs.Dues.{DueView}
 use Rattle.remote_check.specs.declared.limits.TheConstants.{OK_STATUS}

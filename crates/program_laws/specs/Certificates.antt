@@ -1,4 +1,4 @@
--- Certificates that a host sends, as a fetch takes them.
+-- For the laws on what a fetch makes of a host's replies: when it answers yes, or nothing but yes, and which replies send a certificate.
 use Rattle.std.specs.Prelude.{◌≡◌, ◌≢◌, ℕ, List, ◌++◌, Some, Result, Ok, Err}
 use Rattle.host_commands.specs.Publishing.{AsksFor}
 use Rattle.host_journal.specs.States.{State}

@@ -1,4 +1,4 @@
-// The certificates of a whole run of a host.
+// A law over the whole: what a fetch says of each certificate that a run of the host sends.
 ghost use Rattle.std.specs.Prelude.{ℕ};
 ghost use Rattle.host_commands.specs.Headline.{Headline};
 ghost use Rattle.host_commands.specs.Links.{Every};

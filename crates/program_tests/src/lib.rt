@@ -1,5 +1,5 @@
-//! Tests of the program over objects whose calls fail. They also try its adapters over such a reader and writer, and the refusals that
-//! no request brings about.
+//! Tests of the program over objects whose calls fail, of its adapters over such a reader and writer, and of the refusals that no request
+//! brings about.
 #![tactic(auto)]
 
 #[cfg(test)]

@@ -1,4 +1,4 @@
-// The adapters over a reader and a writer that fail.
+// Tests of the program's adapters over objects whose calls fail: a reader and a writer.
 use adapters::{Reading, Writing};
 use split_base::{Failed, Sink, Source};
 use std::io;

@@ -1,4 +1,4 @@
-// Refusals of the service that no request brings about by itself, as JSON.
+// Tests of the refusals that no request brings about by itself: the program gives them when the clock, the disk or memory fails.
 use reply_texts::{ServiceRefusal, memory_text, service_refusal_text};
 use std::process::Abort;
 

@@ -1,4 +1,4 @@
--- What a head that was read says of its body, whatever follows.
+-- What the first bytes of a fetched reply settle about its certificate, whatever follows: whether it is to be judged, and how long it is.
 use Rattle.std.specs.Prelude.{◌≡◌, ◌≢◌, ℕ, ◌-◌, ◌^◌, ◌<◌, ◌≤◌, List, ◌++◌, length, take, Option, Some, Err, IfSome}
 use Rattle.std.specs.Io.KnownBytes.{Consumes}
 use Rattle.httparse.specs.Grammar.{ResponseHead, status_code}

@@ -1,4 +1,4 @@
-// Why there is no verdict.
+// Why a fetched certificate has no verdict.
 
 /// Why a fetch has no verdict.
 #[derive(Clone, Copy, Debug, PartialEq, Eq)]

@@ -1,4 +1,4 @@
-// The length of a body, as the fields of a head tell it.
+// The length of a fetched certificate, as the fields in the head of its reply tell it.
 ghost use Rattle.std.specs.Prelude.{◌≡◌, ◌+◌, ℕ, length, All, min, MatchOption, None, Some};
 ghost use Rattle.httparse.specs.Spans.{IsHeaderWithin};
 ghost use Rattle.cert_reader.specs.declared.limits.TheConstants.{MOST_BYTES};

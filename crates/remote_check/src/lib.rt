@@ -1,4 +1,5 @@
-//! A certificate fetched from a host over a link, and judged as it comes, in fixed memory.
+//! A certificate fetched from a host over a link: the request, the head of the reply, and its body, which
+//! is judged as it comes, in fixed memory.
 //!
 //! `fetch` writes one request, and answers only by the bytes of the reply. A yes shows a valid
 //! case and the best division of it, and bytes have one answer at most (`fetched_law`). It uses no

@@ -1,4 +1,4 @@
-// Limits of a reply.
+// Limits and other numbers for fetching a certificate from a host.
 use cert_reader::limits::MOST_BYTES;
 
 /// The most digits of a Content-Length.

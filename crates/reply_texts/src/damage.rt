@@ -1,4 +1,4 @@
-// What is said when the file stops being a journal at some place.
+// The text of the reply that says, as JSON, at which place the host's file stops being a journal.
 ghost use Rattle.std.specs.Prelude.{◌≡◌, ◌≤◌, ◌+◌, ◌++◌, length};
 ghost use Rattle.reply_texts.specs.Refusals.{service_text};
 ghost use Rattle.reply_texts.specs.declared.damage.TheConstants.{DAMAGE_ROOM};

@@ -1,4 +1,4 @@
-// The texts of divisions.
+// The texts of a host's replies that tell a division, as JSON.
 ghost use Rattle.std.specs.Prelude.{◌≡◌, ◌≤◌, All, decimal, length, map, pos, IfOk};
 ghost use Rattle.std.specs.List.{range_with_len};
 ghost use Rattle.serde_json.specs.View.{view};

@@ -1,4 +1,4 @@
-//! The replies of a host as JSON: their texts, byte for byte, and their HTTP statuses.
+//! The replies of a host as texts: how each is spelled as JSON, byte for byte, and its HTTP status.
 //!
 //! The text of a reply on an instance that is not closed follows from what the caller may know of it.
 //!

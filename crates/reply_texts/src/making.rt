@@ -1,4 +1,4 @@
-// Makes what a reply tells.
+// Makes the content of a host's reply, an HTTP status with a text, from the text or from a refusal.
 ghost use Rattle.std.specs.Prelude.{◌≡◌, IfOk, IsTrue, true};
 ghost use Rattle.reply_texts.specs.Contents.{bytes_of, content_view, is_plain, memory_told, method_told, refusal_told, told_as};
 ghost use Rattle.reply_texts.specs.Refusals.{is_code_alone, service_row};

@@ -1,4 +1,4 @@
--- Definitions for the contracts of private functions. No public contract names them.
+-- Definitions for private functions: how a request's event is kept, and what the reply says if the journal has failed or the request leads nowhere. No public contract names them.
 use Rattle.std.specs.Prelude.{◌≡◌, ℕ, [], ◌∷◌, ◌++◌, Some, None}
 use Rattle.gate_log.specs.declared.fault.LogFault.{LogFault}
 use Rattle.gate_log.specs.declared.fault.LogFault.TheVariants as fault

@@ -1,4 +1,4 @@
--- What the reply to a command says, over the host after the event.
+-- What the reply to a request says, by its command and by the host after the event that goes with it.
 use Rattle.std.specs.Prelude.{◌≡◌, ℕ, List, Some}
 use Rattle.reply_texts.specs.declared.contents.ContentType.TheVariants.{Json}
 use Rattle.reply_texts.specs.Contents.{ContentView, told_as}

@@ -1,4 +1,4 @@
--- The part of a reply that the caller is told.
+-- What the sender of a request is told of its reply: the status and the text.
 use Rattle.std.specs.Prelude.{Some}
 use Rattle.reply_texts.specs.Contents.{ContentView}
 use Rattle.reply_texts.specs.Sealing.{Told}

@@ -1,4 +1,4 @@
-// A law that holds for every reply to a step. It is the contract of a function that does nothing.
+// Laws that hold for the reply to a request, whatever its command. Each is the contract of a function that does nothing.
 ghost use Rattle.std.specs.Prelude.{◌≡◌, ℕ, List, Option, false};
 ghost use Rattle.reply_texts.specs.Contents.{ContentView, told_as};
 ghost use Rattle.reply_texts.specs.Sealing.{sealed_told};

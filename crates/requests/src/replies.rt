@@ -1,4 +1,4 @@
-// What the reply of the host says.
+// Makes the reply to a request from what the host answers to its command.
 ghost use Rattle.std.specs.Prelude.{◌≡◌, ℕ, IfOk, OnErr, false};
 ghost use Rattle.reply_texts.specs.Telling.{IsAnswered, is_publication};
 ghost use Rattle.sealed_core.specs.declared.commands.What.{What};

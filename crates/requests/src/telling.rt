@@ -1,4 +1,4 @@
-// Says that the journal has failed.
+// The reply to a request when the journal has failed.
 ghost use Rattle.reply_texts.specs.Contents.{content_view};
 ghost use Rattle.requests.specs.Keeping.{FaultSays};
 

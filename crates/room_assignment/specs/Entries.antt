@@ -1,4 +1,4 @@
--- What the entries of a matrix that is made row by row are.
+-- For the rooms of greatest welfare and for longest walks: what stands in the matrices, which are made row by row.
 use Rattle.std.specs.Prelude.{◌≡◌, ℕ, ℤ, pos, ◌<◌, ◌≤◌, List, [], length, slice_index_or, unsigned_abs}
 use Rattle.room_assignment.specs.Matrix.{Matrix}
 

@@ -1,4 +1,4 @@
-// Whether a table of what members would gain has no envy.
+// Tests the rule that a table of what members would gain has no envy exactly when no entry is above 0.
 use arrayvec::ArrayVec;
 use envy_check::is_envy_free;
 use split_frac::make;

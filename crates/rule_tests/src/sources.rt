@@ -1,4 +1,4 @@
-// Certificates that are read and judged from a source whose calls fail: three printed ones, in pieces, with each call failing in turn.
+// Tests of reading certificates and asking their rules when calls of the source fail: three printed ones, in pieces, with each call failing in turn.
 use crate::printed::{ESTATE, FLAT, TAXI};
 use cert_checker::{check, judge};
 use cert_reader::{ReadEnd, read_certificate};

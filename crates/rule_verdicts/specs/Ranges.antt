@@ -1,4 +1,4 @@
--- The ranges of printed numbers.
+-- The range in which printed whole numbers have to lie for rules to read them as small ones.
 use Rattle.std.specs.Prelude.{ℕ, ℤ, pos, ◌≤ℤ◌, List, All}
 
 -- each number is between the least and the most, both included

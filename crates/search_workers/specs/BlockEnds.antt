@@ -1,4 +1,4 @@
--- How the search of a block ends.
+-- How the search of a block by several workers ends.
 use Rattle.std.specs.Prelude.{◌≡◌, ℕ, ◌+◌, ◌*◌, ◌<◌, ◌≤◌, List, Option, min}
 use mathlib.Core.Option.{some}
 use lib.ListN.{get_elem?}

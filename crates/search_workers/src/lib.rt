@@ -1,4 +1,5 @@
-//! The search for the allocation with the greatest Nash welfare, by several workers: it gives what one thread gives.
+//! The search for the allocation with the greatest Nash welfare by several workers, each in a thread: how parts are
+//! dealt to them, and that they find what one thread finds.
 //!
 //! The workers of a block draw parts of its tasks and share one budget of counted prefixes.
 //!

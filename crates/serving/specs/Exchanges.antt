@@ -1,4 +1,4 @@
--- The run of a link as a list of the requests that were answered, each with its reply, and what came after them.
+-- How a link was served, head by head in order: the requests that were answered, each with its one reply, and how the link ended after them.
 use Rattle.std.specs.Prelude.{◌≡◌, ◌⊎◌, ℕ, Bool, true, false, List, [], ◌∷◌, ◌++◌, length, Option, Some, None}
 use Rattle.split_http.specs.declared.head.Head.{Head}
 use Rattle.split_http.specs.Turns.{interim_of}

@@ -1,4 +1,4 @@
--- What the calls over a link say, if its bytes are told.
+-- What each step in the serving of a link says, if the link's bytes are told: what came, what was written, and whether the link goes on or ends.
 use Rattle.std.specs.Prelude.{◌≡◌, ◌⊎◌, ℕ, Bool, true, false, List, [], ◌∷◌, ◌++◌, Option, Some, None}
 use Rattle.std.specs.Io.KnownBytes.{Appends, Consumes, prepend_known}
 use Rattle.split_base.specs.declared.streams.Sink.{Ghosts as SinkSide}

@@ -1,4 +1,5 @@
-//! The host at its links: the heads of each link in order, each with one reply.
+//! The host at its links, one after the other: the heads of each in order, each with one reply, and why
+//! a head is refused.
 //!
 //! What a link and the links of a port are due is defined over any service that answers their heads one after the other.
 //!

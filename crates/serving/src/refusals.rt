@@ -1,4 +1,4 @@
-// Why a head is refused.
+// Why the host at a link refuses a head, instead of answering its request.
 
 /// Why a head is refused before its request is answered. After each of these the connection is closed.
 #[derive(Clone, Copy, Debug, PartialEq, Eq)]

@@ -1,4 +1,4 @@
-// Replies, as they are written to a link.
+// The one reply that the host gives to each head of a link: the answer to its request, or why the head is refused.
 ghost use Rattle.std.specs.Prelude.{◌≡◌, ◌≤◌, IfSome, IsSome, true};
 ghost use Rattle.http.specs.StatusCode.{reason_phrase};
 ghost use Rattle.split_base.specs.declared.limits.TheConstants.{LAST_MOMENT};

@@ -1,4 +1,4 @@
-// The writing of a reply.
+// Writes the host's reply to a head of a link, and tells how the link ends after it, or that it goes on.
 ghost use Rattle.std.specs.Prelude.{◌≡◌, ◌≤◌, IfSome, IsSome};
 ghost use Rattle.http.specs.StatusCode.{reason_phrase};
 ghost use Rattle.split_base.specs.declared.limits.TheConstants.{LAST_MOMENT};

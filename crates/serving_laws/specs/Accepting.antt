@@ -1,4 +1,4 @@
--- The events that a run keeps.
+-- Which events are kept over a whole run of the host, and what made each of them.
 use Rattle.std.specs.Prelude.{◌≡◌, ◌⊎◌, ℕ, List, [], ◌∷◌, ◌++◌, Some, Ok, Contains}
 use Rattle.host_journal.specs.States.{State}
 use Rattle.serving.specs.Exchanges.{Exchange}

@@ -1,4 +1,4 @@
--- How a request is answered, and in which state it leaves the host, whatever the disk.
+-- How each request in a whole run of the host is answered, and in which state it leaves the host, whatever the disk.
 use Rattle.std.specs.Prelude.{◌≡◌, ℕ, None, Some, Ok, Err}
 use Rattle.host_journal.specs.Journal.{IsFirstFault}
 use Rattle.host_journal.specs.States.{State, waits_with}

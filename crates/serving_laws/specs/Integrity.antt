@@ -1,4 +1,4 @@
--- Who sent the bids and the withdrawals that are kept.
+-- Who sent the bids and the withdrawals that are kept over a whole run of the host.
 use Rattle.std.specs.Prelude.{◌≡◌, ◌⊎◌, ℕ, List, [], ◌∷◌, ◌++◌, Some, Ok, Contains}
 use Rattle.body_fields.specs.declared.bodies.BidBody.{BidBody}
 use Rattle.host_journal.specs.States.{State}

@@ -1,4 +1,4 @@
--- What came last on a link, and how that ends the link.
+-- For laws about whole runs of the host over a link: what came last on the link, and how that ends it.
 use Rattle.std.specs.Prelude.{◌≡◌, ℕ, ◌<◌, Bool, true, false, List, [], ◌∷◌, ◌++◌, length, Option, Some, None}
 use Rattle.split_http.specs.declared.head.Head.{Head}
 use Rattle.split_http.specs.Turns.{MayBecomeHead, interim_of}

@@ -1,4 +1,4 @@
--- How a request changes the state, whatever the disk.
+-- How each request in a whole run of the host moves its state, whatever the disk.
 use Rattle.std.specs.Prelude.{◌≡◌, ◌⊎◌, ℕ, List, [], ◌∷◌, ◌++◌, Some}
 use Rattle.split_base.specs.declared.disk.Disk.{Ghosts}
 use Rattle.host_journal.specs.Journal.{HoldsEvents}

@@ -1,4 +1,4 @@
--- What a request without success may change.
+-- What each request in a whole run of the host may still change if it is refused, or if something fails.
 use Rattle.std.specs.Prelude.{◌≡◌, ◌⊎◌, ℕ, [], ◌∷◌, ◌++◌, Some, Ok}
 use Rattle.host_journal.specs.States.{State, host_in, ready_with, waits_with}
 use Rattle.serving.specs.Exchanges.{Exchange}

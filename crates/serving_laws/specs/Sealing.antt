@@ -1,4 +1,4 @@
--- What a caller is told of an instance that isn't closed.
+-- What stays sealed in a whole run of the host: what a caller is told of an instance that isn't closed.
 use Rattle.std.specs.Prelude.{◌≡◌, ◌⊎◌, ℕ, true, false, List, Option, Some, Ok, Err}
 use Rattle.split_base.specs.declared.disk.Disk.{Ghosts}
 use Rattle.host_journal.specs.Journal.{IsFirstFault}

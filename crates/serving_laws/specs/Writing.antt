@@ -1,4 +1,4 @@
--- A host that answers every request in exactly one way.
+-- For laws about whole runs: a host that answers each request in exactly one way, and when two hosts of one state answer alike.
 use Rattle.std.specs.Prelude.{◌≡◌, ℕ, false, List, None}
 use Rattle.split_base.specs.declared.disk.Disk.{Ghosts}
 use Rattle.split_base.specs.Faults.{HasRisen}

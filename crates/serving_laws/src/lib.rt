@@ -1,4 +1,5 @@
-//! What holds of whole runs of the host, over a link and over a port.
+//! What holds of whole runs of the host, over a link and over a port: how each request is answered and moves the
+//! state, what is kept and who sent it, and what stays sealed.
 //!
 //! These laws hold over any disk, except that what they say about crashes or files holds over an
 //! honest one.

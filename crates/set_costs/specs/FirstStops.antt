@@ -1,4 +1,4 @@
--- The routes of a set of riders, by who gets off first.
+-- A step of the recursion over sets of riders: the routes of a set, by who gets off first.
 use Rattle.std.specs.Prelude.{ℕ, ◌+◌, ◌*◌, ◌≤◌}
 use Rattle.bid_rules.specs.declared.cases.FareCase.{FareCase}
 use Rattle.bid_rules.specs.declared.limits.TheConstants.{MOST_FARE_CENTS, MOST_RIDERS}

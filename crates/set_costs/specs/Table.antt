@@ -1,4 +1,4 @@
--- The costs of routes by set and departure, as a table.
+-- The rows of the recursion over sets of riders as one table: the costs of routes by set and departure.
 use Rattle.std.specs.Prelude.{◌≡◌, ℕ, ◌+◌, ◌≤◌, ◌^◌, List, length, map}
 use Rattle.std.specs.List.{range_with_len}
 use Rattle.bid_rules.specs.declared.cases.FareCase.{FareCase}

@@ -1,4 +1,4 @@
-// Says what coalitions cost and how they go, from a whole table of route costs.
+// What is read from the finished rows of the recursion: the cost of each set of riders, the first of the cheapest routes, and sums of marginal costs.
 ghost use Rattle.std.specs.Prelude.{◌≡◌, ◌+◌, ◌*◌, ◌<◌, ◌≤◌, ◌^◌, length, map, Contains, unsigned_abs};
 ghost use Rattle.bid_rules.specs.Coalitions.{riders_in, start_of};
 ghost use Rattle.bid_rules.specs.Fares.{IsLeastRoute, coalition_cost, route_cost, sum_of_marginal_costs};

@@ -1,4 +1,5 @@
-//! What sets of riders cost, by the recursion over sets, wherever in memory the rows of the table lie.
+//! The recursion over sets of riders, step by step: what a set costs from the costs of smaller ones, in rows that
+//! the caller lends, and what is read from the finished rows.
 //!
 //! A complete table gives the least sum of legs over all orders of a set, the first of the cheapest
 //! routes, and a rider's sum of marginal costs over all orders.

@@ -1,4 +1,4 @@
-// Computes what routes cost from the cost of shorter ones, by who gets off first.
+// A step of the recursion over sets of riders: what a set costs from the costs of smaller ones, by who gets off first.
 ghost use Rattle.std.specs.Prelude.{◌≡◌, ℕ, ◌*◌, ◌<◌, ◌≤◌, ◌^◌, length, map, All, Contains};
 ghost use Rattle.bid_rules.specs.Coalitions.{riders_in, start_of};
 ghost use Rattle.bid_rules.specs.Facts.{IsValidFareCase};

@@ -1,4 +1,4 @@
-// Sets of riders as numbers: the sum of 2^(i-1) over the riders i of the set.
+// The sets of riders that the recursion goes through, as numbers: each is the sum of 2^(i-1) over the riders i of the set.
 ghost use Rattle.std.specs.Prelude.{◌≡◌, ◌<◌, ◌≤◌, ◌^◌, ℕ, Contains};
 ghost use Rattle.bid_rules.specs.Coalitions.{riders_in};
 ghost use Rattle.best_laws.specs.Entries.{without as set_without};

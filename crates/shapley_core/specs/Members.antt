@@ -1,4 +1,4 @@
--- A case of fares with another number of members.
+-- For the law that the number of members changes no Shapley value: a case of fares with another number of them.
 use Rattle.std.specs.Prelude.{ℕ}
 use Rattle.bid_rules.specs.declared.cases.FareCase.{FareCase}
 

@@ -28,7 +28,7 @@ pub record IsSameOutside (place n end : ℕ) (old new : List ℕ) : Type 0 where
 abbrev pub AddsNone : (List ℕ → Type 0) → (List ℕ → Type 0) → Type 0
 AddsNone old new = (c : List ℕ) → new c → old c
 
--- there is exactly one image, this one
+-- there is no image but this one
 abbrev pub Only : List ℕ → (List ℕ → Type 0) → Type 0
 Only file images = (c : List ℕ) → images c → c ≡ file
 

@@ -1,4 +1,4 @@
-// A record of how often an object was asked for a port, and for which one.
+// How often a port was asked to listen or a dialer to open a link, and with which port number most recently.
 ghost use Rattle.std.specs.Prelude.{◌≡◌};
 ghost use Rattle.split_base.specs.Asked.{asked_again, never_asked};
 

@@ -1,4 +1,4 @@
-// A gate that is called as workers begin and end tasks, so that tests can hold a worker up.
+// The trait of gates, objects of the outside that are called as workers begin and end tasks, so that tests can hold a worker up.
 
 /// Is told when the walk of a task begins and when it has ended. The first part of a task is
 /// walked between the two calls, and `leave` is called when the last of its parts has ended;

@@ -1,5 +1,6 @@
 //! The outside of the program, as traits and in memory: sources and sinks of bytes, links, a port,
-//! a dialer, a disk with what a crash may leave, and a clock, each with a count of its faults.
+//! a dialer, a disk with what a crash may leave, and a clock, each with a count of its faults; and the
+//! gate that is called when workers begin and end tasks.
 //!
 //! A call fails only if it raises its object's count of faults, by one; a successful call leaves
 //! the count unchanged. `read_all` and `write_all` end at the first failed call and try nothing

@@ -1,4 +1,4 @@
-// Objects in memory, whose calls fail when they are told to, and text that is read without a fault.
+// The outside in memory, beside its traits: objects whose calls fail when they are told to, and text that is read without a fault.
 mod calls;
 mod clock;
 mod dial;

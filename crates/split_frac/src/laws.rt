@@ -6,7 +6,7 @@ ghost use Rattle.std.specs.declared.cmp.Ordering.TheVariants.{Less, Equal};
 ghost use Rattle.split_frac.specs.Frac.{HasValue, IsSum, IsDifference, IsFloor, frac_cmp, fraction_of};
 ghost use Rattle.split_frac.specs.declared.frac.Frac.{Frac};
 
-/// Each value has exactly one fraction: two fractions whose cross products agree are equal, and so are two with the same
+/// Each value has at most one fraction: two fractions whose cross products agree are equal, and so are two with the same
 /// numerator and denominator. It is the least of all ways to write its value: its denominator divides theirs, and its
 /// numerator is no greater.
 pub fn value_law()
@@ -60,7 +60,7 @@ pub fn parts_law()
         → IsDifference a b c → HasValue c (x -ℤ y) k }
 {}
 
-/// A fraction has exactly one floor.
+/// A fraction has at most one floor.
 pub fn floor_law()
     ensures { (a : Frac) (x y : ℤ) → IsFloor a x → IsFloor a y → x ≡ y }
 {}

@@ -1,4 +1,4 @@
-// A name with its number in front, as people read it.
+// How a name is written in a line, with its number in front.
 ghost use Rattle.std.specs.Prelude.{Some};
 ghost use Rattle.split_frac.specs.Texts.{numbered_name};
 

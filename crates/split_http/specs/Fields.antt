@@ -1,4 +1,4 @@
--- Fields of a request's head, by name and value.
+-- What the fields of a request's head say about its body and its connection, such as the body's length or the option `close`.
 use Rattle.std.specs.Prelude.{ℕ, ◌+◌, ◌==◌, nat_lt, Bool, ◌&&◌, List, option_map, unwrap_or, codes, if◌then◌else◌}
 use Rattle.std.specs.List.{list_any, slice_split}
 use Rattle.std.specs.Str.{str_eq_ignore_ascii_case}

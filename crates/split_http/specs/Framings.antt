@@ -1,4 +1,4 @@
--- Where the request at the front of a client's bytes ends.
+-- HTTP/1.1 without a link: where a request, with its head and its body, ends at the front of some bytes.
 use Rattle.std.specs.Prelude.{◌≡◌, ℕ, ◌+◌, List, ◌++◌, length}
 use Rattle.httparse.specs.Grammar.{RequestHead, print_request}
 use Rattle.split_http.specs.declared.framing.Framing.{Framing}

@@ -1,4 +1,4 @@
--- What a sink got of the bytes that were due.
+-- How much of an HTTP reply was written: a first part of its bytes, or one that lacks at least the last byte.
 use Rattle.std.specs.Prelude.{◌≡◌, ◌<◌, ℕ, List, length, ◌++◌, Option}
 use Rattle.std.specs.Io.KnownBytes.{Appends}
 

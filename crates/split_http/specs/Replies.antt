@@ -1,4 +1,4 @@
--- The bytes of a reply.
+-- The bytes of an HTTP/1.1 reply: the status line, the fields and the body.
 use Rattle.std.specs.Prelude.{◌≡◌, ℕ, ◌==◌, Bool, List, [], ◌∷◌, ◌++◌, length, codes, decimal, Option, Some, None, unwrap_or, cond}
 use Rattle.std.specs.List.{list_any}
 use Rattle.http.specs.StatusCode.{code_digits, reason_phrase}

@@ -1,4 +1,4 @@
-// Fields of a request's head, by name and value.
+// What the fields of a request's head say about its body and its connection, such as the body's length or the option `close`.
 ghost use Rattle.std.specs.Prelude.{◌≡◌, length, All};
 ghost use Rattle.std.specs.List.{list_any};
 ghost use Rattle.httparse.specs.Grammar.{skip_ows};

@@ -1,4 +1,4 @@
-// Where the request at the front of a client's bytes ends.
+// HTTP/1.1 without a link: where a request, with its head and its body, ends at the front of some bytes.
 ghost use Rattle.std.specs.Prelude.{◌≡◌, ◌≤◌, ◌+◌, ℕ, Bool, List, Some, length, All};
 ghost use Rattle.httparse.specs.Spans.{IsHeaderWithin, IsWithin, span_bytes};
 ghost use Rattle.http_heads.specs.Fields.{fields_at};

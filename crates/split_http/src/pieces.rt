@@ -1,4 +1,4 @@
-// Writing several pieces, one after the other.
+// Writes the pieces of an HTTP reply one after the other, with short ones together in one write.
 ghost use Rattle.std.specs.Prelude.{◌≡◌, ◌++◌, ℕ, List, OnOk, OnErr};
 ghost use Rattle.std.specs.Io.KnownBytes.{Appends};
 ghost use Rattle.std.specs.List.{flat_map};

@@ -1,4 +1,4 @@
-// Replies as bytes.
+// HTTP/1.1 replies as bytes: the status line, the fields and the body.
 ghost use Rattle.std.specs.Prelude.{◌≡◌, ◌≤◌, ◌++◌, ℕ, List, [], OnOk, OnErr, IsSome, IfSome, Some, unwrap_or, codes};
 ghost use Rattle.std.specs.Io.KnownBytes.{Appends};
 ghost use Rattle.http.specs.StatusCode.{code_digits, reason_phrase};

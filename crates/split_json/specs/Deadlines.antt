@@ -1,4 +1,4 @@
--- The second of a deadline's text.
+-- Reading JSON: which second the text of a deadline stands for.
 use Rattle.std.specs.Prelude.{ℕ, ◌/◌, ℤ, pos, negsuc, List, Option, Some, None, Result, Ok, Err}
 use Rattle.jiff.specs.Words.{Error, parse_timestamp}
 

@@ -1,4 +1,4 @@
-// Reads deadlines as `jiff` reads timestamps.
+// Reading JSON: the text of a deadline, which is read as `jiff` reads timestamps.
 ghost use Rattle.std.specs.Prelude.{◌≡◌, ◌≤◌, IfSome};
 ghost use Rattle.body_fields.specs.declared.limits.TheConstants.{LAST_DEADLINE};
 ghost use Rattle.split_json.specs.Deadlines.{deadline_of};

@@ -1,4 +1,4 @@
--- A writer of rows, between two rows. Only contracts of private functions use this.
+-- The writer of a dump, between two of its rows. Only contracts of private functions use this.
 use Rattle.std.specs.Prelude.{◌≡◌, ℕ, List, Some, false, Vec}
 use Rattle.csv.specs.Writing.{default_writer, writer_setup, fields_written, has_written, text_written}
 use Rattle.csv.specs.declared.writer.Writer.{Writer}

@@ -1,4 +1,4 @@
--- The parts of lines that reports of several kinds share.
+-- The lines that reports of several kinds share.
 use Rattle.std.specs.Prelude.{ℕ, List, [], ◌∷◌, codes}
 use Rattle.std.specs.Fmt.{decimal}
 use Rattle.split_frac.specs.Texts.{line_of, with_spaces}

@@ -1,4 +1,4 @@
--- The parts of lines that texts of several kinds share.
+-- What reports and lines on players are made of: the number, text or name at a place of a list, and lines one after another.
 use Rattle.std.specs.Prelude.{ℕ, ◌-◌, List, [], flat_map, slice_index, slice_index_or}
 use Rattle.std.specs.List.{range_with_len}
 use Rattle.split_frac.specs.Texts.{numbered_name}

@@ -1,4 +1,4 @@
--- Numbers drawn one after the other by a multiplicative generator (Park, Miller and Stockmeyer 1993), and weights made of them.
+-- How the cases of a trial are drawn: numbers, one after the other, from a multiplicative generator (Park, Miller and Stockmeyer 1993), and weights made of them.
 use Rattle.std.specs.Prelude.{ℕ, zero, suc, ◌+◌, ◌*◌, ◌%◌, List, map}
 use Rattle.std.specs.List.{range_with_len}
 use Rattle.split_reports.specs.declared.limits.TheConstants.{DRAW_FACTOR, DRAW_MODULUS, WEIGHTS}

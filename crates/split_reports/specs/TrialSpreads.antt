@@ -1,4 +1,4 @@
--- A whole that is spread by weights.
+-- How the cases of a trial are drawn: a whole is spread by weights.
 use Rattle.std.specs.Prelude.{ℕ, ◌+◌, ◌-◌, ◌*◌, ◌/◌, List, map, length, sum, take}
 use Rattle.std.specs.List.{range_with_len}
 

@@ -1,4 +1,4 @@
--- The cases of a trial, drawn one after the other from its number.
+-- How the three cases of a trial are drawn, one after the other, from its number.
 use Rattle.std.specs.Prelude.{ℕ, ◌+◌, ◌*◌, ◌%◌, ◌==◌, List, map, if◌then◌else◌, count_by, not}
 use Rattle.std.specs.List.{range_with_len, sum_by}
 use Rattle.arrayvec.specs.declared.array_vec.ArrayVec.{ArrayVec}

@@ -1,4 +1,4 @@
-// Numbers drawn one after the other.
+// Draws the numbers for the cases of a trial, one after the other, and the weights made of them.
 ghost use Rattle.std.specs.Prelude.{◌≡◌, ◌+◌, ◌%◌, ◌<◌, ◌≤◌, length, map};
 ghost use Rattle.split_reports.specs.TrialDraws.{after, next, seed, weights_behind};
 ghost use Rattle.split_reports.specs.declared.limits.TheConstants.{DRAW_MODULUS};

@@ -1,4 +1,4 @@
-// Rows written one after the other.
+// Writes the rows of a dump, one after the other.
 ghost use Rattle.std.specs.Prelude.{◌≡◌, ◌++◌, ℕ, List, OnOk, IfOk, codes, count_by, is_some};
 ghost use Rattle.split_reports.specs.DumpBetween.{IsBetweenRows};
 ghost use Rattle.split_reports.specs.DumpRows.{header_line, kind_name, row_line};

@@ -1,4 +1,4 @@
-//! The texts that people read: reports, lines on players, dumps, and the cases of a trial.
+//! The texts that people read: reports, lines on players and dumps; and the drawing of the cases of a trial.
 //!
 //! The numbers of a report are those of the division, its cent plan, exact utilities and tables of
 //! envy, each by its definition. What is given fixes the report (`report_law`). The cases of a

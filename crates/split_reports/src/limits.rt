@@ -1,5 +1,4 @@
-// What a trial draws, and how many of each. Each of these numbers stands only
-// here.
+// What is drawn for the cases of a trial, and how many of each. Each of these numbers stands only here.
 
 /// A draw is below this number, which is a prime.
 pub const DRAW_MODULUS: u32 = 2_147_483_647;

@@ -1,4 +1,4 @@
-// What texts call by name.
+// What reports call by name: the case, its members, and what is divided.
 ghost use Rattle.std.specs.Prelude.{◌≡◌, ◌≤◌, map, length};
 ghost use Rattle.split_reports.specs.Parts.{text_at};
 

@@ -1,4 +1,4 @@
-// Laws about texts that grow line by line. Each is the contract of a function that does nothing.
+// Laws about reports and lines on players, which grow line by line. Each is the contract of a function that does nothing.
 ghost use Rattle.std.specs.Prelude.{◌≡◌, ℕ, ◌+◌, ◌++◌, List};
 ghost use Rattle.split_reports.specs.Parts.{lines_to};
 

@@ -1,4 +1,4 @@
-// A whole that is spread by weights.
+// Spreads a whole by weights, to draw the cases of a trial.
 ghost use Rattle.std.specs.Prelude.{◌≡◌, ◌*◌, ◌/◌, ◌<◌, ◌≤◌, ◌^◌, sum};
 ghost use Rattle.split_reports.specs.TrialSpreads.{spread};
 

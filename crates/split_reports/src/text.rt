@@ -1,4 +1,4 @@
-// What lines tell of lists: fractions and amounts, each by its number from 1.
+// Finds the fractions and amounts that the lines of a report tell, each by its number in a list, from 1.
 ghost use Rattle.std.specs.Prelude.{◌≡◌, ◌≤◌, map, length};
 ghost use Rattle.std.specs.Fmt.{signed_decimal};
 ghost use Rattle.split_frac.specs.Frac.{frac_text};

@@ -1,4 +1,4 @@
-// The legs and places of the fare of a trial.
+// Draws the legs and the riders' places for the fare of a trial.
 ghost use Rattle.std.specs.Prelude.{◌≡◌, ◌==◌, ◌+◌, ◌%◌, ◌≤◌, if◌then◌else◌};
 ghost use Rattle.bid_rules.specs.declared.limits.TheConstants.{PLACE_ROOM, RIDER_ROOM};
 ghost use Rattle.split_reports.specs.TrialDraws.{after, next};

@@ -1,4 +1,4 @@
-// A law about the cases of a trial, which holds for all numbers. It is the contract of a function that does nothing.
+// A law about the cases that are drawn for a trial, which holds for all numbers. It is the contract of a function that does nothing.
 ghost use Rattle.std.specs.Prelude.{◌≡◌, ℕ, ◌*◌, ◌-◌, ◌≤◌};
 ghost use Rattle.bid_rules.specs.declared.goods.GoodsCase.{GoodsCase};
 ghost use Rattle.bid_rules.specs.Facts.{IsValidFareCase};

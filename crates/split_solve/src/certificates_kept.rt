@@ -1,4 +1,4 @@
-// The certificates of goods that are kept, so that one that is asked for again need not be written again.
+// The certificates of goods that the solver keeps with its searches, so that one that is asked for again need not be written again.
 ghost use Rattle.std.specs.Prelude.{◌≡◌, IfOk, IfSome};
 ghost use Rattle.bid_rules.specs.declared.cases.Case.TheVariants as cases;
 ghost use Rattle.bid_rules.specs.Facts.{IsValidCase};

@@ -1,4 +1,5 @@
-//! One call for all kinds: the case that facts and bids make, and its best division.
+//! One call for all kinds, from facts and bids to the best division of their case; and the searches
+//! and certificates of goods that are kept.
 //!
 //! Bids are missing, or the limit is passed, exactly when the definitions say so. Unless memory
 //! runs out, checked facts and bids have exactly one end (`solve_law`). So neither the number

@@ -1,4 +1,4 @@
--- What `audit` comes to.
+-- The command `audit`, over any dialer: what it asks of the dialer and of the link, and how it ends.
 use Rattle.std.specs.Prelude.{◌≡◌, ◌⊎◌, ◌<◌, ℕ, List, Result, Ok, Err}
 use Rattle.command_results.specs.Endings.{yes_line}
 use Rattle.command_results.specs.declared.stop.Stop.{Stop}

@@ -1,4 +1,4 @@
-// Fetches a certificate and judges it.
+// The command `audit`, over any dialer: it has a certificate fetched and judged, and the answer decides how it ends.
 ghost use Rattle.std.specs.Prelude.{◌≡◌};
 ghost use Rattle.command_results.specs.Endings.{ending_of};
 ghost use Rattle.serving.specs.Served.{tells_of};

@@ -1,4 +1,5 @@
-//! The commands of the program, over any disk, port, clock, source, sink, gate and dialer.
+//! The commands of the program, `audit` among them, over any disk, port, clock, source, sink, gate and
+//! dialer.
 //!
 //! The clause `holds` of `run` says all. The field `ran` of its record `Holds` comes first, and the
 //! others follow from it. Words name at most one command (`command_law`).

@@ -1,4 +1,4 @@
-// What single words say.
+// What single words of a command line say.
 ghost use Rattle.std.specs.Prelude.{◌≡◌, ◌≤◌, MatchOption, Ok};
 ghost use Rattle.split_top.specs.Words.{IsKey, IsNoKey, IsNoNumber, IsNoSecret, IsNumber, IsSecret, is_key_digit};
 

@@ -1,4 +1,4 @@
-// Checks a division by its certificate.
+// Writes the certificate of each division of a trial, and judges it.
 ghost use Rattle.std.specs.Prelude.{OnOk};
 ghost use Rattle.bid_rules.specs.Facts.{IsValidCase};
 ghost use Rattle.certificates.specs.Division.{IsDivisionOf};

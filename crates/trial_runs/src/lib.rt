@@ -1,4 +1,5 @@
-//! The trial of a number: three cases drawn from it, solved, their certificates judged, and the summary of them.
+//! The trial of a number, once its three cases are drawn: they are solved, their certificates judged, and all is
+//! summed up.
 //!
 //! The verdict on the canonical certificates is proved; no clause requires that they are read back. A trial can
 //! fail only for lack of memory.

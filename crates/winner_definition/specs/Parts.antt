@@ -1,4 +1,4 @@
--- Printed shares, counted in as many equal parts as the one split good has.
+-- For the laws of adjusted winner: player 1's shares of the goods, counted in as many equal parts as the one split good has.
 use Rattle.std.specs.Prelude.{ℕ, List, [], ◌∷◌, map, unsigned_abs, cond, nat_lt, ◌&&◌, Bool}
 use Rattle.bid_rules.specs.Fractions.{Fraction}
 

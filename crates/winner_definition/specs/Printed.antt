@@ -1,4 +1,4 @@
--- The rules by which shares, a total and weights show a division of goods between two players, in fractions as they are printed.
+-- The rule of adjusted winner on printed fractions: how shares, a total and weights show a division of goods between two players.
 use Rattle.std.specs.Prelude.{◌≡◌, ℕ, pos, ◌*◌, ◌<◌, ◌≤◌, ◌<ℤ◌, ◌≤ℤ◌, ◌*ℤ◌, ◌-ℤ◌, List, length, map, All}
 use Rattle.std.specs.List.{range_with_len}
 use Rattle.bid_rules.specs.declared.limits.TheConstants.{WHOLE_POINTS}

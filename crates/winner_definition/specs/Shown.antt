@@ -1,4 +1,4 @@
--- What shows that a division is equitable, envy-free and efficient, in fractions as they are printed.
+-- For the laws of adjusted winner: what shows that a division is equitable, envy-free and efficient, in fractions.
 use Rattle.std.specs.Prelude.{◌≡◌, ℕ, pos, ◌-◌, ◌≤◌, ◌<ℤ◌, List, length, slice_index_or}
 use Rattle.std.specs.List.{AllZip}
 use Rattle.bid_rules.specs.declared.goods.GoodsCase.{GoodsCase}

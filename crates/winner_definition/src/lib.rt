@@ -1,5 +1,5 @@
-//! The rule of adjusted winner for two players (Brams and Taylor 1996), and what follows from it
-//! for all cases.
+//! The rule of adjusted winner for two players (Brams and Taylor 1996), and the laws that follow from
+//! it for all cases.
 //!
 //! Each law is the contract of a function that does nothing. Solvers and checkers rely on them.
 //!

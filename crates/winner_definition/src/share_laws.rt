@@ -1,4 +1,4 @@
-// Laws about shares as fractions and in equal parts, and what they add up to. Each is the contract of a function that does nothing.
+// Laws about shares of goods by adjusted winner, as fractions and in equal parts, and what they add up to. Each is the contract of a function that does nothing.
 ghost use Rattle.std.specs.Prelude.{◌≡◌, ◌↔◌, ℕ, pos, ◌*◌, ◌<◌, ◌≤◌, List, All, length, slice_index_or, true};
 ghost use Rattle.std.specs.List.{AllZip};
 ghost use Rattle.bid_rules.specs.declared.goods.GoodsCase.{GoodsCase};

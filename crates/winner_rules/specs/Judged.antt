@@ -1,4 +1,4 @@
--- The verdict on the text of a pair.
+-- The verdict of the rules on a text of adjusted winner.
 use Rattle.std.specs.Prelude.{◌≡◌, ℕ, ◌≤◌, List, length, Option, Result, Ok, Err}
 use Rattle.std.specs.Io.KnownBytes.{IsAtEnd}
 use Rattle.bid_rules.specs.Goods.{IsValidGoodsCase, player_count}

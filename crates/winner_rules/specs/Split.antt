@@ -1,4 +1,4 @@
--- How many of the shares are those of split goods.
+-- For the rules on a text of adjusted winner: whether exactly one of the first few printed shares is that of a split good, or none.
 use Rattle.std.specs.Prelude.{◌≡◌, ℕ, pos, ◌<◌, List, length, slice_index_or, Bool, true, false, ◌⊎◌}
 use Rattle.bid_rules.specs.Fractions.{Fraction}
 use Rattle.winner_definition.specs.Parts.{is_split}

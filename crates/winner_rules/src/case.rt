@@ -1,4 +1,4 @@
-// Reads the case that a text prints.
+// The first rule of the text of adjusted winner: it prints a valid case of two players, which is read here.
 ghost use Rattle.std.specs.Prelude.{◌≡◌, ℤ, ◌≤◌, List, MatchOption, length, map};
 ghost use Rattle.bid_rules.specs.declared.limits.TheConstants.{MEMBER_ROOM};
 ghost use Rattle.bid_rules.specs.Fractions.{Fraction};

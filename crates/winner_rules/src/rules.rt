@@ -1,4 +1,4 @@
-// The rules, asked in order.
+// Asks the four rules of the text of adjusted winner in order, up to the first that doesn't hold.
 ghost use Rattle.std.specs.Prelude.{◌≡◌, ◌≤◌, length, map};
 ghost use Rattle.bid_rules.specs.declared.limits.TheConstants.{MEMBER_ROOM};
 ghost use Rattle.cert_reader.specs.Numbers.{AreShort, IsSmall};

@@ -1,4 +1,4 @@
-// Weights that put each good with the player to whom it is worth most.
+// The rule on the weights in the text of adjusted winner: by them, each good or part of one is with a player to whom it is worth most.
 ghost use Rattle.std.specs.Prelude.{◌≡◌, ℕ, ◌*◌, ◌<◌, ◌≤◌, ◌<ℤ◌, ◌↔◌, List, [], ◌∷◌, IsTrue, MatchOption, length, map, pos};
 ghost use Rattle.bid_rules.specs.Goods.{IsValidGoodsCase, player_count, points};
 ghost use Rattle.winner_definition.specs.Printed.{SupportShares};
