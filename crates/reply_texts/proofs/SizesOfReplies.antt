@@ -129,7 +129,7 @@ amount_size : (amount : ℕ) → amount ≤ MOST_RENT → length (decimal amount
 amount_size amount most = length-decimal-le 8 amount (omega arith) (omega (arith, most)) (omega (arith, most))
 
 -- the status of a rent
-rent_status : (id you : ℕ) (p : PublicFacts) (rent : Rent) → IsShown p (facts.Rent rent) → id ≤ MOST_INSTANCES + 1 → you < 100 → value_most (of_rent_status id you p rent) ≤ 2300
+rent_status : (id you : ℕ) (p : PublicFacts) (rent : Rent) → IsShown p (facts.Rent rent) → id ≤ MOST_INSTANCES + 1 → you < 100 → value_most (of_rent_status id you p rent) ≤ REPLY_MOST
 unfolding of_rent_status escape_byte
 rent_status id you p rent shown few low =
     let checked = shown.facts in
@@ -151,7 +151,7 @@ rent_status id you p rent shown few low =
     )
 
 -- the status of goods
-goods_status : (id you : ℕ) (p : PublicFacts) (goods : Goods) → IsShown p (facts.Goods goods) → id ≤ MOST_INSTANCES + 1 → you < 100 → value_most (of_goods_status id you p goods) ≤ 3300
+goods_status : (id you : ℕ) (p : PublicFacts) (goods : Goods) → IsShown p (facts.Goods goods) → id ≤ MOST_INSTANCES + 1 → you < 100 → value_most (of_goods_status id you p goods) ≤ REPLY_MOST
 unfolding of_goods_status escape_byte
 goods_status id you p goods shown few low =
     let checked = shown.facts in
@@ -174,7 +174,7 @@ goods_status id you p goods shown few low =
     )
 
 -- the status of a shared fare
-fares_status : (id you : ℕ) (p : PublicFacts) (fares : Fares) → IsShown p (facts.Fares fares) → id ≤ MOST_INSTANCES + 1 → you < 100 → value_most (of_fares_status id you p fares) ≤ 3400
+fares_status : (id you : ℕ) (p : PublicFacts) (fares : Fares) → IsShown p (facts.Fares fares) → id ≤ MOST_INSTANCES + 1 → you < 100 → value_most (of_fares_status id you p fares) ≤ REPLY_MOST
 unfolding of_fares_status escape_byte
 fares_status id you p fares shown few low =
     let checked = shown.facts in
