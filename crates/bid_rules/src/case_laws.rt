@@ -1,4 +1,5 @@
-// A law about the rules of cases: a case made from facts and bids has those facts, and is valid if these and the bids are checked. It is the contract of a function that does nothing.
+// A law about the rules of cases: a case made from facts and bids has those facts, and is valid if these and the bids are checked.
+// It is the contract of a function that does nothing.
 ghost use Rattle.std.specs.Prelude.{◌≡◌, List, Option, Ok, length, All, IfSome};
 ghost use Rattle.bid_rules.specs.declared.bids.Bid.{Bid};
 ghost use Rattle.bid_rules.specs.declared.bids.Facts.{Facts};

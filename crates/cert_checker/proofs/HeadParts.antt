@@ -136,17 +136,17 @@ head_of_case : (view : FaresView) → HasCase view → HasCase (head_of view.pla
 head_of_case view h = record { flag = h.flag; legs = h.legs; who = h.who; at = h.at; valid = h.valid }
 
 -- a judge in the state of a head alone, with no set yet, is in the state of the text
-pub stands_behind_head : (view : FaresView) (state : FaresState) → StandsFor (head_of view.places view.flag view.legs view.who view.at) [] state → StandsFor view [] state
-stands_behind_head view (Broken rule) (inl h) = inl (h.0, λ case. h.1 (head_of_case view case))
-stands_behind_head view (Broken rule) (inr h) = inr (h.0, case_of_head view h.1, h.2)
-stands_behind_head view (Filling case rows) h = (case_of_head view h.0, h.1, h.2, h.3, h.4)
+pub stands_behind_head : (view : FaresView) (state : FaresState) (rows : List (List ℕ)) → StandsFor (head_of view.places view.flag view.legs view.who view.at) [] state rows → StandsFor view [] state rows
+stands_behind_head view (Broken rule) rows (inl h) = inl (h.0, λ case. h.1 (head_of_case view case))
+stands_behind_head view (Broken rule) rows (inr h) = inr (h.0, case_of_head view h.1, h.2)
+stands_behind_head view (Filling case) rows h = (case_of_head view h.0, h.1, h.2, h.3, h.4)
 
 -- the judge after the numbers of a head is in the state of the text
-pub stands_so : (view : FaresView) (state : FaresState) (places : ℕ) (flag : ℤ) (legs : List (List ℤ)) (who at : List ℤ) → places ≡ view.places → flag ≡ view.flag → legs ≡ view.legs → who ≡ view.who → at ≡ view.at
-    → StandsFor (head_of places flag legs who at) [] state → StandsFor view [] state
-stands_so view state places flag legs who at a b c d e h =
+pub stands_so : (view : FaresView) (state : FaresState) (rows : List (List ℕ)) (places : ℕ) (flag : ℤ) (legs : List (List ℤ)) (who at : List ℤ) → places ≡ view.places → flag ≡ view.flag → legs ≡ view.legs → who ≡ view.who → at ≡ view.at
+    → StandsFor (head_of places flag legs who at) [] state rows → StandsFor view [] state rows
+stands_so view state rows places flag legs who at a b c d e h =
     let same : head_of places flag legs who at ≡ head_of view.places view.flag view.legs view.who view.at = heads a b c d e in
-    stands_behind_head view state (subst (λ v. StandsFor v [] state) same h)
+    stands_behind_head view state rows (subst (λ v. StandsFor v [] state rows) same h)
   where
     heads : {p q : ℕ} {f g : ℤ} {l m : List (List ℤ)} {w x a b : List ℤ} → p ≡ q → f ≡ g → l ≡ m → w ≡ x → a ≡ b → head_of p f l w a ≡ head_of q g m x b
     heads h i j k l = cc

@@ -1,7 +1,7 @@
 -- The lines after the head of fares: those of the sets, and the last.
 use Rattle.std.proofs.Common.{◌≡◌, ℕ, ℤ, pos, ⊎_elim, zero, suc, ◌+◌, ◌-◌, ◌^◌, ◌<◌, ◌≤◌, List, [], ◌∷◌, ◌++◌, length, map, get_or, take, drop, All, false, arith, refl, sym, ap, ◌∙◌, subst, append_assoc, length-append}
 use Rattle.std.specs.List.{enumerate_from}
-use Rattle.std.proofs.lemmas.List.{append-nil, append_cancel_left, drop-map, get_or-map, get_or_default, length-map, map-append, take_rest}
+use Rattle.std.proofs.lemmas.List.{append-nil, append_cancel_left, drop-map, get_or-map, get_or_default, length-map, take_rest}
 use Rattle.std.proofs.lemmas.Bool.{cases_lt}
 use Rattle.std.proofs.Math.Seq.{get_or-append_seam}
 use Rattle.std.proofs.lemmas.List.FromFn.{length-enumerate_from}
@@ -32,9 +32,9 @@ pub sets_long : (from : ℕ) (rows : List (List ℤ)) → length (sets_said from
 sets_long from rows = length-map (enumerate_from from rows) (λ row. says (pos row.0 ∷ row.1)) ∙ length-enumerate_from from rows
 
 -- what is still to be said after the head, some sets and other lines
-pub left_said : (view : FaresView) (said rest : List Said) (table : TableLines) (h : IsBehindHead view said table) → fares_said view ≡ said ++ rest
+pub left_said : (view : FaresView) (said rest : List Said) (table : TableLines) (rows : List (List ℕ)) (h : IsBehindHead view said table rows) → fares_said view ≡ said ++ rest
     → sets_said (1 + length h.taken) h.more ++ last_said view ≡ map line_said table.last.items ++ rest
-left_said view said rest table h e =
+left_said view said rest table rows h e =
     let last = map line_said table.last.items in
     let sets : sets_said 1 view.sets ≡ sets_said 1 h.taken ++ sets_said (1 + length h.taken) h.more = ap (sets_said 1) h.sets ∙ sets_behind 1 h.taken h.more in
     let all : head_said view ++ (sets_said 1 view.sets ++ last_said view) ≡ (head_said view ++ (sets_said 1 h.taken ++ last)) ++ rest = ap (drop 2) (sym (fares_cut view) ∙ e ∙ ap (λ s. s ++ rest) h.is) in
@@ -49,18 +49,18 @@ nothing [] e = refl
 nothing (x ∷ xs) e = absurd (omega arith)
 
 -- the lines after the sets, where `end` alone is still to come
-pub record HasLast (view : FaresView) (table : TableLines) : Type 0 where
-  pub stands : StandsFor view view.sets table.state
+pub record HasLast (view : FaresView) (table : TableLines) (rows : List (List ℕ)) : Type 0 where
+  pub stands : StandsFor view view.sets table.state rows
   pub two : length table.last.items ≡ 2
   pub route : numbers_at table.last.items 0 ≡ wholes view.route
   pub fares : numbers_at table.last.items 1 ≡ view.fares
 
 -- where `end` alone is still to come, all sets were judged and the two lines after them are the route and the fares
-pub last_lines : (view : FaresView) (said : List Said) (table : TableLines) → fares_said view ≡ said ++ says [] ∷ [] → IsBehindHead view said table → HasLast view table
-last_lines view said table e h =
+pub last_lines : (view : FaresView) (said : List Said) (table : TableLines) (rows : List (List ℕ)) → fares_said view ≡ said ++ says [] ∷ [] → IsBehindHead view said table rows → HasLast view table rows
+last_lines view said table rows e h =
     let last = table.last.items in
     let lines = map line_said last in
-    let all = left_said view said (says [] ∷ []) table h e in
+    let all = left_said view said (says [] ∷ []) table rows h e in
     let many : length h.more + 3 ≡ length last + 1 =
     ap (λ n. n + 3) (sym (sets_long (1 + length h.taken) h.more)) ∙ sym (length-append (sets_said (1 + length h.taken) h.more) (last_said view)) ∙ ap length all ∙ length-append lines (says [] ∷ [])
     ∙ ap (λ n. n + 1) (length-map last line_said) in
@@ -70,7 +70,7 @@ last_lines view said table e h =
     let lines_are : last_said view ≡ lines ++ says [] ∷ [] = sym (ap (λ m. sets_said (1 + length h.taken) m ++ last_said view) none) ∙ all in
     let at = λ (k : ℕ) (low : k < length last). ap (λ s. numbers_in (get_or s k (Marks []))) lines_are ∙ ap numbers_in (seen lines (says [] ∷ []) k (let each = length-map last line_said in omega arith) ∙ get_or-map line_said last k no_line (Marks []) low) in
     record {
-      stands = subst (λ sets. StandsFor view sets table.state) (sym (h.sets ∙ ap (λ m. h.taken ++ m) none ∙ append-nil h.taken)) h.stands;
+      stands = subst (λ sets. StandsFor view sets table.state rows) (sym (h.sets ∙ ap (λ m. h.taken ++ m) none ∙ append-nil h.taken)) h.stands;
       two = two;
       route = sym (at 0 (omega arith));
       fares = sym (at 1 (omega arith));
@@ -112,25 +112,25 @@ set_here view numbers taken (row ∷ others) rest sets some written e = record {
 }
 
 -- no line after the sets was read while sets are still to come
-pub none_last : (view : FaresView) (said : List Said) (table : TableLines) → IsBehindHead view said table → 0 < table.left → table.last.items ≡ []
-none_last view said table h some = nothing table.last.items (⊎_elim
+pub none_last : (view : FaresView) (said : List Said) (table : TableLines) (rows : List (List ℕ)) → IsBehindHead view said table rows → 0 < table.left → table.last.items ≡ []
+none_last view said table rows h some = nothing table.last.items (⊎_elim
     (λ (l : 0 < length table.last.items). absurd (let left = h.left in let order = h.order in let gone = order (omega arith) in omega (arith, gone)))
     (λ (g : length table.last.items ≤ 0). omega arith)
     (cases_lt 0 (length table.last.items)))
 
 -- a line of numbers that comes next, while sets are left, is that of the next set
-pub next_set : (view : FaresView) (said : List Said) (numbers : List Fraction) (table : TableLines) → IsNext view said numbers → (h : IsBehindHead view said table) → 0 < table.left → HasSet numbers h.taken h.more
-next_set view said numbers table next h some =
-    let none = none_last view said table h some in
+pub next_set : (view : FaresView) (said : List Said) (numbers : List Fraction) (table : TableLines) (rows : List (List ℕ)) → IsNext view said numbers → (h : IsBehindHead view said table rows) → 0 < table.left → HasSet numbers h.taken h.more
+next_set view said numbers table rows next h some =
+    let none = none_last view said table rows h some in
     let left = h.left in
     set_here view numbers h.taken h.more (next.next ∷ next.rest) h.sets (omega arith) next.whole.sets
-    (left_said view said (Numbers numbers ∷ next.next ∷ next.rest) table h next.is ∙ ap (λ l. map line_said l ++ Numbers numbers ∷ next.next ∷ next.rest) none)
+    (left_said view said (Numbers numbers ∷ next.next ∷ next.rest) table rows h next.is ∙ ap (λ l. map line_said l ++ Numbers numbers ∷ next.next ∷ next.rest) none)
 
 -- the line of a set
-pub behind_set : (view : FaresView) (said : List Said) (line : Gathered) (old new : TableLines) (h : IsBehindHead view said old) → 0 < old.left → (s : HasSet (map fraction_of line.items) h.taken h.more)
-    → IsState new.state → StandsFor view (h.taken ++ s.row ∷ []) new.state → new.left + 1 ≡ old.left → new.last.items ≡ old.last.items → IsBehindHead view (said ++ line_said line ∷ []) new
-behind_set view said line old new h some s state stands left last =
-    let none = none_last view said old h some in
+pub behind_set : (view : FaresView) (said : List Said) (line : Gathered) (old new : TableLines) (rows filled : List (List ℕ)) (h : IsBehindHead view said old rows) → 0 < old.left → (s : HasSet (map fraction_of line.items) h.taken h.more)
+    → IsState new.state filled → StandsFor view (h.taken ++ s.row ∷ []) new.state filled → new.left + 1 ≡ old.left → new.last.items ≡ old.last.items → IsBehindHead view (said ++ line_said line ∷ []) new filled
+behind_set view said line old new rows filled h some s state stands left last =
+    let none = none_last view said old rows h some in
     let head = head_said view in
     let sets = sets_said 1 h.taken in
     let here : line_said line ∷ [] ≡ sets_said (1 + length h.taken) (s.row ∷ []) = ap (λ numbers. Numbers numbers ∷ []) s.numbers_are in
@@ -171,11 +171,11 @@ pub line_at_place : (lines seen : List Gathered) (line : Gathered) (k : ℕ) →
 line_at_place lines seen line k same low is = ap (λ (l : Gathered). map fraction_of l.items) (is ∙ ap (λ (ls : List Gathered). get_or ls k line) same ∙ get_or_default lines k line no_line low)
 
 -- after all sets there is room for the next line, since `end` is still to come
-pub last_room : (view : FaresView) (said : List Said) (numbers : List Fraction) (table : TableLines) → IsNext view said numbers → IsBehindHead view said table → table.left ≡ 0 → length table.last.items < 2
-last_room view said numbers table next h none =
+pub last_room : (view : FaresView) (said : List Said) (numbers : List Fraction) (table : TableLines) (rows : List (List ℕ)) → IsNext view said numbers → IsBehindHead view said table rows → table.left ≡ 0 → length table.last.items < 2
+last_room view said numbers table rows next h none =
     let lines = map line_said table.last.items in
     let rest = Numbers numbers ∷ next.next ∷ next.rest in
-    let all = left_said view said rest table h next.is in
+    let all = left_said view said rest table rows h next.is in
     let many : length h.more + 3 ≡ length table.last.items + length rest =
     ap (λ n. n + 3) (sym (sets_long (1 + length h.taken) h.more)) ∙ sym (length-append (sets_said (1 + length h.taken) h.more) (last_said view)) ∙ ap length all ∙ length-append lines rest
     ∙ ap (λ n. n + length rest) (length-map table.last.items line_said) in

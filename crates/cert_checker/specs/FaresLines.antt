@@ -62,21 +62,22 @@ pub record IsInHead (view : FaresView) (said : List Said) (lines : List Gathered
   pub is : said ≡ front_said (map line_said lines)
   pub short : length lines < view.places + FIXED_LINES
 
--- the lines said so far are the head, the lines of some sets, and once all sets were said, some of the last lines; the judge knows the sets taken so far
-pub record IsBehindHead (view : FaresView) (said : List Said) (table : TableLines) : Type 0 where
-  pub state : IsState table.state
+-- the lines said so far are the head, the lines of some sets, and once all sets were said, some of the last lines; the judge knows the sets
+-- taken so far, whose costs the rows hold
+pub record IsBehindHead (view : FaresView) (said : List Said) (table : TableLines) (rows : List (List ℕ)) : Type 0 where
+  pub state : IsState table.state rows
   pub taken : List (List ℤ)
   pub more : List (List ℤ)
   pub sets : view.sets ≡ taken ++ more
   pub left : table.left ≡ length more
-  pub stands : StandsFor view taken table.state
+  pub stands : StandsFor view taken table.state rows
   pub order : 1 ≤ length table.last.items → length more ≡ 0
   pub is : said ≡ front_said (head_said view ++ (sets_said 1 taken ++ map line_said table.last.items))
 
 -- the judge knows the lines said so far of a text that says this view
-abbrev pub IsAt : FaresView → List Said → FaresLines → Type 0
-IsAt view said (Head lines) = IsInHead view said lines.items
-IsAt view said (Table table) = IsBehindHead view said table
+abbrev pub IsAt : FaresView → List Said → FaresLines → List (List ℕ) → Type 0
+IsAt view said (Head lines) rows = IsInHead view said lines.items
+IsAt view said (Table table) rows = IsBehindHead view said table rows
 
 -- the judge has not finished the head
 abbrev pub HasNoTable : FaresLines → Type 0

@@ -12,24 +12,34 @@ use Rattle.cert_reader.specs.Shapes.{HasRows}
 use Rattle.cert_reader.specs.Text.{CanSayAll, Said}
 use Rattle.cert_reader.specs.Layout.{FaresView}
 use Rattle.cert_reader.specs.Views.{CertificateView, counts_of, fares_said, said_of}
+use Rattle.fare_rules.specs.State.{costs_of}
 use Rattle.rule_verdicts.specs.declared.verdict.Verdict.{Verdict}
 use Rattle.cert_checker.specs.FaresLines.{IsAt, IsWhole, front_said}
 use Rattle.cert_checker.specs.GoodsLines.{IsAtGoods}
 use Rattle.cert_checker.specs.Judged.{GivesVerdict}
+use Rattle.cert_checker.specs.declared.lines.KindLines.{KindLines}
+use Rattle.cert_checker.specs.declared.lines.KindLines.TheVariants.{Fares, Goods, Rent}
 use Rattle.cert_checker.specs.declared.lines.Lines.{Lines}
-use Rattle.cert_checker.specs.declared.lines.Lines.TheVariants.{Fares, Goods, Rent}
+
+-- the kind of these lines
+abbrev pub kind_of_taken : KindLines → Kind
+kind_of_taken (Rent lines) = kind.Rent
+kind_of_taken (Goods lines) = kind.Goods
+kind_of_taken (Fares lines) = kind.Fares
 
 -- the kind of the text whose lines come
 abbrev pub kind_of_lines : Lines → Kind
-kind_of_lines (Rent lines) = kind.Rent
-kind_of_lines (Goods lines) = kind.Goods
-kind_of_lines (Fares lines) = kind.Fares
+kind_of_lines lines = kind_of_taken lines.taken
 
--- the judge knows the lines said so far, in any text that begins with them
+-- the judge knows the lines said so far, in any text that begins with them, with these rows of costs
+abbrev pub KnowsTaken : List Said → List (List ℕ) → KindLines → Type 0
+KnowsTaken said rows (Rent lines) = said ≡ front_said (map line_said lines.lines.items)
+KnowsTaken said rows (Goods lines) = IsAtGoods said lines
+KnowsTaken said rows (Fares lines) = (view : FaresView) (next : Said) (rest : List Said) → IsWhole view → fares_said view ≡ said ++ next ∷ rest → IsAt view said lines rows
+
+-- the judge knows the lines said so far
 abbrev pub KnowsLines : List Said → Lines → Type 0
-KnowsLines said (Rent lines) = said ≡ front_said (map line_said lines.lines.items)
-KnowsLines said (Goods lines) = IsAtGoods said lines
-KnowsLines said (Fares lines) = (view : FaresView) (next : Said) (rest : List Said) → IsWhole view → fares_said view ≡ said ++ next ∷ rest → IsAt view said lines
+KnowsLines said lines = KnowsTaken said (costs_of lines.rows.items) lines.taken
 
 -- after the lines that the judge knows, a text of its kind goes on with these lines
 pub record GoesOn (lines : Lines) (said : List Said) (rest : List Said) : Type 0 where

@@ -8,7 +8,7 @@ ghost use Rattle.goods_rules.specs.Rules.{rules_of_goods};
 ghost use Rattle.rule_verdicts.specs.Verdicts.{IsVerdictOf};
 
 use cert_reader::{Certificate, FaresText, GoodsText, set_count, start_count};
-use fare_rules::{end_fares, fares_certificate_law, start_fares, take_set};
+use fare_rules::{Rows, end_fares, fares_certificate_law, start_fares, take_set};
 use goods_rules::{end_goods, goods_certificate_law, start_goods, take_mark};
 use rent_rules::{check_rent, rent_certificate_law};
 use rule_verdicts::Verdict;
@@ -58,7 +58,9 @@ fn check_fares(text: &FaresText) -> Verdict
 {
     let riders = text.who.len() as u8;
     let numbers = text.table.numbers();
+    let mut rows = Rows::new();
     let mut state = start_fares(
+        &mut rows,
         text.places,
         text.flag,
         text.legs.as_slice(),
@@ -68,8 +70,8 @@ fn check_fares(text: &FaresText) -> Verdict
     let mut from = 0;
     for set in 1..set_count(riders) + 1 {
         let to = from + start_count(riders, set);
-        take_set(&mut state, &numbers[from..to]);
+        take_set(&mut state, &mut rows, &numbers[from..to]);
         from = to;
     }
-    end_fares(&state, text.route.as_slice(), text.fares.as_slice())
+    end_fares(&state, &rows, text.route.as_slice(), text.fares.as_slice())
 }

@@ -1,5 +1,6 @@
-// Takes the lines of a certificate of fares: those of the head are gathered, and those of the sets are judged as they come.
-ghost use Rattle.std.specs.Prelude.{◌≡◌, ◌+◌, ◌-◌, ◌<◌, ◌++◌, ◌∷◌, [], List, length, map, IsTrue, ◌↔◌};
+// Takes the lines of a certificate of fares: those of the head are gathered, and those of the sets are judged as they come, in rows that the
+// caller lends.
+ghost use Rattle.std.specs.Prelude.{◌≡◌, ℕ, ◌+◌, ◌-◌, ◌<◌, ◌++◌, ◌∷◌, [], List, length, map, IsTrue, ◌↔◌};
 ghost use Rattle.split_frac.specs.Frac.{fraction_of};
 ghost use Rattle.cert_reader.specs.Gathered.{Gathered, line_said};
 ghost use Rattle.cert_reader.specs.Text.{Numbers, Said};
@@ -7,6 +8,7 @@ ghost use Rattle.cert_reader.specs.Layout.{FaresView};
 ghost use Rattle.cert_reader.specs.Views.{fares_said, says};
 ghost use Rattle.cert_reader.specs.declared.places.TheConstants.{FARES_PLACES, KIND_LINES};
 ghost use Rattle.fare_rules.specs.Rules.{rules_of_fares};
+ghost use Rattle.fare_rules.specs.State.{costs_of};
 ghost use Rattle.rule_verdicts.specs.Verdicts.{IsVerdictOf};
 ghost use Rattle.cert_checker.specs.declared.fares.TheConstants.{FIXED_LINES};
 ghost use Rattle.cert_checker.specs.FaresLines.{HasNoTable, IsAt, IsBehindHead, IsNext, IsWhole, front_said, head_said};
@@ -20,7 +22,7 @@ use cert_reader::places::{
     KIND_LINES,
 };
 use cert_reader::{LineNumbers, number_at, row_at, rows_of, set_count, whole_row};
-use fare_rules::{FaresState, PrintedRow, end_fares, start_fares, take_set};
+use fare_rules::{FaresState, PrintedRow, Rows, end_fares, start_fares, take_set};
 use rule_verdicts::Verdict;
 
 /// The lines of the head besides the legs from the places: `riders`, `places`, `flag`, the legs from the origin, `who` and `at`.
@@ -52,29 +54,33 @@ pub(crate) struct TableLines {
 }
 
 impl FaresLines {
-    // None so far.
+    // None so far. Never inlined: it builds a large value, whose stack would otherwise be held for the whole check.
+    #[inline(never)]
     pub(crate) fn new() -> FaresLines
-        ensures { (view : FaresView) → IsAt view (front_said []) result }
+        ensures { (view : FaresView) (rows : List (List ℕ))
+            → IsAt view (front_said []) result rows }
     {
         FaresLines::Head(HeadLines::new())
     }
 
-    // Takes a line of the head, and begins with the sets if it was the last. The state of the sets is large, so it is made here rather than where each
-    // line is taken.
+    // Takes a line of the head, and begins with the sets if it was the last. It needs much stack, so it is kept out of `take`.
     #[inline(never)]
-    fn take_head(&mut self, numbers: &LineNumbers)
+    fn take_head(&mut self, rows: &mut Rows, numbers: &LineNumbers)
         requires head { HasNoTable self.old }
         requires next { (view : FaresView) × (said : List Said)
-            × IsNext view said (map fraction_of numbers.now.items) × IsAt view said self.old }
+            × IsNext view said (map fraction_of numbers.now.items)
+            × IsAt view said self.old (costs_of rows.old.items) }
         ensures { (view : FaresView) (said : List Said)
-            → IsNext view said (map fraction_of numbers.now.items) → IsAt view said self.old
-            → IsAt view (said ++ Numbers (map fraction_of numbers.now.items) ∷ []) self.new }
+            → IsNext view said (map fraction_of numbers.now.items)
+            → IsAt view said self.old (costs_of rows.old.items)
+            → IsAt view (said ++ Numbers (map fraction_of numbers.now.items) ∷ []) self.new
+            (costs_of rows.new.items) }
     {
         match self {
             FaresLines::Head(lines) => {
                 gather(lines, numbers);
                 if is_whole(lines.as_slice()) {
-                    *self = FaresLines::Table(begin(lines.as_slice()));
+                    *self = FaresLines::Table(begin(rows, lines.as_slice()));
                 }
             }
             FaresLines::Table(_) => unreachable!(),
@@ -82,30 +88,35 @@ impl FaresLines {
     }
 
     // Takes the next line.
-    pub(crate) fn take(&mut self, numbers: &LineNumbers)
+    pub(crate) fn take(&mut self, rows: &mut Rows, numbers: &LineNumbers)
         requires { (view : FaresView) × (said : List Said)
-            × IsNext view said (map fraction_of numbers.now.items) × IsAt view said self.old }
+            × IsNext view said (map fraction_of numbers.now.items)
+            × IsAt view said self.old (costs_of rows.old.items) }
         ensures { (view : FaresView) (said : List Said)
-            → IsNext view said (map fraction_of numbers.now.items) → IsAt view said self.old
-            → IsAt view (said ++ Numbers (map fraction_of numbers.now.items) ∷ []) self.new }
+            → IsNext view said (map fraction_of numbers.now.items)
+            → IsAt view said self.old (costs_of rows.old.items)
+            → IsAt view (said ++ Numbers (map fraction_of numbers.now.items) ∷ []) self.new
+            (costs_of rows.new.items) }
     {
         match self {
-            FaresLines::Head(_) => self.take_head(numbers),
-            FaresLines::Table(table) => table.take(numbers),
+            FaresLines::Head(_) => self.take_head(rows, numbers),
+            FaresLines::Table(table) => table.take(rows, numbers),
         }
     }
 
     // The verdict, once all lines before `end` have come.
-    pub(crate) fn verdict(&self) -> Verdict
+    pub(crate) fn verdict(&self, rows: &Rows) -> Verdict
         requires { (view : FaresView) × (said : List Said) × IsWhole view
-            × (fares_said view ≡ said ++ says [] ∷ []) × IsAt view said self.now }
+            × (fares_said view ≡ said ++ says [] ∷ [])
+            × IsAt view said self.now (costs_of rows.now.items) }
         ensures { (view : FaresView) (said : List Said) → IsWhole view
-            → fares_said view ≡ said ++ says [] ∷ [] → IsAt view said self.now
+            → fares_said view ≡ said ++ says [] ∷ []
+            → IsAt view said self.now (costs_of rows.now.items)
             → IsVerdictOf (rules_of_fares view) result }
     {
         match self {
             FaresLines::Head(_) => unreachable!(),
-            FaresLines::Table(table) => table.verdict(),
+            FaresLines::Table(table) => table.verdict(rows),
         }
     }
 }
@@ -133,10 +144,11 @@ fn places_of(lines: &[LineNumbers]) -> usize
 }
 
 // Begins with the sets, after the lines of a head.
-fn begin(lines: &[LineNumbers]) -> TableLines
+fn begin(rows: &mut Rows, lines: &[LineNumbers]) -> TableLines
     requires { (view : FaresView) × IsWhole view × (map line_said lines.now ≡ head_said view) }
     ensures { (view : FaresView) → IsWhole view → map line_said lines.now ≡ head_said view
-        → IsBehindHead view (front_said (map line_said lines.now)) result }
+        → IsBehindHead view (front_said (map line_said lines.now)) result
+        (costs_of rows.new.items) }
 {
     let at = lines.len() - 1;
     let who = at - 1;
@@ -144,6 +156,7 @@ fn begin(lines: &[LineNumbers]) -> TableLines
     let members: ArrayVec<i128, RIDER_ROOM> = row_at(lines, who);
     let stops: ArrayVec<i128, RIDER_ROOM> = row_at(lines, at);
     let state = start_fares(
+        rows,
         places_of(lines) as u8,
         number_at(lines, FARES_FLAG - KIND_LINES),
         legs.as_slice(),
@@ -159,35 +172,39 @@ fn begin(lines: &[LineNumbers]) -> TableLines
 
 impl TableLines {
     // Takes the next line.
-    fn take(&mut self, numbers: &LineNumbers)
+    fn take(&mut self, rows: &mut Rows, numbers: &LineNumbers)
         requires { (view : FaresView) × (said : List Said)
             × IsNext view said (map fraction_of numbers.now.items)
-            × IsBehindHead view said self.old }
+            × IsBehindHead view said self.old (costs_of rows.old.items) }
         ensures { (view : FaresView) (said : List Said)
-            → IsNext view said (map fraction_of numbers.now.items) → IsBehindHead view said self.old
+            → IsNext view said (map fraction_of numbers.now.items)
+            → IsBehindHead view said self.old (costs_of rows.old.items)
             → IsBehindHead view (said ++ Numbers (map fraction_of numbers.now.items) ∷ [])
-            self.new }
+            self.new (costs_of rows.new.items) }
     {
         if self.left == 0 {
             gather(&mut self.last, numbers);
         } else {
             let row: ArrayVec<i128, MOST_NUMBERS> = whole_row(&numbers.as_slice()[1..]);
-            take_set(&mut self.state, row.as_slice());
+            take_set(&mut self.state, rows, row.as_slice());
             self.left -= 1;
         }
     }
 
     // The verdict, once all lines before `end` have come.
-    fn verdict(&self) -> Verdict
+    fn verdict(&self, rows: &Rows) -> Verdict
         requires { (view : FaresView) × (said : List Said) × IsWhole view
-            × (fares_said view ≡ said ++ says [] ∷ []) × IsBehindHead view said self.now }
+            × (fares_said view ≡ said ++ says [] ∷ [])
+            × IsBehindHead view said self.now (costs_of rows.now.items) }
         ensures { (view : FaresView) (said : List Said) → IsWhole view
-            → fares_said view ≡ said ++ says [] ∷ [] → IsBehindHead view said self.now
+            → fares_said view ≡ said ++ says [] ∷ []
+            → IsBehindHead view said self.now (costs_of rows.now.items)
             → IsVerdictOf (rules_of_fares view) result }
     {
         let route: ArrayVec<i128, RIDER_ROOM> = row_at(self.last.as_slice(), FARES_ROUTE);
         end_fares(
             &self.state,
+            rows,
             route.as_slice(),
             self.last[FARES_FARES].as_slice(),
         )

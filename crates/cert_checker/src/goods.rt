@@ -40,7 +40,8 @@ pub(crate) enum GoodsLines {
 }
 
 impl GoodsLines {
-    // None so far.
+    // None so far. Never inlined: it builds a large value, whose stack would otherwise be held for the whole check.
+    #[inline(never)]
     pub(crate) fn new() -> GoodsLines
         ensures { IsAtGoods (front_said []) result }
     {

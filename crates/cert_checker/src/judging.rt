@@ -9,8 +9,9 @@ ghost use Rattle.cert_reader.specs.declared.limits.TheConstants.{MOST_BYTES};
 ghost use Rattle.split_base.specs.Faults.{HasRisen};
 
 use crate::laws::certificate_verdict_law;
-use crate::lines::Lines;
+use crate::lines::{KindLines, Lines};
 use cert_reader::{LineNumbers, Part, Pieces, ReadEnd, TextEnd, read_answer, text_law};
+use fare_rules::Rows;
 use rule_verdicts::Verdict;
 use split_base::Source;
 
@@ -44,7 +45,10 @@ pub fn judge_text<S: Source>(source: &mut S) -> Result<Verdict, TextEnd>
         Part::Mark { .. } => unreachable!(),
         Part::Done => unreachable!(),
     };
-    let mut lines = Lines::new(kind);
+    let mut lines = Lines {
+        taken: KindLines::new(kind),
+        rows: Rows::new(),
+    };
     'lines: loop {
         match pieces.next_part(source, &mut numbers)? {
             Part::Line => lines.take(&numbers),

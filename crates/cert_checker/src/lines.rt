@@ -1,21 +1,31 @@
 // The lines of a text as they come, kind by kind.
-ghost use Rattle.std.specs.Prelude.{◌≡◌, ◌++◌, ◌∷◌, [], List, map};
+ghost use Rattle.std.specs.Prelude.{◌≡◌, ℕ, ◌++◌, ◌∷◌, [], List, map};
 ghost use Rattle.split_frac.specs.Frac.{fraction_of};
 ghost use Rattle.cert_reader.specs.Text.{Numbers, Said};
 ghost use Rattle.cert_reader.specs.Views.{says};
 ghost use Rattle.cert_checker.specs.FaresLines.{front_said};
-ghost use Rattle.cert_checker.specs.Lines.{GivesOf, GoesOn, KnowsLines, MarkGoesOn, kind_of_lines};
+ghost use Rattle.cert_checker.specs.Lines.{GivesOf, GoesOn, KnowsLines, KnowsTaken, MarkGoesOn, kind_of_lines, kind_of_taken};
 ghost use Rattle.cert_reader.specs.Reading.{with_mark};
 
 use crate::fares::FaresLines;
 use crate::goods::GoodsLines;
 use crate::rent::RentLines;
 use cert_reader::{Kind, LineNumbers};
+use fare_rules::Rows;
 use rule_verdicts::Verdict;
 
 /// What the judge knows about a text after some of its lines.
 #[derive(Drop)]
-pub(crate) enum Lines {
+pub(crate) struct Lines {
+    /// The lines that it has taken.
+    pub(crate) taken: KindLines,
+    /// What the sets of riders cost, if the text is one of fares. The table is large, so it is filled here and never moved.
+    pub(crate) rows: Rows,
+}
+
+/// The lines taken, or what is known by them, by the kind of the text.
+#[derive(Drop)]
+pub(crate) enum KindLines {
     /// Of kind rent.
     Rent(RentLines),
     /// Of kind goods.
@@ -24,19 +34,21 @@ pub(crate) enum Lines {
     Fares(FaresLines),
 }
 
-impl Lines {
-    // After the two lines that say the kind.
-    pub(crate) fn new(kind: Kind) -> Lines
-        ensures kind { kind_of_lines result ≡ kind }
-        ensures knows { KnowsLines (front_said []) result }
+impl KindLines {
+    // After the two lines that say the kind. The rows don't matter yet.
+    pub(crate) fn new(kind: Kind) -> KindLines
+        ensures kind { kind_of_taken result ≡ kind }
+        ensures knows { (rows : List (List ℕ)) → KnowsTaken (front_said []) rows result }
     {
         match kind {
-            Kind::Rent => Lines::Rent(RentLines::new()),
-            Kind::Goods => Lines::Goods(GoodsLines::new()),
-            Kind::Fares => Lines::Fares(FaresLines::new()),
+            Kind::Rent => KindLines::Rent(RentLines::new()),
+            Kind::Goods => KindLines::Goods(GoodsLines::new()),
+            Kind::Fares => KindLines::Fares(FaresLines::new()),
         }
     }
+}
 
+impl Lines {
     // Takes the numbers of the next line, which is not the last.
     pub(crate) fn take(&mut self, numbers: &LineNumbers)
         requires { (said : List Said) × (next : Said) × (rest : List Said)
@@ -46,10 +58,10 @@ impl Lines {
             → GoesOn self.old said (Numbers (map fraction_of numbers.now.items) ∷ next ∷ rest)
             → KnowsLines (said ++ Numbers (map fraction_of numbers.now.items) ∷ []) self.new }
     {
-        match self {
-            Lines::Rent(lines) => lines.take(numbers),
-            Lines::Goods(lines) => lines.take(numbers),
-            Lines::Fares(lines) => lines.take(numbers),
+        match &mut self.taken {
+            KindLines::Rent(lines) => lines.take(numbers),
+            KindLines::Goods(lines) => lines.take(numbers),
+            KindLines::Fares(lines) => lines.take(&mut self.rows, numbers),
         }
     }
 
@@ -60,10 +72,10 @@ impl Lines {
         ensures knows { (said : List Said) → MarkGoesOn self.old said mark
             → KnowsLines (with_mark said mark) self.new }
     {
-        match self {
-            Lines::Goods(lines) => lines.take_mark(mark),
-            Lines::Rent(_) => unreachable!(),
-            Lines::Fares(_) => unreachable!(),
+        match &mut self.taken {
+            KindLines::Goods(lines) => lines.take_mark(mark),
+            KindLines::Rent(_) => unreachable!(),
+            KindLines::Fares(_) => unreachable!(),
         }
     }
 
@@ -73,10 +85,10 @@ impl Lines {
         ensures { (said : List Said) (goes : GoesOn self.now said (says [] ∷ []))
             → GivesOf goes.counts (said ++ says [] ∷ []) result }
     {
-        match self {
-            Lines::Rent(lines) => lines.verdict(),
-            Lines::Goods(lines) => lines.verdict(),
-            Lines::Fares(lines) => lines.verdict(),
+        match &self.taken {
+            KindLines::Rent(lines) => lines.verdict(),
+            KindLines::Goods(lines) => lines.verdict(),
+            KindLines::Fares(lines) => lines.verdict(&self.rows),
         }
     }
 }

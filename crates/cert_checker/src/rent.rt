@@ -27,7 +27,8 @@ pub(crate) struct RentLines {
 }
 
 impl RentLines {
-    // None so far.
+    // None so far. Never inlined: it builds a large value, whose stack would otherwise be held for the whole check.
+    #[inline(never)]
     pub(crate) fn new() -> RentLines
         ensures { result.lines.items ≡ [] }
     {

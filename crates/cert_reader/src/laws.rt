@@ -1,4 +1,5 @@
-// Laws about the text of certificates and of adjusted winner, above all that it has one meaning, and that other bytes have one first broken line. Each is the contract of a function that does nothing.
+// Laws about the text of certificates and of adjusted winner, above all that it has one meaning, and that other bytes have one first broken line.
+// Each is the contract of a function that does nothing.
 ghost use Rattle.std.specs.Prelude.{◌≡◌, ◌≤◌, ℕ, List, ◌+◌, ◌++◌, length};
 ghost use Rattle.cert_reader.specs.declared.certificate.Certificate.{Certificate};
 ghost use Rattle.cert_reader.specs.declared.forms.Counts.{Counts};

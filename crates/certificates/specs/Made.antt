@@ -8,7 +8,7 @@ use Rattle.certificates.specs.declared.division.Division.TheVariants.{Goods}
 use Rattle.certificates.specs.declared.goods_answer.Answer.{Answer}
 use Rattle.certificates.specs.declared.marks.Start.{Start}
 use Rattle.certificates.specs.declared.node.Node.{Node}
-use Rattle.certificates.specs.declared.trees.Hand.{Hand}
+use Rattle.certificates.specs.declared.trees.WorkerTrees.{WorkerTrees}
 use Rattle.certificates.specs.declared.trees.MadeTree.{MadeTree}
 use Rattle.certificates.specs.GoodsLines.{answer_of}
 use Rattle.certificates.specs.Marks.{canonical_marks}
@@ -30,17 +30,17 @@ pub record IsMade (case : GoodsCase) (answer : List ℕ) (tree : MadeTree) : Typ
   pub marks : IsBelow case answer tree.owners.items tree.marks.items
 
 -- all trees that a worker has made are
-abbrev pub HasMade : GoodsCase → List ℕ → Hand → Type 0
-HasMade case answer hand = All (IsMade case answer) hand.trees.items
+abbrev pub HasMade : GoodsCase → List ℕ → WorkerTrees → Type 0
+HasMade case answer made = All (IsMade case answer) made.trees.items
 
 -- all trees that workers have made are
-abbrev pub AreMade : GoodsCase → List ℕ → List Hand → Type 0
-AreMade case answer hands = All (HasMade case answer) hands
+abbrev pub AreMade : GoodsCase → List ℕ → List WorkerTrees → Type 0
+AreMade case answer trees = All (HasMade case answer) trees
 
 -- if the case is one of goods, all trees that workers have made are those of its division
-abbrev pub AreMadeFor : Case → Division → List Hand → Type 0
-AreMadeFor given division hands = (goods : GoodsCase) (found : GoodsDivision) → given ≡ case.Goods goods → division ≡ Goods found
-    → AreMade goods (answer_of goods found) hands
+abbrev pub AreMadeFor : Case → Division → List WorkerTrees → Type 0
+AreMadeFor given division trees = (goods : GoodsCase) (found : GoodsDivision) → given ≡ case.Goods goods → division ≡ Goods found
+    → AreMade goods (answer_of goods found) trees
 
 -- a node that the tree may not leave out, with marks that can be counted
 pub record IsOpenNode (case : GoodsCase) (answer : Answer) (node : Node) : Type 0 where

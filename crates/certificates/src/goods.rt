@@ -76,7 +76,7 @@ fn put_tree_line(
 ) -> usize
     requires case { IsValidGoodsCase case.now }
     requires division { IsGoodsDivision case.now division.now }
-    requires made { AreMade case.now (answer_of case.now division.now) made.now.hands.now }
+    requires made { AreMade case.now (answer_of case.now division.now) made.now.by_worker.now }
     ensures { Puts (said_text Tree (Marks (canonical_tree case.now division.now))) used text.old
         text.new result }
 {
@@ -100,7 +100,7 @@ pub fn put_goods(text: &mut [u8], case: &GoodsCase, division: &GoodsDivision) ->
     ensures { Puts (text_saying (OfGoods (canonical_goods case.now division.now))) 0 text.old
         text.new result }
 {
-    put_goods_by(text, case, division, &MadeTrees::of(&[]))
+    put_goods_by(text, case, division, &MadeTrees::none())
 }
 
 // What `put_goods` does, with the trees that were made beforehand.
@@ -112,7 +112,7 @@ pub(crate) fn put_goods_by(
 ) -> usize
     requires case { IsValidGoodsCase case.now }
     requires division { IsGoodsDivision case.now division.now }
-    requires made { AreMade case.now (answer_of case.now division.now) made.now.hands.now }
+    requires made { AreMade case.now (answer_of case.now division.now) made.now.by_worker.now }
     ensures { Puts (text_saying (OfGoods (canonical_goods case.now division.now))) 0 text.old
         text.new result }
 {

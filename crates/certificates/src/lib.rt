@@ -19,7 +19,6 @@ mod fares;
 mod goods;
 mod goods_answer;
 mod goods_lines;
-mod hands;
 mod laws;
 mod levels;
 mod lines;
@@ -30,6 +29,7 @@ mod rent;
 mod rent_lines;
 mod room;
 mod sets;
+mod tree_workers;
 mod trees;
 mod write;
 

@@ -72,7 +72,7 @@ pub(crate) fn put_tree(
 ) -> usize
     requires table { IsLaneTable case.now table.now }
     requires answer { IsAnswer case.now answer.now }
-    requires made { AreMade case.now answer.now.owners.items made.now.hands.now }
+    requires made { AreMade case.now answer.now.owners.items made.now.by_worker.now }
     requires node { IsNode case.now node.old }
     requires open { may_be_left case.now answer.now.owners.items node.old.owners.items ≡ false }
     ensures owners { node.new.owners.items ≡ node.old.owners.items }
@@ -115,7 +115,7 @@ pub(crate) fn put_marks(
 ) -> usize
     requires case { IsValidGoodsCase case.now }
     requires division { IsGoodsDivision case.now division.now }
-    requires made { AreMade case.now (answer_of case.now division.now) made.now.hands.now }
+    requires made { AreMade case.now (answer_of case.now division.now) made.now.by_worker.now }
     ensures { Puts (canonical_tree case.now division.now) used text.old text.new result }
 {
     let mut start = start_of(case, division);

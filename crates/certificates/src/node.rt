@@ -16,7 +16,7 @@ use nash_bounds::{
     LaneTable, Lanes, empty_prefix, give, lanes_of, open_prefixes_law, players, reaches,
 };
 
-/// A node of the tree. The writer has one value of this type, which moves from node to node.
+/// A node of the tree. A walk has one value of this type, which moves from node to node; the nodes of one level are a list of them.
 #[derive(Drop)]
 pub(crate) struct Node {
     /// The owner, a player from 1, of each of the first few goods in search order.

@@ -1,4 +1,4 @@
-// The division of a case of any kind: of a rent, what each member pays in whole cents, which add up to the rent.
+// What each member pays of a rent, in whole cents that add up to the rent.
 ghost use Rattle.std.specs.Prelude.{◌≡◌, ◌≤◌, All, length, map, pos};
 ghost use Rattle.bid_rules.specs.Cents.{cent_plan, prices_by_member};
 ghost use Rattle.bid_rules.specs.Rent.{IsValidRentCase};

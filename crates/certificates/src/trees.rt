@@ -1,5 +1,5 @@
 // Trees below single nodes that workers made beforehand, and how the writer finds them.
-ghost use Rattle.std.specs.Prelude.{◌≡◌, ℕ, List, IfSome};
+ghost use Rattle.std.specs.Prelude.{◌≡◌, ℕ, List, [], IfSome};
 ghost use Rattle.bid_rules.specs.declared.goods.GoodsCase.{GoodsCase};
 ghost use Rattle.certificates.specs.Made.{AreMade, HasMade, IsBelow};
 
@@ -17,11 +17,11 @@ pub(crate) struct MadeTree {
 
 /// What one worker has made: trees below nodes of the same level, in rising order of their owners.
 #[derive(Drop)]
-pub(crate) struct Hand {
+pub(crate) struct WorkerTrees {
     pub(crate) trees: Vec<MadeTree>,
 }
 
-impl Hand {
+impl WorkerTrees {
     // The marks of the tree below these owners, if the worker has made it. It is found by halving. No contract says that it is found, since
     // the writer can do without it.
     fn marks_below(&self, owners: &[u8]) -> Option<&[u8]>
@@ -46,30 +46,37 @@ pub(crate) struct MadeTrees<'a> {
     /// How many owners their nodes have.
     pub(crate) depth: usize,
     /// What each worker has made.
-    pub(crate) hands: &'a [Hand],
+    pub(crate) by_worker: &'a [WorkerTrees],
 }
 
 impl<'a> MadeTrees<'a> {
-    // The trees of these hands.
-    pub(crate) fn of(hands: &'a [Hand]) -> Self
-        ensures { result.hands.now ≡ hands.now }
+    // No tree was made beforehand.
+    pub(crate) fn none() -> Self
+        ensures { result.by_worker.now ≡ [] }
+    {
+        MadeTrees::of(&[])
+    }
+
+    // The trees that these workers have made.
+    pub(crate) fn of(by_worker: &'a [WorkerTrees]) -> Self
+        ensures { result.by_worker.now ≡ by_worker.now }
     {
         MadeTrees {
-            depth: depth_of(hands),
-            hands,
+            depth: depth_of(by_worker),
+            by_worker,
         }
     }
 
     // The marks of the tree below these owners, if it was made.
     pub(crate) fn marks_below(&self, owners: &[u8]) -> Option<&[u8]>
-        ensures { (case : GoodsCase) (answer : List ℕ) → AreMade case answer self.now.hands.now
+        ensures { (case : GoodsCase) (answer : List ℕ) → AreMade case answer self.now.by_worker.now
             → IfSome result (λ marks. IsBelow case answer owners.now marks.now) }
     {
         if owners.len() != self.depth {
             return None;
         }
-        for hand in self.hands {
-            if let Some(marks) = hand.marks_below(owners) {
+        for made in self.by_worker {
+            if let Some(marks) = made.marks_below(owners) {
                 return Some(marks);
             }
         }
@@ -78,9 +85,9 @@ impl<'a> MadeTrees<'a> {
 }
 
 // How many owners the nodes have whose trees were made, which are all of one level.
-fn depth_of(hands: &[Hand]) -> usize {
-    for hand in hands {
-        if let Some(tree) = hand.trees.as_slice().first() {
+fn depth_of(by_worker: &[WorkerTrees]) -> usize {
+    for made in by_worker {
+        if let Some(tree) = made.trees.as_slice().first() {
             return tree.owners.len();
         }
     }

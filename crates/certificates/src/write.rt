@@ -11,10 +11,10 @@ ghost use Rattle.certificates.specs.Puts.{Puts};
 use crate::Division;
 use crate::fares::put_fare_division;
 use crate::goods::put_goods_by;
-use crate::hands::hands_for;
 use crate::laws::certificate_law;
 use crate::marks::likely_marks;
 use crate::rent::put_rent;
+use crate::tree_workers::trees_for;
 use crate::trees::MadeTrees;
 use bid_rules::Case;
 use bid_rules::limits::MOST_RIDERS;
@@ -28,7 +28,7 @@ use std::thread::Threads;
 fn put_certificate(text: &mut [u8], case: &Case, division: &Division, made: &MadeTrees<'_>) -> usize
     requires case { IsValidCase case.now }
     requires division { IsDivisionOf case.now division.now }
-    requires made { AreMadeFor case.now division.now made.now.hands.now }
+    requires made { AreMadeFor case.now division.now made.now.by_worker.now }
     ensures { Puts (canonical_text case.now division.now) 0 text.old text.new result }
 {
     match (case, division) {
@@ -65,7 +65,7 @@ fn write_into(
 ) -> Result<(Vec<u8>, usize), NoMemory>
     requires case { IsValidCase case.now }
     requires division { IsDivisionOf case.now division.now }
-    requires made { AreMadeFor case.now division.now made.now.hands.now }
+    requires made { AreMadeFor case.now division.now made.now.by_worker.now }
     ensures room { IfOk result (λ made. length made.0.items ≡ room) }
     ensures size { IfOk result (λ made. made.1 ≡ length (canonical_text case.now division.now)) }
     ensures text { IfOk result (λ made.
@@ -89,7 +89,7 @@ fn write_with(
 ) -> Result<Vec<u8>, NoMemory>
     requires case { IsValidCase case.now }
     requires division { IsDivisionOf case.now division.now }
-    requires made { AreMadeFor case.now division.now made.now.hands.now }
+    requires made { AreMadeFor case.now division.now made.now.by_worker.now }
     ensures canonical { IfOk result (λ text. IsCanonical case.now text.items) }
     ensures certificate { IfOk result (λ text. IsCertificate text.items) }
     ensures short { IfOk result (λ text. length text.items ≤ MOST_BYTES) }
@@ -119,7 +119,7 @@ pub fn write_certificate(
     ensures certificate { IfOk result (λ text. IsCertificate text.items) }
     ensures short { IfOk result (λ text. length text.items ≤ MOST_BYTES) }
 {
-    write_with(alloc, case, division, &MadeTrees::of(&[]))
+    write_with(alloc, case, division, &MadeTrees::none())
 }
 
 /// What `write_certificate` gives. Parts of a large tree of goods are made by these workers, each in a thread, before the whole is written.
@@ -137,11 +137,11 @@ pub fn write_certificate_by<R: Threads + Sync, G: Gate + Sync>(
     ensures certificate { IfOk result (λ text. IsCertificate text.items) }
     ensures short { IfOk result (λ text. length text.items ≤ MOST_BYTES) }
 {
-    let hands = hands_for(means, workers, case, division);
+    let trees = trees_for(means, workers, case, division);
     write_with(
         means.alloc,
         case,
         division,
-        &MadeTrees::of(hands.as_slice()),
+        &MadeTrees::of(trees.as_slice()),
     )
 }

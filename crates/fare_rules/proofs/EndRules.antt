@@ -130,9 +130,9 @@ pub lines_broken : (view : FaresView) → HasCase view → (HasLines (printed_ca
 lines_broken view has none = (omega arith, omega arith, one_asked (fares_rule view) 1 (none_asked (fares_rule view)) has, none)
 
 -- what was found broken before
-pub broken : (view : FaresView) (rule : ℕ)
+pub broken : (view : FaresView) (rule : ℕ) (rows : List (List ℕ))
     → (costs : HasLines (printed_case view) (length view.at) view.sets → (set : ℕ) → 0 < set → set < 2 ^ length view.at → slice_index_or view.sets (set - 1) [] ≡ cost_line (printed_case view) (length view.at) set)
-    → length view.sets + 1 ≡ 2 ^ length view.at → StandsFor view view.sets (Broken rule) → IsVerdictOf (rules_of_fares view) (No rule)
-broken view rule costs full (inl none) = subst (λ r. IsVerdictOf (rules_of_fares view) (No r)) (sym none.0) (head_broken view none.1)
-broken view rule costs full (inr other) = subst (λ r. IsVerdictOf (rules_of_fares view) (No r)) (sym other.0)
+    → length view.sets + 1 ≡ 2 ^ length view.at → StandsFor view view.sets (Broken rule) rows → IsVerdictOf (rules_of_fares view) (No rule)
+broken view rule rows costs full (inl none) = subst (λ r. IsVerdictOf (rules_of_fares view) (No r)) (sym none.0) (head_broken view none.1)
+broken view rule rows costs full (inr other) = subst (λ r. IsVerdictOf (rules_of_fares view) (No r)) (sym other.0)
     (lines_broken view other.1 (λ lines. let found = other.2 in found.3 (costs lines found.0 found.1 (let l = found.2 in omega (arith, l, full)))))

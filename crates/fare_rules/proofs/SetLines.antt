@@ -4,8 +4,6 @@ use Rattle.std.specs.List.{range_with_len}
 use Rattle.std.proofs.lemmas.List.{length-append, length-map, get_or_append_left, get_or-append-add}
 use Rattle.std.proofs.lemmas.List.Elements.{All-head, All-tail}
 use Rattle.std.proofs.lemmas.List.FromFn.{get_or-map-range_with_len, length-range_with_len}
-use Rattle.set_costs.specs.declared.sums.TheConstants.{SET_ROOM}
-use Rattle.set_costs.specs.declared.rows.TheConstants.{DEPARTURE_ROOM}
 use Rattle.bid_rules.specs.declared.cases.FareCase.{FareCase}
 use Rattle.bid_rules.specs.Coalitions.{riders_in, start_of}
 use Rattle.bid_rules.specs.Fares.{route_cost}
@@ -16,7 +14,6 @@ use Rattle.cert_reader.specs.Layout.{FaresView}
 use Rattle.fare_rules.specs.Printed.{printed_case}
 use Rattle.fare_rules.specs.State.{StandsFor}
 use Rattle.fare_rules.specs.declared.state.FaresState.TheVariants.{Broken, Filling}
-use Rattle.arrayvec.specs.declared.array_vec.ArrayVec.{ArrayVec}
 use Rattle.fare_rules.proofs.StartLists.{starts_within}
 
 -- functions that agree up to a number give the same of numbers up to it
@@ -67,7 +64,7 @@ pub rider_count : (view : FaresView) (case : FareCase) → case ≡ printed_case
 rider_count view case is = ap (λ (k : FareCase). length k.at.items) is ∙ length-map view.at unsigned_abs
 
 -- the next line is not as it is to be
-pub stands_broken : (view : FaresView) (taken : List (List ℤ)) (line : List ℤ) (case : FareCase) (rows : ArrayVec (ArrayVec ℕ DEPARTURE_ROOM (Unit {0})) SET_ROOM (Unit {0})) → StandsFor view taken (Filling case rows)
-    → (line ≡ cost_line case (length case.at.items) (length rows.items) → ⊥) → StandsFor view (taken ++ line ∷ []) (Broken 2)
-stands_broken view taken line case rows stands other =
-    inr (refl, stands.0, other_last (printed_case view) (length view.at) taken line (λ e. other (e ∙ sym (due_line view case (length rows.items) (length taken) stands.1 stands.3))))
+pub stands_broken : (view : FaresView) (taken : List (List ℤ)) (line : List ℤ) (case : FareCase) (rows after : List (List ℕ)) → StandsFor view taken (Filling case) rows
+    → (line ≡ cost_line case (length case.at.items) (length rows) → ⊥) → StandsFor view (taken ++ line ∷ []) (Broken 2) after
+stands_broken view taken line case rows after stands other =
+    inr (refl, stands.0, other_last (printed_case view) (length view.at) taken line (λ e. other (e ∙ sym (due_line view case (length rows) (length taken) stands.1 stands.3))))

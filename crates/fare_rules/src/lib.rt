@@ -16,4 +16,4 @@ mod state;
 pub use case::PrintedRow;
 pub use laws::{fares_certificate_law, starts_law};
 pub use lines::{START_ROOM, starts_of};
-pub use state::{FaresState, end_fares, start_fares, take_set};
+pub use state::{FaresState, Rows, end_fares, start_fares, take_set};

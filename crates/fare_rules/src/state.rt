@@ -1,4 +1,4 @@
-// The judge of a certificate of fares, which takes the lines of sets one at a time, in fixed memory.
+// The judge of a certificate of fares, which takes the lines of sets one at a time, in room that the caller lends.
 ghost use Rattle.std.specs.Prelude.{◌≡◌, ℕ, ℤ, ◌+◌, ◌^◌, ◌<◌, ◌≤◌, List, [], ◌∷◌, ◌++◌, length, map, IsTrue, ◌↔◌};
 ghost use Rattle.bid_rules.specs.declared.cases.FareCase.{FareCase};
 ghost use Rattle.cert_reader.specs.Numbers.{AreShort};
@@ -6,7 +6,7 @@ ghost use Rattle.cert_reader.specs.Layout.{FaresView};
 ghost use Rattle.fare_rules.specs.Head.{AreCostLines, HasHead, cost_line, head_of};
 ghost use Rattle.fare_rules.specs.Entries.{HasLines};
 ghost use Rattle.fare_rules.specs.Rules.{HasCase, rules_of_fares};
-ghost use Rattle.fare_rules.specs.State.{IsState, StandsFor};
+ghost use Rattle.fare_rules.specs.State.{IsState, StandsFor, costs_of};
 ghost use Rattle.fare_rules.specs.Printed.{printed_case};
 ghost use Rattle.set_costs.specs.Table.{HoldsCosts, ListsCosts};
 ghost use Rattle.split_frac.specs.Frac.{fraction_of};
@@ -23,8 +23,8 @@ use rule_verdicts::Verdict;
 use set_costs::{Row, SET_ROOM, next_row, rows_law};
 use split_frac::Frac;
 
-/// What routes of sets of riders cost, row by row.
-type Rows = ArrayVec<Row, SET_ROOM>;
+/// Room for what the routes of all sets of riders cost, row by row. It is large, so the caller keeps it in one place.
+pub type Rows = ArrayVec<Row, SET_ROOM>;
 
 /// How far the judge of a certificate of fares has come, after the head and some lines of sets.
 #[derive(Drop)]
@@ -35,18 +35,17 @@ pub enum FaresState {
         /// The rule, from 1.
         rule: u8,
     },
-    /// Neither of these rules is broken so far.
+    /// Neither of these rules is broken so far. The rows hold what the routes of the empty set and of the sets so far cost.
     Filling {
         /// The printed case.
         case: FareCase,
-        /// What the routes of the empty set and of the sets so far cost.
-        rows: Rows,
     },
 }
 
 /// Begins with the head of a certificate: the number of places, the flag fall, the legs from the origin and from each place, and
-/// for each rider the member and the place.
+/// for each rider the member and the place. What the rows held before doesn't matter.
 pub fn start_fares(
+    rows: &mut Rows,
     places: u8,
     flag: i128,
     legs: &[PrintedRow],
@@ -56,18 +55,19 @@ pub fn start_fares(
     requires legs { length legs.now ≤ LEG_ROW_ROOM }
     requires who { length who.now ≤ RIDER_ROOM }
     requires at { length at.now ≤ RIDER_ROOM }
-    ensures state { IsState result }
+    ensures state { IsState result (costs_of rows.new.items) }
     ensures stands { StandsFor
-        (head_of places flag (map (λ row. row.items) legs.now) who.now at.now) [] result }
+        (head_of places flag (map (λ row. row.items) legs.now) who.now at.now) [] result
+        (costs_of rows.new.items) }
 {
     rows_law();
     coalition_law();
     let Some(case) = case_of(places, flag, legs, who, at) else {
         return FaresState::Broken { rule: 1 };
     };
-    let mut rows = Rows::new();
+    rows.clear();
     rows.push(next_row(&case, &[]));
-    FaresState::Filling { case, rows }
+    FaresState::Filling { case }
 }
 
 // Adds the row of the next set, and says whether the line is as it must be.
@@ -105,15 +105,16 @@ fn fill(case: &FareCase, rows: &mut Rows, line: &[i128]) -> bool
 }
 
 /// Takes the line of the next set, without the number of the set.
-pub fn take_set(state: &mut FaresState, line: &[i128])
-    requires { IsState state.old }
-    ensures state { IsState state.new }
-    ensures stands { (view : FaresView) (taken : List (List ℤ)) → StandsFor view taken state.old
+pub fn take_set(state: &mut FaresState, rows: &mut Rows, line: &[i128])
+    requires { IsState state.old (costs_of rows.old.items) }
+    ensures state { IsState state.new (costs_of rows.new.items) }
+    ensures stands { (view : FaresView) (taken : List (List ℤ))
+        → StandsFor view taken state.old (costs_of rows.old.items)
         → length taken + 1 < 2 ^ length view.at
-        → StandsFor view (taken ++ line.now ∷ []) state.new }
+        → StandsFor view (taken ++ line.now ∷ []) state.new (costs_of rows.new.items) }
 {
     let is_kept = match state {
-        FaresState::Filling { case, rows } => fill(case, rows, line),
+        FaresState::Filling { case } => fill(case, rows, line),
         FaresState::Broken { .. } => true,
     };
     if !is_kept {
@@ -123,10 +124,11 @@ pub fn take_set(state: &mut FaresState, line: &[i128])
 
 /// The verdict, once all sets have had their lines: by the printed route, riders from 1 in the order in which they get off, and the
 /// printed fares, by rider in cents.
-pub fn end_fares(state: &FaresState, route: &[i128], fares: &[Frac]) -> Verdict
-    requires state { IsState state.now }
+pub fn end_fares(state: &FaresState, rows: &Rows, route: &[i128], fares: &[Frac]) -> Verdict
+    requires state { IsState state.now (costs_of rows.now.items) }
     requires short { AreShort fares.now }
-    ensures { (view : FaresView) → StandsFor view view.sets state.now
+    ensures { (view : FaresView)
+        → StandsFor view view.sets state.now (costs_of rows.now.items)
         → length view.sets + 1 ≡ 2 ^ length view.at → view.route ≡ route.now
         → view.fares ≡ map fraction_of fares.now → length view.route ≡ length view.at
         → length view.fares ≡ length view.at → IsVerdictOf (rules_of_fares view) result }
@@ -136,7 +138,7 @@ pub fn end_fares(state: &FaresState, route: &[i128], fares: &[Frac]) -> Verdict
     route_set_law();
     match state {
         FaresState::Broken { rule } => Verdict::No { rule: *rule },
-        FaresState::Filling { case, rows } => end_filling(case, rows.as_slice(), route, fares),
+        FaresState::Filling { case } => end_filling(case, rows.as_slice(), route, fares),
     }
 }
 

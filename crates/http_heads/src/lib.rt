@@ -1,5 +1,5 @@
-//! What hosts and clients both need of HTTP/1.1: bytes that were read and not taken yet, to find a head
-//! in them, its fields, whole numbers.
+//! What hosts and clients both need of HTTP/1.1: a buffer of bytes that were read but not used yet, finding a head in
+//! it, the fields of a head, and whole numbers.
 //!
 //! Bytes that are held and not taken stay the same, however the input is cut into pieces. A
 //! failed read is counted and ends the search.

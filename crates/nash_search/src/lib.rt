@@ -28,7 +28,7 @@ pub use blocks::{search_block, tasks_in_block};
 pub use division::{GoodsDivision, OverLimit, search_alone};
 pub use found::{Found, better, pair_found};
 pub use laws::{limit_law, some_steps_law, step_count_law};
-pub use parts::{PartWalk, owners_after, part_law, search_part, walk_part};
+pub use parts::{PartWalk, owners_after, part_law, part_top, search_part, walk_part};
 pub use pieces::{TaskWalk, start_walk, walk_by};
 pub use progress::Progress;
 pub use start::start_value;

@@ -95,6 +95,25 @@ pub fn owners_after(
     owners
 }
 
+/// The most points that all players together can still reach with the prefix, or 0 if the prefix is not counted. The more there are, the more counted
+/// prefixes mostly begin with it. No contract says so, since nothing may depend on it.
+pub fn part_top(case: &GoodsCase, prefix: &Prefix, floor: Pair, above: Option<Pair>) -> u32
+    requires case { IsValidGoodsCase case.now }
+    requires prefix { IsPrefix case.now prefix.now }
+{
+    let rules = rules_of(floor, above);
+    let lanes = lanes_of(case, prefix);
+    let reached = reaches(
+        case,
+        prefix.owners.as_slice(),
+        &lanes,
+        prefix.top / MEMBER_ROOM as u32,
+        &rules.goal,
+        rules.beyond,
+    );
+    if reached.reaches { prefix.top } else { 0 }
+}
+
 /// A walk through the counted prefixes that begin with some owners, in pieces of any size.
 #[derive(Drop)]
 pub struct PartWalk {
@@ -146,6 +165,26 @@ pub fn walk_part(
 }
 
 impl PartWalk {
+    /// Begins anew, with all prefixes to come that begin with the owners of `prefix`. The rule by which prefixes are counted stays.
+    ///
+    /// `case` is the one with which the walk was started. A new walk would do the same, but copy the table and fill the room of the levels again.
+    pub fn restart(&mut self, case: &GoodsCase, prefix: &Prefix)
+        requires case { IsValidGoodsCase case.now }
+        requires walk { IsPartWalk case.now self.old }
+        requires prefix { IsPrefix case.now prefix.now }
+        requires some { 0 < length prefix.now.owners.items }
+        ensures walk { IsPartWalk case.now self.new }
+        ensures owners { self.new.owners ≡ prefix.now.owners.items }
+        ensures floor { self.new.floor ≡ self.old.floor }
+        ensures above { self.new.above ≡ self.old.above }
+        ensures nodes { self.new.nodes ≡ 0 }
+        ensures best { self.new.best ≡ None }
+    {
+        bound_law();
+        self.walk.begin(case, prefix);
+        self.owners = copied(prefix.owners.as_slice());
+    }
+
     /// Counts up to this many further prefixes. It answers false exactly when counted prefixes of the part are still not counted, and then it has
     /// counted this many more.
     ///

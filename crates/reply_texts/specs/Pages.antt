@@ -1,10 +1,8 @@
 -- A page, into which the text of a reply is written. No public contract names these definitions.
-use Rattle.std.specs.Prelude.{◌≡◌, ℕ, ◌<◌, ◌++◌, true, false, List, length, IfOk, OnErr, Option, Some, Result}
+use Rattle.std.specs.Prelude.{◌≡◌, ℕ, ◌<◌, ◌++◌, true, false, List, length, Option, Some}
 use Rattle.serde_json.specs.Data.{Data}
 use Rattle.serde_json.specs.Written.{compact_text}
-use Rattle.arrayvec.specs.declared.array_vec.ArrayVec.{ArrayVec}
 use Rattle.reply_texts.specs.declared.page.Page.{Page}
-use Rattle.reply_texts.specs.declared.page.TooLong.{TooLong}
 use Rattle.reply_texts.specs.declared.sizes.TheConstants.{REPLY_MOST}
 
 -- what was written so far is this text: the page has it, or it is longer than a page
@@ -20,13 +18,12 @@ Puts old new bytes = (text : List ℕ) → Holds old text → Holds new (text ++
 abbrev pub Leaves : Page → Page → List ℕ → List ℕ → Type 0
 Leaves old new whole left = (text : List ℕ) → Holds old text → (front : List ℕ) × Holds new front × (text ++ whole ≡ front ++ left)
 
--- the value's text was written, or it is longer than a page
-pub record IsTextOf (value : Data) (result : Result (ArrayVec ℕ REPLY_MOST (Unit {0})) TooLong) : Type 0 where
-  pub text : IfOk result (λ bytes. bytes.items ≡ compact_text value)
-  pub full : OnErr result (REPLY_MOST < length (compact_text value))
+-- after what was written so far the text of this value was written
+abbrev pub PutsValue : Page → Page → Data → Type 0
+PutsValue old new value = Puts old new (compact_text value)
 
 -- the same of the value that is found
-pub record IsTextAt (found : Option Data) (result : Result (ArrayVec ℕ REPLY_MOST (Unit {0})) TooLong) : Type 0 where
+pub record PutsFound (old new : Page) (found : Option Data) : Type 0 where
   pub value : Data
   pub is : found ≡ Some value
-  pub told : IsTextOf value result
+  pub puts : PutsValue old new value

@@ -2,12 +2,10 @@
 ghost use Rattle.std.specs.Prelude.{map};
 ghost use Rattle.serde_json.specs.Written.{compact_text};
 ghost use Rattle.reply_texts.specs.Objects.{of_fields, of_part};
-ghost use Rattle.reply_texts.specs.Pages.{IsTextOf, Puts};
+ghost use Rattle.reply_texts.specs.Pages.{Puts, PutsValue};
 ghost use Rattle.reply_texts.specs.Values.{list_by, of_number, of_text};
 
-use crate::page::{
-    Page, ReplyBytes, TooLong, blank, finished, put, put_comma, put_flag, put_number, put_quoted,
-};
+use crate::page::{Page, put, put_comma, put_flag, put_number, put_quoted};
 use bid_rules::limits::LegRow;
 use sealed_core::{Key, Name};
 
@@ -104,8 +102,8 @@ fn put_part(page: &mut Page, part: &Part<'_>)
 }
 
 // An object, with its fields in the order in which they are given.
-fn put_fields(page: &mut Page, fields: &[Field<'_>])
-    ensures { Puts page.old page.new (compact_text (of_fields fields.now)) }
+pub(crate) fn put_fields(page: &mut Page, fields: &[Field<'_>])
+    ensures { PutsValue page.old page.new (of_fields fields.now) }
 {
     put(page, b"{");
     let mut later = false;
@@ -117,13 +115,4 @@ fn put_fields(page: &mut Page, fields: &[Field<'_>])
         later = true;
     }
     put(page, b"}");
-}
-
-// The text of an object, if there is room for it.
-pub(crate) fn object_text(fields: &[Field<'_>]) -> Result<ReplyBytes, TooLong>
-    ensures { IsTextOf (of_fields fields.now) result }
-{
-    let mut page = blank();
-    put_fields(&mut page, fields);
-    finished(page)
 }

@@ -1,11 +1,10 @@
 // A page of fixed size, into which the text of a reply is written as JSON. It takes no memory.
-ghost use Rattle.std.specs.Prelude.{◌≡◌, ◌<◌, ◌∷◌, ◌++◌, [], List, ℕ, codes, decimal, length, MatchResult, cond};
+ghost use Rattle.std.specs.Prelude.{◌≡◌, ◌<◌, ◌∷◌, ◌++◌, [], codes, decimal, cond};
 ghost use Rattle.std.specs.Char.{digit_char};
 ghost use Rattle.json.specs.Print.{escape, escape_byte, escape_letter, quoted};
 ghost use Rattle.serde_json.specs.Data.{boolean};
 ghost use Rattle.serde_json.specs.Written.{comma_if, compact_text};
 ghost use Rattle.reply_texts.specs.Pages.{Holds, Puts};
-ghost use Rattle.reply_texts.specs.declared.sizes.TheConstants.{REPLY_MOST};
 
 use crate::sizes::REPLY_MOST;
 use arrayvec::ArrayVec;
@@ -13,10 +12,6 @@ use itoa::Buffer;
 
 /// The text of a reply that isn't a publication, in room that takes no memory.
 pub type ReplyBytes = ArrayVec<u8, REPLY_MOST>;
-
-/// The text of a reply is longer than its room.
-#[derive(Debug, Drop)]
-pub struct TooLong;
 
 /// What is written so far, unless it was more than there is room for: then nothing more is written.
 #[derive(Drop)]
@@ -33,17 +28,6 @@ pub(crate) fn blank() -> Page
         bytes: ReplyBytes::new(),
         full: false,
     }
-}
-
-// What was written, if there was room for it.
-pub(crate) fn finished(page: Page) -> Result<ReplyBytes, TooLong>
-    ensures { (text : List ℕ) → Holds page text
-        → MatchResult result (λ bytes. bytes.items ≡ text) (λ _. REPLY_MOST < length text) }
-{
-    if page.full {
-        return Err(TooLong);
-    }
-    Ok(page.bytes)
 }
 
 // A page that is full once stays full, so that a text that doesn't fit is never sent in part.

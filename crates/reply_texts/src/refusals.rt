@@ -2,12 +2,12 @@
 ghost use Rattle.std.specs.Prelude.{◌≡◌, ◌↔◌, codes, IfOk, IfSome, IsSome, true};
 ghost use Rattle.serde_json.specs.Data.{object, member, no_members};
 ghost use Rattle.serde_json.specs.View.{view};
-ghost use Rattle.reply_texts.specs.Pages.{IsTextOf};
+ghost use Rattle.reply_texts.specs.Pages.{PutsValue};
 ghost use Rattle.reply_texts.specs.Refusals.{is_code_alone, of_refusal, of_service_refusal, refusal_row, service_row, service_text};
 ghost use Rattle.reply_texts.specs.Values.{list_by, of_number, of_text};
 
-use crate::objects::{Field, Part, object_text};
-use crate::page::{ReplyBytes, TooLong};
+use crate::objects::{Field, Part, put_fields};
+use crate::page::Page;
 use crate::values::{numbers, written};
 use bid_rules::Missing;
 use sealed_core::Refusal;
@@ -187,61 +187,71 @@ fn with_place(alloc: Global, code: &str, place: u64) -> Result<Value, AllocError
 }
 
 // Only a code, without memory.
-fn code_text(code: &str) -> Result<ReplyBytes, TooLong>
-    ensures { IsTextOf (object (member (codes "code") (of_text code.now) no_members)) result }
+fn put_code(page: &mut Page, code: &str)
+    ensures { PutsValue page.old page.new
+        (object (member (codes "code") (of_text code.now) no_members)) }
 {
-    object_text(&[Field {
-        name: "code",
-        part: Part::Text(code.as_bytes()),
-    }])
+    put_fields(
+        page,
+        &[Field {
+            name: "code",
+            part: Part::Text(code.as_bytes()),
+        }],
+    )
 }
 
 // A client is told which field to mend.
-fn code_with_field<'a>(code: &'a str, field: &'a str) -> Result<ReplyBytes, TooLong>
-    ensures { IsTextOf
+fn put_code_with_field<'a>(page: &mut Page, code: &'a str, field: &'a str)
+    ensures { PutsValue page.old page.new
         (object (member (codes "code") (of_text code.now)
-        (member (codes "field") (of_text field.now) no_members))) result }
+        (member (codes "field") (of_text field.now) no_members))) }
 {
-    object_text(&[
-        Field {
-            name: "code",
-            part: Part::Text(code.as_bytes()),
-        },
-        Field {
-            name: "field",
-            part: Part::Text(field.as_bytes()),
-        },
-    ])
+    put_fields(
+        page,
+        &[
+            Field {
+                name: "code",
+                part: Part::Text(code.as_bytes()),
+            },
+            Field {
+                name: "field",
+                part: Part::Text(field.as_bytes()),
+            },
+        ],
+    )
 }
 
 // A client is told the turn that the host has kept, so that it can go on from there.
-fn code_with_kept(code: &str, kept: u8) -> Result<ReplyBytes, TooLong>
-    ensures { IsTextOf
+fn put_code_with_kept(page: &mut Page, code: &str, kept: u8)
+    ensures { PutsValue page.old page.new
         (object (member (codes "code") (of_text code.now)
-        (member (codes "kept") (of_number kept) no_members))) result }
+        (member (codes "kept") (of_number kept) no_members))) }
 {
-    object_text(&[
-        Field {
-            name: "code",
-            part: Part::Text(code.as_bytes()),
-        },
-        Field {
-            name: "kept",
-            part: Part::Number(u64::from(kept)),
-        },
-    ])
+    put_fields(
+        page,
+        &[
+            Field {
+                name: "code",
+                part: Part::Text(code.as_bytes()),
+            },
+            Field {
+                name: "kept",
+                part: Part::Number(u64::from(kept)),
+            },
+        ],
+    )
 }
 
 // What the host refuses, without memory.
 #[tactic(auto, unfolding(crate::specs::Refusals::of_refusal))]
-pub(crate) fn refusal_text(refusal: Refusal) -> Result<ReplyBytes, TooLong>
-    ensures { IsTextOf (of_refusal refusal) result }
+pub(crate) fn put_refusal(page: &mut Page, refusal: Refusal)
+    ensures { PutsValue page.old page.new (of_refusal refusal) }
 {
     let code = refusal_code(refusal);
     match refusal {
-        Refusal::BadField { name } => code_with_field(code, name.name()),
-        Refusal::Turn { kept } => code_with_kept(code, kept),
-        _ => code_text(code),
+        Refusal::BadField { name } => put_code_with_field(page, code, name.name()),
+        Refusal::Turn { kept } => put_code_with_kept(page, code, kept),
+        _ => put_code(page, code),
     }
 }
 

@@ -7,18 +7,18 @@ ghost use Rattle.sealed_core.specs.Keys.{key_text};
 ghost use Rattle.sealed_core.specs.Sealed.{with_event};
 ghost use Rattle.sealed_core.specs.Step.{answer_view};
 ghost use Rattle.reply_texts.specs.Objects.{of_keys};
-ghost use Rattle.reply_texts.specs.Pages.{IsTextAt, IsTextOf};
+ghost use Rattle.reply_texts.specs.Pages.{PutsFound, PutsValue};
 ghost use Rattle.reply_texts.specs.Replies.{of_closed, of_created, of_own, of_place, of_reply, of_turn, of_values, status_of, text_of};
 ghost use Rattle.reply_texts.specs.Sealing.{IsSealedText};
 ghost use Rattle.reply_texts.specs.Telling.{IsAnswered, IsCloseOf, IsCreationOf, Tells, is_close, is_publication};
 ghost use Rattle.reply_texts.specs.Values.{list_by, of_text};
 
 use crate::laws::text_sealing_law;
-use crate::objects::{Field, Part, object_text};
-use crate::page::{ReplyBytes, TooLong};
-use crate::refusals::{refusal_status, refusal_text};
+use crate::objects::{Field, Part, put_fields};
+use crate::page::{Page, ReplyBytes, blank};
+use crate::refusals::{put_refusal, refusal_status};
 use crate::sizes::reply_size_law;
-use crate::statuses::status_text;
+use crate::statuses::put_status;
 use arrayvec::ArrayVec;
 use bid_rules::Bid;
 use bid_rules::limits::MEMBER_ROOM;
@@ -41,75 +41,87 @@ pub fn reply_status(reply: &Reply) -> u16
 
 // The turn that was kept, which a client needs for its next bid.
 #[tactic(auto, unfolding(crate::specs::Replies::of_turn))]
-fn turn_text(turn: u8) -> Result<ReplyBytes, TooLong>
-    ensures { IsTextOf (of_turn turn) result }
+fn put_turn(page: &mut Page, turn: u8)
+    ensures { PutsValue page.old page.new (of_turn turn) }
 {
-    object_text(&[Field {
-        name: "turn",
-        part: Part::Number(u64::from(turn)),
-    }])
+    put_fields(
+        page,
+        &[Field {
+            name: "turn",
+            part: Part::Number(u64::from(turn)),
+        }],
+    )
 }
 
 // A member's own bid of values, and its turn.
 #[tactic(auto, unfolding(crate::specs::Replies::of_values))]
-fn values_text(turn: u8, values: &[u32]) -> Result<ReplyBytes, TooLong>
-    ensures { IsTextOf (of_values turn values.now) result }
+fn put_values(page: &mut Page, turn: u8, values: &[u32])
+    ensures { PutsValue page.old page.new (of_values turn values.now) }
 {
-    object_text(&[
-        Field {
-            name: "turn",
-            part: Part::Number(u64::from(turn)),
-        },
-        Field {
-            name: "values",
-            part: Part::Numbers(values),
-        },
-    ])
+    put_fields(
+        page,
+        &[
+            Field {
+                name: "turn",
+                part: Part::Number(u64::from(turn)),
+            },
+            Field {
+                name: "values",
+                part: Part::Numbers(values),
+            },
+        ],
+    )
 }
 
 // A member's own bid of a place, and its turn.
 #[tactic(auto, unfolding(crate::specs::Replies::of_place))]
-fn place_text(turn: u8, place: u8) -> Result<ReplyBytes, TooLong>
-    ensures { IsTextOf (of_place turn place) result }
+fn put_place(page: &mut Page, turn: u8, place: u8)
+    ensures { PutsValue page.old page.new (of_place turn place) }
 {
-    object_text(&[
-        Field {
-            name: "place",
-            part: Part::Number(u64::from(place)),
-        },
-        Field {
-            name: "turn",
-            part: Part::Number(u64::from(turn)),
-        },
-    ])
+    put_fields(
+        page,
+        &[
+            Field {
+                name: "place",
+                part: Part::Number(u64::from(place)),
+            },
+            Field {
+                name: "turn",
+                part: Part::Number(u64::from(turn)),
+            },
+        ],
+    )
 }
 
 // The member's own kept turn and bid.
-fn own_text(instance: &Instance, member: u8) -> Result<ReplyBytes, TooLong>
+fn put_own(page: &mut Page, instance: &Instance, member: u8)
     requires least { 1 ≤ member }
     requires most { member ≤ length instance.now.creation.members.items }
     requires sound { IsCheckedInstance (instance_view instance.now) }
-    ensures { IsTextOf
+    ensures { PutsValue page.old page.new
         (of_own (kept_turn (instance_view instance.now) member)
-        (kept_bid (instance_view instance.now) member)) result }
+        (kept_bid (instance_view instance.now) member)) }
 {
     let turn = turn_of(instance, member);
     match bid_of(instance, member) {
-        Some(Bid::Values(values)) => values_text(turn, values.as_slice()),
-        Some(Bid::Place(place)) => place_text(turn, *place),
-        None => turn_text(turn),
+        Some(Bid::Values(values)) => put_values(page, turn, values.as_slice()),
+        Some(Bid::Place(place)) => put_place(page, turn, *place),
+        None => put_turn(page, turn),
     }
 }
 
 // A close has nothing else to say.
 #[tactic(auto, unfolding(crate::specs::Replies::of_closed))]
-fn closed_text() -> Result<ReplyBytes, TooLong>
-    ensures { IsTextOf of_closed result }
+fn put_closed(page: &mut Page)
+    ensures { PutsValue page.old page.new of_closed }
 {
-    object_text(&[Field {
-        name: "closed",
-        part: Part::Flag(true),
-    }])
+    put_fields(
+        page,
+        &[Field {
+            name: "closed",
+            part: Part::Flag(true),
+        }],
+    )
 }
 
 // The keys of the members, in their order.
@@ -126,33 +138,36 @@ fn member_keys(secret: &[u8; 32], id: u32, members: u8) -> ArrayVec<Key, MEMBER_
 }
 
 // The id and the keys of a new instance.
-fn keys_text<'a>(id: u32, keys: &'a [Key], organiser: &'a Key) -> Result<ReplyBytes, TooLong>
-    ensures { IsTextOf (of_keys id keys.now organiser.now) result }
+fn put_new_keys<'a>(page: &mut Page, id: u32, keys: &'a [Key], organiser: &'a Key)
+    ensures { PutsValue page.old page.new (of_keys id keys.now organiser.now) }
 {
-    object_text(&[
-        Field {
-            name: "id",
-            part: Part::Number(u64::from(id)),
-        },
-        Field {
-            name: "keys",
-            part: Part::Keys(keys),
-        },
-        Field {
-            name: "organiser",
-            part: Part::Text(organiser),
-        },
-    ])
+    put_fields(
+        page,
+        &[
+            Field {
+                name: "id",
+                part: Part::Number(u64::from(id)),
+            },
+            Field {
+                name: "keys",
+                part: Part::Keys(keys),
+            },
+            Field {
+                name: "organiser",
+                part: Part::Text(organiser),
+            },
+        ],
+    )
 }
 
 // The only reply that has keys: the organiser hands them out.
-fn created_text(secret: &[u8; 32], id: u32, members: u8) -> Result<ReplyBytes, TooLong>
+fn put_created(page: &mut Page, secret: &[u8; 32], id: u32, members: u8)
     requires { members ≤ MEMBER_ROOM }
-    ensures { IsTextOf (of_created secret.now id members) result }
+    ensures { PutsValue page.old page.new (of_created secret.now id members) }
 {
     let keys = member_keys(secret, id, members);
     let organiser = key_of(secret, id, 0);
-    keys_text(id, keys.as_slice(), &organiser)
+    put_new_keys(page, id, keys.as_slice(), &organiser)
 }
 
 // How many members the instance has that a reply names as created.
@@ -173,14 +188,14 @@ fn members_after(host: &Host, event: &Option<Event>, id: u32) -> u8
 }
 
 // The event is not applied yet when the text is made, so the members are counted with it.
-fn created_after(host: &Host, event: &Option<Event>, id: u32) -> Result<ReplyBytes, TooLong>
+fn put_created_after(page: &mut Page, host: &Host, event: &Option<Event>, id: u32)
     requires { Tells host.now.content (option_map event_view event.now) (Reply.Created id) }
-    ensures { IsTextAt
+    ensures { PutsFound page.old page.new
         (of_reply (with_event host.now.content (option_map event_view event.now))
-        (Reply.Created id)) result }
+        (Reply.Created id)) }
 {
     let members = members_after(host, event, id);
-    created_text(host.secret(), id, members)
+    put_created(page, host.secret(), id, members)
 }
 
 // A status must already say that the instance is closed by its own event.
@@ -202,47 +217,47 @@ fn is_closed_after(instance: &Instance, event: &Option<Event>) -> bool
 }
 
 // The text is made before the event is applied, so that a reply is there whole before anything is kept.
-fn status_after(host: &Host, event: &Option<Event>, id: u32, you: u8) -> Result<ReplyBytes, TooLong>
+fn put_status_after(page: &mut Page, host: &Host, event: &Option<Event>, id: u32, you: u8)
     requires { Tells host.now.content (option_map event_view event.now) (Reply.Status id you) }
-    ensures { IsTextAt
+    ensures { PutsFound page.old page.new
         (of_reply (with_event host.now.content (option_map event_view event.now))
-        (Reply.Status id you)) result }
+        (Reply.Status id you)) }
 {
     let Some(instance) = instance_at(host, id) else {
         unreachable!();
     };
     let closed = is_closed_after(instance, event);
-    status_text(id, you, instance, closed)
+    put_status(page, id, you, instance, closed)
 }
 
 // A member's own bid is as it was before the event, since only a close can come with it.
-fn own_after(host: &Host, event: &Option<Event>, id: u32, member: u8) -> Result<ReplyBytes, TooLong>
+fn put_own_after(page: &mut Page, host: &Host, event: &Option<Event>, id: u32, member: u8)
     requires { Tells host.now.content (option_map event_view event.now) (Reply.Own id member) }
-    ensures { IsTextAt
+    ensures { PutsFound page.old page.new
         (of_reply (with_event host.now.content (option_map event_view event.now))
-        (Reply.Own id member)) result }
+        (Reply.Own id member)) }
 {
     let Some(instance) = instance_at(host, id) else {
         unreachable!();
     };
-    own_text(instance, member)
+    put_own(page, instance, member)
 }
 
-// The text of a reply over the host after the event.
-fn text_after(host: &Host, event: &Option<Event>, reply: Reply) -> Result<ReplyBytes, TooLong>
+// Puts the text of a reply over the host after the event.
+fn put_after(page: &mut Page, host: &Host, event: &Option<Event>, reply: Reply)
     requires tells { Tells host.now.content (option_map event_view event.now) reply }
     requires reply { is_publication reply ≡ false }
-    ensures { IsTextAt
-        (of_reply (with_event host.now.content (option_map event_view event.now)) reply) result }
+    ensures { PutsFound page.old page.new
+        (of_reply (with_event host.now.content (option_map event_view event.now)) reply) }
 {
     match reply {
-        Reply::Created { id } => created_after(host, event, id),
-        Reply::Status { id, you } => status_after(host, event, id, you),
-        Reply::Kept { turn } => turn_text(turn),
-        Reply::Own { id, member } => own_after(host, event, id, member),
-        Reply::Closed => closed_text(),
+        Reply::Created { id } => put_created_after(page, host, event, id),
+        Reply::Status { id, you } => put_status_after(page, host, event, id, you),
+        Reply::Kept { turn } => put_turn(page, turn),
+        Reply::Own { id, member } => put_own_after(page, host, event, id, member),
+        Reply::Closed => put_closed(page),
         Reply::Publish { .. } => unreachable!(),
-        Reply::Refused(refusal) => refusal_text(refusal),
+        Reply::Refused(refusal) => put_refusal(page, refusal),
     }
 }
 
@@ -261,10 +276,12 @@ pub fn reply_bytes(host: &Host, answered: &Answered) -> ReplyBytes
     text_sealing_law();
     reply_size_law();
     let _instances = host.instances();
-    match text_after(host, &answered.event, answered.reply) {
-        Ok(bytes) => bytes,
-        Err(TooLong) => unreachable!(),
+    let mut page = blank();
+    put_after(&mut page, host, &answered.event, answered.reply);
+    if page.full {
+        unreachable!();
     }
+    page.bytes
 }
 
 /// The same text in memory. `NoMemory`: memory ran out.

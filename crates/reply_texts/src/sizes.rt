@@ -1,4 +1,4 @@
-// How long replies are.
+// The greatest length of a reply's text, and the law that no reply is longer.
 ghost use Rattle.std.specs.Prelude.{◌≡◌, ℕ, ◌≤◌, List, length, Some};
 ghost use Rattle.sealed_core.specs.Host.{AreCheckedInstances, HostView};
 ghost use Rattle.sealed_core.specs.Sealed.{with_event};

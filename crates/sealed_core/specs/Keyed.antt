@@ -1,4 +1,5 @@
--- Instances that keep the keys of their organisers and members, made from a host's secret. Only contracts of private functions use this.
+-- Instances that keep the keys of their organisers and members, made from a host's secret. Only the invariant
+-- of `Host` and contracts of private functions use this.
 use Rattle.std.specs.Prelude.{◌≡◌, ℕ, ◌+◌, List, [], ◌∷◌, length, ⊤}
 use Rattle.sealed_core.specs.declared.host.Instance.{Instance}
 use Rattle.sealed_core.specs.Keys.{keys_of}

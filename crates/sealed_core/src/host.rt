@@ -19,6 +19,8 @@ use std::alloc::Global;
 use std::marker::Model;
 
 /// An instance: what was created, the keys of those who take part, what the members have bid, and whether bidding is over.
+///
+/// It has no `Debug`, so that keys and sealed bids are never printed by mistake.
 #[derive(Drop)]
 pub struct Instance {
     pub creation: Creation,

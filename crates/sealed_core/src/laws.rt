@@ -1,4 +1,5 @@
-// Laws about the host of sealed bids as a machine that takes commands one by one: what stays sealed, where its events come from, what it publishes, whose a key is, and what counts as the same. Each is the contract of a function that does nothing.
+// Laws about the host of sealed bids as a machine that takes commands one by one: what stays sealed, where its events come from, what it publishes, whose a key is, and what counts as the same.
+// Each is the contract of a function that does nothing.
 ghost use Rattle.std.specs.Prelude.{◌≡◌, ◌↔◌, ◌+◌, ℕ, List, [], ◌∷◌, ◌++◌, Option, None, Some, IfSome, IsSome, Ok, true, max, All, length, replicate, false};
 ghost use Rattle.bid_rules.specs.Facts.{IsCheckedBid};
 ghost use Rattle.bid_rules.specs.declared.bids.Bid.{Bid};

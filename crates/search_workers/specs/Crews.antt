@@ -3,6 +3,7 @@ use Rattle.std.specs.Prelude.{◌≡◌, ℕ, ◌<◌, ◌≤◌, List, [], All,
 use Rattle.bid_rules.specs.declared.goods.GoodsCase.{GoodsCase}
 use Rattle.nash_bounds.specs.Blocks.{tasks_in}
 use Rattle.nash_search.specs.Best.{IsFoundBest}
+use Rattle.nash_search.specs.Parts.{IsPartWalk, PartPieces}
 use Rattle.nash_search.specs.declared.found.Found.{Found}
 use Rattle.search_workers.specs.declared.crew.Worker.{Worker}
 use Rattle.search_workers.specs.declared.parts.Part.{Part}
@@ -17,6 +18,12 @@ IsReady worker = worker.ended.items ≡ []
 -- a worker who has ended: each part that it brings back was walked as it says
 abbrev pub HasEnded : GoodsCase → BlockRule → List Part → Worker → Type 0
 HasEnded case rule parts worker = All (IsEnded case rule parts) worker.ended.items
+
+-- a walk of the case, which counts by the rule of the block
+pub record WalksBy (case : GoodsCase) (rule : BlockRule) (pieces : PartPieces) : Type 0 where
+  pub walk : IsPartWalk case pieces
+  pub floor : pieces.floor ≡ rule.floor
+  pub above : pieces.above ≡ rule.above
 
 -- the number at each place is at least the place
 abbrev pub IsSteep : List ℕ → Type 0

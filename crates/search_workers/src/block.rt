@@ -7,7 +7,7 @@ ghost use Rattle.search_workers.specs.BlockEnds.{EndsBlock, crew_of};
 
 use crate::board::Board;
 use crate::crew::{hire, run_workers};
-use crate::limits::MOST_WORKERS;
+use crate::limits::{FEW_PREFIXES, MOST_WORKERS};
 use crate::parts::parts_of;
 use crate::settle::{gather, no_ends, settle};
 use crate::worker::BlockRule;
@@ -153,6 +153,39 @@ pub(crate) fn run_by<R: Threads + Sync, G: Gate + Sync>(
     }
 }
 
+// What `run_by` does, but the calling thread counts a few prefixes alone first. If the block has no more, no thread is started for it. Otherwise
+// all workers begin the block again.
+pub(crate) fn run_after_few<R: Threads + Sync, G: Gate + Sync>(
+    alloc: Global,
+    rt: &R,
+    case: &GoodsCase,
+    tables: &Tables,
+    rule: &BlockRule,
+    workers: u8,
+    gate: &G,
+) -> BlockEnd
+    requires case { IsValidGoodsCase case.now }
+    requires tables { AreTables case.now tables.now }
+    requires block { BLOCK_TASKS * rule.now.block < tasks_of case.now }
+    requires left { rule.now.left ≤ MOST_STEPS }
+    requires workers { (1 ≤ workers) × (workers ≤ MOST_WORKERS) }
+    ensures { EndsBlock case.now rule.now.floor rule.now.above rule.now.block rule.now.left workers
+        result }
+{
+    if crew_size(case, rule.block, workers) > 1 {
+        let few = BlockRule {
+            block: rule.block,
+            floor: rule.floor,
+            above: rule.above,
+            left: rule.left.min(FEW_PREFIXES),
+        };
+        if let BlockEnd::Done { nodes, best } = walk_alone(case, tables, &few, workers, gate) {
+            return BlockEnd::Done { nodes, best };
+        }
+    }
+    run_by(alloc, rt, case, tables, rule, workers, gate)
+}
+
 /// Searches a block by several workers, who draw parts of its tasks and share the budget `left`, which is at most `MOST_STEPS`.
 ///
 /// Those prefixes of the tasks are counted whose bound is at least `floor` and, if there is an `above`, greater than it. `Over` is returned
@@ -160,8 +193,8 @@ pub(crate) fn run_by<R: Threads + Sync, G: Gate + Sync>(
 /// except for the number that `Over` gives.
 ///
 /// It takes no more workers than the block has tasks, the calling thread among them. If it takes only one, or finds no memory for the parts, the
-/// calling thread walks the block's tasks one after another. With several workers, the gate's `enter` is called for a task when its first part has
-/// been drawn, and `leave` when the last of its parts has ended.
+/// calling thread walks the block's tasks one after another. With several workers, the gate's `enter` is called for a task when the first of its parts
+/// to be drawn is about to be walked, and `leave` when the last of its parts has ended.
 pub fn run_block<R: Threads + Sync, G: Gate + Sync>(
     alloc: Global,
     rt: &R,

@@ -4,7 +4,7 @@ ghost use Rattle.bid_rules.specs.Goods.{IsValidGoodsCase};
 ghost use Rattle.nash_bounds.specs.Steps.{HasSteps};
 ghost use Rattle.nash_search.specs.Division.{IsGoodsDivision, IsOverLimit};
 
-use crate::block::{BlockEnd, run_by};
+use crate::block::{BlockEnd, run_after_few};
 use crate::limits::MOST_WORKERS;
 use crate::worker::BlockRule;
 use bid_rules::GoodsCase;
@@ -16,9 +16,9 @@ use std::thread::Threads;
 /// The same answer as `search_alone`, found by 1 to `MOST_WORKERS` workers: the allocation with the greatest Nash welfare, with its pair and
 /// the step count, or the limit of the case exactly when the step count is above it.
 ///
-/// Neither the number of workers nor their order affects the answer. A block takes no more workers than it has tasks, and the calling thread
-/// walks a block of one task alone. It never fails for lack of memory: if there is none for a block's parts, the calling thread walks that
-/// block alone.
+/// Neither the number of workers nor their order affects the answer. A block takes no more workers than it has tasks. The calling thread walks
+/// a block alone if it has one task, or at most `FEW_PREFIXES` counted prefixes. Otherwise all workers begin the block again, and the gate is
+/// told of its tasks again. It never fails for lack of memory: if there is none for a block's parts, the calling thread walks that block alone.
 pub fn search<R: Threads + Sync, G: Gate + Sync>(
     alloc: Global,
     rt: &R,
@@ -45,7 +45,7 @@ pub fn search<R: Threads + Sync, G: Gate + Sync>(
             above: progress.above(case),
             left: progress.left(case),
         };
-        let end = run_by(alloc, rt, case, &tables, &rule, workers, gate);
+        let end = run_after_few(alloc, rt, case, &tables, &rule, workers, gate);
         let BlockEnd::Done { nodes, best } = end else {
             return Err(progress.over(case));
         };

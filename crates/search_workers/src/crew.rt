@@ -2,7 +2,7 @@
 ghost use Rattle.std.specs.Prelude.{◌≡◌, ◌<◌, ◌≤◌, [], All, IfOk, length};
 ghost use Rattle.bid_rules.specs.Goods.{IsValidGoodsCase};
 ghost use Rattle.nash_search.specs.Tables.{AreTables};
-ghost use Rattle.search_workers.specs.Crews.{HasEnded, IsReady};
+ghost use Rattle.search_workers.specs.Crews.{HasEnded, IsReady, WalksBy};
 ghost use Rattle.search_workers.specs.Parts.{IsEndOf, IsEnded, IsPart};
 
 use crate::board::Board;
@@ -12,7 +12,7 @@ use crate::parts::Part;
 use crate::worker::BlockRule;
 use bid_rules::GoodsCase;
 use bid_rules::limits::MOST_STEPS;
-use nash_search::{Tables, walk_part};
+use nash_search::{PartWalk, Tables, walk_part};
 use split_base::Gate;
 use std::alloc::{AllocError, Global};
 use std::thread;
@@ -39,21 +39,22 @@ pub(crate) fn hire(alloc: Global, workers: u8) -> Result<Vec<Worker>, AllocError
 
 // Counts the prefixes of a part in pieces, until all are counted, or all workers together have counted more than were left.
 fn walk_pieces(
+    walk: &mut PartWalk,
     case: &GoodsCase,
-    tables: &Tables,
     rule: &BlockRule,
     part: &Part,
     place: usize,
     board: &Board,
 ) -> Ended
     requires case { IsValidGoodsCase case.now }
-    requires tables { AreTables case.now tables.now }
+    requires walk { WalksBy case.now rule.now walk.old }
     requires part { IsPart case.now part.now }
     requires left { rule.now.left ≤ MOST_STEPS }
+    ensures walk { WalksBy case.now rule.now walk.new }
     ensures place { result.place ≡ place }
     ensures end { IsEndOf case.now rule.now part.now result }
 {
-    let mut walk = walk_part(case, tables, &part.prefix, rule.floor, rule.above);
+    walk.restart(case, &part.prefix);
     let mut over = board.report(0);
     'pieces: while !over && walk.nodes() <= rule.left {
         let before = walk.nodes();
@@ -79,8 +80,8 @@ fn walk_pieces(
 
 // Walks the part that was drawn, and calls the gate before and after if it is due.
 fn walk_drawn<G: Gate>(
+    walk: &mut PartWalk,
     case: &GoodsCase,
-    tables: &Tables,
     rule: &BlockRule,
     parts: &[Part],
     place: usize,
@@ -88,14 +89,15 @@ fn walk_drawn<G: Gate>(
     gate: &G,
 ) -> Ended
     requires case { IsValidGoodsCase case.now }
-    requires tables { AreTables case.now tables.now }
+    requires walk { WalksBy case.now rule.now walk.old }
     requires parts { All (IsPart case.now) parts.now }
     requires left { rule.now.left ≤ MOST_STEPS }
     requires inside { place < length parts.now }
-    ensures { IsEnded case.now rule.now parts.now result }
+    ensures walk { WalksBy case.now rule.now walk.new }
+    ensures ended { IsEnded case.now rule.now parts.now result }
 {
     board.enter(parts, place, gate);
-    let ended = walk_pieces(case, tables, rule, &parts[place], place, board);
+    let ended = walk_pieces(walk, case, rule, &parts[place], place, board);
     board.leave(parts, place, gate);
     ended
 }
@@ -109,7 +111,7 @@ fn keep(worker: &mut Worker, ended: Ended, case: &GoodsCase, rule: &BlockRule, p
     let _ = worker.ended.push(ended);
 }
 
-// Does one worker's work: draws parts and walks them, until none are left to draw.
+// Does one worker's work: draws parts and walks them, one walk after another in the same room, until none are left to draw.
 fn work_parts<G: Gate>(
     worker: &mut Worker,
     case: &GoodsCase,
@@ -126,12 +128,19 @@ fn work_parts<G: Gate>(
     requires ready { IsReady worker.old }
     ensures { HasEnded case.now rule.now parts.now worker.new }
 {
+    let Some(first) = parts.first() else {
+        return;
+    };
+    // It doesn't matter with which part the walk starts: it begins anew with each part that is drawn.
+    let mut walk = walk_part(case, tables, &first.prefix, rule.floor, rule.above);
     'draws: for _ in 0..parts.len() {
-        let place = board.draw();
-        if place >= parts.len() as u64 {
+        let Some(place) = board.draw() else {
+            return;
+        };
+        if place >= parts.len() {
             return;
         }
-        let ended = walk_drawn(case, tables, rule, parts, place as usize, board, gate);
+        let ended = walk_drawn(&mut walk, case, rule, parts, place, board, gate);
         keep(worker, ended, case, rule, parts);
     }
 }

@@ -1,5 +1,5 @@
-//! The search for the allocation with the greatest Nash welfare by several workers, each in a thread: how parts are
-//! dealt to them, and that they find what one thread finds.
+//! The search for the allocation with the greatest Nash welfare by several workers, each in a thread: how they draw
+//! parts, and that they find what one thread finds.
 //!
 //! The workers of a block draw parts of its tasks and share one budget of counted prefixes.
 //!

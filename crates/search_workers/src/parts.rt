@@ -15,7 +15,7 @@ use bid_rules::GoodsCase;
 use bid_rules::limits::MEMBER_ROOM;
 use nash_bounds::limits::BLOCK_TASKS;
 use nash_bounds::{Prefix, extend_by, tasks_in_row_law};
-use nash_search::{Tables, owners_after, part_law, task_prefix, tasks_in_block};
+use nash_search::{Tables, owners_after, part_law, part_top, task_prefix, tasks_in_block};
 use std::alloc::{AllocError, Global};
 
 /// A part of a task: a prefix, with everything that begins with it.
@@ -25,6 +25,9 @@ pub(crate) struct Part {
     pub(crate) task: u32,
     /// The prefix.
     pub(crate) prefix: Prefix,
+    /// What `part_top` tells: 0 if the part has no counted prefix, and otherwise the higher, the larger the part probably is. Nothing that is
+    /// proved depends on it.
+    pub(crate) top: u32,
 }
 
 // The tasks of a block, none of them cut.
@@ -47,7 +50,8 @@ fn whole_tasks(
     'tasks: for place in 0..tasks {
         let task = from + place;
         let prefix = task_prefix(case, &tables.points, task);
-        parts.push(Part { task, prefix })?;
+        let top = part_top(case, &prefix, rule.floor, rule.above);
+        parts.push(Part { task, prefix, top })?;
     }
     Ok(parts)
 }
@@ -85,20 +89,24 @@ fn push_longer(
 {
     'owners: while let Some(owner) = owners.pop() {
         let prefix = extend_by(case, &tables.points, &part.prefix, owner);
+        let top = part_top(case, &prefix, rule.floor, rule.above);
         parts.push(Part {
             task: part.task,
             prefix,
+            top,
         })?;
     }
     Ok(())
 }
 
-// Adds the part, cut by the owners of one more good if that is possible, and returns how many counted prefixes are then in no part.
-fn push_cut(
+// Adds the part, cut by the owners of one more good if that is possible and its top is at least `least`, and returns how many counted
+// prefixes are then in no part.
+fn push_part(
     case: &GoodsCase,
     tables: &Tables,
     rule: &BlockRule,
     part: Part,
+    least: u32,
     parts: &mut Vec<Part>,
 ) -> Result<usize, AllocError>
     requires case { IsValidGoodsCase case.now }
@@ -110,6 +118,10 @@ fn push_cut(
     ensures few { IfOk result (λ nodes. nodes ≤ 1) }
 {
     part_law();
+    if part.top < least {
+        parts.push(part)?;
+        return Ok(0);
+    }
     let owners = owners_after(case, tables, &part.prefix, rule.floor, rule.above);
     if owners.is_empty() {
         parts.push(part)?;
@@ -119,8 +131,20 @@ fn push_cut(
     Ok(1)
 }
 
-// All parts, each cut by the owners of one more good if that is possible, and how many counted prefixes are then in no part.
-fn cut_all(
+// The mean top of the parts whose prefix is counted.
+fn mean_top(parts: &[Part]) -> u32 {
+    let mut sum: u32 = 0;
+    let mut count: u32 = 0;
+    for part in parts {
+        sum = sum.saturating_add(part.top);
+        count = count.saturating_add(part.top.min(1));
+    }
+    sum / count.max(1)
+}
+
+// All parts, of which those with a top of at least the mean are cut by the owners of one more good, and how many counted prefixes are then in
+// no part.
+fn cut_larger(
     alloc: Global,
     case: &GoodsCase,
     tables: &Tables,
@@ -133,16 +157,17 @@ fn cut_all(
     ensures cut { IfOk result (λ cut. AreCut case.now rule.now parts.items cut.0.items cut.1) }
     ensures few { IfOk result (λ cut. cut.1 ≤ length parts.items) }
 {
+    let least = mean_top(parts.as_slice());
     let mut longer = Vec::with_capacity(alloc, parts.len())?;
     let mut nodes = 0;
     'parts: for part in parts {
-        nodes += push_cut(case, tables, rule, part, &mut longer)?;
+        nodes += push_part(case, tables, rule, part, least, &mut longer)?;
     }
     Ok((longer, nodes))
 }
 
-// The parts of a block: its tasks, cut until there are `ENOUGH_PARTS` or each has been cut `MOST_CUTS` times, and how many counted prefixes
-// of the block are in no part.
+// The parts of a block: its tasks, of which the larger ones are cut until there are `ENOUGH_PARTS` parts, at most `MOST_CUTS` times, and how
+// many counted prefixes of the block are in no part.
 pub(crate) fn parts_of(
     alloc: Global,
     case: &GoodsCase,
@@ -160,7 +185,7 @@ pub(crate) fn parts_of(
         if parts.len() >= ENOUGH_PARTS {
             return Ok((parts, nodes));
         }
-        let (longer, more) = cut_all(alloc, case, tables, rule, parts)?;
+        let (longer, more) = cut_larger(alloc, case, tables, rule, parts)?;
         parts = longer;
         nodes += more;
     }

@@ -1,4 +1,5 @@
-// Laws about how the host serves a link, and a port link by link: as one list of requests in order, each with its one reply. Each is the contract of a function that does nothing.
+// Laws about how the host serves a link, and a port link by link: as one list of requests in order, each with its one reply.
+// Each is the contract of a function that does nothing.
 ghost use Rattle.std.specs.Prelude.{◌++◌, ℕ, List, Option};
 ghost use Rattle.host_journal.specs.States.{State};
 ghost use Rattle.serving.specs.Ends.{Ending};

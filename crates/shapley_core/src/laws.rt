@@ -1,4 +1,5 @@
-// Laws about fares by the Shapley value as exact fractions: a case has at most one answer, the number of members never changes it, and the fractions stay within their limits. Each is the contract of a function that does nothing.
+// Laws about fares by the Shapley value as exact fractions: a case has at most one answer, the number of members never changes it, and the fractions stay within their limits.
+// Each is the contract of a function that does nothing.
 ghost use Rattle.std.specs.Prelude.{◌≡◌, ◌≤◌, ◌+◌, ◌*◌, ◌↔◌, ℕ, List, map};
 ghost use Rattle.bid_rules.specs.declared.cases.FareCase.{FareCase};
 ghost use Rattle.bid_rules.specs.FareLimits.{most_orders, most_sum};

@@ -113,11 +113,11 @@ fn copy_of(alloc: Global, bytes: &[u8]) -> Option<Vec<u8>>
     }
 }
 
-/// What `write_certificate` gives, by the kept certificates: one of goods that is among them is copied, and another is written by the
-/// workers and kept.
+/// What `write_certificate` gives. A certificate of goods that was kept is copied; any other of goods is written with the workers'
+/// help, and then kept.
 ///
-/// They never change the text, since each is the canonical certificate of its whole case. Memory that is refused for keeping is not a
-/// fault. `NoMemory` is returned only when memory runs out.
+/// A kept certificate never changes the text, since it is the canonical one of its whole case. Memory that is refused for keeping is
+/// not a fault. `NoMemory` is returned only when memory runs out.
 pub fn certificate_once<R: Threads + Sync, G: Gate + Sync>(
     solver: &mut Solver<'_, R, G>,
     case: &Case,

@@ -1,5 +1,5 @@
-//! The trial of a number, once its three cases are drawn: they are solved, their certificates judged, and all is
-//! summed up.
+//! The trial of a number, once its three cases are drawn: solving them, judging their certificates, and the
+//! summary.
 //!
 //! The verdict on the canonical certificates is proved; no clause requires that they are read back. A trial can
 //! fail only for lack of memory.

@@ -4,7 +4,7 @@ use Rattle.std.proofs.lemmas.Nat.{pow_pos}
 use Rattle.split_frac.specs.Frac.{fraction_of}
 use Rattle.cert_reader.specs.Sets.{set_sizes, starts}
 use Rattle.cert_reader.specs.Views.{fares_view}
-use Rattle.fare_rules.specs.State.{StandsFor}
+use Rattle.fare_rules.specs.State.{StandsFor, costs_of}
 use Rattle.cert_checker.proofs.CutRows.{cut_bound, cut_from, cut_long, cut_row, sizes_long}
 use Rattle.cert_checker.proofs.checking.check_fares.Goals as goal
 
@@ -38,7 +38,7 @@ loop-set-preserved c =
     record {
       from = cut_from n set c.loop-set.from c.start_count.result low high from size;
       state = c.take_set.ensures.state;
-      stands = subst (λ rows. StandsFor view rows c.take_set.new.state) row stands;
+      stands = subst (λ rows. StandsFor view rows c.take_set.new.state (costs_of c.take_set.new.rows.items)) row stands;
     }
 
 pub returns : goal.returns
@@ -54,5 +54,5 @@ returns c =
     let long : length view.sets ≡ 2 ^ n - 1 = cut_long (set_sizes n) text.table ∙ sizes_long n in
     let all : take (set - 1) view.sets ≡ view.sets = take_all (set - 1) view.sets (omega (arith, long, sets, test, power)) in
     let stops = ap (λ k. 2 ^ k) text.each_at in
-    c.end_fares.ensures view (subst (λ rows. StandsFor view rows c.loop-set.state) all c.loop-set.invariant.stands) (omega (arith, long, stops, power)) (sym c.as_slice-4.ensures.value) (ap (map fraction_of) (sym c.as_slice-5.ensures.value))
+    c.end_fares.ensures view (subst (λ rows. StandsFor view rows c.loop-set.state (costs_of c.loop-set.rows.items)) all c.loop-set.invariant.stands) (omega (arith, long, stops, power)) (sym c.as_slice-4.ensures.value) (ap (map fraction_of) (sym c.as_slice-5.ensures.value))
     (text.each_route ∙ sym text.each_at) (length-map text.fares.items fraction_of ∙ text.each_fare ∙ sym text.each_at)

@@ -2,6 +2,7 @@ use Rattle.std.proofs.Common.{arith, ◌∙◌, ◌-◌, ◌^◌, ◌∷◌, ◌
 use Rattle.std.specs.Int.{w128}
 use Rattle.std.proofs.lemmas.Int.{fits_signed_from_abs, to_z-of_z}
 use Rattle.std.proofs.lemmas.List.{append-nil, length-map}
+use Rattle.fare_rules.specs.State.{costs_of}
 use Rattle.cert_reader.specs.Gathered.{Gathered, line_said}
 use Rattle.cert_reader.specs.Numbers.{IsNumber}
 use Rattle.cert_reader.specs.Views.{says}
@@ -75,7 +76,7 @@ returns c view whole e =
       more = view.sets;
       sets = refl;
       left = (omega (arith, many, count));
-      stands = stands_so view c.start_fares-state.result c.places_of.result (to_z w128 (of_z w128 c.number_at.result)) (map (λ row. row.items) c.as_slice.result.now) c.as_slice-2.result.now c.as_slice-3.result.now
+      stands = stands_so view c.start_fares-state.result (costs_of c.start_fares-state.new.rows.items) c.places_of.result (to_z w128 (of_z w128 c.number_at.result)) (map (λ row. row.items) c.as_slice.result.now) c.as_slice-2.result.now c.as_slice-3.result.now
           (c.places_of.ensures view [] whole is) (to_z-of_z w128 c.number_at.result (fits_signed_from_abs w128 c.number_at.result (let small = c.number_at.ensures.small in omega arith)) ∙ number_once c.number_at.result view.flag (c.number_at.ensures.said ∙ flag))
           (ap (map (λ row. row.items)) c.as_slice.ensures.value ∙ rows_once (map (λ row. row.items) c.rows_of-legs.result.items) view.legs (c.rows_of-legs.ensures.said ∙ legs)) (c.as_slice-2.ensures.value ∙ members)
           (c.as_slice-3.ensures.value ∙ wholes_once c.row_at-stops.result.items view.at (c.row_at-stops.ensures.said ∙ at)) c.start_fares-state.ensures.stands;

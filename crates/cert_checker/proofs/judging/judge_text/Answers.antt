@@ -187,8 +187,8 @@ lines-init g c =
       up_to = record {
         said = says (pos 1 ∷ []) ∷ says [] ∷ [];
         read = told.3;
-        kind = told_lines c.in-Kind.kind c.next_part.new.self.counts c.new-lines.result told.2 c.new-lines.ensures.kind;
-        knows = c.new-lines.ensures.knows;
+        kind = told_lines c.in-Kind.kind c.next_part.new.self.counts (record { taken = c.new.result; rows = c.new-2.result }) told.2 c.new.ensures.kind;
+        knows = c.new.ensures.knows _;
         to_come = (next.more (λ e. absurd (cc))).0;
         some = (let two = told.1 in omega (arith, two));
         long = sym told.1;

@@ -1,4 +1,4 @@
-use Rattle.std.proofs.Common.{◌∙◌, Some, option_map, ap, arith, sym}
+use Rattle.std.proofs.Common.{◌∙◌, [], Some, option_map, ap, arith, sym}
 use Rattle.serde_json.specs.Written.{compact_text}
 use Rattle.sealed_core.specs.Host.{AreCheckedInstances}
 use Rattle.sealed_core.specs.Step.{answer_view}
@@ -6,29 +6,32 @@ use Rattle.reply_texts.proofs.Answered.{answered_tells}
 use Rattle.reply_texts.proofs.Sealed.{sealed_text}
 use Rattle.reply_texts.proofs.replies.reply_bytes.Goals as goal
 
-pub text_after-requires-clause-tells : goal.text_after-requires-clause-tells
-text_after-requires-clause-tells c = answered_tells c.args.host.now.content (answer_view c.args.answered.now) c.requires.answered c.requires.reply
+pub put_after-requires-clause-tells : goal.put_after-requires-clause-tells
+put_after-requires-clause-tells c = answered_tells c.args.host.now.content (answer_view c.args.answered.now) c.requires.answered c.requires.reply
 
-pub text_after-requires-clause-reply : goal.text_after-requires-clause-reply
-text_after-requires-clause-reply c = c.requires.reply
+pub put_after-requires-clause-reply : goal.put_after-requires-clause-reply
+put_after-requires-clause-reply c = c.requires.reply
 
 pub unreachable-requires : goal.unreachable-requires
 unreachable-requires c =
-    let found = c.in-Err.ensures in
+    let found = c.put_after.ensures in
+    let holds = found.puts [] c.blank-page.ensures in
     let sound : AreCheckedInstances c.args.host.now.content.instances = record { each = c.instances-instances.ensures.sound; few = c.instances-instances.ensures.few } in
     omega (
       arith,
-      found.told.full,
+      holds.over c.if-page.true,
       c.reply_size_law.ensures c.args.host.now.content (answer_view c.args.answered.now) (compact_text found.value) sound c.requires.answered (ap (option_map compact_text) found.is),
     )
 
 pub returns-clause-text : goal.returns-clause-text
 returns-clause-text c =
-    let found = c.in-Ok.ensures in
-    ap (option_map compact_text) found.is ∙ ap Some (sym found.told.text)
+    let found = c.put_after.ensures in
+    let holds = found.puts [] c.blank-page.ensures in
+    ap (option_map compact_text) found.is ∙ ap Some (sym (holds.fits c.if-page.false))
 
 pub returns-clause-sealed : goal.returns-clause-sealed
 returns-clause-sealed c =
-    let found = c.in-Ok.ensures in
-    sealed_text c.args.host.now.content (c.text_sealing_law.ensures.from_view c.args.host.now.content) (answer_view c.args.answered.now) c.in-Ok.bytes.items
-    (ap (option_map compact_text) found.is ∙ ap Some (sym found.told.text))
+    let found = c.put_after.ensures in
+    let holds = found.puts [] c.blank-page.ensures in
+    sealed_text c.args.host.now.content (c.text_sealing_law.ensures.from_view c.args.host.now.content) (answer_view c.args.answered.now) c.put_after.new.page.bytes.items
+    (ap (option_map compact_text) found.is ∙ ap Some (sym (holds.fits c.if-page.false)))

@@ -15,7 +15,7 @@ tasks-preserved c =
     let rule = c.args.rule.now in
     let place = c.tasks.place in
     let from = BLOCK_TASKS * rule.block in
-    let part : Part = record { task = from + place; prefix = c.task_prefix-prefix.result } in
+    let part : Part = record { task = from + place; prefix = c.task_prefix-prefix.result; top = c.part_top-top.result } in
     let is = c.tasks.invariant in
     let less = c.tasks-test.true in
     let all = c.tasks_in_block-tasks.ensures.tasks in

@@ -1,4 +1,5 @@
 use Rattle.std.proofs.Common.{◌∙◌, ◌++◌, ◌∷◌, [], List, ap, subst, sym, length, map}
+use Rattle.fare_rules.specs.State.{costs_of}
 use Rattle.cert_reader.specs.Gathered.{Gathered, line_said}
 use Rattle.cert_checker.specs.FaresLines.{IsBehindHead, IsInHead, front_said}
 use Rattle.cert_checker.proofs.HeadParts.{head_full, head_more, head_short, said_more}
@@ -26,7 +27,7 @@ returns-then-is_whole c view said next known =
     let is = more.is ∙ ap (λ (lines : List Gathered). map line_said lines ++ more.rest) (sym (c.as_slice.ensures.value ∙ c.gather.ensures)) in
     let full = head_full view c.as_slice.result.now more.rest next.whole is ((c.is_whole.ensures view more.rest next.whole is).0 c.if-is_whole.true) in
     let same = c.as_slice-then-is_whole.ensures.value ∙ c.gather.ensures in
-    subst (λ so_far. IsBehindHead view so_far c.begin.result)
+    subst (λ so_far. IsBehindHead view so_far c.begin.result (costs_of c.begin.new.rows.items))
     (ap (λ (lines : List Gathered). front_said (map line_said lines)) same ∙ sym (said_more said c.in-Head.lines.items c.args.numbers.now head.is))
     (c.begin.ensures view next.whole (ap (map line_said) (c.as_slice-then-is_whole.ensures.value ∙ sym c.as_slice.ensures.value) ∙ full))
 

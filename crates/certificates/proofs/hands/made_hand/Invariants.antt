@@ -1,5 +1,0 @@
-use Rattle.certificates.specs.Made.{HasMade}
-use Rattle.certificates.proofs.hands.made_hand.Given as goal
-
-abbrev pub invariant-nodes : goal.invariant-nodes
-invariant-nodes l = HasMade l.case l.start.answer.owners.items l.hand
