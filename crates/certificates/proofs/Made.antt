@@ -1,11 +1,13 @@
 -- The trees below nodes: how long they are, and what was made of them.
-use Rattle.std.proofs.Common.{◌≡◌, ℕ, zero, suc, List, [], ◌∷◌, ◌++◌, flat_map, length, ◌+◌, ◌-◌, ◌<◌, ◌≤◌, false, arith, ap}
+use Rattle.std.proofs.Common.{◌≡◌, ℕ, zero, suc, List, [], ◌∷◌, ◌++◌, All, drop, flat_map, length, take, ◌+◌, ◌-◌, ◌<◌, ◌≤◌, false, arith, ap, subst, sym}
 use Rattle.std.specs.List.{range_with_len}
 use Rattle.std.proofs.lemmas.List.{length-append, length_push}
+use Rattle.std.proofs.lemmas.List.Elements.{All-append, All-drop, All-nil, All-take}
 use Rattle.bid_rules.specs.declared.goods.GoodsCase.{GoodsCase}
 use Rattle.bid_rules.specs.Goods.{player_count}
 use Rattle.nash_bounds.specs.LeftOut.{may_be_left}
-use Rattle.certificates.specs.Made.{marks_from}
+use Rattle.certificates.specs.declared.trees.WorkerTrees.{WorkerTrees}
+use Rattle.certificates.specs.Made.{AreMade, HasMade, HasNone, IsMade, marks_from}
 use Rattle.certificates.specs.Marks.{canonical_marks}
 use Rattle.certificates.proofs.TreeMarks.{marks_node}
 
@@ -36,3 +38,10 @@ child_no_longer case answer owners owner stays free low high =
     let node = ap (λ (xs : List ℕ). length xs) (marks_node case answer (case.facts.goods - length owners) k owners deep stays) in
     let below : length (marks_from case answer longer) ≡ length (f owner) = ap (λ (j : ℕ). length (canonical_marks case answer j longer)) next in
     omega (arith, one, node, below)
+
+-- what workers have made, in the place of those who had made nothing
+pub crew_back : (case : GoodsCase) (answer : List ℕ) (old new : List WorkerTrees) (long from : ℕ) → All HasNone old → AreMade case answer new
+    → AreMade case answer (take long (new ++ drop from old))
+crew_back case answer old new long from none made =
+    let before : AreMade case answer old = λ place other inside. subst (All (IsMade case answer)) (sym (none place other inside)) (All-nil (IsMade case answer)) in
+    All-take (HasMade case answer) long (new ++ drop from old) (All-append (HasMade case answer) new (drop from old) made (All-drop (HasMade case answer) from old before))

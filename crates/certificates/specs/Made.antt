@@ -1,5 +1,5 @@
 -- Trees below single nodes that were made beforehand, and the nodes that they are made for.
-use Rattle.std.specs.Prelude.{◌≡◌, ℕ, ◌-◌, ◌<◌, ◌^◌, List, All, length, false}
+use Rattle.std.specs.Prelude.{◌≡◌, ℕ, ◌-◌, ◌<◌, ◌^◌, List, [], All, length, false}
 use Rattle.bid_rules.specs.declared.goods.GoodsCase.{GoodsCase}
 use Rattle.bid_rules.specs.declared.cases.Case.{Case}
 use Rattle.bid_rules.specs.declared.cases.Case.TheVariants as case
@@ -32,6 +32,10 @@ pub record IsMade (case : GoodsCase) (answer : List ℕ) (tree : MadeTree) : Typ
 -- all trees that a worker has made are
 abbrev pub HasMade : GoodsCase → List ℕ → WorkerTrees → Type 0
 HasMade case answer made = All (IsMade case answer) made.trees.items
+
+-- the worker has made nothing yet
+abbrev pub HasNone : WorkerTrees → Type 0
+HasNone made = made.trees.items ≡ []
 
 -- all trees that workers have made are
 abbrev pub AreMade : GoodsCase → List ℕ → List WorkerTrees → Type 0

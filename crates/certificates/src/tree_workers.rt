@@ -2,7 +2,7 @@
 ghost use Rattle.std.specs.Prelude.{◌≡◌, ◌<◌, All, IfOk, IfSome};
 ghost use Rattle.bid_rules.specs.Goods.{IsValidGoodsCase};
 ghost use Rattle.certificates.specs.GoodsLines.{answer_of};
-ghost use Rattle.certificates.specs.Made.{AreMade, AreMadeFor, HasMade, IsMade, IsOpenNode, IsStart};
+ghost use Rattle.certificates.specs.Made.{AreMade, AreMadeFor, HasMade, HasNone, IsMade, IsOpenNode, IsStart};
 ghost use Rattle.certificates.specs.Nodes.{IsAnswer};
 ghost use Rattle.certificates.specs.Division.{IsDivisionOf};
 ghost use Rattle.bid_rules.specs.Facts.{IsValidCase};
@@ -15,10 +15,11 @@ use crate::node::Node;
 use crate::trees::{MadeTree, MadeTrees, WorkerTrees};
 use bid_rules::{Case, GoodsCase};
 use nash_search::GoodsDivision;
-use search_workers::{Means, Workers};
+use search_workers::{Means, Workers, run_each};
 use split_base::Gate;
 use std::alloc::{AllocError, Global};
-use std::thread;
+use std::sync::atomic::AtomicU64;
+use std::sync::atomic::Ordering::SeqCst;
 use std::thread::Threads;
 
 // How many steps of a search make one more thread worth starting: making their part of the tree takes about ten times as long.
@@ -75,39 +76,73 @@ fn add_tree(
     }
 }
 
-// Does one worker's work: makes the tree below the first node, and below every node so many places after it, in a scratch of this room. If there
-// is no memory for the scratch, it makes none.
-fn made_by_worker(
+// Does one worker's work: draws nodes until none are left to draw, and makes the tree below each, in a scratch of this room. If there is no
+// memory for the scratch, it makes none.
+fn make_drawn(
     alloc: Global,
     case: &GoodsCase,
     start: &Start,
     nodes: &[Node],
-    first: usize,
-    step: usize,
+    drawn: &AtomicU64,
     room: usize,
-) -> WorkerTrees
+    made: &mut WorkerTrees,
+)
     requires start { IsStart case.now start.now }
     requires nodes { All (IsOpenNode case.now start.now.answer) nodes.now }
-    requires step { 0 < step }
-    ensures { HasMade case.now start.now.answer.owners.items result }
+    requires made { HasNone made.old }
+    ensures { HasMade case.now start.now.answer.owners.items made.new }
 {
-    let mut made = WorkerTrees {
-        trees: Vec::new(alloc),
-    };
     let Ok(mut scratch) = vec![in alloc; 0; room] else {
-        return made;
+        return;
     };
-    'nodes: for place in 0..nodes.len() {
-        if place % step == first {
-            let scratch = scratch.as_mut_slice();
-            add_tree(alloc, case, start, &nodes[place], scratch, &mut made);
+    'draws: for _ in 0..nodes.len() {
+        let place = drawn.fetch_add(1, SeqCst) as usize;
+        if place >= nodes.len() {
+            return;
         }
+        let scratch = scratch.as_mut_slice();
+        add_tree(alloc, case, start, &nodes[place], scratch, made);
     }
-    made
 }
 
-// Lets this many workers, each in a thread, make the trees below the nodes of one level. If no threads can be had, they work one after another. A
-// tree that is larger than each worker's share of the whole is left to the writer.
+// As many workers as asked for, who have made nothing yet.
+fn hire(alloc: Global, workers: usize) -> Result<Vec<WorkerTrees>, AllocError>
+    ensures { IfOk result (λ crew. All HasNone crew.items) }
+{
+    let mut crew = Vec::with_capacity(alloc, workers)?;
+    'crew: for _ in 0..workers {
+        crew.push(WorkerTrees {
+            trees: Vec::new(alloc),
+        })?;
+    }
+    Ok(crew)
+}
+
+// Lets all workers, each in a thread, make the trees below these nodes. If no threads can be had, they work one after another.
+fn make_trees<R: Threads + Sync>(
+    alloc: Global,
+    rt: &R,
+    case: &GoodsCase,
+    start: &Start,
+    nodes: &[Node],
+    room: usize,
+    crew: &mut [WorkerTrees],
+)
+    requires start { IsStart case.now start.now }
+    requires nodes { All (IsOpenNode case.now start.now.answer) nodes.now }
+    requires crew { All HasNone crew.old }
+    ensures { AreMade case.now start.now.answer.owners.items crew.new }
+{
+    let drawn = AtomicU64::new(0);
+    run_each(
+        rt,
+        &|made| { make_drawn(alloc, case, start, nodes, &drawn, room, made) },
+        crew,
+    );
+}
+
+// The trees that this many workers make below the nodes of one level. A tree that is larger than each worker's share of the whole is left to the
+// writer.
 fn made_by_workers<R: Threads + Sync>(
     alloc: Global,
     rt: &R,
@@ -124,14 +159,11 @@ fn made_by_workers<R: Threads + Sync>(
     let start = start_of(case, division);
     let enough = TREES_OF_WORKER.saturating_mul(workers);
     let level = first_level(alloc, case, &start, enough)?;
-    let nodes = level.as_slice();
     let share = likely_marks(case, division) / workers;
-    thread::map_indices(
-        rt,
-        alloc,
-        workers,
-        &|first| made_by_worker(alloc, case, &start, nodes, first, workers, share),
-    )
+    let mut crew = hire(alloc, workers)?;
+    let crew_slice = crew.as_mut_slice();
+    make_trees(alloc, rt, case, &start, level.as_slice(), share, crew_slice);
+    Ok(crew)
 }
 
 // What workers make of the tree of a case of goods: nothing if it is too small for two of them, or if there is no memory for it.

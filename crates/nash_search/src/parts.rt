@@ -5,22 +5,27 @@ ghost use Rattle.bid_rules.specs.declared.goods.GoodsCase.{GoodsCase};
 ghost use Rattle.bid_rules.specs.declared.pair.Pair.{Pair};
 ghost use Rattle.bid_rules.specs.Goods.{AreOwners, IsValidGoodsCase};
 ghost use Rattle.nash_bounds.specs.Counted.{count_task, counted_leaves, is_counted};
-ghost use Rattle.nash_bounds.specs.Prefixes.{IsPrefix};
+ghost use Rattle.nash_bounds.specs.Goals.{is_reached};
+ghost use Rattle.nash_bounds.specs.Lanes.{IsLanes};
+ghost use Rattle.nash_bounds.specs.Prefixes.{IsPrefix, prefix_bound};
 ghost use Rattle.nash_bounds.specs.Tasks.{task_list, tasks_of};
 ghost use Rattle.nash_search.specs.Ends.{EndsTask};
 ghost use Rattle.nash_search.specs.Parts.{Advanced, IsPartWalk, can_cut, counted_owners, part_count, part_leaves};
 ghost use Rattle.nash_search.specs.Tables.{AreTables};
+ghost use Rattle.nash_search.specs.Waiting.{AreRules};
 
 use crate::found::{Found, copied};
 use crate::levels::{Level, next_level};
-use crate::rules::rules_of;
+use crate::rules::{Rules, rules_of};
 use crate::tables::Tables;
 use crate::task::TaskEnd;
 use crate::walk::{Walk, start};
 use arrayvec::ArrayVec;
 use bid_rules::GoodsCase;
 use bid_rules::limits::{ITEM_ROOM, MEMBER_ROOM, MOST_STEPS};
-use nash_bounds::{Pair, Prefix, bound_law, lanes_of, owner_lists_law, reaches, tasks_law};
+use nash_bounds::{
+    Lanes, Pair, Prefix, Reached, bound_law, lanes_of, owner_lists_law, reaches, tasks_law,
+};
 use std::marker::Model;
 
 /// The prefixes of a task are those that begin with its owners. If a prefix is counted and leaves a good without an owner, it counts itself and
@@ -49,6 +54,23 @@ pub fn part_law()
     bound_law();
 }
 
+// The lanes of a prefix, and whether its bound reaches what the rules ask for.
+fn judged(case: &GoodsCase, prefix: &Prefix, rules: &Rules) -> (Lanes, Reached)
+    requires case { IsValidGoodsCase case.now }
+    requires prefix { IsPrefix case.now prefix.now }
+    requires rules { AreRules rules.now }
+    ensures lanes { IsLanes case.now prefix.now.owners.items result.0 }
+    ensures reached { result.1.reaches
+        ≡ is_reached rules.now.goal.pair rules.now.beyond
+        (prefix_bound case.now prefix.now.owners.items) }
+{
+    let lanes = lanes_of(case, prefix);
+    let start = prefix.top / MEMBER_ROOM as u32;
+    let owners = prefix.owners.as_slice();
+    let reached = reaches(case, owners, &lanes, start, &rules.goal, rules.beyond);
+    (lanes, reached)
+}
+
 /// The owners of the next good with whom the prefix is counted, the last one first. There are none if the prefix itself is not counted, or has
 /// an owner for each good.
 pub fn owners_after(
@@ -67,15 +89,7 @@ pub fn owners_after(
     ensures owned { AreOwners case.now result.items }
 {
     let rules = rules_of(floor, above);
-    let lanes = lanes_of(case, prefix);
-    let reached = reaches(
-        case,
-        prefix.owners.as_slice(),
-        &lanes,
-        prefix.top / MEMBER_ROOM as u32,
-        &rules.goal,
-        rules.beyond,
-    );
+    let (lanes, reached) = judged(case, prefix, &rules);
     if !reached.reaches || prefix.owners.len() == case.facts.goods as usize {
         return ArrayVec::new();
     }
@@ -102,15 +116,7 @@ pub fn part_top(case: &GoodsCase, prefix: &Prefix, floor: Pair, above: Option<Pa
     requires prefix { IsPrefix case.now prefix.now }
 {
     let rules = rules_of(floor, above);
-    let lanes = lanes_of(case, prefix);
-    let reached = reaches(
-        case,
-        prefix.owners.as_slice(),
-        &lanes,
-        prefix.top / MEMBER_ROOM as u32,
-        &rules.goal,
-        rules.beyond,
-    );
+    let (_, reached) = judged(case, prefix, &rules);
     if reached.reaches { prefix.top } else { 0 }
 }
 

@@ -42,7 +42,7 @@ pub fn publication<R: Threads + Sync, G: Gate + Sync>(
     solver: &mut Solver<'_, R, G>,
     instance: &Instance,
     what: What,
-) -> Result<ReplyContent, NoMemory>
+) -> Result<ReplyContent<'static>, NoMemory>
     requires sound { IsCheckedInstance (instance_view instance.now) }
     ensures { IfOk result (λ told.
         IsPublication (case_data (instance_view instance.now)) what (content_view told)) }
@@ -59,7 +59,7 @@ fn best<R: Threads + Sync, G: Gate + Sync>(
     solver: &mut Solver<'_, R, G>,
     instance: &Instance,
     what: What,
-) -> Result<ReplyContent, NoMemory>
+) -> Result<ReplyContent<'static>, NoMemory>
     requires sound { IsCheckedInstance (instance_view instance.now) }
     requires asked { AsksBest what }
     ensures { IfOk result (λ told.
@@ -77,7 +77,7 @@ fn best<R: Threads + Sync, G: Gate + Sync>(
 fn audit<R: Threads + Sync, G: Gate + Sync>(
     solver: &mut Solver<'_, R, G>,
     instance: &Instance,
-) -> Result<ReplyContent, NoMemory>
+) -> Result<ReplyContent<'static>, NoMemory>
     requires sound { IsCheckedInstance (instance_view instance.now) }
     ensures { IfOk result (λ told.
         TellsAudit (case_data (instance_view instance.now)) instance.now.creation.facts
@@ -90,7 +90,7 @@ fn audit<R: Threads + Sync, G: Gate + Sync>(
 }
 
 // The winner of an instance.
-fn winner(alloc: Global, instance: &Instance) -> Result<ReplyContent, NoMemory>
+fn winner(alloc: Global, instance: &Instance) -> Result<ReplyContent<'static>, NoMemory>
     requires sound { IsCheckedInstance (instance_view instance.now) }
     ensures { IfOk result (λ told.
         TellsWinner (case_of instance.now.creation.facts instance.now.bids.items)
@@ -104,7 +104,7 @@ fn winner(alloc: Global, instance: &Instance) -> Result<ReplyContent, NoMemory>
 }
 
 // The winner of goods, if there are two players.
-fn winner_between(alloc: Global, goods: &GoodsCase) -> Result<ReplyContent, NoMemory>
+fn winner_between(alloc: Global, goods: &GoodsCase) -> Result<ReplyContent<'static>, NoMemory>
     requires { IsValidGoodsCase goods.now }
     ensures { IfOk result (λ told.
         TellsPair (player_count goods.now == PAIR) goods.now (content_view told)) }
@@ -116,7 +116,7 @@ fn winner_between(alloc: Global, goods: &GoodsCase) -> Result<ReplyContent, NoMe
 }
 
 // The winner of goods between two.
-fn winner_of_two(alloc: Global, goods: &GoodsCase) -> Result<ReplyContent, NoMemory>
+fn winner_of_two(alloc: Global, goods: &GoodsCase) -> Result<ReplyContent<'static>, NoMemory>
     requires case { IsValidGoodsCase goods.now }
     requires two { player_count goods.now ≡ PAIR }
     ensures { IfOk result (λ told.
@@ -138,7 +138,7 @@ fn refusal_of(fault: SolveFault) -> ServiceRefusal
 }
 
 // What is published of an instance that has no division.
-fn unsolved(alloc: Global, fault: SolveFault) -> Result<ReplyContent, NoMemory>
+fn unsolved(alloc: Global, fault: SolveFault) -> Result<ReplyContent<'static>, NoMemory>
     ensures { IfOk result (λ told. TellsFault fault (content_view told)) }
 {
     match fault {
@@ -156,7 +156,7 @@ fn published<R: Threads + Sync, G: Gate + Sync>(
     what: What,
     case: &Case,
     division: &Division,
-) -> Result<ReplyContent, NoMemory>
+) -> Result<ReplyContent<'static>, NoMemory>
     requires sound { IsCheckedInstance (instance_view instance.now) }
     requires asked { AsksBest what }
     requires case { case_of instance.now.creation.facts instance.now.bids.items ≡ Ok case.now }
@@ -185,7 +185,7 @@ fn audited(
     instance: &Instance,
     case: &Case,
     division: &Division,
-) -> Result<ReplyContent, NoMemory>
+) -> Result<ReplyContent<'static>, NoMemory>
     requires sound { IsCheckedInstance (instance_view instance.now) }
     requires case { case_of instance.now.creation.facts instance.now.bids.items ≡ Ok case.now }
     requires valid { IsValidCase case.now }
@@ -214,7 +214,7 @@ fn audited_goods(
     instance: &Instance,
     case: &GoodsCase,
     division: &GoodsDivision,
-) -> Result<ReplyContent, NoMemory>
+) -> Result<ReplyContent<'static>, NoMemory>
     requires case { IsValidGoodsCase case.now }
     requires members { length instance.now.creation.members.items ≡ case.now.facts.members }
     requires division { IsGoodsDivision case.now division.now }

@@ -23,11 +23,10 @@ pub record ContentView : Type 0 where
   pub allow : Option Allow
   pub memory : Bool
 
--- the bytes of a text that was written, is constant, or takes no memory
+-- the bytes of a text that was written, or is lent
 abbrev pub bytes_of : ReplyText → List ℕ
 bytes_of (text.Written bytes) = bytes.items
-bytes_of (text.Constant bytes) = bytes.now
-bytes_of (text.Own bytes) = bytes.items
+bytes_of (text.Lent bytes) = bytes.now
 bytes_of (text.Short bytes) = bytes.items
 
 -- what a reply tells, as its bytes

@@ -7,7 +7,6 @@ ghost use Rattle.split_http.specs.Replies.{is_host_status};
 
 use crate::contents::{ContentType, ReplyContent, ReplyText};
 use crate::damage::damage_text;
-use crate::page::ReplyBytes;
 use crate::refusals::{ServiceRefusal, constant_text, memory_text, service_refusal_text};
 use split_base::NoMemory;
 use split_http::Allow;
@@ -25,23 +24,22 @@ impl ContentType {
     }
 }
 
-impl ReplyText {
+impl ReplyText<'_> {
     /// Its bytes.
     pub fn bytes(&self) -> &[u8]
         ensures { result.now ≡ bytes_of self.now }
     {
         match self {
             ReplyText::Written(bytes) => bytes.as_slice(),
-            ReplyText::Constant(bytes) => bytes,
-            ReplyText::Own(bytes) => bytes.as_slice(),
+            ReplyText::Lent(bytes) => bytes,
             ReplyText::Short(bytes) => bytes.as_slice(),
         }
     }
 }
 
-impl ReplyContent {
+impl<'p> ReplyContent<'p> {
     /// A success with a text of JSON.
-    pub fn json(text: Vec<u8>) -> ReplyContent
+    pub fn json(text: Vec<u8>) -> ReplyContent<'p>
         ensures { content_view result ≡ told_as 200 ContentType.Json text.items }
     {
         ReplyContent {
@@ -54,7 +52,7 @@ impl ReplyContent {
     }
 
     /// A success with a plain text.
-    pub fn plain(text: Vec<u8>) -> ReplyContent
+    pub fn plain(text: Vec<u8>) -> ReplyContent<'p>
         ensures { content_view result ≡ told_as 200 ContentType.Plain text.items }
     {
         ReplyContent {
@@ -66,22 +64,22 @@ impl ReplyContent {
         }
     }
 
-    /// A reply that is no publication. It takes no memory.
-    pub fn own(status: u16, text: ReplyBytes) -> ReplyContent
+    /// A reply that isn't a publication, with a text that is lent. It takes no memory.
+    pub fn own(status: u16, text: &'p [u8]) -> ReplyContent<'p>
         requires { IsTrue (is_host_status status) }
-        ensures { content_view result ≡ told_as status ContentType.Json text.items }
+        ensures { content_view result ≡ told_as status ContentType.Json text.now }
     {
         ReplyContent {
             status,
             content_type: ContentType::Json,
-            text: ReplyText::Own(text),
+            text: ReplyText::Lent(text),
             allow: None,
             memory: false,
         }
     }
 
     /// A refusal that names nothing beside its code. It takes no memory.
-    pub fn refused(refusal: &ServiceRefusal) -> ReplyContent
+    pub fn refused(refusal: &ServiceRefusal) -> ReplyContent<'p>
         requires { is_code_alone (service_row refusal.now).detail ≡ true }
         ensures { content_view result ≡ refusal_told refusal.now }
     {
@@ -91,14 +89,14 @@ impl ReplyContent {
         ReplyContent {
             status: refusal.status(),
             content_type: ContentType::Json,
-            text: ReplyText::Constant(text),
+            text: ReplyText::Lent(text),
             allow: None,
             memory: false,
         }
     }
 
     /// The refusal of a method, with those that the route has. It takes no memory.
-    pub fn refused_method(allow: Allow) -> ReplyContent
+    pub fn refused_method(allow: Allow) -> ReplyContent<'p>
         ensures { content_view result ≡ method_told allow }
     {
         let refused = ReplyContent::refused(&ServiceRefusal::Method);
@@ -112,7 +110,7 @@ impl ReplyContent {
     }
 
     /// That the file is no journal at this place. It takes no memory.
-    pub fn damaged(place: u64) -> ReplyContent
+    pub fn damaged(place: u64) -> ReplyContent<'p>
         ensures { content_view result ≡ refusal_told (StoreDamaged place) }
     {
         ReplyContent {
@@ -125,13 +123,13 @@ impl ReplyContent {
     }
 
     /// That memory ran out. It takes none.
-    pub fn out_of_memory() -> ReplyContent
+    pub fn out_of_memory() -> ReplyContent<'p>
         ensures { content_view result ≡ memory_told }
     {
         ReplyContent {
             status: 503,
             content_type: ContentType::Json,
-            text: ReplyText::Constant(memory_text()),
+            text: ReplyText::Lent(memory_text()),
             allow: None,
             memory: true,
         }
@@ -140,7 +138,10 @@ impl ReplyContent {
 
 /// What the reply tells by which the service refuses a request: the status of the refusal, and its text as JSON. `NoMemory` comes only
 /// where memory runs out.
-pub fn refusal_content(alloc: Global, refusal: &ServiceRefusal) -> Result<ReplyContent, NoMemory>
+pub fn refusal_content<'p>(
+    alloc: Global,
+    refusal: &ServiceRefusal,
+) -> Result<ReplyContent<'p>, NoMemory>
     ensures { IfOk result (λ told. content_view told ≡ refusal_told refusal.now) }
 {
     let text = service_refusal_text(alloc, refusal)?;

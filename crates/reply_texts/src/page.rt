@@ -10,24 +10,33 @@ use crate::sizes::REPLY_MOST;
 use arrayvec::ArrayVec;
 use itoa::Buffer;
 
-/// The text of a reply that isn't a publication, in room that takes no memory.
-pub type ReplyBytes = ArrayVec<u8, REPLY_MOST>;
-
-/// What is written so far, unless it was more than there is room for: then nothing more is written.
+/// Room for the text of one reply that isn't a publication.
 #[derive(Drop)]
-pub(crate) struct Page {
-    pub(crate) bytes: ReplyBytes,
+pub struct Page {
+    /// What is written so far.
+    pub bytes: ArrayVec<u8, REPLY_MOST>,
+    /// Whether the text was too long: then nothing more is written.
     pub(crate) full: bool,
 }
 
-// A page with nothing on it.
-pub(crate) fn blank() -> Page
-    ensures { Holds result [] }
-{
-    Page {
-        bytes: ReplyBytes::new(),
-        full: false,
+impl Page {
+    /// A page with nothing on it.
+    pub fn blank() -> Page
+        ensures { result.bytes.items ≡ [] }
+    {
+        Page {
+            bytes: ArrayVec::new(),
+            full: false,
+        }
     }
+}
+
+// Clears a page.
+pub(crate) fn wipe(page: &mut Page)
+    ensures { Holds page.new [] }
+{
+    page.bytes.clear();
+    page.full = false;
 }
 
 // A page that is full once stays full, so that a text that doesn't fit is never sent in part.

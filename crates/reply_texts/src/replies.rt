@@ -15,7 +15,7 @@ ghost use Rattle.reply_texts.specs.Values.{list_by, of_text};
 
 use crate::laws::text_sealing_law;
 use crate::objects::{Field, Part, put_fields};
-use crate::page::{Page, ReplyBytes, blank};
+use crate::page::{Page, wipe};
 use crate::refusals::{put_refusal, refusal_status};
 use crate::sizes::reply_size_law;
 use crate::statuses::put_status;
@@ -261,27 +261,26 @@ fn put_after(page: &mut Page, host: &Host, event: &Option<Event>, reply: Reply)
     }
 }
 
-/// The text of what a host answered to a command, unless the answer is a publication: over the host after the event, which is not applied.
-/// It takes no memory.
+/// Puts on the page the text of what a host answered to a command, unless the answer is a publication: over the host after the event, which is
+/// not applied. Nothing else is left on the page. It takes no memory.
 ///
 /// The host is the one before the event. If the instance that was asked is not closed after the event, the status and the text are those
 /// of the sealed reply, written from what the caller may know of it.
-pub fn reply_bytes(host: &Host, answered: &Answered) -> ReplyBytes
+pub fn put_reply(page: &mut Page, host: &Host, answered: &Answered)
     requires answered { IsAnswered host.now.content (answer_view answered.now) }
     requires reply { is_publication answered.now.reply ≡ false }
     ensures text { text_of (with_event host.now.content (answer_view answered.now).event)
-        answered.now.reply ≡ Some result.items }
-    ensures sealed { IsSealedText host.now.content (answer_view answered.now) result.items }
+        answered.now.reply ≡ Some page.new.bytes.items }
+    ensures sealed { IsSealedText host.now.content (answer_view answered.now) page.new.bytes.items }
 {
     text_sealing_law();
     reply_size_law();
     let _instances = host.instances();
-    let mut page = blank();
-    put_after(&mut page, host, &answered.event, answered.reply);
+    wipe(page);
+    put_after(page, host, &answered.event, answered.reply);
     if page.full {
         unreachable!();
     }
-    page.bytes
 }
 
 /// The same text in memory. `NoMemory`: memory ran out.
@@ -294,8 +293,9 @@ pub fn reply_text(alloc: Global, host: &Host, answered: &Answered) -> Result<Vec
     ensures sealed { IfOk result (λ text.
         IsSealedText host.now.content (answer_view answered.now) text.items) }
 {
-    let bytes = reply_bytes(host, answered);
-    match Vec::from_slice(alloc, bytes.as_slice()) {
+    let mut page = Page::blank();
+    put_reply(&mut page, host, answered);
+    match Vec::from_slice(alloc, page.bytes.as_slice()) {
         Ok(text) => Ok(text),
         Err(_) => Err(NoMemory),
     }

@@ -8,19 +8,20 @@ ghost use Rattle.requests.specs.Replies.{Shows};
 ghost use Rattle.reply_texts.specs.Contents.{content_view};
 
 use publications::publication;
-use reply_texts::{ReplyContent, refusal_status_law, reply_bytes, reply_status};
+use reply_texts::{Page, ReplyContent, put_reply, refusal_status_law, reply_status};
 use sealed_core::{Answered, Host, Reply, instance_at, machine_law, publication_law};
 use split_base::{Gate, NoMemory};
 use split_solve::Solver;
 use std::thread::Threads;
 
-// What is said of the host's answer, with all of its text: over the host after the event, which isn't applied. `NoMemory` is returned only
-// where memory runs out, and only of a publication.
-pub(crate) fn content<R: Threads + Sync, G: Gate + Sync>(
+// What is said of the host's answer, with all of its text, over the host after the event, which isn't applied. Unless it is a publication, the
+// text is put on the page. `NoMemory` is returned only where memory runs out, and only of a publication.
+pub(crate) fn content<'p, R: Threads + Sync, G: Gate + Sync>(
     solver: &mut Solver<'_, R, G>,
     host: &Host,
     answered: &Answered,
-) -> Result<ReplyContent, NoMemory>
+    page: &'p mut Page,
+) -> Result<ReplyContent<'p>, NoMemory>
     requires answered { IsAnswered host.now.content (answer_view answered.now) }
     ensures shown { IfOk result (λ said.
         Shows (with_event host.now.content (answer_view answered.now).event) answered.now.reply
@@ -37,12 +38,12 @@ pub(crate) fn content<R: Threads + Sync, G: Gate + Sync>(
             };
             publication(solver, instance, what)
         }
-        _ => Ok(own_content(host, answered)),
+        _ => Ok(own_content(host, answered, page)),
     }
 }
 
-// What is said in a reply that isn't a publication. It takes no memory.
-fn own_content(host: &Host, answered: &Answered) -> ReplyContent
+// What is said in a reply that isn't a publication, with its text on the page. It takes no memory.
+fn own_content<'p>(host: &Host, answered: &Answered, page: &'p mut Page) -> ReplyContent<'p>
     requires answered { IsAnswered host.now.content (answer_view answered.now) }
     requires reply { is_publication answered.now.reply ≡ false }
     ensures { Shows (with_event host.now.content (answer_view answered.now).event)
@@ -50,6 +51,6 @@ fn own_content(host: &Host, answered: &Answered) -> ReplyContent
 {
     refusal_status_law();
     let status = reply_status(&answered.reply);
-    let text = reply_bytes(host, answered);
-    ReplyContent::own(status, text)
+    put_reply(page, host, answered);
+    ReplyContent::own(status, page.bytes.as_slice())
 }

@@ -13,7 +13,7 @@ use crate::settling::settle;
 use crate::stepping::step;
 use crate::tools::Tools;
 use host_journal::{Serving, passing_law};
-use reply_texts::{ReplyContent, ServiceRefusal};
+use reply_texts::{Page, ReplyContent, ServiceRefusal};
 use sealed_core::Command;
 use split_base::{Disk, Gate, NoMemory};
 use split_http::{Head, Route, RouteFault, Routes};
@@ -26,20 +26,21 @@ use std::thread::Threads;
 /// - Then its body is read. For a creation, a bid or a withdrawal the reply may be that memory ran out, before the host is looked at.
 /// - Then a host that waits opens its file again. If that fails, the request ends with it, and the host waits on.
 /// - Then the command is answered: its reply is made, with all of its text; its event is kept; and then the reply is said. Only a publication
-///   takes memory.
+///   takes memory. The text of any other answer of the host is put on the page.
 ///
 /// A store fault is said only where a call of the disk failed in this request, which is counted once and not tried again. That the file is not
 /// a journal is said with the place of its first fault, wherever the disk reveals its bytes, and never on an honest disk. That memory ran out
 /// is said with no event of the request. On an honest disk a crash at any moment leaves the events kept before, with or without the one of the
 /// request. Neither the workers nor the kept searches change what is said.
-pub fn respond<D: Disk, R: Threads + Sync, G: Gate + Sync>(
+pub fn respond<'p, D: Disk, R: Threads + Sync, G: Gate + Sync>(
     tools: &mut Tools<'_, R, G>,
     serving: &mut Serving,
     disk: &mut D,
     head: &Head,
     body: &[u8],
     moment: u64,
-) -> ReplyContent
+    page: &'p mut Page,
+) -> ReplyContent<'p>
     ensures responds { (s : State) → HasState D.Disk serving.old disk.old s
         → ReachesState D.Disk serving.new disk.old disk.new s (λ new.
         Responds D.Disk disk.old disk.new head.now body.now moment s new (content_view result)) }
@@ -49,13 +50,14 @@ pub fn respond<D: Disk, R: Threads + Sync, G: Gate + Sync>(
     ensures honest { D.is_honest disk.old ↔ D.is_honest disk.new }
 {
     passing_law::<D>();
-    match route_of(tools.routes, head) {
-        Err(fault) => unrouted(fault),
-        Ok(route) => match command_of(tools.solver.means.alloc, route, head.key, body) {
-            Err(NoMemory) => ReplyContent::out_of_memory(),
-            Ok(command) => perform(&mut tools.solver, serving, disk, moment, command),
-        },
-    }
+    let route = match route_of(tools.routes, head) {
+        Ok(route) => route,
+        Err(fault) => return unrouted(fault),
+    };
+    let Ok(command) = command_of(tools.solver.means.alloc, route, head.key, body) else {
+        return ReplyContent::out_of_memory();
+    };
+    perform(&mut tools.solver, serving, disk, moment, command, page)
 }
 
 // Where a request leads.
@@ -66,7 +68,7 @@ fn route_of(routes: &Routes, head: &Head) -> Result<Route, RouteFault>
 }
 
 // What is said if a request leads nowhere.
-fn unrouted(fault: RouteFault) -> ReplyContent
+fn unrouted<'p>(fault: RouteFault) -> ReplyContent<'p>
     ensures { content_view result ≡ unrouted_said fault }
 {
     match fault {
@@ -76,13 +78,14 @@ fn unrouted(fault: RouteFault) -> ReplyContent
 }
 
 // What is said to a command: if the host waits, its file is opened first.
-fn perform<D: Disk, R: Threads + Sync, G: Gate + Sync>(
+fn perform<'p, D: Disk, R: Threads + Sync, G: Gate + Sync>(
     solver: &mut Solver<'_, R, G>,
     serving: &mut Serving,
     disk: &mut D,
     moment: u64,
     command: Command,
-) -> ReplyContent
+    page: &'p mut Page,
+) -> ReplyContent<'p>
     requires command { IsCheckedCommand (command_view command) }
     ensures performed { (s : State) → HasState D.Disk serving.old disk.old s
         → ReachesState D.Disk serving.new disk.old disk.new s (λ new.
@@ -92,8 +95,8 @@ fn perform<D: Disk, R: Threads + Sync, G: Gate + Sync>(
     ensures honest { D.is_honest disk.old ↔ D.is_honest disk.new }
 {
     passing_law::<D>();
-    match settle(serving, disk) {
-        Some(said) => said,
-        None => step(solver, serving, disk, moment, command),
+    if let Some(said) = settle(serving, disk) {
+        return said;
     }
+    step(solver, serving, disk, moment, command, page)
 }

@@ -11,7 +11,7 @@ use reply_texts::ReplyContent;
 use split_base::Disk;
 
 // Opens the file again if the host waits, in memory that was taken at the start. If it returns `None`, the host is ready and the request goes on.
-pub(crate) fn settle<D: Disk>(serving: &mut Serving, disk: &mut D) -> Option<ReplyContent>
+pub(crate) fn settle<D: Disk>(serving: &mut Serving, disk: &mut D) -> Option<ReplyContent<'static>>
     ensures settled { (s : State) → HasState D.Disk serving.old disk.old s
         → ReachesState D.Disk serving.new disk.old disk.new s (λ new.
         Settles D.Disk disk.old disk.new s new (option_map content_view result)) }
@@ -27,7 +27,7 @@ pub(crate) fn settle<D: Disk>(serving: &mut Serving, disk: &mut D) -> Option<Rep
 }
 
 // Opens the file of a host that waits.
-fn open_again<D: Disk>(serving: &mut Serving, disk: &mut D) -> Option<ReplyContent>
+fn open_again<D: Disk>(serving: &mut Serving, disk: &mut D) -> Option<ReplyContent<'static>>
     requires { IsSome serving.old.waiting }
     ensures settled { (s : State) → HasState D.Disk serving.old disk.old s
         → ReachesState D.Disk serving.new disk.old disk.new s (λ new.

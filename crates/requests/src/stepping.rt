@@ -11,7 +11,7 @@ ghost use Rattle.reply_texts.specs.Contents.{content_view};
 use crate::replies::content;
 use crate::telling::failure;
 use host_journal::{Serving, keep, passing_law};
-use reply_texts::ReplyContent;
+use reply_texts::{Page, ReplyContent};
 use sealed_core::{Command, Event, answer};
 use split_base::{Disk, Gate, NoMemory};
 use split_solve::Solver;
@@ -19,13 +19,14 @@ use std::thread::Threads;
 
 // What is said to a command at a moment: the reply, made whole before its event is kept, or that the disk failed. Only a publication takes
 // memory.
-pub(crate) fn step<D: Disk, R: Threads + Sync, G: Gate + Sync>(
+pub(crate) fn step<'p, D: Disk, R: Threads + Sync, G: Gate + Sync>(
     solver: &mut Solver<'_, R, G>,
     serving: &mut Serving,
     disk: &mut D,
     moment: u64,
     command: Command,
-) -> ReplyContent
+    page: &'p mut Page,
+) -> ReplyContent<'p>
     requires ready { serving.old.waiting ≡ None }
     requires command { IsCheckedCommand (command_view command) }
     ensures stepped { (s : State) → HasState D.Disk serving.old disk.old s
@@ -36,36 +37,34 @@ pub(crate) fn step<D: Disk, R: Threads + Sync, G: Gate + Sync>(
 {
     passing_law::<D>();
     let answered = answer(&serving.host, moment, command);
-    match content(solver, &serving.host, &answered) {
-        Err(NoMemory) => ReplyContent::out_of_memory(),
-        Ok(said) => {
-            let event = answered.event;
-            match event {
-                None => said,
-                Some(event) => keep_first(serving, disk, event, said),
-            }
-        }
-    }
+    let Ok(said) = content(solver, &serving.host, &answered, page) else {
+        return ReplyContent::out_of_memory();
+    };
+    let event = answered.event;
+    let Some(event) = event else {
+        return said;
+    };
+    keep_first(serving, disk, event, said)
 }
 
 // Keeps an event, and says this then. It takes no memory.
-fn keep_first<D: Disk>(
+fn keep_first<'p, D: Disk>(
     serving: &mut Serving,
     disk: &mut D,
     event: Event,
-    due: ReplyContent,
-) -> ReplyContent
+    due: ReplyContent<'p>,
+) -> ReplyContent<'p>
     requires ready { serving.old.waiting ≡ None }
     requires can { CanApply serving.old.host.content (event_view event) }
     ensures kept { (s : State) → HasState D.Disk serving.old disk.old s
         → ReachesState D.Disk serving.new disk.old disk.new s (λ new.
-        KeepsSaid D.Disk disk.old disk.new (event_view event) (content_view due) s new
+        KeepsSaid D.Disk disk.old disk.new (event_view event) (content_view due.entry) s new
         (content_view result)) }
     ensures count { D.faults disk.old ≤ D.faults disk.new }
     ensures honest { D.is_honest disk.old ↔ D.is_honest disk.new }
 {
-    match keep(serving, disk, event) {
-        Ok(()) => due,
-        Err(fault) => failure(fault),
+    if let Err(fault) = keep(serving, disk, event) {
+        return failure(fault);
     }
+    due
 }

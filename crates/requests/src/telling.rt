@@ -6,7 +6,7 @@ use gate_log::LogFault;
 use reply_texts::{ReplyContent, ServiceRefusal};
 
 // What is said where the journal has failed. It takes no memory.
-pub(crate) fn failure(fault: LogFault) -> ReplyContent
+pub(crate) fn failure<'p>(fault: LogFault) -> ReplyContent<'p>
     ensures { FaultSays fault (content_view result) }
 {
     match fault {

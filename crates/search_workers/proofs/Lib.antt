@@ -7,3 +7,4 @@ pub mod DrawnTickets
 pub mod ReportedPieces
 pub mod PartSums
 pub mod KeptEnds
+pub mod LeftEach

@@ -6,3 +6,4 @@ pub mod Works
 pub mod BlockEnds
 pub mod Crews
 pub mod Parts
+pub mod Threads

@@ -95,17 +95,8 @@ fn share<R: Threads + Sync, G: Gate + Sync>(
     let mut ends = no_ends(alloc, parts)?;
     let mut crew = hire(alloc, workers)?;
     let board = Board::new(alloc, rule, parts, rule.left - shorter)?;
-    run_workers(
-        rt,
-        crew.as_mut_slice(),
-        case,
-        tables,
-        rule,
-        parts,
-        workers,
-        &board,
-        gate,
-    );
+    let crew_slice = crew.as_mut_slice();
+    run_workers(rt, crew_slice, case, tables, rule, parts, &board, gate);
     gather(ends.as_mut_slice(), crew, case, rule, parts);
     Ok(settle(case, tables, rule, parts, ends.as_slice(), shorter))
 }
@@ -153,8 +144,8 @@ pub(crate) fn run_by<R: Threads + Sync, G: Gate + Sync>(
     }
 }
 
-// What `run_by` does, but the calling thread counts a few prefixes alone first. If the block has no more, no thread is started for it. Otherwise
-// all workers begin the block again.
+// What `run_by` does, but the calling thread counts a few prefixes alone first. If the block has no more, or no more may be counted, no thread is
+// started for it. Otherwise all workers begin the block again.
 pub(crate) fn run_after_few<R: Threads + Sync, G: Gate + Sync>(
     alloc: Global,
     rt: &R,
@@ -179,7 +170,11 @@ pub(crate) fn run_after_few<R: Threads + Sync, G: Gate + Sync>(
             above: rule.above,
             left: rule.left.min(FEW_PREFIXES),
         };
-        if let BlockEnd::Done { nodes, best } = walk_alone(case, tables, &few, workers, gate) {
+        let end = walk_alone(case, tables, &few, workers, gate);
+        if few.left == rule.left {
+            return end;
+        }
+        if let BlockEnd::Done { nodes, best } = end {
             return BlockEnd::Done { nodes, best };
         }
     }
@@ -192,9 +187,10 @@ pub(crate) fn run_after_few<R: Threads + Sync, G: Gate + Sync>(
 /// exactly when there are more than `left` of them. The end is the same for every number of workers, no matter which of them walks which part,
 /// except for the number that `Over` gives.
 ///
-/// It takes no more workers than the block has tasks, the calling thread among them. If it takes only one, or finds no memory for the parts, the
-/// calling thread walks the block's tasks one after another. With several workers, the gate's `enter` is called for a task when the first of its parts
-/// to be drawn is about to be walked, and `leave` when the last of its parts has ended.
+/// It takes no more workers than the block has tasks. If it takes several, each has a thread of its own, while the calling thread waits. If it
+/// takes only one, or finds no memory for the parts, the calling thread walks the block's tasks one after another. With several workers, the
+/// gate's `enter` is called for a task when the first of its parts to be drawn is about to be walked, and `leave` when the last of its parts has
+/// ended.
 pub fn run_block<R: Threads + Sync, G: Gate + Sync>(
     alloc: Global,
     rt: &R,

@@ -9,13 +9,13 @@ use crate::board::Board;
 use crate::ended::Ended;
 use crate::limits::LONGEST_PIECE;
 use crate::parts::Part;
+use crate::threads::run_each;
 use crate::worker::BlockRule;
 use bid_rules::GoodsCase;
 use bid_rules::limits::MOST_STEPS;
 use nash_search::{PartWalk, Tables, walk_part};
 use split_base::Gate;
 use std::alloc::{AllocError, Global};
-use std::thread;
 use std::thread::Threads;
 
 /// A worker, with what was counted and found in the parts that it drew.
@@ -153,7 +153,6 @@ pub(crate) fn run_workers<R: Threads + Sync, G: Gate + Sync>(
     tables: &Tables,
     rule: &BlockRule,
     parts: &[Part],
-    workers: u8,
     board: &Board,
     gate: &G,
 )
@@ -161,14 +160,12 @@ pub(crate) fn run_workers<R: Threads + Sync, G: Gate + Sync>(
     requires tables { AreTables case.now tables.now }
     requires parts { All (IsPart case.now) parts.now }
     requires left { rule.now.left ≤ MOST_STEPS }
-    requires workers { 1 ≤ workers }
     requires ready { All IsReady crew.old }
     ensures { All (HasEnded case.now rule.now parts.now) crew.new }
 {
-    thread::for_each_mut(
+    run_each(
         rt,
+        &|worker| { work_parts(worker, case, tables, rule, parts, board, gate) },
         crew,
-        usize::from(workers),
-        &|_, worker| { work_parts(worker, case, tables, rule, parts, board, gate) },
     );
 }

@@ -9,6 +9,8 @@
 //! do. That they share the parts is only tested (`rule_tests`, `.ci/workers`). If there is no memory for the parts,
 //! one thread walks the tasks one after another.
 //!
+//! `run_each` starts the threads of workers, here and wherever else work is shared.
+//!
 //! `work` is a simpler kind of worker, which the search doesn't use. It draws whole tasks at a desk, where each task
 //! is proved to be drawn once and walked whole (`drawn_tickets_law`, `walked_block_law`).
 #![tactic(auto)]
@@ -25,6 +27,7 @@ mod parts;
 mod plays;
 mod rule_laws;
 mod settle;
+mod threads;
 mod view;
 mod worker;
 mod workers;
@@ -37,6 +40,7 @@ pub use plays::DeskRule;
 pub use rule_laws::{
     begun_desk_law, drawn_tickets_law, walked_block_law, whole_view_law, word_limits_law,
 };
+pub use threads::run_each;
 pub use view::{DeskSize, DeskView};
 pub use worker::{Walked, work};
 pub use workers::{Means, Workers};

@@ -166,8 +166,8 @@ fn cut_larger(
     Ok((longer, nodes))
 }
 
-// The parts of a block: its tasks, of which the larger ones are cut until there are `ENOUGH_PARTS` parts, at most `MOST_CUTS` times, and how
-// many counted prefixes of the block are in no part.
+// The parts of a block: its tasks, of which the larger ones are cut until there are `ENOUGH_PARTS` parts or none of the larger ones can be cut,
+// at most `MOST_CUTS` times, and how many counted prefixes of the block are in no part.
 pub(crate) fn parts_of(
     alloc: Global,
     case: &GoodsCase,
@@ -188,6 +188,9 @@ pub(crate) fn parts_of(
         let (longer, more) = cut_larger(alloc, case, tables, rule, parts)?;
         parts = longer;
         nodes += more;
+        if more == 0 {
+            return Ok((parts, nodes));
+        }
     }
     Ok((parts, nodes))
 }

@@ -12,6 +12,7 @@ use crate::replies::{refusal_said, write_said};
 use crate::turns::is_head;
 use crate::{Heard, LinkEnd, MAX_REQUESTS, hear};
 use host_journal::Serving;
+use reply_texts::Page;
 use requests::{Tools, respond};
 use search_workers::{Means, Workers};
 use split_base::{Clock, Disk, Gate, Link};
@@ -28,6 +29,7 @@ fn serve_head<D: Disk, L: Link, C: Clock, R: Threads + Sync, G: Gate + Sync>(
     link: &mut L,
     clock: &mut C,
     carry: &mut Carry,
+    page: &mut Page,
     last: bool,
 ) -> Option<LinkEnd>
     ensures says { (w : D × State) → StandsAt D.Disk serving.old disk.old w
@@ -53,7 +55,7 @@ fn serve_head<D: Disk, L: Link, C: Clock, R: Threads + Sync, G: Gate + Sync>(
             bodiless,
         } => write_said(link, &refusal_said(refusal), answer, bodiless, true),
         Heard::Request { head, body, moment } => {
-            let said = respond(tools, serving, disk, &head, &body, moment);
+            let said = respond(tools, serving, disk, &head, &body, moment, page);
             let bodiless = is_head(head.verb);
             write_said(link, &said, Some(moment), bodiless, closes(&head, last))
         }
@@ -118,11 +120,14 @@ pub fn serve_one<'a, D: Disk, L: Link, C: Clock, R: Threads + Sync, G: Gate + Sy
     };
     let mut tools = Tools { solver, routes };
     let mut carry = Carry::new();
+    let mut page = Page::blank();
     let mut left = MAX_REQUESTS;
     loop {
         left -= 1;
         let last = left == 0;
-        match serve_head(&mut tools, serving, disk, link, clock, &mut carry, last) {
+        match serve_head(
+            &mut tools, serving, disk, link, clock, &mut carry, &mut page, last,
+        ) {
             Some(end) => return end,
             None => {}
         }

@@ -13,7 +13,7 @@ use split_base::Link;
 use split_http::{BAD_HOST, BAD_LENGTH, FRAMING, HttpReply, LENGTH_MISSING, phrase_law};
 
 // What is said to a head that is refused. It takes no memory.
-pub(crate) fn refusal_said(refusal: HeadRefusal) -> ReplyContent
+pub(crate) fn refusal_said(refusal: HeadRefusal) -> ReplyContent<'static>
     ensures { content_view result ≡ said_of refusal }
 {
     match refusal {
@@ -25,7 +25,7 @@ pub(crate) fn refusal_said(refusal: HeadRefusal) -> ReplyContent
 }
 
 // What is said to a head whose refusal has this number.
-fn stated_said(row: u8) -> ReplyContent
+fn stated_said(row: u8) -> ReplyContent<'static>
     ensures { content_view result ≡ said_of (HeadRefusal.Stated row) }
 {
     if row == BAD_HOST {
@@ -44,7 +44,7 @@ fn stated_said(row: u8) -> ReplyContent
 // Writes what is said, and answers the end of the link after it, or none where the link goes on.
 pub(crate) fn write_said<L: Link>(
     link: &mut L,
-    said: &ReplyContent,
+    said: &ReplyContent<'_>,
     moment: Option<u64>,
     bodiless: bool,
     closes: bool,
@@ -64,7 +64,12 @@ pub(crate) fn write_said<L: Link>(
 }
 
 // The reply as it is written.
-fn reply_of(said: &ReplyContent, moment: Option<u64>, bodiless: bool, closes: bool) -> HttpReply<'_>
+fn reply_of<'a>(
+    said: &'a ReplyContent<'_>,
+    moment: Option<u64>,
+    bodiless: bool,
+    closes: bool,
+) -> HttpReply<'a>
     ensures tells { SaysDue (due_of said.now moment bodiless closes) result }
 {
     HttpReply {

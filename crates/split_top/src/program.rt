@@ -40,7 +40,7 @@ pub struct Status {
 /// | `winner` | reads a case of goods, and writes the division by adjusted winner between its two players |
 /// | `check`, `checkwinner` | reads a certificate, or the text of adjusted winner, and writes `yes` or `no` and the first broken rule |
 ///
-/// WORKERS is the greatest number of threads. It never changes the result. It is from 1 to `MOST_WORKERS`. The gate is told when a worker is about to walk
+/// WORKERS says how many threads may work at the same time, from 1 to `MOST_WORKERS`. It never changes the result. The gate is told when a worker is about to walk
 /// the first part of a task of a search, and when the last part of the task has ended.
 ///
 /// | status | comes | line |

@@ -14,9 +14,9 @@ use Rattle.certificates.proofs.Rows.{rows_then}
 use Rattle.certificates.proofs.goods.put_goods_by.Goals as goal
 
 -- parts joined from the left and from the right
-joined : (a b d e f who rows owners steps tree end : List ℕ) → (((((a ++ (b ++ (d ++ (e ++ f)))) ++ who) ++ rows) ++ (owners ++ steps)) ++ tree) ++ end
-    ≡ a ++ (b ++ (d ++ (e ++ (f ++ (who ++ (rows ++ (owners ++ (steps ++ (tree ++ (end ++ []))))))))))
-joined a b d e f who rows owners steps tree end = simp (append_assoc, append-nil) refl
+joined : (a b d e f who points owners steps tree end : List ℕ) → (((((a ++ (b ++ (d ++ (e ++ f)))) ++ who) ++ points) ++ (owners ++ steps)) ++ tree) ++ end
+    ≡ a ++ (b ++ (d ++ (e ++ (f ++ (who ++ (points ++ (owners ++ (steps ++ (tree ++ (end ++ []))))))))))
+joined a b d e f who points owners steps tree end = simp (append_assoc, append-nil) refl
 
 pub returns : goal.returns
 unfolding goods_forms
@@ -33,7 +33,7 @@ returns c =
     let given = number_line word.Goods (wholes (pos goods ∷ [])) in
     let limit = number_line word.Limit (wholes (view.limit ∷ [])) in
     let who = number_line word.Who (wholes view.who) in
-    let rows = flat_map (λ row. number_line word.Values (wholes (map pos row.items))) case.values.items in
+    let points = flat_map (λ row. number_line word.Values (wholes (map pos row.items))) case.values.items in
     let owners = number_line word.Owners (wholes view.owners) in
     let steps = number_line word.Steps (wholes (view.steps ∷ [])) in
     let tree = said_text Tree (Marks view.marks) in
@@ -44,11 +44,11 @@ returns c =
     let head = one ++ (two ++ (count n ++ (given ++ limit))) in
     let begun = subst (λ (k : ℕ). Puts (one ++ (two ++ (count k ++ (given ++ limit)))) 0 old c.put_head-head.new.text c.put_head-head.result) c.players.ensures.value c.put_head-head.ensures in
     let a = puts_two head who 0 old c.put_head-head.new.text c.put_who-who.new.text c.put_head-head.result c.put_who-who.result begun c.put_who-who.ensures in
-    let b = puts_two (head ++ who) rows 0 old c.put_who-who.new.text c.put_points-points.new.text c.put_who-who.result c.put_points-points.result a c.put_points-points.ensures in
-    let d = puts_two ((head ++ who) ++ rows) (owners ++ steps) 0 old c.put_points-points.new.text c.put_division-shown.new.text c.put_points-points.result c.put_division-shown.result b c.put_division-shown.ensures in
-    let e = puts_two (((head ++ who) ++ rows) ++ (owners ++ steps)) tree 0 old c.put_division-shown.new.text c.put_tree_line-tree.new.text c.put_division-shown.result c.put_tree_line-tree.result d c.put_tree_line-tree.ensures in
-    let f = puts_two ((((head ++ who) ++ rows) ++ (owners ++ steps)) ++ tree) end 0 old c.put_tree_line-tree.new.text c.put_end.new.text c.put_tree_line-tree.result c.put_end.result e c.put_end.ensures in
+    let b = puts_two (head ++ who) points 0 old c.put_who-who.new.text c.put_points-points.new.text c.put_who-who.result c.put_points-points.result a c.put_points-points.ensures in
+    let d = puts_two ((head ++ who) ++ points) (owners ++ steps) 0 old c.put_points-points.new.text c.put_division-shown.new.text c.put_points-points.result c.put_division-shown.result b c.put_division-shown.ensures in
+    let e = puts_two (((head ++ who) ++ points) ++ (owners ++ steps)) tree 0 old c.put_division-shown.new.text c.put_tree_line-tree.new.text c.put_division-shown.result c.put_tree_line-tree.result d c.put_tree_line-tree.ensures in
+    let f = puts_two ((((head ++ who) ++ points) ++ (owners ++ steps)) ++ tree) end 0 old c.put_tree_line-tree.new.text c.put_end.new.text c.put_tree_line-tree.result c.put_end.result e c.put_end.ensures in
     subst (λ (text : List ℕ). Puts text 0 old c.put_end.new.text c.put_end.result)
-    (joined one two (count n) given limit who rows owners steps tree end
+    (joined one two (count n) given limit who points owners steps tree end
     ∙ ap (λ xs. one ++ (two ++ (count n ++ (given ++ (limit ++ (who ++ xs)))))) (rows_then word.Values goods n (λ row. map pos row.items) case.values.items (goods_tail goods) tail refl)
     ∙ ap (λ (k : ℕ). text_of (goods_forms k goods) (said k)) players) f

@@ -14,13 +14,12 @@ returns-clause-owners c =
     let counted : is_counted case c.args.floor c.args.above owners ≡ true =
     ap (λ (f : Pair). is_counted case f c.args.above owners) (sym c.rules_of-rules.ensures.floor)
     ∙ ap (λ (a : Option Pair). is_counted case rules.floor a owners) (sym c.rules_of-rules.ensures.above)
-    ∙ ap (is_counted case rules.floor rules.above) (sym c.as_slice.ensures.value)
-    ∙ c.rules_of-rules.ensures.rules.same (prefix_bound case c.as_slice.result.now)
-    ∙ sym c.reaches-reached.ensures
-    ∙ holds c.reaches-reached.result.reaches c.if-not-reached.false in
+    ∙ c.rules_of-rules.ensures.rules.same (prefix_bound case owners)
+    ∙ sym c.judged.ensures.reached
+    ∙ holds c.judged.result.1.reaches c.if-not-reached.false in
     let can = can_be_cut case c.args.floor c.args.above owners c.len.result c.len.ensures.value c.requires.prefix.short c.if-len-case.false counted in
     c.next_level-level.ensures.owners
-    ∙ ap (λ (xs : List ℕ). counted_owners case rules.floor rules.above xs) c.as_slice-2.ensures.value
+    ∙ ap (λ (xs : List ℕ). counted_owners case rules.floor rules.above xs) c.as_slice.ensures.value
     ∙ ap (λ (f : Pair). counted_owners case f rules.above owners) c.rules_of-rules.ensures.floor
     ∙ ap (λ (a : Option Pair). counted_owners case c.args.floor a owners) c.rules_of-rules.ensures.above
     ∙ sym (ap (λ t. cond t (counted_owners case c.args.floor c.args.above owners) []) can)

@@ -5,5 +5,5 @@ use Rattle.reply_texts.proofs.replies.reply_text.Goals as goal
 
 pub returns-in-Ok-clause-sealed : goal.returns-in-Ok-clause-sealed
 returns-in-Ok-clause-sealed c =
-    let same : c.in-Ok.text.items ≡ c.reply_bytes-bytes.result.items = search rules in
-    subst (λ (text : List ℕ). IsSealedText c.args.host.now.content (answer_view c.args.answered.now) text) (sym same) c.reply_bytes-bytes.ensures.sealed
+    let same : c.in-Ok.text.items ≡ c.put_reply.new.page.bytes.items = search rules in
+    subst (λ (text : List ℕ). IsSealedText c.args.host.now.content (answer_view c.args.answered.now) text) (sym same) c.put_reply.ensures.sealed

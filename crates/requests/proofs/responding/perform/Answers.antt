@@ -6,9 +6,9 @@ use Rattle.requests.proofs.responding.perform.Goals as goal
 pub returns-in-Some-clause-performed : goal.returns-in-Some-clause-performed
 returns-in-Some-clause-performed g c s stands = leads_as g.D.Disk _ _ _ s _ _ (c.in-Some.ensures.settled s stands) (λ new p. Performs.at_once p)
 
-pub returns-in-None-clause-performed : goal.returns-in-None-clause-performed
-returns-in-None-clause-performed g c s stands =
-    let one = c.in-None.ensures.settled s stands in
+pub returns-clause-performed : goal.returns-clause-performed
+returns-clause-performed g c s stands =
+    let one = c.in_default.ensures.settled s stands in
     let two = c.step.ensures.stepped one.new one.stands in
     record {
       new = two.new;

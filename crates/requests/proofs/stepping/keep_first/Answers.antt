@@ -4,9 +4,9 @@ use Rattle.reply_texts.specs.Contents.{content_view}
 use Rattle.requests.proofs.Stepped.{kept_by, kept_ok}
 use Rattle.requests.proofs.stepping.keep_first.Goals as goal
 
-pub returns-in-Ok-clause-kept : goal.returns-in-Ok-clause-kept
-returns-in-Ok-clause-kept g c s stands =
-    leads_as g.D.Disk _ _ _ s _ _ (c.in-Ok.ensures.kept s stands) (λ new p. kept_ok g.D.Disk _ _ (event_view c.args.event) (content_view c.args.due) s new (tt {0}) p)
+pub returns-clause-kept : goal.returns-clause-kept
+returns-clause-kept g c s stands =
+    leads_as g.D.Disk _ _ _ s _ _ (c.in_default.ensures.kept s stands) (λ new p. kept_ok g.D.Disk _ _ (event_view c.args.event) (content_view c.args.due) s new (tt {0}) p)
 
 pub returns-in-Err-clause-kept : goal.returns-in-Err-clause-kept
 returns-in-Err-clause-kept g c s stands =

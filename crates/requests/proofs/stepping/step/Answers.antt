@@ -10,26 +10,26 @@ use Rattle.reply_texts.specs.Contents.{content_view}
 use Rattle.requests.proofs.Stepped.{event_is, replied, reply_is, stepped}
 use Rattle.requests.proofs.stepping.step.Goals as goal
 
-pub returns-in-Err-clause-stepped : goal.returns-in-Err-clause-stepped
-returns-in-Err-clause-stepped g c s stands =
-    let (id, asked, publishes) = c.in-Err.ensures.memory in
+pub returns-in_default-clause-stepped : goal.returns-in_default-clause-stepped
+returns-in_default-clause-stepped g c s stands =
+    let (id, asked, publishes) = c.in_default.ensures.memory in
     let replies = reply_is c.args.serving.now.host.content s stands.host.is_host c.args.moment (command_view c.args.command) (answer_view c.answer-answered.result) c.answer-answered.ensures.step
     (reply.Publish id asked) publishes in
     leads_still g.D.Disk c.passing_law.ensures.still c.args.serving.now c.args.disk.now s _ stands (Steps.memory id asked replies refl refl c.out_of_memory.ensures)
 
-pub returns-in-None-clause-stepped : goal.returns-in-None-clause-stepped
-returns-in-None-clause-stepped g c s stands =
+pub returns-in_default-event-clause-stepped : goal.returns-in_default-event-clause-stepped
+returns-in_default-event-clause-stepped g c s stands =
     let h = c.args.serving.now.host.content in
     let command = command_view c.args.command in
     let a = answer_view c.answer-answered.result in
     let is = c.answer-answered.ensures.step in
     let told = content_view c.in-Ok.said in
     leads_still g.D.Disk c.passing_law.ensures.still c.args.serving.now c.args.disk.now s _ stands
-    (Steps.no_event told (event_is h s stands.host.is_host c.args.moment command a is None (ap (option_map event_view) c.in-None.is)) refl
+    (Steps.no_event told (event_is h s stands.host.is_host c.args.moment command a is None (ap (option_map event_view) c.in_default-event.is)) refl
     (replied h s stands.host.is_host c.args.moment command a is told c.in-Ok.ensures.shown) refl refl)
 
-pub returns-in-Some-clause-stepped : goal.returns-in-Some-clause-stepped
-returns-in-Some-clause-stepped g c s stands =
+pub returns-clause-stepped : goal.returns-clause-stepped
+returns-clause-stepped g c s stands =
     let h = c.args.serving.now.host.content in
     let command = command_view c.args.command in
     let a = answer_view c.answer-answered.result in

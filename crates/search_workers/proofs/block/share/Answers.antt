@@ -7,7 +7,7 @@ pub gather-requires-clause-ends : goal.gather-requires-clause-ends
 gather-requires-clause-ends g c =
     let case = c.args.case.now in
     let rule = c.args.rule.now in
-    subst (AreEnds case rule c.as_slice-parts.result.now) (sym c.as_mut_slice-2.ensures.value) (c.in_ok-ends.ensures case rule)
+    subst (AreEnds case rule c.as_slice-parts.result.now) (sym c.as_mut_slice.ensures.value) (c.in_ok-ends.ensures case rule)
 
 pub gather-requires-clause-crew : goal.gather-requires-clause-crew
 gather-requires-clause-crew g c =
