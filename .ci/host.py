@@ -1,5 +1,5 @@
 #!/usr/bin/env python3
-"""A host to try: a free port, the program that serves there, the wait until it listens, and the keys of its rounds.
+"""A host to try: a free port, the program that serves there, the wait until it listens, what it replies, the keys of its rounds, and its journal.
 
 Scripts in Python import this. A script of the shell calls it:
 
@@ -8,6 +8,8 @@ Scripts in Python import this. A script of the shell calls it:
 .ci/host.py key SECRET ROUND MEMBER     writes the key of a member of a round, or of its organiser, 0
 """
 import hashlib
+import http.client
+import json
 import os
 import random
 import re
@@ -67,6 +69,46 @@ def key_of(secret, number, member):
     return hashlib.sha256(secret + f'{number}/{member}'.encode()).hexdigest()
 
 
+# The deadline of rounds that stay open, and as seconds since 1970.
+DEADLINE, DEADLINE_SECOND = '2126-03-01T12:00:00Z', 4928040000
+# What is divided in a round of each kind, for two.
+FACTS = {
+    'rent': {'kind': 'rent', 'title': 'Flat', 'members': ['Ann', 'Ben'], 'rooms': ['Attic', 'Back'], 'rent': 1000},
+    'goods': {'kind': 'goods', 'title': 'Attic', 'members': ['Ann', 'Ben'], 'goods': ['Clock', 'Lamp']},
+    'fares': {'kind': 'fares', 'title': 'Taxi', 'members': ['Ann', 'Ben'], 'places': ['Station', 'Harbour'], 'flag': 300,
+              'legs': [[1000, 1500], [0, 700], [900, 0]]},
+}
+# How many bytes of a journal come before its first gate.
+JOURNAL_FRONT = 49
+
+
+def creation(kind, tag, deadline=DEADLINE, **facts):
+    """The body of a creation: a round for two of this kind, but for the facts that are said."""
+    return dict(FACTS[kind], deadline=deadline, tag=tag, **facts)
+
+
+def asked(port, method, path, body=None, key=None, timeout=60, headers=(), source='127.0.0.1'):
+    """Status, headers and text of a reply, on a connection of its own. A body that isn't text or bytes goes as JSON."""
+    link = http.client.HTTPConnection('127.0.0.1', port, timeout=timeout, source_address=(source, 0))
+    if not isinstance(body, (str, bytes, type(None))):
+        body = json.dumps(body)
+    try:
+        link.request(method, path, body, dict({'x-key': key} if key else {}, **dict(headers)))
+        reply = link.getresponse()
+        return reply.status, {name.lower(): value for name, value in reply.getheaders()}, reply.read()
+    finally:
+        link.close()
+
+
+def journal_events(journal):
+    """The bodies of the events in the bytes of a journal, as far as its gates are open (docs/FORMATS.md)."""
+    at = JOURNAL_FRONT
+    while journal[at]:
+        size = int.from_bytes(journal[at + 1:at + 5], 'little')
+        yield journal[at + 5:at + 5 + size]
+        at += 5 + size
+
+
 class Host:
     """The program, as it serves so many connections with so many workers at a free port, in a folder with a journal. What it writes can be read from its
     process, which takes more words for Popen."""
@@ -88,6 +130,11 @@ class Host:
                 self.end()
                 raise
         raise Silent(f'{program} does not serve in {folder}')
+
+    def asks(self, method, path, body=None, key=None, **more):
+        """Status and text of a reply."""
+        status, _, text = asked(self.port, method, path, body, key, **more)
+        return status, text.decode()
 
     def end(self):
         """It is killed, in the middle of whatever it does."""

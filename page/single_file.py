@@ -11,7 +11,10 @@ PAGE = os.path.dirname(os.path.abspath(__file__))
 IMPORT = re.compile(r"^import \{([^}]*)\} from '(\.[\w./]+)\.js';\n", re.M)
 EXPORT = re.compile(r'^export ((?:async )?(?:function\*?|class|const|let) (\w+))', re.M)
 LOAD = re.compile(r"import\('(\.[\w./]+)\.js'\)")
-INSTEAD = {'js/carried': 'js/carried_alone'}  # a single file carries along what the page loads
+# A single file carries along what the page loads.
+INSTEAD = {'js/carried': 'js/carried_alone', 'js/more_style': 'js/more_style_alone'}
+# What would ask for another file, or was not understood above: nothing of it may be left in a single file.
+LEFT = re.compile(r"^(?:import|export)\b.*|\bimport\(.*|['\"`](?:\./)?[\w/.-]+\.(?:css|js|svg)['\"`].*", re.M)
 
 
 def text_of(name):
@@ -46,6 +49,9 @@ def wrapped(module, is_last):
     exports = [found[1] for found in EXPORT.findall(text)]
     text = IMPORT.sub(lambda found: f'const {{{found[1].replace(" as ", ": ")}}} = {variable(named(module, found[2]))};\n', text)
     text = LOAD.sub(lambda found: f'Promise.resolve({variable(named(module, found[1]))})', EXPORT.sub(r'\1', text))
+    left = LEFT.search(text)
+    if left:
+        sys.exit(f'single_file: {module}.js has what a single file cannot: {left[0]}')
     call = '(async () => {' if is_last else '(() => {'
     return f'const {variable(module)} = {call}\n{text}return {{ {", ".join(exports)} }};\n}})();\n'
 

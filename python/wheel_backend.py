@@ -51,16 +51,20 @@ def metadata():
     """The text of METADATA."""
     return (f'Metadata-Version: 2.1\nName: fairsplit\nVersion: {version()}\n'
             'Summary: Fair divisions of rents, goods and fares by proved code, and the judges of their certificates\n'
-            'Requires-Python: >=3.9\n')
+            'Requires-Python: >=3.9\nDescription-Content-Type: text/markdown\n\n' + (HERE.parent / 'docs' / 'LIBRARY.md').read_text())
 
 
-def files(data):
-    """The name in the wheel and the bytes of each file, but RECORD."""
-    folder = f'fairsplit-{version()}.dist-info'
+def package_files(data):
+    """The name in the wheel and the bytes of each file of the package."""
     for path in sorted(PACKAGE.iterdir()):
         if path.suffix in ('.py', '.typed'):
             yield f'fairsplit/{path.name}', path.read_bytes()
     yield f'fairsplit/{OBJECT}', data
+
+
+def files_about(data):
+    """The same of the files that describe the wheel, but RECORD."""
+    folder = f'fairsplit-{version()}.dist-info'
     yield f'{folder}/METADATA', metadata().encode()
     yield f'{folder}/WHEEL', f'Wheel-Version: 1.0\nGenerator: wheel_backend\nRoot-Is-Purelib: false\nTag: {tag(data)}\n'.encode()
 
@@ -71,18 +75,28 @@ def record_line(name, data):
     return f'{name},sha256={digest},{len(data)}\n'
 
 
-def build_wheel(wheel_directory, config_settings=None, metadata_directory=None):
-    """Writes the wheel into a folder, and answers its name."""
-    data = object_bytes()
+def write_wheel(wheel_directory, data, files):
+    """Writes a wheel of these files and those about it into a folder, and answers its name."""
     name = f'fairsplit-{version()}-{tag(data)}.whl'
     record = f'fairsplit-{version()}.dist-info/RECORD'
     lines = []
     with zipfile.ZipFile(Path(wheel_directory) / name, 'w', zipfile.ZIP_DEFLATED) as wheel:
-        for inner, content in files(data):
+        for inner, content in [*files, *files_about(data)]:
             wheel.writestr(zipfile.ZipInfo(inner, FIRST_DAY), content, zipfile.ZIP_DEFLATED)
             lines.append(record_line(inner, content))
         wheel.writestr(zipfile.ZipInfo(record, FIRST_DAY), ''.join(lines) + f'{record},,\n', zipfile.ZIP_DEFLATED)
     return name
+
+
+def build_wheel(wheel_directory, config_settings=None, metadata_directory=None):
+    """Writes the wheel with the package and the object."""
+    data = object_bytes()
+    return write_wheel(wheel_directory, data, package_files(data))
+
+
+def build_editable(wheel_directory, config_settings=None, metadata_directory=None):
+    """Writes a wheel that leads to the package and the object in this checkout."""
+    return write_wheel(wheel_directory, object_bytes(), [('fairsplit.pth', f'{HERE}\n'.encode())])
 
 
 def build_sdist(sdist_directory, config_settings=None):

@@ -99,8 +99,8 @@ def answer(command, body):
     except fairsplit.OverLimit as error:
         return error.status, f'step limit {error.limit}\n'
     except fairsplit.Refused as error:
-        return error.status, f'{error}\n'
-    return 0, division.certificate if command == 'solve' else report(body, division)
+        return error.status, f'{error.said}\n'
+    return 0, division.text if command == 'solve' else report(body, division)
 
 
 def whole(digits):

@@ -1,5 +1,5 @@
 // by_solver.mjs FOLDER ROWS.json: what the solvers of a folder write for the cases that the program could divide, or found above their limit, and
-// what they say that each pays beside the program's reports.
+// what they say that each pays beside the program's reports, and what they hand out as numbers beside both.
 // Node 20 and 22 run the module with a 64-bit memory only with --experimental-wasm-memory64.
 import { readFileSync } from 'node:fs';
 import { join } from 'node:path';
@@ -31,6 +31,19 @@ function paid(report) {
   return Array.from(report.matchAll(/^\d+ .*, pays (-?\d+), /gm), ([, cents]) => Number(cents));
 }
 
+/** A fraction as a text has it. */
+function said({ numerator, denominator }) {
+  return denominator === 1 ? `${numerator}` : `${numerator}/${denominator}`;
+}
+
+/** The lines of a certificate that a division in numbers says, of which no other line has anything to do with the division. */
+async function told(body) {
+  const [who, bids] = bidders(body.bids);
+  if (body.kind === 'goods') return [`owners ${(await solver.goodsOwners(body.limit ?? USUAL_LIMIT, who, bids)).owners.join(' ')}`];
+  const { rooms, prices, route, fares } = body.kind === 'rent' ? await solver.rentRooms(body.rent, bids) : await solver.faresRoute(body.flag, body.legs, who, bids);
+  return rooms ? [`rooms ${rooms.join(' ')}`, `prices ${prices.map(said).join(' ')}`] : [`route ${route.join(' ')}`, `fares ${fares.map(said).join(' ')}`];
+}
+
 let tried = 0;
 let differ = 0;
 for (const [command, given, status, text] of JSON.parse(readFileSync(rowsName))) {
@@ -41,7 +54,8 @@ for (const [command, given, status, text] of JSON.parse(readFileSync(rowsName)))
   tried += 1;
   const found = await solved(command, body);
   const wanted = command === 'report' ? { status, pays: paid(due) } : { status, text: due };
-  if (isDeepStrictEqual(found, wanted)) continue;
+  const lines = command === 'solve' && status === 0 ? await told(body) : [];
+  if (isDeepStrictEqual(found, wanted) && lines.every((line) => due.includes(`\n${line}\n`))) continue;
   differ += 1;
   if (differ < 6) console.log(`library: ${JSON.stringify(wanted).slice(0, 200)} by the program, ${JSON.stringify(found).slice(0, 200)} by the module`);
 }

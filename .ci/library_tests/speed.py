@@ -77,7 +77,7 @@ def main(program, count=1000):
         found[threads] = timed('names in, division out', lambda case: fairsplit.rent(case['rent'], case['bids']), cases, threads)
         found[threads, 'numbers'] = timed('numbers in, certificate out', lambda case: fairsplit.numbers.rent(case['rent'], case['bids'])[1], cases, threads)
         found[threads, 'program'] = timed('the program', lambda case: started(program, case), cases, threads)
-    texts = [[division if isinstance(division, str) else division.certificate for division in divisions] for divisions in found.values()]
+    texts = [[division if isinstance(division, str) else division.text for division in divisions] for divisions in found.values()]
     wrong = sum(any(text != same[0] for text in same) for same in zip(*texts))
     print(f'{wrong} certificates differ')
     estates = [[other.spread(draw, other.POINTS, 12) for _ in range(5)] for _ in range(SEARCHES)]

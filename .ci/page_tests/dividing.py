@@ -13,6 +13,11 @@ ESTATE = {'kind': 'goods', 'title': 'Estate', 'members': ['Ida', 'Jo', 'Kim'], '
           'bids': [[500, 300, 200], [400, 400, 200], None]}
 RIDE = {'kind': 'fares', 'title': 'Ride', 'members': ['Ann', 'Ben'], 'places': ['Station', 'Airport'], 'flag': 300,
         'legs': [[1000, 2000], [0, 1500], [1500, 0]], 'bids': [1, 2]}
+# Points of four people for eighteen items, with which the search takes more than its steps.
+HARD = [[60, 40, 40, 70, 60, 50, 50, 70, 70, 40, 70, 50, 50, 60, 40, 50, 60, 70],
+        [100, 50, 40, 80, 40, 30, 10, 40, 60, 20, 70, 100, 70, 60, 10, 70, 100, 50],
+        [80, 10, 20, 70, 60, 50, 50, 50, 110, 20, 70, 60, 50, 80, 50, 40, 70, 60],
+        [50, 40, 10, 80, 70, 60, 60, 50, 50, 50, 50, 80, 90, 40, 50, 30, 80, 60]]
 THINGS = {'rent': 'rooms', 'goods': 'goods', 'fares': 'places'}
 
 
@@ -43,7 +48,7 @@ def bids(p, case, is_passed):
             p.has(f'Pass the device to {name}')
             check('a bid is hidden from the next', not p.all('#value-0, .place'))
             p.press(f'I’m {name}')
-        p.has(f'The bid of {name}')
+        p.has(f'{name}, {"where" if case["kind"] == "fares" else "what is"}')
         if bid is None:
             p.press(f'Leave {name} out')
             continue
@@ -54,26 +59,35 @@ def bids(p, case, is_passed):
                 p.put(f'#value-{place}', f'{value / 100:.2f}' if case['kind'] == 'rent' else value)
         p.press('Show the result' if i == len(case['members']) - 1 and not is_passed else 'Next')
     if is_passed:
-        p.has('Everyone has bid')
+        p.has('Everyone has answered')
         p.press('Show the result')
+
+
+def places(p, case):
+    """Where each rider gets off, all of them at once."""
+    p.one('#off-0')
+    for i, place in enumerate(case['bids']):
+        p.run('const s = document.getElementById(arguments[0]); s.value = arguments[1]; s.dispatchEvent(new Event("change"))', f'off-{i}', str(place))
+    p.press('Show the result')
 
 
 def divided(p, address, case, is_passed, look_at, shots):
     """One division without a server, from the first view to its certificate."""
     p.open(address)
-    p.one('.kinds')
+    p.one('main .kind, main .row button.main')
     if p.run('return document.documentElement.lang') != 'en':  # files on a disk share what they remember: another part chose this one
         p.speak('en')
         p.until(lambda: p.run('return document.documentElement.lang') == 'en', 20, 'the page does not speak English')
         time.sleep(0.5)
+    fresh(p)
     p.click(f'.kind.{case["kind"]}')
     written(p, case)
     if not is_passed:
         p.run('document.querySelectorAll("input[name=how]")[1].click()')
     what = f'{case["kind"]} {"passed around" if is_passed else "typed"} at {address[:5]}'
     look_at(p, f'the form of {what}')
-    p.press('On to the bids')
-    bids(p, case, is_passed)
+    p.press('Go on')
+    places(p, case) if case['kind'] == 'fares' and not is_passed else bids(p, case, is_passed)
     p.one('#verdict', 60)
     p.until(lambda: p.values('#judges', 'data-by') == ['both'], 60, 'the second check does not end')
     same(f'the verdict of {what}', p.values('#verdict', 'data-verdict'), ['yes'])
@@ -81,26 +95,29 @@ def divided(p, address, case, is_passed, look_at, shots):
     path = f'{p.profile}/files/division-certificate.txt'
     if os.path.exists(path):
         os.remove(path)
+    p.run('for (const one of document.querySelectorAll("main details")) one.open = true')
     p.press('Certificate')
     p.until(lambda: os.path.exists(path) and os.path.getsize(path) > 0, 15, 'the certificate is not saved')
     same(f'the certificate of {what}', open(path, encoding='utf-8').read(), certificate)
     report = program('report 1', json.dumps(case))
     if case['kind'] != 'goods':
-        same(f'who pays what of {what}', p.values('[data-pays]', 'data-pays'), re.findall(r', pays (-?\d+),', report))
+        paid = p.run('return [...document.querySelectorAll("[data-pays]")].sort((a, b) => a.dataset.member - b.dataset.member).map((e) => e.dataset.pays)')
+        same(f'who pays what of {what}', paid, re.findall(r', pays (-?\d+),', report))
     look_at(p, f'the result of {what}')
     shots(p, f'C-{case["kind"]}-{"http" if address.startswith("http") else "file"}')
 
 
-FAULTS = 'return [...document.querySelectorAll("main .fault, main .bad")].map((e) => e.innerText.trim()).filter(Boolean)'
+FAULTS = 'return [...document.querySelectorAll("main .fault, #summary h2")].map((e) => e.innerText.trim()).filter(Boolean)'
 
 
 def mended(p, address):
     """What is wrong with a field is told until the field is changed, and no longer."""
     p.open(address)
+    fresh(p)
     p.click('.kind.rent')
-    p.press('On to the bids')
+    p.press('Go on')
     p.has('6 fields need your attention')
-    same('the first field that is wrong has the focus', p.focused()['id'], 'title')
+    same('what is wrong has the focus', p.run('return document.activeElement.parentElement.id'), 'summary')
     p.type('#title', FLAT['title'])
     same('a title that was entered', [p.values('#title', 'aria-invalid'), 'Enter a title.' in p.run(FAULTS), '5 fields need your attention' in p.run(FAULTS)],
          [[None], False, True])
@@ -109,14 +126,70 @@ def mended(p, address):
     p.put('#rent', 'much')
     check('what is wrong again is told', any('Enter an amount' in words for words in p.run(FAULTS)), p.run(FAULTS))
     p.open(address)
+    fresh(p)
     p.click('.kind.fares')
     written(p, RIDE)
-    p.run('document.querySelectorAll("input[name=how]")[1].click()')
-    p.press('On to the bids')
+    p.run('document.querySelectorAll("input[name=how]")[0].click()')
+    p.press('Go on')
+    p.press('I’m Ann')
     p.press('Next')
     same('no place is picked', p.run(FAULTS), ['Pick the place where you get off.'])
     p.click('input[name=place]')
     same('a place is picked', p.run(FAULTS), [])
+
+
+def fresh(p):
+    """Begins again, where something was typed before."""
+    p.one('main .kind, main .row button.main')
+    if not p.all('.kind'):
+        p.press('Begin again')
+    p.one('.kind')
+
+
+def kept(p, address):
+    """What everyone said is there again after "Change something" and after a reload, and whoever leaves is asked."""
+    p.open(address)
+    fresh(p)
+    p.click('.kind.goods')
+    written(p, ESTATE)
+    p.run('document.querySelectorAll("input[name=how]")[1].click()')
+    p.press('Go on')
+    bids(p, ESTATE, False)
+    p.one('#verdict', 60)
+    asks = 'const e = new Event("beforeunload", {cancelable: true}); window.dispatchEvent(e); return e.defaultPrevented'
+    check('whoever leaves is asked', p.run(asks))
+    for how in ('Change something', 'reload'):
+        if how == 'reload':
+            p.reload()
+            p.press('Go on')
+        else:
+            p.press(how)
+        p.has('Who types?')
+        same(f'the form after {how}', p.values('#title', 'value'), ['Estate'])
+        p.press('Go on')
+        p.has('Ida, what is')
+        same(f'what Ida said after {how}', p.values('.values input.number', 'value'), ['500', '300', '200'])
+
+
+def stopped(p, address):
+    """An estate for which the search finds no end: nothing is lost, and something is left to do; and Stop."""
+    case = {'kind': 'goods', 'title': 'House', 'members': ['Ann', 'Ben', 'Cy', 'Dee'], 'goods': [f'Thing {i}' for i in range(18)], 'bids': HARD}
+    p.open(address)
+    fresh(p)
+    p.click('.kind.goods')
+    written(p, case)
+    p.run('document.querySelectorAll("input[name=how]")[1].click()')
+    p.press('Go on')
+    bids(p, case, False)
+    p.has('There is no result', seconds=60)
+    text = p.text()
+    for words in ('Nobody did anything wrong', 'The best division found', 'isn’t proved to be the best', 'Put small items together', 'Round all points and try again'):
+        check(f'{words!r} is told', words in text, text)
+    check('nothing of links or of a tap is told, since there are none', 'link' not in text and 'tap' not in text, text)
+    check('a division is there, and whom it leaves how', len(p.all('#found li')) >= 4 and 'gets' in p.text('#found'), p.text('#found'))
+    p.press('Change something')
+    p.press('Go on')
+    same('what Ann said is kept', p.values('.values input.number', 'value'), [str(value) for value in HARD[0]])
 
 
 def alone(rig, olive, ann, ben, look_at, shots):
@@ -129,6 +202,12 @@ def alone(rig, olive, ann, ben, look_at, shots):
     divided(ben, page, ESTATE, False, look_at, shots)
     divided(ben, file, RIDE, False, look_at, shots)
     mended(ben, file)
+    kept(ben, file)
+    kept(ann, page)
+    stopped(ben, file)
+    ben.click('#languages button')
+    ben.one('dialog.help[open]')
+    ben.click('dialog.help button')
     divided(ann, file, FLAT, True, look_at, shots)
     same('no host was asked for anything', len(rig.lossy.seen), asked)
     same('the file asked for nothing', [name for name in ann.run('return performance.getEntriesByType("resource").map((e) => e.name)')
@@ -143,7 +222,6 @@ def alone(rig, olive, ann, ben, look_at, shots):
 def demo(rig, olive, ann, ben, look_at, shots):
     """The demo of the start page: its divisions change when you move a slider."""
     ann.open(rig.url)
-    ann.press('Try it with three')
     ann.one('#demo-result li', 60)
     look_at(ann, 'the demo of a rent')
     shots(ann, 'D-demo-rent')
@@ -185,6 +263,7 @@ def judges(rig, olive, ann, ben):
     same('both have judged', checked(ann), ['yes', 'both'])
     ann.run('window.fetch = async () => new Response("", {status: 404})')
     same('the script alone has judged', checked(ann), ['yes', 'script'])
+    ann.run('document.getElementById("verdict").open = true')
     check('that is said', 'That script is not proved correct' in ann.text('#verdict'), ann.text('#verdict'))
     ann.complaints()
     for proved, says in (('yes', 'no 3'), ('no 2', 'yes'), ('no 2', 'no 3')):
@@ -192,5 +271,5 @@ def judges(rig, olive, ann, ben):
         ann.one('#text')
         ann.run(DISAGREEING, proved, says)
         same(f'where one says {proved} and the other {says}', checked(ann), ['differ', 'both'])
-        check('that is in red, and no division is shown', ann.values('#verdict', 'class') == ['verdict bad'] and not ann.all('#division'))
+        check('that is in red, and no division is shown', ann.values('#verdict', 'class') == ['box bad'] and not ann.all('#division'))
         check('both are told', proved in ann.text('#judges') and says in ann.text('#judges'), ann.text('#judges'))

@@ -110,14 +110,16 @@ async function looked(status, replies) {
   asked.length = 0;
   await show(root, { id: '7', key: KEY, currency: 'EUR', tag: '' });
   const verdict = root.querySelector('#verdict');
-  const nodes = PLACES.map((place) => [place, root.querySelectorAll(`[${place}]`)]);
+  const order = (a, b) => Number(a.getAttribute('data-member') ?? 0) - Number(b.getAttribute('data-member') ?? 0);
+  const nodes = PLACES.map((place) => [place, root.querySelectorAll(`[${place}]`).sort(order)]);
   return {
     verdict: verdict?.getAttribute('data-verdict') ?? 'none at all', differ: Number(verdict?.getAttribute('data-differ') ?? -1), says: verdict?.textContent ?? '',
     isGood: (verdict?.getAttribute('class') ?? '').split(' ').includes('good'),
-    below: root.querySelectorAll('section,details').filter((node) => !node.querySelector('#verdict')).map((node) => node.textContent).join('\n'),
+    below: [root.querySelector('h1')?.textContent, ...root.querySelectorAll('section,details').filter((node) => node.id !== 'verdict' && !node.querySelector('#verdict')).map((node) => node.textContent)].join('\n'),
     numbers: Object.fromEntries(nodes.map(([place, list]) => [place, list.map((node) => node.getAttribute(place))])),
     shown: nodes.flatMap(([place, list]) => list.filter(() => !/points|product/.test(place)).map((node) => [node.getAttribute(place), node.textContent])),
-    exact: root.querySelectorAll('[data-pays]').map((node) => node.getAttribute('data-exact')),
+    exact: root.querySelectorAll('[data-pays]').sort(order).map((node) => node.getAttribute('data-exact')),
+    isCaution: (root.querySelector('.hero')?.getAttribute('class') ?? '').includes('caution'), title: root.querySelector('h1')?.textContent ?? '',
     outside: outsideOfBdi(root, ['Person~', 'Thing~', TITLE]), text: root.textContent, asked: [...asked],
   };
 }
@@ -150,7 +152,8 @@ async function honest(name, text) {
     sees(how, name, you);
     const view = await looked(statusOf(name, you), certified(text));
     const what = `${name} of ${you} who saw ${how}`;
-    same(what, [view.verdict, view.differ, view.isGood], ['yes', 0, true]);
+    same(what, [view.verdict, view.differ, view.isGood], ['yes', 0, how !== 'nothing']); // names that are only somebody's word are amber
+    same(`${what}: the answer is amber where somebody took no part, or the names are only a word`, view.isCaution, how === 'nothing' || status.bids.length < status.members.length);
     same(`${what}: it says whose word the names are`, view.says.includes(UNSEEN), how === 'nothing');
     same(`${what}: asked`, view.asked, ['instances/7', 'instances/7/certificate']);
     agrees(what, view, text, you);
@@ -162,12 +165,14 @@ async function honest(name, text) {
 function hero(what, view, text, you) {
   const lines = linesOf(text);
   const kind = lines.kind[0][0];
-  const big = root.querySelector('.hero')?.textContent ?? '';
-  if (!you) { same(`${what}: no share`, big, ''); return; }
+  const big = view.title;
+  if (!you) { check(`${what}: no share`, !big.includes('You get'), big); return; }
   const place = kind === 'rent' ? you - 1 : lines.who[0].indexOf(String(you));
   if (kind === 'goods') {
     const own = lines.owners[0].flatMap((owner, good) => (Number(owner) === place + 1 ? [`Thing~${good + 1}`] : []));
-    check(`${what}: the share`, own.every((good) => big.includes(good)) && big.split('Thing~').length === own.length + 1, big);
+    const tiles = place < 0 ? [] : root.querySelector('.tiles')?.querySelectorAll('bdi').map((node) => node.textContent) ?? [];
+    same(`${what}: the share`, [...tiles].sort(), [...own].sort());
+    check(`${what}: the headline`, own.length > 3 ? big.includes(`${own.length - 2} more`) : big.split('Thing~').length === own.length + 1, big);
     return;
   }
   const thing = kind === 'rent' ? lines.rooms[0][place] : lines.at[0][place];
@@ -200,7 +205,7 @@ async function otherStatus(name, text) {
       const replies = { ...certified(text), bid: [200, '{"turn":0}'] };
       const view = await looked({ ...status, [field]: value }, replies);
       const what = `${name} whose ${field} is ${JSON.stringify(value)}, seen: ${how}`;
-      if (view.verdict !== 'yes') { check(what, !view.says.includes('Yes'), view.says); continue; }
+      if (view.verdict !== 'yes') { check(what, !view.says.includes('Checked'), view.says); continue; }
       for (const place of PLACES.slice(0, 9)) same(`${what}: ${place}`, view.numbers[place], before.numbers[place]);
       if (how === 'nothing') check(what, view.says.includes(UNSEEN) || !view.isGood);
       else check(`${what} is told, or nothing else stands there`, view.below === before.below && (view.isGood ? view.says === before.says : view.differ > 0));
@@ -240,7 +245,7 @@ async function otherCertificate(name, text) {
     const view = await looked(statusOf(name, 1), certified(forged));
     const what = `${name}, line ${at + 1} as ${other}`;
     if (view.verdict !== 'yes') {
-      check(`${what} is drawn`, !view.says.includes('Yes') && !view.numbers['data-pays'].length && !view.numbers['data-points'].length && !root.querySelector('.hero'));
+      check(`${what} is drawn`, !view.says.includes('Checked') && !view.numbers['data-pays'].length && !view.numbers['data-points'].length && !root.querySelector('.hero'));
       continue;
     }
     agrees(what, view, forged, 1);
@@ -296,8 +301,26 @@ async function withoutWinner() {
     const view = await looked({ ...closed, goods: ['Thing~1', 'Thing~2'] }, { ...nothing, winner: [200, text] });
     const what = `no result, and ${JSON.stringify(text)} as adjusted winner`;
     check(`${what}: it is told`, view.text.includes(says), view.text);
-    check(`${what}: what is left`, ['takes more than 40 steps', 'A new round', 'agree on a division of your own'].every((words) => view.text.includes(words)), view.text);
+    check(`${what}: what is left`, ['takes more than 40 steps', 'Once more', 'a division of your own'].every((words) => view.text.includes(words)), view.text);
     same(`${what}: names outside of bdi`, view.outside, []);
+  }
+}
+
+/** A server that says what cannot be: the search of a rent has no limit. Nothing was checked, and the page is whole. */
+async function limitOfRent() {
+  const view = await looked(statusOf('flat-for-three', 1), { certificate: [409, '{"code":"step_limit","limit":40}'] });
+  same('a limit of a rent', [view.verdict, view.isGood, view.says.includes('Nothing was checked'), view.text.includes('Part of the page')], ['none', false, true, false]);
+  const told = await looked(statusOf('flat-for-three', 0), { certificate: [409, '{"code":"void","missing":[2]}'] });
+  check('that somebody was missing is the server’s word', told.text.includes('This server says: Person~2'), told.text);
+}
+
+/** A round that was closed before its deadline without somebody's bid: the server's clock was ahead, and the page says so. */
+async function clockAhead() {
+  const told = { certificate: [409, '{"code":"void","missing":[2]}'] };
+  const soon = Math.floor(Date.now() / 1000) + 3600;
+  for (const [deadline, bids, isTold] of [[soon, [1, 3], true], [soon, [1, 2, 3], false], [soon - 7200, [1, 3], false]]) {
+    const view = await looked({ ...statusOf('flat-for-three', 1), deadline, bids }, told);
+    same(`whether the clock is told, of ${bids.length} bids and a deadline ${deadline - soon} seconds on`, view.text.includes('its clock was ahead'), isTold);
   }
 }
 
@@ -317,7 +340,7 @@ async function copies() {
   const { links } = await import(`${JS}/organiser.js`);
   globalThis.fetch = async () => new Response(JSON.stringify({ id: 7, organiser: KEY, keys }), { status: 201 });
   await links(root, { link: { id: '7', key: KEY, currency: 'EUR', tag: 'a'.repeat(16) }, round: { ...statusOf('flat-for-three', 0), closed: false }, alive: () => true });
-  const isCopy = (button) => button.textContent === 'Copy';
+  const isCopy = (button) => button.textContent === 'Copy the link';
   for (const button of root.querySelectorAll('button').filter(isCopy)) await button.listeners.click({ currentTarget: button, preventDefault() {} });
   same('what was copied', copied, [...keys.map((key) => `https://split.example/#7.${key}.EUR`), `https://split.example/#7.${KEY}.EUR.${'a'.repeat(16)}`]);
   same('names outside of bdi among the links', outsideOfBdi(root, ['Person~', 'Thing~']), []);
@@ -329,6 +352,8 @@ function savedFiles() {
   const names = { title: 'Attic "x"\n', members: ['Ann', 'Ben', 'Dan'], things: ['Desk', 'Lamp'] };
   const file = savedFile(names, text);
   same('a saved file', opened(file), { certificate: text, names });
+  same('a saved file with its currency', opened(savedFile(names, text, 'EUR')), { certificate: text, names, currency: 'EUR' });
+  same('a currency that is none', opened(savedFile(names, text, 'EUR').replace('"EUR"', '"<b>"')), { certificate: text, names });
   same('its text part', JSON.parse(file).certificate, text);
   same('unknown fields', opened(file.replace('{', '{"more":[1],')), { certificate: text, names });
   for (const other of ['{}', '[]', '7', 'null', '"x"', '{"fairsplit":2}', file.replace('"fairsplit":1', '"fairsplit":"1"'), file.replace('["Desk","Lamp"]', '[1,2]'), file.slice(0, -3),
@@ -371,7 +396,7 @@ async function checkPage() {
     checkView(root, true);
     root.querySelector('#text').value = input;
     await root.querySelector('button').listeners.click({});
-    check(`${input.slice(0, 20)} is told as ${says}`, root.querySelector('#findings').textContent.includes(says) && !root.querySelector('#division'), root.textContent);
+    check(`${input.slice(0, 20)} is told as ${says}`, root.querySelector('#checked').textContent.includes(says) && !root.querySelector('#division'), root.textContent);
   }
 }
 
@@ -401,6 +426,8 @@ for (const name of EXAMPLES) {
 await otherBids();
 await noCertificate();
 await withoutWinner();
+await limitOfRent();
+await clockAhead();
 await emptyFile();
 winners();
 savedFiles();

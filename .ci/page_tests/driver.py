@@ -267,9 +267,9 @@ class ChromiumBrowser(Browser):
             file.write(base64.b64decode(data))
 
     def complaints(self):
-        """What the browser complained about, except for refusals by the server."""
+        """What the browser wrote to its console, of any level, except for refusals by the server."""
         lines = self.ask('POST', '/se/log', {'type': 'browser'})
-        return [line['message'] for line in lines if line['level'] == 'SEVERE' and not any(words in line['message'] for words in NOT_TOLD)]
+        return [line['message'] for line in lines if not any(words in line['message'] for words in NOT_TOLD)]
 
 
 FIND_BUTTON = 'return [...document.querySelectorAll("main button")].find((b) => b.getClientRects().length && b.innerText.trim().startsWith(arguments[0]))'

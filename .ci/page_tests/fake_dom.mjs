@@ -29,6 +29,7 @@ class FakeNode {
   append(...added) {
     for (const child of added) {
       const node = child instanceof FakeNode ? child : Object.assign(new FakeNode('#text'), { data: String(child) });
+      if (node.parentNode) node.parentNode.children = node.parentNode.children.filter((one) => one !== node); // it moves
       node.parentNode = this;
       this.children.push(node);
     }
@@ -36,9 +37,12 @@ class FakeNode {
   appendChild(child) { this.append(child); return child; }
   prepend(child) { this.children.unshift(child); }
   after(child) { this.parentNode.append(child); }
+  before(child) { this.parentNode.prepend(child); child.parentNode = this.parentNode; }
+  get isConnected() { return this.parentNode ? this.parentNode.isConnected : this.isRoot; }
   replaceChildren() { this.children = []; }
   contains() { return false; }
   focus() {}
+  blur() {}
   select() {}
   dispatchEvent() { return true; }
   click() { this.listeners.click?.({ currentTarget: this, target: this, preventDefault() {} }); }
@@ -77,7 +81,7 @@ export function install() {
   head.append(Object.assign(new FakeNode('link'), {}));
   const store = new Map();
   globalThis.document = {
-    createElement: (tag) => new FakeNode(tag), getElementById: (id) => root.all().find((node) => node.id === id) ?? null,
+    createElement: (tag) => new FakeNode(tag), createElementNS: (_, tag) => new FakeNode(tag), getElementById: (id) => root.all().find((node) => node.id === id) ?? null,
     querySelector: () => head.children[0], addEventListener() {}, documentElement: {}, head, title: '', activeElement: null, hidden: false,
   };
   globalThis.localStorage = storage(store);

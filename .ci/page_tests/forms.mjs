@@ -79,7 +79,9 @@ same('where a browser keeps nothing, the page does', kept.kept('creation'), { bo
 globalThis.localStorage = storage(store);
 
 // An old bid in round numbers, and which one is offered.
-const { earlierBid, rounded } = await import(`${JS}/old_bid.js`);
+const { earlierBid, offerOld } = await import(`${JS}/old_bid.js`);
+const { roundedTo } = await import(`${JS}/rounding.js`);
+const rounded = (points) => roundedTo(points, 50);
 same('rounded down, and steps to the greatest remainders', [rounded([333, 333, 334]), rounded([1000, 0, 0]), rounded([975, 25, 0]), rounded([25, 25, 950]), rounded([49, 1, 950]), rounded([130, 130, 130, 130, 120, 120, 120, 120])],
   [[350, 300, 350], [1000, 0, 0], [1000, 0, 0], [50, 0, 950], [50, 0, 950], [150, 150, 150, 150, 100, 100, 100, 100]]);
 let draw = 7;
@@ -96,6 +98,17 @@ for (let i = 0; i < 500; i++) {
 seeBid(link, round, { turn: 1, values: [500, 300, 200] });
 same('the old bid of the same people and items', [earlierBid({ ...round, id: 9 }), earlierBid({ ...round, id: 7 }), earlierBid({ ...round, id: 9, you: 2 }), earlierBid({ ...round, id: 9, goods: ['Desk', 'Lamp'] }), earlierBid({ ...round, id: 9, members: ['Ann', 'Cy'] })], [[500, 300, 200], null, null, null, null]);
 
+// The same points again are not offered where they are round numbers already: the round would end in the same way.
+const offered = async (values) => {
+  seeBid(link, round, { turn: 1, values });
+  const place = { earlier: document.createElement('div'), later: document.createElement('div') };
+  await (await import(`${JS}/language.js`)).learn('en');
+  offerOld(place, { ...round, id: 9 }, () => {});
+  return [place.earlier.textContent.includes('Put in my numbers'), place.later.textContent];
+};
+same('numbers that can be rounded are offered', await offered([510, 290, 200]), [true, '']);
+same('round ones are not', await offered([500, 300, 200]), [false, '']);
+
 // A proposal, and places along one road.
 const { weighed } = await import(`${JS}/proposal.js`);
 same('a proposal with envy', weighed([[700, 200, 100], [800, 150, 50]], [0, 1, 1]), { own: [700, 200], envies: [{ person: 1, other: 0, by: 600, isOne: true }] });
@@ -105,15 +118,17 @@ const { alongRoad } = await import(`${JS}/ways.js`);
 same('along one road', alongRoad([700, 1200, 950, NaN]), [[0, 500, 250, ''], [500, 0, 250, ''], [250, 250, 0, ''], ['', '', '', '']]);
 
 // What is wrong in the form of a division is told once it is sent, and is judged anew after each change.
-const { learn } = await import(`${JS}/language.js`);
+const { learn, learnMore } = await import(`${JS}/language.js`);
 const { DivideForm } = await import(`${JS}/divide_form.js`);
 await learn('en');
+await learnMore();
 const change = (form, id, value) => {
   const target = document.getElementById(id);
   target.value = value;
   for (const node of [target, form]) node.listeners.input?.({ target }); // it bubbles
 };
-const told = () => root.querySelectorAll('.fault,.box').filter((node) => node.textContent).map((node) => node.textContent);
+const told = () => root.querySelectorAll('.fault').filter((node) => node.textContent).map((node) => node.textContent);
+const summary = () => root.querySelector('#summary').querySelectorAll('h2,li').map((node) => node.textContent);
 /** A form on the page, and the cases that it gave. */
 function formOf(kind, start) {
   const cases = [];
@@ -125,37 +140,47 @@ function formOf(kind, start) {
 const [NAME, RENT, LEFT] = ['Enter a name.', 'Enter an amount from £0.01 to £100,000.00.', (n) => (n === 1 ? '1 field needs your attention' : `${n} fields need your attention`)];
 const rentForm = formOf('rent', {});
 change(rentForm.form, 'title', '');
-same('nothing is told before a form is sent', told(), []);
+same('nothing is told before a form is sent', [told(), summary()], [[], []]);
 rentForm.send();
-same('all that is wrong', told(), ['Enter a title.', NAME, NAME, NAME, NAME, RENT, LEFT(6)]);
+same('all that is wrong', [told(), summary()[0], summary().length], [['Enter a title.', NAME, NAME, NAME, NAME, RENT], LEFT(6), 7]);
 change(rentForm.form, 'title', 'Flat');
-same('a title that was entered', [told(), document.getElementById('title').getAttribute('aria-invalid')], [[NAME, NAME, NAME, NAME, RENT, LEFT(5)], null]);
+same('a title that was entered', [told(), summary()[0], document.getElementById('title').getAttribute('aria-invalid')], [[NAME, NAME, NAME, NAME, RENT], LEFT(5), null]);
 for (const [id, value] of [['members-0', 'Ann'], ['members-1', 'Ben'], ['things-0', 'Attic'], ['rent', '1450.50']]) change(rentForm.form, id, value);
-same('what is left', told(), [NAME, LEFT(1)]);
+same('what is left', [told(), summary()], [[NAME], [LEFT(1), 'Room 2: Enter a name.']]);
 change(rentForm.form, 'title', 'x'.repeat(41));
-same('what is wrong since', told(), ['This is too long by 1 letter.', NAME, LEFT(2)]);
+same('what is wrong since', [told(), summary()[0]], [['This is too long by 1 letter.', NAME], LEFT(2)]);
 change(rentForm.form, 'title', 'Flat');
 change(rentForm.form, 'things-1', 'Cellar');
-same('nothing is left', [told(), rentForm.cases.length], [[], 0]);
+same('nothing is left', [told(), summary(), rentForm.cases.length], [[], [], 0]);
 change(rentForm.form, 'currency', 'E');
-same('a currency', told(), ['Enter the three letters of a currency, such as EUR, or nothing.', LEFT(1)]);
+same('a currency', [told(), summary()[0]], [['Enter the three letters of a currency, such as EUR, or nothing.'], LEFT(1)]);
 change(rentForm.form, 'currency', 'EUR');
 rentForm.send();
 same('the case', rentForm.cases, [{ kind: 'rent', title: 'Flat', members: ['Ann', 'Ben'], rooms: ['Attic', 'Cellar'], rent: 145_050 }]);
 const roomy = formOf('rent', { title: 'Flat', people: ['Ann', 'Ben', ''], things: ['Attic', 'Cellar', 'Loft'], amount: '9' });
 roomy.send();
-same('more rooms than people', [told(), roomy.cases], [['There are 3 rooms for 2 people: add a name above, or clear this room.', LEFT(1)], []]);
+same('more rooms than people', [told(), summary()[0], roomy.cases], [['There are 3 rooms for 2 people: add a name above, or clear this room.'], LEFT(1), []]);
 root.querySelectorAll('button').find((one) => one.getAttribute('aria-label') === 'Remove Housemate 3').click();
 same('a row that was removed', told(), []);
 const rideForm = formOf('fares', { title: 'Ride', people: ['Ann', 'Ben'], things: ['Station', 'Airport'], amount: '3' });
 rideForm.send();
 const TRIP = (to) => `From the start to ${to}: Enter an amount from £0.00 to £10,000.00.`;
-same('trips', told(), [TRIP('Station'), LEFT(4)]);
+same('trips', [told(), summary()[0]], [[TRIP('Station')], LEFT(4)]);
 change(rideForm.form, 'legs-0-0', '10');
-same('a trip that was entered', told(), [TRIP('Airport'), LEFT(3)]);
+same('a trip that was entered', [told(), summary()[0]], [[TRIP('Airport')], LEFT(3)]);
 change(rideForm.form, 'legs-0-1', '20');
 root.querySelector('.tick').querySelector('input').listeners.change({ target: { checked: true } });
 same('the others follow along one road', told(), []);
+const chipForm = formOf('goods', { title: 'Estate', people: ['Ann', 'Ben'], things: ['Desk', 'Lamp'], hasChips: true });
+chipForm.send();
+same('items need no currency', chipForm.cases.length, 1);
+
+// Ten chips of a hundred points each, as the fields hold them and as they are sent.
+const { ValueFields } = await import(`${JS}/value_fields.js`);
+const chipped = new ValueFields(round, { values: [700, 300, 0] }, { alive: () => true, calm() {}, message: root, hasChips: true });
+same('chips', [chipped.raw, chipped.said().values, chipped.restText([7, 2, 0], -1)], [['7', '3', '0'], [700, 300, 0], '1 of 10 chips left']);
+const odd = new ValueFields(round, { values: [750, 250, 0] }, { alive: () => true, calm() {}, message: root, hasChips: true });
+same('points that are no whole chips stay points', [odd.raw, odd.said().values], [['750', '250', '0'], [750, 250, 0]]);
 const { PlaceField } = await import(`${JS}/place_field.js`);
 const field = new PlaceField({ places: ['Station', 'Airport'], flag: 300, legs: [[1000, 2000]] }, {});
 root.replaceChildren();

@@ -5,7 +5,7 @@ import shutil
 import subprocess
 import time
 
-from tally import TALLY, api, check, get_text, program, same, soon, tag
+from tally import TALLY, api, check, same, soon, tag
 
 KEPT = 'return Object.keys(localStorage).concat(Object.keys(sessionStorage)).filter((key) => !/language|borrowed/.test(key))'
 ITEMS = [f'Thing {i}' for i in range(8)]
@@ -40,41 +40,60 @@ def remembered(rig, olive, ann, ben):
     urls = links(olive)
     same('the title of the organiser', olive.run('return document.title'), 'Kept flat: organiser – Fair split')
     olive.run('history.back()')
-    olive.has('Your rounds in this browser')
+    olive.has('On this device')
     check('the page says that the key is in it', 'holds its link, and so its key' in olive.text())
     look(olive, 'rounds that are kept', look_at, shots)
     olive.run('history.forward()')
-    olive.has('Now send each person')
+    olive.has('Send each person their link')
     olive.open(rig.url)
     olive.click('.kept a[href="#' + urls['link-0'].split('#')[1] + '"]')
-    olive.has('Now send each person')
+    olive.has('Send each person their link')
     same('the list leads to the organiser’s page', olive.url(), urls['link-0'])
     ann.open(urls['link-1'])
     same('the title of a member', ann.until(lambda: 'Ann' in ann.run('return document.title') and ann.run('return document.title')), 'Kept flat: Ann – Fair split')
     typed(ann, ['5', '4'])
     ann.one('.remember input')
-    ann.press('Send my bid')
-    ann.has('Your bid is saved', '#message')
+    ann.press('Send')
+    ann.has('Your answer is saved', '#message')
     ann.open(rig.url)
     ann.has('You are Ann', '.kept')
     rounds = lambda p: [key for key in p.run(KEPT) if 'round.' in key]
     before, listed = rounds(ann), len(ann.all('.kept li'))
-    ann.click('.kept li:has(a[href="#' + urls['link-1'].split('#')[1] + '"]) button')
-    same('a round is forgotten', [len(ann.all('.kept li')), len(rounds(ann))], [listed - 1, len(before) - 1])
+    own = '.kept li:has(a[href="#' + urls['link-1'].split('#')[1] + '"])'
+    forget(ann, own, False)
+    same('who thinks better of it forgets nothing', [len(ann.all('.kept li')), len(rounds(ann))], [listed, len(before)])
+    forget(ann, own, True)
+    same('one is forgotten', [len(ann.all('.kept li')), len(rounds(ann))], [listed - 1, len(before) - 1])
     check('it is that one', not [key for key in rounds(ann) if key.endswith(urls['link-1'].split('.')[-2][:12])], str(rounds(ann)))
+    ann.press('Undo')
+    same('and can be put back', [len(ann.all('.kept li')), sorted(rounds(ann))], [listed, sorted(before)])
+    forget(ann, own, True)
     # unticked
     ben.open(urls['link-2'])
     typed(ben, ['5', '4'])
     before = rounds(ben)
     ben.click('.remember label')
-    ben.press('Send my bid')
-    ben.has('Your bid is saved', '#message')
+    ben.press('Send')
+    ben.has('Your answer is saved', '#message')
     same('no round is kept where the tick was taken out', sorted(rounds(ben)), sorted(before))
     # somebody else's device
     olive.open(rig.url + '#new-goods')
     olive.put('#title', 'Typed')
     check('much is kept', len(olive.run(KEPT)) >= 3, str(olive.run(KEPT)))
+    had = sorted(olive.run(KEPT))
     olive.click('#device button')
+    check('it is said what goes', 'its key' in olive.ask('GET', '/alert/text') or 'their keys' in olive.ask('GET', '/alert/text'))
+    olive.ask('POST', '/alert/dismiss')
+    same('who thinks better of it keeps all', sorted(olive.run(KEPT)), had)
+    olive.click('#device button')
+    olive.accept()
+    olive.until(lambda: 'isn’t your device' in olive.text('#device'))
+    same('nothing is kept', olive.run(KEPT), [])
+    olive.run('document.querySelector("#device button").click()')
+    olive.until(lambda: 'my device' in olive.text('#device'))
+    same('all of it can be put back', sorted(olive.run(KEPT)), had)
+    olive.click('#device button')
+    olive.accept()
     olive.until(lambda: 'isn’t your device' in olive.text('#device'))
     same('nothing is kept any more', olive.run(KEPT), [])
     same('the form keeps what stands in it', olive.values('#title', 'value'), ['Typed'])
@@ -85,8 +104,15 @@ def remembered(rig, olive, ann, ben):
     olive.open(urls['link-2'])
     olive.one('.remember input')
     same('nor what is bid', [olive.run('return document.querySelector(".remember input").checked'), olive.run(KEPT)], [False, []])
-    olive.click('#device button')
+    olive.run('[...document.querySelectorAll("#device button")].at(-1).click()')
     olive.until(lambda: not olive.run('return document.querySelector(".remember input").disabled'))
+
+
+def forget(p, line, is_sure):
+    """Forgets a round of the list, or thinks better of it."""
+    p.run('document.querySelector(arguments[0]).open = true', line + ' .menu')
+    p.click(line + ' .menu button')
+    p.ask('POST', '/alert/accept' if is_sure else '/alert/dismiss')
 
 
 def drafts(rig, olive, ann, ben):
@@ -119,10 +145,10 @@ def drafts(rig, olive, ann, ben):
     typed(ann, ['1000', '400'])
     ann.reload()
     ann.has('is here again', '#message')
-    same('a bid after a reload', ann.values('.amount input', 'value'), ['1000', '400'])
+    same('a bid after a reload', ann.values('.values input.number', 'value'), ['1000', '400'])
     ann.put('#value-1', '450')
-    ann.press('Send my bid')
-    ann.has('Your bid is saved', '#message')
+    ann.press('Send')
+    ann.has('Your answer is saved', '#message')
     check('the draft is gone', not [key for key in ann.run(KEPT) if 'draft' in key], str(ann.run(KEPT)))
     check('nobody is asked after a bid', not ann.run(asks))
     check('when the result is there is told', re.search(r'The result appears here after \w+day.* at \d\d:\d\d: keep this link', ann.text('#stands')), ann.text('#stands'))
@@ -150,10 +176,10 @@ def unanswered(rig, olive, ann, ben):
     ann.press('Try again')
     typed(ann, ['500', '400'])
     rig.lossy.refuse = 3
-    ann.press('Send my bid')
+    ann.press('Send')
     ann.has('What you sent may have been saved: sending the same again is safe', '#message')
     ann.press('Send the same again')
-    ann.has('Your bid is saved', '#message')
+    ann.has('Your answer is saved', '#message')
     rig.lossy.slow = 8
     ann.reload()
     ann.has('hasn’t answered yet', seconds=8)
@@ -195,7 +221,8 @@ def unanswered(rig, olive, ann, ben):
 
 
 def passed_limit(rig, olive, ann, ben):
-    """If the step limit was passed: a proposal, a new round with one tap, and in it the old bid in round numbers."""
+    """If the step limit was passed: a division all the same, not proved to be the best; a new round with one tap, and in it the old points in round
+    numbers; and where these end in the same way, nothing is promised again."""
     from rounds import links, look_at, shots
     # chosen so that rounding has equal remainders
     bids = [[130, 130, 130, 130, 120, 120, 120, 120], [175, 175, 175, 175, 75, 75, 75, 75]]
@@ -205,80 +232,107 @@ def passed_limit(rig, olive, ann, ben):
     ann.open(keys[0])
     ann.one('#value-0')
     typed(ann, map(str, bids[0]))
-    ann.press('Send my bid')
-    ann.has('Your bid is saved', '#message')
+    ann.press('Send')
+    ann.has('Your answer is saved', '#message')
     api(rig, f'instances/{made["id"]}/bids', made['keys'][1], {'turn': 1, 'values': bids[1]})
     api(rig, f'instances/{made["id"]}/close', made['organiser'], {})
     ann.reload()
     ann.has('takes more than 40 steps', seconds=60)
-    check('a member is told who makes the new round', 'Ask the person who created this round' in ann.text() and not ann.enabled('Make the same'), ann.text())
-    proposal(rig, ann, made, bids)
+    check('a member is told who can make it again', 'The person who created this can make it again' in ann.text() and not ann.enabled('Make the same'), ann.text())
+    same('a member knows only their own points', [ann.values('#points-0-0', 'value'), ann.values('#points-1-0', 'value')], [['130'], ['']])
+    ann.click('#languages button')
+    ann.one('dialog.help[open]')
+    same('its help is about this', ann.text('#help-title'), 'When there is no result')
+    ann.click('dialog.help button')
+    check('nothing is wrong before somebody typed', not ann.text('#proposal-fault'), ann.text('#proposal-fault'))
     olive.open(f'{rig.url}#{made["id"]}.{made["organiser"]}..{creation["tag"]}')
-    olive.has('One tap makes a round')
+    olive.has('The best division found', seconds=60)
+    same('for a couple the one with a split item comes first', olive.run('return document.querySelector("main details, main .card").id'), 'winner')
+    proposal(olive, bids)
     shots(olive, '8-no-answer-organiser')
-    olive.press('Make the same round again now')
-    olive.has('Now send each person their link', seconds=30)
+    check('nothing is promised', 'far more likely' not in olive.text() and 'though not always' in olive.text(), olive.text())
+    olive.press('Make the same again now')
+    olive.has('Send each person their link', seconds=30)
     urls = links(olive)
     check('it is another round', f'#{made["id"]}.' not in urls['link-0'])
+    again(ann, ben, urls, keys)
+    in_circles(rig, olive)
+
+
+def again(ann, ben, urls, keys):
+    """The old points in round numbers, known to the browser or by the old link."""
+    from rounds import look_at, shots
     ann.open(urls['link-1'])
-    ann.press('Bid again with my numbers rounded')
+    ann.press('Put in my numbers')
     ann.has('not sent yet')
     rounded = ['150', '150', '150', '150', '100', '100', '100', '100']
-    same('rounded, the greatest remainders first', ann.values('.amount input', 'value'), rounded)
+    same('rounded, the greatest remainders first', ann.values('.values input.number', 'value'), rounded)
     check('then and now are shown', 'not sent yet' in ann.text() and '130' in ann.text('table') and '150' in ann.text('table'))
     look(ann, 'a bid in round numbers', look_at, shots)
-    same('nothing is sent by itself', api(rig, 'instances/' + urls['link-1'].split('#')[1].split('.')[0] + '/bid', urls['link-1'].split('.')[-1])['turn'], 0)
-    ann.press('Send my bid')
-    ann.has('Your bid is saved', '#message')
+    same('nothing is sent by itself', ann.values('#stands', 'data-turn'), ['0'])
+    ann.press('Send')
+    ann.has('Your answer is saved', '#message')
     ben.open(urls['link-2'])
-    ben.click('#stands ~ div summary')
+    ben.one('#old-link')
+    ben.run('document.getElementById("old-link").closest("details").open = true')
     ben.put('#old-link', 'nothing')
-    ben.press('Bid again with my numbers rounded')
+    ben.press('Put in my numbers')
     ben.has('Part of the link is missing')
     ben.put('#old-link', keys[1])
-    ben.press('Bid again with my numbers rounded')
+    ben.press('Put in my numbers')
     ben.has('not sent yet')
-    same('ties go to the first', ben.values('.amount input', 'value'), ['200', '200', '200', '200', '50', '50', '50', '50'])
-    ben.press('Send my bid')
-    ben.has('Your bid is saved', '#message')
+    same('ties go to the first', ben.values('.values input.number', 'value'), ['200', '200', '200', '200', '50', '50', '50', '50'])
+    ben.press('Send')
+    ben.has('Your answer is saved', '#message')
 
 
-def proposal(rig, ann, made, bids):
-    """A proposal is typed, looked at, and saved as the file that weigh reads."""
-    import json
-    from rounds import holds, look_at, shots
-    same('one’s own points stand there', ann.values('#points-0-0', 'value'), ['130'])
-    check('it cannot be saved yet', not ann.enabled('Save the file') and 'points of Ben must be' in ann.text('#proposal-fault'), ann.text('#proposal-fault'))
-    for g, points in enumerate(bids[1]):
-        ann.put(f'#points-1-{g}', str(points))
+def in_circles(rig, olive):
+    """Round numbers that pass the limit: the same ones are not offered again."""
+    creation = {'kind': 'goods', 'title': 'Round', 'members': ['Ann', 'Ben', 'Cy'], 'goods': ITEMS, 'limit': 40, 'deadline': soon(86400), 'tag': tag()}
+    made = api(rig, 'instances', body=creation)
+    for key in made['keys']:
+        api(rig, f'instances/{made["id"]}/bids', key, {'turn': 1, 'values': [150, 150, 150, 150, 100, 100, 100, 100]})
+    api(rig, f'instances/{made["id"]}/close', made['organiser'], {})
+    olive.open(f'{rig.url}#{made["id"]}.{made["organiser"]}..{creation["tag"]}')
+    olive.has('The best division found', seconds=60)
+    check('round numbers are not offered again', 'would end in the same way' in olive.text() and not olive.enabled('Make the same'), olive.text())
+
+
+def proposal(p, bids):
+    """The organiser's proposal starts from everyone's points and a good division, is looked at, changed, and kept as a draft."""
+    from rounds import look_at, shots
+    same('everyone’s points stand there', [[int(p.values(f'#points-{at}-{g}', 'value')[0]) for g in range(8)] for at in (0, 1)], bids)
+    check('and a division that is not said to be proved', 'isn’t proved to be the best' in p.text() and len(p.all('#found li')) >= 2, p.text())
     owners = [0, 0, 0, 0, 0, 0, 1, 1]
-    ann.run('arguments[0].forEach((at, g) => { document.getElementById(`owner-${g}`).selectedIndex = at; }); document.getElementById("owner-0").dispatchEvent(new Event("input", {bubbles: true}))', owners)
-    text = ann.text('#found')
+    p.run('arguments[0].forEach((at, g) => { document.getElementById(`owner-${g}`).selectedIndex = at; }); document.getElementById("owner-0").dispatchEvent(new Event("input", {bubbles: true}))', owners)
+    text = p.text('#found')
     for words in ('Ann gets 760 points', 'Ben gets 150 points', 'Ben would rather have what Ann has, by 700 points, whichever item', 'None of it is proved'):
         check(f'{words!r} is told', words in text, text)
-    look(ann, 'a proposal', look_at, shots)
-    ann.press('Save the file')
-    path = f'{ann.profile}/files/round-{made["id"]}-proposal.json'
-    ann.until(lambda: holds(path), 15, 'no proposal')
-    with open(path, encoding='utf-8') as file:
-        saved = json.load(file)
-    same('the points and owners in the file', [saved['bids'], saved['owners']], [bids, [1, 1, 1, 1, 1, 1, 2, 2]])
-    audit = program('weigh', json.dumps({**saved, 'limit': 200000}))
-    check('weigh takes it, and says the same', all(line in audit for line in ('1 Ann: goods 1 2 3 4 5 6, points 760', '2 Ben: goods 7 8, points 150', 'envy 1 2: content', 'envy 2 1: fails')), audit)
+    look(p, 'a proposal', look_at, shots)
+    p.reload()
+    p.has('The best division found', seconds=60)
+    same('after a reload it is there', [int(value) for value in p.values('[id^=owner-]', 'value')], owners)
+    p.put('#points-0-0', '131')
+    check('what is wrong is told', 'points of Ann must be' in p.text('#proposal-fault'), p.text('#proposal-fault'))
 
 
 def handed_on(rig, olive, ann, ben):
-    """The links: this is me, open, share, a code to scan; and who hasn't bid yet."""
+    """The links: this is me and the way back, a message, a letter, a code to scan; and who hasn't answered yet."""
     from rounds import links, look_at, shots, wake
     made, organiser, keys = rent_round(rig)
     olive.open(organiser)
     urls = links(olive)
     same('the links of the members', [urls['link-1'], urls['link-2']], keys)
-    same('who is missing', olive.texts('.status'), ['hasn’t bid yet'] * 2)
+    same('nobody was sent theirs', olive.texts('.links .status'), ['not sent yet'] * 2)
+    same('one button is the next step', len(olive.all('main .main')), 1)
+    check('no link is seen', not olive.run('return [...document.querySelectorAll(".links input")].some((e) => e.checkVisibility())'))
+    olive.click('.links .do > button')
+    olive.until(lambda: olive.texts('.links .status')[0] != 'not sent yet', 10, 'that it was sent is not told')
     letter = olive.values('.links a[href^="mailto:"]', 'href')[0]
     import urllib.parse
     body = urllib.parse.unquote(letter)
     check('a letter says what it is, until when, and has the link', all(words in body for words in ('Ann, what is each room worth to you?', 'until ', keys[0])), body)
+    olive.click('.links li:nth-child(2) .menu summary')
     olive.click('.links li:nth-child(2) button[aria-expanded]')
     olive.one('.qr')
     if shutil.which('zbarimg'):
@@ -289,21 +343,25 @@ def handed_on(rig, olive, ann, ben):
             read = subprocess.run(['zbarimg', '-q', '--raw', path], capture_output=True, text=True, check=False).stdout.strip()
             same(f'the code is read from the {"dark" if dark else "light"} screen', read, keys[1])
         olive.look(False)
+    olive.until(lambda: 'Copied' not in olive.text('.links'), 10, 'Copied stays')
     look(olive, 'the links with a code', look_at, shots)
-    olive.click('.me')
-    olive.has('You are Ann.', '.who')
-    olive.has('the person who created the round has all links and could open yours')
+    olive.run('document.querySelector(".links li .menu").open = true')
+    olive.click('.links li .me')
+    olive.has('Ann, what is each room worth to you?', 'h1')
+    check('who could look is told', 'the person who created this has all links and could open yours' in olive.run('return document.querySelector("main").textContent'))
     typed(olive, ['500', '400'])
-    olive.press('Send my bid')
-    olive.has('Your bid is saved', '#message')
-    olive.run('history.back()')
-    olive.has('1 of 2 has bid', seconds=60)
-    same('Back leads to the organiser’s page', olive.url(), organiser)
-    olive.one('.status')
-    same('who has bid is told beside the links', olive.texts('.status'), ['has bid', 'hasn’t bid yet'])
+    olive.press('Send')
+    olive.has('Your answer is saved', '#message')
+    olive.run('[...document.querySelectorAll("main a")].find((a) => a.innerText.startsWith("Back to the organiser")).click()')
+    olive.has('1 of 2 has answered', seconds=60)
+    same('the way back leads to the organiser’s page', olive.url(), organiser)
+    olive.one('.links .status')
+    same('whoever is missing stands first', [text.split('\n')[0] for text in olive.texts('.links .name')], ['Ben', 'Ann'])
+    check('what happens without them is told before the end', 'Not yet: Ben. Without an answer from everyone there is no result.' in olive.text('.people'), olive.text('.people'))
     api(rig, f'instances/{made["id"]}/bids', made['keys'][1], {'turn': 1, 'values': [40000, 50000]})
     wake(olive)
-    olive.until(lambda: olive.texts('.status') == ['has bid'] * 2, 20, 'the links do not hear of a bid')
+    olive.until(lambda: olive.texts('.links .status') == ['has answered'] * 2, 20, 'the links do not hear of a bid')
+    same('then the result is the next step', olive.texts('main .main'), ['Show the result'])
 
 
 def typing(rig, olive, ann, ben):
@@ -380,12 +438,12 @@ def swiss(rig):
         urs.open(urls['link-1'])
         urs.put('#value-0', '1,000')
         urs.has('Welchen Betrag meinst du?')
-        urs.press('Gebot senden')
+        urs.press('Senden')
         check('nor is a bid sent', 'gespeichert' not in urs.text('#message'))
         urs.press('CHF\u00a01')
         urs.put('#value-1', "CHF 450")
-        urs.press('Gebot senden')
-        urs.has('Dein Gebot ist gespeichert', '#message')
+        urs.press('Senden')
+        urs.has('Deine Antwort ist gespeichert', '#message')
         same('the bid', api(rig, 'instances/' + urls['link-1'].split('#')[1].split('.')[0] + '/bid', urls['link-1'].split('.')[-2])['values'], [100000, 45000])
         same('complaints of the browser of the Swiss', urs.complaints(), [])
     finally:
@@ -410,7 +468,7 @@ def in_sight(rig, olive, ann, ben):
         import base64
         with open(os.path.join(TALLY.shots, 'bar-phone.png'), 'wb') as file:
             file.write(base64.b64decode(data))
-    ann.press('Change my bid')
+    ann.press('Send the change')
     ann.has('5 more times', '#stands')
     many = {'kind': 'goods', 'title': 'Long', 'members': ['Ann', 'Ben'], 'goods': [f'A long name of a thing, number {i}' for i in range(24)], 'deadline': soon(86400), 'tag': tag()}
     made = api(rig, 'instances', body=many)
@@ -420,6 +478,10 @@ def in_sight(rig, olive, ann, ben):
     wide = ann.run('return document.documentElement.scrollWidth')
     check(f'text of twice the size fits: a long bid is {wide} wide', wide <= 391)
     shots_of_large(ann)
+    ann.run('document.documentElement.style.fontSize = ""')
+    ann.size(320, 256)  # as 400 % of a usual screen: the bar doesn't cover what there is
+    same('on a low screen the bar doesn’t stay', ann.run('return getComputedStyle(document.querySelector(".bar")).position'), 'static')
+    ann.size(*ann.home)
 
 
 def shots_of_large(p):

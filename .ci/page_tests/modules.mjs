@@ -33,12 +33,12 @@ const EVERYWHERE = [['1450', 145000], ['1450.5', 145050], ['1450,5', 145050], ['
   ['1450 EUR', 145000], ['1450 zł', 145000], ['1450,-', 145000], ['1450.–', 145000], ['1450.', 145000], ['0', 0], ['0,05', 5], ['1,234,567', 123456700], ['1.234.567,8', 123456780], ['1,00,000.00', 10000000], [' 7 ', 700], ['12345678.90', 1234567890],
   ...['', '-1', '−1', '1e3', '1234567890', '.5', 'abc', '1.2.3', '1,2,3', '1.23,456', '1.234,567', '1,23.4', '12 34', "1'45", '1450,555', '1.4505', 'ten', '1..2', '1,450.5.0', "1'450.500", '0x10', '٣'].map((typed) => [typed, null])];
 const BY_HABIT = {
-  'en-US': [['1,450', guess(145000)], ['1.450', guess(145)], ['1.455', null], ['€1,450', guess(145000)], ['0.450', guess(45)], ['0,450', null]],
-  'en-GB': [['1,450', guess(145000)], ['1.450', guess(145)]],
-  'de-DE': [['1.450', guess(145000)], ['1,450', guess(145)], ['1.450 €', guess(145000)], ['1,455', null]],
-  'de-CH': [['1,450', either(145000, 145)], ['1.450', guess(145)], ['1,234', either(123400, 123)]],
-  'fr-FR': [['1.450', either(145000, 145)], ['1,450', guess(145)]],
-  'pl-PL': [['1.450', either(145000, 145)], ['1,450', guess(145)], ['1.234 zł', either(123400, 123)]],
+  'en-US': [['1,450', guess(145000)], ['1.450', either(145000, 145)], ['1.455', null], ['€1,450', guess(145000)], ['0.450', guess(45)], ['0,450', null]],
+  'en-GB': [['1,450', guess(145000)], ['1.450', either(145000, 145)]],
+  'de-DE': [['1.450', guess(145000)], ['1,450', either(145000, 145)], ['1.450 €', guess(145000)], ['1,455', null]],
+  'de-CH': [['1,450', either(145000, 145)], ['1.450', either(145000, 145)], ['1,234', either(123400, 123)]],
+  'fr-FR': [['1.450', either(145000, 145)], ['1,450', either(145000, 145)]],
+  'pl-PL': [['1.450', either(145000, 145)], ['1,450', either(145000, 145)], ['1.234 zł', either(123400, 123)]],
 };
 for (const [locale, rows] of Object.entries(BY_HABIT)) {
   money.setCurrency('EUR', locale);
@@ -80,14 +80,48 @@ for (const [shares, whole] of [[[1, 1, 1], 100], [[0, 0], 7], [[800, 450, 300], 
   const out = rules.scale(shares, whole);
   same(`scaled ${shares}`, [out.reduce((a, b) => a + b, 0), out.every((v) => Number.isInteger(v) && v >= 0)], [whole, true]);
 }
-const { ANSWERED, odds } = await import(`${JS}/odds.js`);
+// How often an estate had an answer: what is told was measured, of the size that is named with it.
+const { ANSWERED, oddsFor } = await import(`${JS}/odds.js`);
 const cell = (table, people, goods) => ANSWERED[table][ANSWERED.people.indexOf(people)][ANSWERED.goods.indexOf(goods)];
-same('odds in the table', [odds(2, 8).any, odds(3, 24).stepped], [cell('any', 2, 8), cell('stepped', 3, 24)]);
-same('odds between', [odds(5, 15).any, odds(7, 14).stepped, odds(2, 1).any], [Math.min(cell('any', 5, 14), cell('any', 5, 16)), Math.min(cell('stepped', 6, 14), cell('stepped', 8, 14)), cell('any', 2, 4)]);
+same('odds in the table', [oddsFor(2, 8).any, oddsFor(3, 16).stepped], [cell('any', 2, 8), cell('stepped', 3, 16)]);
+same('between two sizes it is the larger one', [oddsFor(5, 15), oddsFor(7, 11)].map(({ people, things }) => [people, things]), [[5, 16], [8, 12]]);
+same('nine people and nine items are no hard size', oddsFor(9, 9), { people: 10, things: 10, any: 18, stepped: 14, of: 20 });
+same('what was not tried is not told', [oddsFor(4, 24), oddsFor(6, 20)].map(({ things }) => things), [20, 16]);
 for (let people = 2; people <= 12; people++) for (let goods = 1; goods <= 24; goods++) {
-  const { any, stepped, of } = odds(people, goods);
-  same(`odds of ${people} and ${goods}`, [any >= 0 && any <= of, stepped >= 0 && stepped <= of], [true, true]);
+  const told = oddsFor(people, goods);
+  same(`odds of ${people} and ${goods}`, [told.any, told.stepped], [cell('any', told.people, told.things), cell('stepped', told.people, told.things)]);
 }
+
+// Sliders, and what is shared out.
+const { sharedOut, sliderOf } = await import(`${JS}/value_fields.js`);
+same('a slider goes as far as five average shares', [sliderOf(false, 1000, 18), sliderOf(false, 1000, 3), sliderOf(false, 10, 18), sliderOf(true, 145_050, 3).most], [{ step: 10, most: 280 }, { step: 10, most: 1000 }, { step: 1, most: 10 }, 146_000]);
+same('of a rent the rest goes to the empty lines', [sharedOut([700, 0, 0], 1000, true), sharedOut([500, 300, 0], 1001, true)], [[700, 150, 150], [500, 300, 201]]);
+same('else all numbers are scaled', [sharedOut([700, 700], 1000, true), sharedOut([200, 300, 0], 1000, false), sharedOut([0, 0], 10, false), sharedOut([333, 333, 333], 1000, false)], [[500, 500], [400, 600, 0], [5, 5], [334, 333, 333]]);
+
+// The best division that a plain search finds, where the server's found no end.
+const { bestFound } = await import(`${JS}/best_found.js`);
+const { weighed } = await import(`${JS}/proposal.js`);
+same('each gets what only they want', bestFound([[600, 400, 0], [0, 300, 700]]), [0, 0, 1]);
+same('everybody gets something', new Set(bestFound([[1000, 0, 0], [900, 60, 40], [900, 50, 50]])).size, 3);
+let drawn = 7;
+const next = (below) => { drawn = (drawn * 1_103_515_245 + 12_345) % 2_147_483_648; return Math.floor(drawn / 65_536) % below; };
+const estate = Array.from({ length: 4 }, () => rules.scale(Array.from({ length: 18 }, () => 1 + next(100)), 1000));
+same('of eighteen items nobody would rather swap once one is taken out', weighed(estate, bestFound(estate)).envies.every(({ isOne }) => isOne), true);
+
+// Letters of people, rooms of a flat in rows, tiles of a share, and what the meter said.
+globalThis.document = { documentElement: {} };
+Object.defineProperty(globalThis, 'navigator', { value: { languages: ['en-GB'] }, configurable: true });
+const { letters } = await import(`${JS}/draw.js`);
+same('letters', [letters(['Ann', 'Ben', 'Çağla']), letters(['Ann', 'Anna', 'Ben', 'Bo']), letters(['Room 1', 'Room 2'])], [['A', 'B', 'Ç'], ['A1', 'A2', 'BE', 'BO'], ['1', '2']]);
+const { rowsOf } = await import(`${JS}/picture_rent.js`);
+same('each room stands in one row', [1, 2, 3, 5, 7, 12].map((n) => rowsOf(Array.from({ length: n }, (_, i) => i + 1)).flat().sort((a, b) => a - b).length), [1, 2, 3, 5, 7, 12]);
+same('the dearest first', rowsOf([433, 733, 284]), [[1], [0, 2]]);
+const { stripsOf } = await import(`${JS}/picture_goods.js`);
+same('tiles in strips', stripsOf([[0, 50], [1, 150], [2, 60], [3, 140]]), [[[1, 150]], [[3, 140]], [[2, 60], [0, 50]]]);
+const { scaled } = await import(`${JS}/meter.js`);
+same('what the meter said is shared in proportion', [scaled([400n, 500n, 650n, 650n], 2200n, 2310n), scaled([1n, 1n, 1n], 3n, 100n)].map((all) => all.map(Number)), [[420, 525, 683, 682], [34, 33, 33]]);
+const { usualEnd, usualEnds } = await import(`${JS}/usual_end.js`);
+for (const kind of ['rent', 'goods', 'fares']) same(`the usual end of ${kind} is one that is offered`, usualEnds(kind, 1e12).some(([, ms]) => ms === usualEnd(kind, 1e12)), true);
 
 const { faults, nameFault, doubles } = await import(`${JS}/faults.js`);
 const now = Date.parse('2026-01-01T00:00:00Z');
@@ -169,7 +203,10 @@ same('the tries of a creation, with one for the links, stay below the 20 of the 
 same('however many are full', (await sends('0', { list: names, full: ['', ...names] }))[0].length, 16);
 globalThis.setTimeout = later;
 
-const { together } = await import(`${JS}/verdict.js`);
+const { linesOf, together: judgedBy } = await import(`${JS}/verdict.js`);
+const together = (text, known) => judgedBy(linesOf(text), known);
+const onceRead = linesOf('x');
+same('what cannot be read is null, and is read once', [onceRead(), onceRead()], [null, null]);
 const flatText = readFileSync(join(JS, '../../examples/flat-for-three.txt'), 'utf8');
 const second = (says) => ({ says, verdict: says.split(' ')[0].replace(':', ''), rules: [], facts: [] });
 for (const [proved, says, verdict, by] of [

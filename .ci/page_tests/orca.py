@@ -17,9 +17,8 @@ from tally import PROGRAM
 from webkit import Screen
 
 # In this order; other things may be said between them.
-SAID = ['What is each room worth to you?', 'Attic slider', 'Attic entry', '€900.00 of €900.00 still to spread.', '€400.00 of €900.00 still to spread.',
-        'Rest here: Attic push button', 'Back room slider', 'Back room entry', 'All €900.00 spread.', 'Scale to total push button',
-        'All to 0 push button', 'Send my bid push button', 'Your bid is saved.']
+SAID = ['Ann, what is each room worth to you?', 'Attic slider', 'Attic entry', '€900.00 of €900.00 left', '€400.00 of €900.00 left',
+        'Back room slider', 'Back room entry', 'All €900.00 spread', 'Send push button', 'Your answer is saved.']
 BID = {'value-0': '500', 'value-1': '400'}
 SILENT = 'CommunicationMethod "unix_socket"\nAddModule "dummy" "sd_dummy" ""\nDefaultModule dummy\n'
 SPOKEN = re.compile(r"SPEECH OUTPUT: '(.*)'\{")
@@ -78,7 +77,7 @@ def bid(p, reader):
         now = p.focused()
         if now['id'] in BID:
             press(list(BID[now['id']]))
-        if now['text'].startswith('Send my bid'):
+        if now['text'] == 'Send':
             press([KEYS['enter']])
             p.has('Your bid is saved.', '#message')
             reader.listen(len(reader.said()))

@@ -55,8 +55,8 @@ def compared(p, rig, count):
     p.open(rig.url)
     has_64 = p.run(HAS_64, WITH_64_BITS)
     for bits in ('64', '32') if has_64 else ('32',):
-        p.open(rig.url)  # one page makes the policy of its workers once
-        p.one('.kinds')
+        p.open(rig.url + '#new-rent')  # one page makes the policy of its workers once, and the form has no worker of its own
+        p.one('#title')
         p.run(ASK, cases, bits)
         answers = p.until(lambda: p.run('return window.answers'), 300, f'the modules with {bits} bits do not answer')
         check(f'the modules with {bits} bits run under the policy', 'fault' not in answers, answers)

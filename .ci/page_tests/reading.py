@@ -10,16 +10,15 @@ FLAT = {'kind': 'rent', 'title': 'Mill Road', 'members': ['Ann', 'Ben'], 'rooms'
 # Headings and controls of the bid, in the order in which a reader meets them: what they are called, by the driver's words for it.
 READ = 'main h1, main h2, main input, main button'
 BID = [
-    ('heading', 'Mill Road'), ('heading', '0 of 2 have bid'), ('heading', 'Your bid'), ('slider', 'Attic'), ('textbox', 'Attic'),
-    ('button', 'Rest here: Attic'), ('slider', 'Back room'), ('textbox', 'Back room'), ('button', 'Rest here: Back room'), ('button', 'Scale to total'),
-    ('button', 'All to 0'), ('button', 'Send my bid'), ('checkbox', 'Remember this round in this browser'),
+    ('heading', 'Ann, what is each room worth to you?'), ('slider', 'Attic'), ('textbox', 'Attic'), ('slider', 'Back room'), ('textbox', 'Back room'),
+    ('button', 'Share it out'), ('button', 'Send'), ('checkbox', 'Remember this in this browser'), ('heading', '0 of 2 have answered'),
 ]
 # How many clicks a rent for three takes at most; what is typed goes from field to field by Enter or Tab.
-MOST_CLICKS = {'organiser': 14, 'member': 3}
+MOST_CLICKS = {'organiser': 9, 'member': 3}
 # How many words there are to read on its way at most, in each language: what was measured, rounded up to the next ten.
-MOST_WORDS = {'organiser': {'en': 540, 'de': 500}, 'member': {'en': 730, 'de': 710}}
+MOST_WORDS = {'organiser': {'en': 410, 'de': 380}, 'member': {'en': 240, 'de': 240}}
 # The views of that way, each with something that stands in it.
-VIEWS = {'start': '.kinds', 'form': '#title', 'links': '.links input', 'bid': '#value-0', 'result': '#judges[data-by=both]'}
+VIEWS = {'start': '.kinds', 'form': '#title', 'links': '.links .person', 'bid': '#value-0', 'result': '#judges[data-by=both]'}
 WAYS = {'organiser': ('start', 'form', 'links'), 'member': ('bid', 'result')}
 # What is read of a view, without the hint that a table goes on to the right, which depends on the fonts of the machine.
 READABLE = '''const hints = [...document.querySelectorAll("main .more")].filter((e) => e.getClientRects().length);
@@ -36,11 +35,12 @@ for (const e of document.querySelectorAll(arguments[0])) {
   if (!(parseFloat(s.borderTopWidth) > 0) || s.borderTopStyle === "none" || s.borderTopColor === getComputedStyle(document.body).backgroundColor) found.push(e.outerHTML.slice(0, 80));
 }
 return found'''
-BARS = '''return [...document.querySelectorAll(".track span, .meter span")].filter((e) => e.getClientRects().length).map((e) => {
+BARS = '''return [...document.querySelectorAll(".plot .fill, .track .fill, .meter span")].filter((e) => e.getClientRects().length).map((e) => {
   const [own, under] = [e, e.parentElement].map((one) => getComputedStyle(one));
+  if (e.tagName === "rect") return own.fill !== "none" && own.stroke !== "none";
   return own.backgroundColor !== under.backgroundColor && own.backgroundColor !== "rgba(0, 0, 0, 0)" || parseFloat(own.borderTopWidth) > 0;
 })'''
-FRAMED = '.card, .box, .verdict, .standing, .meter, .kind, .place, button, select, input:not([type=range]):not([type=radio]):not([type=checkbox]):not([type=file])'
+FRAMED = '.card, .box, .hero, .standing, .meter, .kind, .place, button:not(.link, .add, .icon-only), select, input:not([type=range]):not([type=radio]):not([type=checkbox]):not([type=file])'
 
 
 def a_flat(rig):
@@ -63,20 +63,20 @@ def read_aloud(rig, olive, ann, ben):
     ann.one('.remember input')
     same('what is read of a bid', told(ann, READ), BID)
     same('the fields stand in a group', [role for role, _ in told(ann, 'main fieldset')], ['group'])
-    same('the field knows what is left', ann.run(DESCRIBED, '#value-0'), ['€900.00 of €900.00 still to spread.'])
+    same('the field knows what is left', ann.run(DESCRIBED, '#value-0'), ['€900.00 of €900.00 left'])
     ann.put('#value-0', 'x')
     check('and what is wrong with it', any('Enter an amount' in words for words in ann.run(DESCRIBED, '#value-0')), ann.run(DESCRIBED, '#value-0'))
     same('a field that is wrong is told so', ann.values('#value-0', 'aria-invalid'), ['true'])
     ann.put('#value-0', '500')
     same('a slider has its value in words', ann.values('input[type=range]', 'aria-valuetext'), ['€500.00', '€0.00'])
     ann.put('#value-1', '400')
-    ann.press('Send my bid')
-    ann.until(lambda: 'Your bid is saved' in ann.run('return document.getElementById("live").textContent'), 20, 'it is not spoken')
+    ann.press('Send')
+    ann.until(lambda: 'Your answer is saved' in ann.run('return document.getElementById("live").textContent'), 20, 'it is not spoken')
     same('the place for what is spoken', told(ann, '#live')[0][0], 'status')
     same('what stands is not spoken a second time', ann.values('#stands', 'aria-live'), [None])
     ann.click('#languages button')
     ann.one('dialog.help[open]')
-    same('the help is a dialog with a name', told(ann, 'dialog.help'), [('dialog', 'How to bid')])
+    same('the help is a dialog with a name', told(ann, 'dialog.help'), [('dialog', 'Saying what things are worth')])
     ann.click('dialog.help button')
 
 
@@ -88,9 +88,9 @@ def own_bid(rig, olive, ann, ben):
     ann.put('#value-0', '500')
     ann.put('#value-1', '400')
     ann.run(UNANSWERED)
-    ann.press('Send my bid')
-    ann.has('Your bid is saved', '#message')
-    same('the bid is counted, though nobody could be asked', ann.text('.people h2'), '1 of 2 has bid')
+    ann.press('Send')
+    ann.has('Your answer is saved', '#message')
+    same('the bid is counted, though nobody could be asked', ann.text('.people h2'), '1 of 2 has answered')
 
 
 def colours_forced(rig, olive, ann, ben):
@@ -112,8 +112,8 @@ def colours_forced(rig, olive, ann, ben):
     ann.put('#value-0', '500')
     check('a bid has a bar', looked('a bid') == 1)
     ann.put('#value-1', '400')
-    ann.press('Send my bid')
-    ann.has('Your bid is saved', '#message')
+    ann.press('Send')
+    ann.has('Your answer is saved', '#message')
     looked('a bid that is sent')
     api(rig, f'instances/{made["id"]}/bids', made['keys'][1], {'turn': 1, 'values': [50000, 40000]})
     api(rig, f'instances/{made["id"]}/close', made['organiser'], {})
@@ -165,11 +165,11 @@ def created(p, start, seen):
     for typed in ('Mill Road', 'Ann', 'Ben', 'Cy', 'Attic', 'Back room', 'Cellar', '900'):
         p.keys([*typed, KEYS['enter']])
     p.press('Create the links')
-    p.one('.links input')
+    p.one('#link-0')
     words(p, 'links', seen)
     links = p.values('.links input', 'value')
     for line in range(3):
-        p.click('.links .row button:first-of-type', line)
+        p.click('.links .do > button', line)
     return links
 
 
@@ -181,12 +181,12 @@ def sent(p, link, values, seen):
         words(p, 'bid', seen)
     p.clicks = 0
     p.click('#value-0')
-    p.keys([*values[0], KEYS['tab'], KEYS['tab'], KEYS['tab']] if p.focused()['id'] == 'value-0' else [])
+    p.keys([*values[0], KEYS['tab'], KEYS['tab']] if p.focused()['id'] == 'value-0' else [])
     same('the next field', p.focused()['id'], 'value-1')
     p.keys(list(values[1]))
-    p.click('.values button.small', 2)
-    p.press('Send my bid')
-    p.has('Your bid is saved', '#message')
+    p.press('Share it out')
+    p.press('Send')
+    p.has('Your answer is saved', '#message')
     return p.clicks
 
 
@@ -197,8 +197,8 @@ def clicks(rig, olive, ann, ben):
     bids = (('400', '300'), ('300', '300'), ('200', '300'))
     member = max(sent(ann, link, values, None if at else seen) for at, (link, values) in enumerate(zip(links, bids)))
     olive.run('document.dispatchEvent(new Event("visibilitychange"))')
-    olive.until(lambda: olive.enabled('Close the round and'), 60, 'close is not offered')
-    olive.press('Close the round and')
+    olive.until(lambda: olive.enabled('Show the result'), 60, 'close is not offered')
+    olive.press('Show the result')
     olive.accept()
     olive.clicks += 1
     olive.one('#verdict', 60)

@@ -9,6 +9,7 @@ parts in Chromium, and in the two others those that tell most; any part can be p
 After so many seconds no part is begun any more: one for which no time was left counts as wrong.
 """
 import argparse
+import base64
 import json
 import math
 import os
@@ -83,8 +84,8 @@ def fill_form(rig, p, kind, title, people, things):
 
 
 def links(p):
-    p.one('.links input')
-    return dict(zip(p.values('.links input', 'id'), p.values('.links input', 'value')))
+    p.one('#link-0')
+    return dict(zip(p.values('[id^=link-]', 'id'), p.values('[id^=link-]', 'value')))
 
 
 def bid(p, values):
@@ -93,9 +94,9 @@ def bid(p, values):
         p.put(f'#value-{i}', value)
 
 
-def send(p, words='Send my bid'):
+def send(p, words='Send'):
     p.press(words)
-    p.has('Your bid is saved.', '#message')
+    p.has('Your answer is saved.', '#message')
 
 
 def turn_is(p, turn):
@@ -109,10 +110,34 @@ def wake(p):
 
 def close(p):
     wake(p)
-    p.until(lambda: p.enabled('Close the round and'), 60, 'close is not offered')
-    p.press('Close the round and')
+    p.until(lambda: p.enabled('Show the result'), 60, 'close is not offered')
+    p.press('Show the result')
     p.accept()
     p.one('#findings', 60)
+
+
+UNFOLD = 'for (const one of document.querySelectorAll("main details:not(.menu)")) one.open = true'
+# An attribute of each element that has it, by the places of the members whose elements these are.
+BY_MEMBER = '''const [name, more] = arguments;
+const all = [...document.querySelectorAll(`[data-${name}]`)].sort((a, b) => (a.dataset.member ?? 0) - (b.dataset.member ?? 0));
+return all.map((e) => e.dataset[more ?? name])'''
+ROOMS = '''const member = (room) => Number(room.querySelector(".price").dataset.member);
+return [...document.querySelectorAll(".room")].sort((a, b) => member(a) - member(b)).map((room) => [room.querySelector(".holder bdi"), room.querySelector("b bdi")].map((e) => e.innerText).join(" → "))'''
+
+
+def unfold(p):
+    """Opens whatever is folded up."""
+    p.run(UNFOLD)
+
+
+def result_of(p):
+    """Waits for a result, and unfolds all of it."""
+    p.one('#verdict[data-verdict=yes]', 60)
+    unfold(p)
+
+
+def by_member(p, name, more=None):
+    return p.run(BY_MEMBER, name, more)
 
 
 def exacts(p, selector):
@@ -141,6 +166,7 @@ def holds(path):
 
 def files(p, name, wanted):
     """The files of a result must be what the program writes."""
+    unfold(p)
     for button, what, text in wanted:
         p.press(button)
         path = f'{p.profile}/files/{name}-{what}.txt'
@@ -195,7 +221,7 @@ def rent(rig, olive, ann, ben):
     posts = [s for s in lossy.seen if s[0].startswith('POST /instances ')]
     check('two lost replies, so the same creation thrice, and once for the links', len(posts) == 4 and len({s[2] for s in posts[:3]}) == 1, str(len(posts)))
     same('links', len(urls), 4)
-    same('the organiser is in the round', olive.text('.who'), 'You are the organiser.')
+    same('the organiser is in the round', olive.text('.eyebrow'), 'You are the organiser.')
     check('the address is the organiser’s link, with the path of the host', olive.url() == urls['link-0'] and urls['link-1'].startswith(rig.url + '#'), urls['link-1'])
     olive.reload()
     same('after a reload the links are the same', links(olive), urls)
@@ -204,19 +230,20 @@ def rent(rig, olive, ann, ben):
 
     ann.open(urls['link-1'])
     ann.one('#value-0')
-    same('Ann', ann.text('.who'), 'You are Ann.')
-    ann.has('€1,450.50 of €1,450.50 still to spread', '#values')
+    same('Ann', ann.text('h1'), 'Ann, what is each room worth to you?')
+    ann.has('€1,450.50 of €1,450.50 left', '#values')
     bid(ann, ['800', '450.50', '300'])
-    ann.press('Send my bid')
+    ann.press('Send')
     ann.has('€100.00 too much', '#message')
-    ann.click('.values button.small', 2)
+    ann.put('#value-2', '0')
     check('what was wrong is no longer told', not ann.text('#message'))
-    same('the rest fits', ann.values('#value-2', 'value'), ['200.00'])
+    ann.press('Share it out')
+    same('the empty line gets the rest', ann.values('#value-2', 'value'), ['200.00'])
     ann.run('document.querySelector("input[type=range]").focus()')
     ann.keys([KEYS['right']])
     check('a slider moves by the keys', ann.values('#value-0', 'value') != ['800.00'])
-    ann.press('Scale to total')
-    same('scaled', sum(round(float(v) * 100) for v in ann.values('.amount input', 'value')), 145050)
+    ann.press('Share it out')
+    same('scaled', sum(round(float(v) * 100) for v in ann.values('.values input.number', 'value')), 145050)
     shots(ann, '4-bid-rent')
     look_at(ann, 'a bid on a rent')
     bid(ann, ['800', '450,5', '200'])
@@ -229,26 +256,26 @@ def rent(rig, olive, ann, ben):
     ann.ask('POST', '/window', {'handle': ann.ask('POST', '/window/new', {'type': 'tab'})['handle']})
     ann.ask('POST', '/url', {'url': urls['link-1']})
     bid(ann, ['450.50', '800', '200'])
-    ann.press('Change my bid')
+    ann.press('Send the change')
     turn_is(ann, 2)
     ann.ask('DELETE', '/window')
     ann.ask('POST', '/window', {'handle': first})
     bid(ann, ['800', '450.50', '200'])
-    ann.press('Change my bid')
+    ann.press('Send the change')
     ann.has('changed elsewhere', '#message')
     turn_is(ann, 2)
-    ann.press('Change my bid')
+    ann.press('Send the change')
     turn_is(ann, 3)
-    ann.press('Take my bid back')
-    ann.has('You took your bid back', '#stands')
-    ann.press('Send my bid')
+    ann.press('Take my answer back')
+    ann.has('You took your answer back', '#stands')
+    ann.press('Send')
     turn_is(ann, 5)
 
     # no reply for long: the bid waits and is sent again as it is
     ben.open(urls['link-2'])
     bid(ben, ['700', '400', '350.50'])
     lossy.refuse = 3
-    ben.press('Send my bid')
+    ben.press('Send')
     ben.has('sending the same again is safe', '#message', 40)
     check('meanwhile nothing can be changed', not ben.run('return document.querySelector("#value-0").matches(":enabled")'))
     shots(ben, '5-no-reply')
@@ -262,55 +289,76 @@ def rent(rig, olive, ann, ben):
     lossy.deaf = False
     wake(olive)
     olive.until(lambda: 'isn’t answering' not in olive.text('.people'), 60, 'that it does not answer is told though it answers')
-    olive.has('2 of 3 have bid', '.people', 60)
-    check('close is not offered', not olive.enabled('Close the round'))
-    olive.has('no bid from Çağla', '.people')
+    olive.has('2 of 3 have answered', '.people', 60)
+    check('close is not offered', not olive.enabled('Show the result'))
+    olive.has('Not yet: Çağla. Without an answer from everyone there is no result.', '.people')
     ben.open(urls['link-3'])
     bid(ben, ['500', '500', '450.50'])
     send(ben)
-    ben.has('Everyone has bid', '.people')
+    ben.has('Everyone has answered', '.people')
     close(olive)
 
     case = json.dumps({'kind': 'rent', 'title': 'Flat in Mill Road', 'members': people, 'rooms': rooms, 'rent': 145050, 'bids': values})
     report = program('report 1', case)
     lines = rows_of(report, r'\d+ (.*): room (\d+) (.*), price (.*), pays (.*), utility (.*)$')
     for p, me in ((olive, None), (ann, 0), (ben, 2)):
-        p.has('Check it yourself', seconds=60)
-        same('what each pays', [int(v) for v in p.values('[data-pays]', 'data-pays')], [int(line[4]) for line in lines])
+        result_of(p)
+        same('what each pays', [int(v) for v in by_member(p, 'pays')], [int(line[4]) for line in lines])
         same('the envy table', heat(p, 0), envy_of(report))
-        same('the rooms', p.texts('.bars:not(.gains) .of'), [f'{line[0]} → {line[2]}' for line in lines])
+        same('the rooms', p.run(ROOMS), [f'{line[0]} → {line[2]}' for line in lines])
         same('verdict', p.values('#verdict', 'data-verdict'), ['yes'])
         if me is not None:
-            same('mine', p.text('.hero .big'), f'You get {lines[me][2]} and pay {money(int(lines[me][4]))}')
-            same('my utility', exacts(p, '.hero'), [lines[me][5]])
-            check('why I would not swap', re.search(r'to you it’s worth .*(rather have that one|and no better)', p.text('#own')), p.text('#own'))
+            same('mine', p.text('.hero h1'), f'You get {lines[me][2]} and pay {money(int(lines[me][4]))}')
+            same('my utility', exacts(p, '#own'), [lines[me][5]])
+            check('why that is well', 'you said it’s worth to you' in p.text('#own'), p.text('#own'))
+            check('a bar a room, and none is longer than mine', len(p.all('.gain')) == 3 and 'No bar goes past the line' in p.text('.cols'), p.text('.cols'))
             same('the printed bid', p.text('#printed'), ' · '.join(money(v) for v in values[me]))
             check('it is as it was sent', 'what this browser saw when you sent your bid' in p.text('#verdict') or p is ben, p.text('#verdict'))
     same('after the close the organiser has the links', links(olive), urls)
+    printed(olive, 'the organiser’s result')
+    printed(ann, 'a result')
     shots(ann, '7-result-rent')
     look_at(ann, 'the result of a rent')
     files(ann, 'round-1', [('Report', 'report', report), ('Certificate', 'certificate', program('solve 1', case))])
-    ann.press('Download')
+    ann.press('Save the result')
     saved = f'{ann.profile}/files/round-1.json'
     ann.until(lambda: holds(saved), 15, 'nothing is saved')
     with open(saved, encoding='utf-8') as file:
-        same('the saved file', json.load(file), {'fairsplit': 1, 'title': 'Flat in Mill Road', 'members': people, 'items': rooms, 'certificate': program('solve 1', case)})
+        same('the saved file', json.load(file), {'fairsplit': 1, 'title': 'Flat in Mill Road', 'members': people, 'items': rooms, 'currency': 'EUR', 'certificate': program('solve 1', case)})
     if TALLY.picture:
         picture(ann)
     ann.speak('de')
-    ann.has('Prüf es selbst', seconds=60)
+    ann.has('Wer wo wohnt', seconds=60)
     same('the language of the page', ann.run('return document.documentElement.lang'), 'de')
     check('German sentences and numbers', 'Dein Zimmer: Attic. Du zahlst' in ann.text('.hero') and '733,00' in ann.text('.hero'), ann.text('.hero'))
     check('no sentence is missing', not re.search(r'\b(rent|goods|result|proof|check|facts|rules|files|names|differ)\.[a-z]', ann.text()))
     shots(ann, '7-result-rent-german')
     look_at(ann, 'the result in German')
     ann.speak('en')
-    ann.has('Check it yourself', seconds=60)
+    ann.has('Who lives where', seconds=60)
 
 
-HEAD_OF_A_RESULT = '''document.querySelectorAll("main .card").forEach((e, i) => { e.hidden = i > 0; });
-document.querySelectorAll("footer, header.site, .top .eyebrow, .who, .bars + .hint, .keep, .hero p:last-of-type").forEach((e) => { e.style.display = "none"; });
+def printed(p, what):
+    """What is printed fits on one sheet, without links, keys or buttons."""
+    if p.run('return document.querySelectorAll("main details[open]").length'):
+        p.reload()
+        p.one('#verdict[data-verdict=yes]', 60)
+    if not hasattr(p, 'cdp'):
+        return
+    sheet = base64.b64decode(p.cdp('Page.printToPDF', preferCSSPageSize=True)['data'])
+    same(f'sheets of {what}', len(re.findall(rb'/Type\s*/Page[^s]', sheet)), 1)
+    p.cdp('Emulation.setEmulatedMedia', media='print')
+    seen = p.run('return document.body.innerText')
+    same(f'buttons on {what}', p.run('return [...document.querySelectorAll("button, a, input")].filter((e) => e.checkVisibility()).map((e) => e.innerText)'), [])
+    check(f'no key on {what}', not re.search(r'[0-9a-f]{20}', seen), seen)
+    p.cdp('Emulation.setEmulatedMedia', media='')
+    p.look(False)
+
+
+HEAD_OF_A_RESULT = '''document.querySelectorAll("footer, header.site, .fold, .after, .cols > section + section, .cols .hint").forEach((e) => { e.style.display = "none"; });
+document.querySelectorAll("main details").forEach((e) => { e.open = false; });
 const main = document.querySelector("main");
+main.style.flex = "none";
 main.style.minHeight = 0;
 main.style.paddingTop = "1px";
 main.style.paddingBottom = 0;'''
@@ -325,7 +373,7 @@ def picture(p):
     smaller(PICTURE)
     p.reload()
     p.size(*p.home)
-    p.has('Check it yourself', seconds=60)
+    result_of(p)
 
 
 def goods(rig, olive, ann, ben):
@@ -333,7 +381,7 @@ def goods(rig, olive, ann, ben):
     people, things = ['Ada <b>&amp;', 'Bo\u202eoB', 'Cleo 🌻'], ['Piano', 'Clock', '<img src=x onerror=alert(1)>', 'Ring', 'Paintings']
     values = [[400, 100, 250, 150, 100], [100, 150, 450, 100, 200], [250, 100, 300, 300, 50]]
     fill_form(rig, olive, 'goods', 'House of Ida', people, things)
-    check('few things are no trouble', 'no trouble' in olive.text('#chance'), olive.text('#chance'))
+    check('few things need no warning', not olive.text('#chance'), olive.text('#chance'))
     shots(olive, '2-form-goods')
     look_at(olive, 'the form of goods')
     rig.lossy.refuse = 3
@@ -349,27 +397,28 @@ def goods(rig, olive, ann, ben):
         p.open(urls[f'link-{i + 1}'])
         p.one('#value-0')
         if i == 0:
-            same('sliders go in steps of 50', set(p.values('input[type=range]', 'step')), {'50'})
+            same('sliders go in tens', set(p.values('input[type=range]', 'step')), {'10'})
             bid(p, ['450', '130', '240', '130', '100'])
             p.has('50 points too much', '#values')
-            p.press('Scale to total')
-            same('scaled to steps', [int(v) % 50 for v in p.values('.amount input', 'value')], [0] * 5)
+            p.press('Share it out')
+            same('scaled to tens', [int(v) % 10 for v in p.values('.values input.number', 'value')], [0] * 5)
             p.put('#value-0', '4.5')
             p.has('Enter a whole number', '#value-0-fault')
             shots(p, '4-bid-goods')
             look_at(p, 'a bid on goods')
         bid(p, [str(v) for v in values[i]])
         send(p)
-    check('names are no markup', not any(q.run('return document.querySelectorAll("main b, main img").length') for q in (olive, ann, ben)))
+    check('names are no markup', not any(q.run('return document.querySelectorAll("bdi *, main img, [onerror]").length') for q in (olive, ann, ben)))
     olive.reload()
     links(olive)
     close(olive)
     case = json.dumps({'kind': 'goods', 'title': 'House of Ida', 'members': people, 'goods': things, 'limit': 200000, 'bids': values})
     report = program('report 1', case)
-    ann.has('Check it yourself', seconds=60)
     points = [int(v) for v in re.findall(r'points (\d+)$', report, re.M)]
     for p in (olive, ann):
-        same('points', [int(v) for v in p.values('[data-points]', 'data-points')], points)
+        p.reload() if p is ann else None
+        result_of(p)
+        same('points', [int(v) for v in by_member(p, 'points')], points)
         same('the envy table', heat(p, 0), envy_of(report))
         same('verdict', p.values('#verdict', 'data-verdict'), ['yes'])
         check('audit lines', 'nobody envies anyone' in p.text('#audit') and 'Pareto' in p.text('#audit'), p.text('#audit'))
@@ -382,11 +431,11 @@ def goods(rig, olive, ann, ben):
 def heirs(rig, olive, ann, ben):
     """Goods for two, whose deadline passes while someone is looking; a result with envy; and goods whose search doesn't end."""
     things, values = ['Desk', 'Lamp', 'Chair'], [[700, 200, 100], [800, 150, 50]]
-    made = api(rig, 'instances', body={'kind': 'goods', 'title': 'Attic', 'members': ['Ann', 'Ben', 'Dan'], 'goods': things, 'deadline': soon(15), 'tag': tag()})
+    made = api(rig, 'instances', body={'kind': 'goods', 'title': 'Attic', 'members': ['Ann', 'Ben', 'Dan'], 'goods': things, 'deadline': soon(40), 'tag': tag()})
     for i in (0, 1):
         api(rig, f'instances/{made["id"]}/bids', made['keys'][i], {'turn': 1, 'values': values[i]})
     ann.open(f'{rig.url}#{made["id"]}.{made["keys"][0]}')
-    ann.has('have bid')
+    ann.has('have answered')
     many = {'kind': 'goods', 'title': 'Many', 'members': ['Ann', 'Ben'], 'goods': [f'Thing {i}' for i in range(8)], 'limit': 40, 'deadline': '2126-01-01T00:00:00Z', 'tag': tag()}
     endless = api(rig, 'instances', body=many)
     for key in endless['keys']:
@@ -394,7 +443,7 @@ def heirs(rig, olive, ann, ben):
     api(rig, f'instances/{endless["id"]}/close', endless['organiser'], {})
     olive.open(f'{rig.url}#{endless["id"]}.{endless["keys"][0]}')
     olive.has('takes more than 40 steps')
-    check('what is left is told', all(words in olive.text() for words in ('Or split one item', 'agree on a division of your own', 'multiples of 50')), olive.text())
+    check('what is left is told', all(words in olive.text() for words in ('Splitting one item', 'Agree on a division of your own', 'multiples of 50')), olive.text())
     same('adjusted winner', exacts(olive, '#winner')[0:1] != [], True)
     winner = program('winner', json.dumps({**many, 'bids': [[125] * 8] * 2}))
     same('shares', exacts(olive, '#winner table')[0::2], re.search(r'^shares (.*)$', winner, re.M)[1].split())
@@ -405,16 +454,15 @@ def heirs(rig, olive, ann, ben):
     for i in range(20):
         ben.run('document.querySelector("#things button.add").click()')
         ben.put(f'#things-{i}', f'Thing {i}')
-    check('many things are told beforehand', 'may take too long' in ben.text('#chance'), ben.text('#chance'))
+    check('many things are told beforehand', 'may end without an answer. Of 20 drawn trials with 2 people and 20 items' in ben.text('#chance'), ben.text('#chance'))
     shots(ben, '2-form-many-goods')
 
-    ann.has('Check it yourself', seconds=60)  # nobody reloads: the page notes the deadline
+    result_of(ann)  # nobody reloads: the page notes the deadline
     case = json.dumps({'kind': 'goods', 'title': 'Attic', 'members': ['Ann', 'Ben', 'Dan'], 'goods': things, 'bids': values + [None]})
     report, winner = program('report 1', case), program('winner', case)
-    same('points', [int(v) for v in ann.values('[data-points]', 'data-points')], [int(v) for v in re.findall(r'points (\d+)$', report, re.M)])
-    check('whoever had no bid is named', 'No bid, and so no share: Dan' in ann.text(), ann.text())
-    check('EF1 is told', 'were taken out of it (EF1)' in ann.text('#audit'), ann.text('#audit'))
-    ann.click('#winner summary')
+    same('points', [int(v) for v in by_member(ann, 'points')], [int(v) for v in re.findall(r'points (\d+)$', report, re.M)])
+    check('whoever took no part is named first, in amber', ann.text('.hero').startswith('No answer came from Dan in time') and ann.all('.hero.caution'), ann.text('.hero'))
+    check('that one item is enough is told', 'were taken out of it' in ann.text('#audit'), ann.text('#audit'))
     same('shares of adjusted winner', exacts(ann, '#winner table')[0::2], re.search(r'^shares (.*)$', winner, re.M)[1].split())
     shots(ann, '7-result-two')
     look_at(ann, 'the result for two')
@@ -444,7 +492,7 @@ def fares(rig, olive, ann, ben):
         p.open(urls[f'link-{i + 1}'])
         p.one('.place input')
         if i == 0:
-            p.press('Send my bid')
+            p.press('Send')
             p.has('Pick the place', '#place-fault')
         p.click('.place', at[i] - 1)
         if i == 0:
@@ -461,13 +509,16 @@ def fares(rig, olive, ann, ben):
     lines = rows_of(report, r'\d+ (.*): place (\d+) (.*), fare (.*), pays (.*), alone (.*)$')
     for p in (olive, ann, ben):
         p.reload()
-        p.has('Check it yourself', seconds=60)
-        same('fares', list(zip(p.values('[data-pays]', 'data-exact'), p.values('[data-pays]', 'data-pays'))), [(line[3], line[4]) for line in lines])
+        result_of(p)
+        same('fares', list(zip(by_member(p, 'pays', 'exact'), by_member(p, 'pays'))), [(line[3], line[4]) for line in lines])
         same('total', p.values('[data-total]', 'data-total'), [re.search(r'total (\d+)', report)[1]])
-        same('route', p.texts('.route .tag'), [people[int(m) - 1] for m in re.search(r'route (.*)', report)[1].split()])
+        same('route', [name.split()[1] for name in p.values('.route .offs .who', 'class')], [f'p{m}' for m in re.search(r'route (.*)', report)[1].split()])
         same('verdict', p.values('#verdict', 'data-verdict'), ['yes'])
-        check('alone', all(money(int(line[5])) in text for line, text in zip(lines, p.texts('.bars li'))))
-    same('mine', ben.text('.hero .big'), f'You get off at Church and pay {money(int(lines[3][4]))}')
+        check('alone', all(money(int(line[5])) in text for line, text in zip(lines, p.texts('.pays li'))))
+    ben.put('#meter', '30')
+    ben.press('Adjust')
+    same('what the meter said is shared', sum(int(v) for v in ben.values('[data-metered]', 'data-metered')), 3000)
+    same('mine', ben.text('.hero h1'), f'You get off at Church and pay {money(int(lines[3][4]))}')
     shots(ben, '7-result-fares')
     look_at(ben, 'the result of fares')
     name = 'round-' + re.search(r'#(\d+)\.', urls['link-0'])[1]
@@ -479,28 +530,28 @@ def refusals(rig, olive, ann, ben):
     gone = {'kind': 'rent', 'title': 'Void', 'members': ['Ann', 'Ben'], 'rooms': ['A', 'B'], 'rent': 900, 'deadline': '1999-01-01T00:00:00Z', 'tag': tag()}
     made = api(rig, 'instances', body=gone)
     olive.open(f'{rig.url}#{made["id"]}.{made["organiser"]}')
-    olive.has('Ann and Ben hadn’t bid when the round closed')
+    olive.has('This server says: Ann and Ben hadn’t answered when it closed')
     shots(olive, '8-void')
     look_at(olive, 'a void round')
-    olive.press('Make a new round')
+    olive.press('Make a new one')
     olive.one('#members-0')
     same('the people are there again', [olive.values(f, 'value')[0] for f in ('#members-0', '#things-1', '#rent')], ['Ann', 'B', '9.00'])
     for link, words in ((f'#{made["id"]}.{"0" * 64}', 'opens nothing in this round'), (f'#99999.{"0" * 64}', 'There is no such round'), (f'#1.{"0" * 63}', 'This link is incomplete')):
         ben.open(rig.url + link)
         ben.has(words)
-        check('the way out is told', 'Ask the person who created the round' in ben.text())
+        check('the way out is told', 'Ask the person who sent it' in ben.text())
     look_at(ben, 'a broken link')
     made = api(rig, 'instances', body={**gone, 'deadline': '2126-01-01T00:00:00Z', 'tag': tag()})
     for turn in range(1, 20):
         api(rig, f'instances/{made["id"]}/bids', made['keys'][0], {'turn': turn, 'values': [turn, 900 - turn]})
     ann.open(f'{rig.url}#{made["id"]}.{made["keys"][0]}')
     ann.has('1 more time', '#stands')
-    ann.press('Take my bid back')
+    ann.press('Take my answer back')
     check('the last turn is asked for', 'the last time' in ann.ask('GET', '/alert/text'))
     ann.ask('POST', '/alert/dismiss')
-    ann.press('Change my bid')
+    ann.press('Send the change')
     ann.has('can’t change anything any more', '#stands')
-    check('then nothing can be sent', not ann.enabled('Change my bid'))
+    check('then nothing can be sent', not ann.enabled('Send the change'))
     check('nor is a change promised', 'You can change it' not in ann.text('#message'), ann.text('#message'))
     # a host that is stricter than the page
     for field, where in (('rent', '#rent-fault'), ('members', '#members-fault'), ('rooms', '#things-fault'), ('deadline', '#deadline-fault'), ('title', '#title-fault'), ('', '.box.bad')):
@@ -531,12 +582,12 @@ def room(rig, olive, ann, ben):
     ben.press('Links erstellen')
     urls = links(ben)
     check('a full host leads to the other, and so do the links', ben.url().startswith(rig.url + '#') and all(url.startswith(rig.url + '#') for url in urls.values()), str(urls))
-    ben.has('Schick nun jeder Person ihren Link')
+    ben.has('Schick jeder Person ihren Link')
     ann.open(urls['link-1'])
     ann.one('#value-0')
-    same('the member of the other host', ann.text('.who'), 'You are Änne.')
+    same('the member of the other host', ann.text('h1'), 'Änne, what is each room worth to you?')
     ben.speak('en')
-    ben.has('Now send each person their link')
+    ben.has('Send each person their link')
 
 
 def keys_alone(rig, olive, ann, ben):
@@ -579,18 +630,19 @@ def keys_alone(rig, olive, ann, ben):
         p.one('#value-0')
         fill((('value-0', '600'), ('value-1', '400')))
         p.speak('de')
-        p.has('Gebot senden')
-        same('a bid that was typed is there in the other language', p.values('.amount input', 'value')[:2], ['600', '400'])
+        p.has('Wer sieht das?')
+        same('a bid that was typed is there in the other language', p.values('.values input.number', 'value')[:2], ['600', '400'])
         p.speak('en')
-        p.has('Send my bid')
-        press('Send my bid')
-        p.has('Your bid is saved.', '#message')
-        p.until(lambda: 'Your bid is saved' in p.run('return document.getElementById("live").textContent'), 5, 'it is not spoken')
+        p.has('Who sees this?')
+        press('Send')
+        p.has('Your answer is saved.', '#message')
+        p.until(lambda: 'Your answer is saved' in p.run('return document.getElementById("live").textContent'), 5, 'it is not spoken')
     p.open(urls['link-0'])
-    p.until(lambda: p.enabled('Close the round and'), 60, 'close is not offered')
-    press('Close the round and', p.keys_that_ask)
+    p.until(lambda: p.enabled('Show the result'), 60, 'close is not offered')
+    press('Show the result', p.keys_that_ask)
     p.one('#verdict[data-verdict=yes]', 60)
     same('and then the focus is at the heading', p.focused()['tag'], 'H1')
+    press('Checked in this browser')
     press('Certificate')
     path = f'{p.profile}/files/round-{urls["link-0"].split("#")[1].split(".")[0]}-certificate.txt'
     p.until(lambda: holds(path), 15, 'the certificate is not saved by keys')
@@ -598,6 +650,7 @@ def keys_alone(rig, olive, ann, ben):
 
 def checker(rig, olive, ann, ben):
     """The view that checks, and the file that people can save, opened from the disk."""
+    cleared = 'document.getElementById("text").value = arguments[0]; document.getElementById("checked").replaceChildren()'
     with open(os.path.join(TOP, 'examples/flat-for-three.txt'), encoding='utf-8') as file:
         flat = file.read()
     heirs_text = open(os.path.join(TOP, 'examples/three-heirs.txt'), encoding='utf-8').read()
@@ -609,14 +662,17 @@ def checker(rig, olive, ann, ben):
         for text in texts:
             verdict = program('check', text).split()
             rule = verdict[1] if len(verdict) > 1 else '0'
-            ben.run('document.getElementById("text").value = arguments[0]; document.getElementById("findings").replaceChildren()', text)
+            ben.run(cleared, text)
             ben.press('Check')
             ben.one('#verdict')
             ben.until(lambda: ben.enabled('Check'), 10)
             same(f'{address[:5]} the verdict', [ben.values('#verdict', 'data-verdict')[0], ben.values('#verdict', 'data-rule')[0]], [verdict[0], rule])
         look_at(ben, 'the view that checks')
         shots(ben, '9-check' if address.startswith('http') else '9-check-file')
-    shown_names(ben, flat)
+    shown_names(ben, flat, cleared)
+    ben.click('#languages button')
+    ben.one('dialog.help[open]')
+    ben.click('dialog.help button')
     ben.speak('de')
     ben.has('Ein Zertifikat prüfen')
     ben.speak('en')
@@ -624,12 +680,12 @@ def checker(rig, olive, ann, ben):
     same('the file asked for nothing', ben.run('return performance.getEntriesByType("resource").length'), 0)
 
 
-def shown_names(p, flat):
+def shown_names(p, flat, cleared):
     """The check shows the division, with names that someone types or with those of a saved file."""
     def checked(text):
-        p.run('document.getElementById("text").value = arguments[0]; document.getElementById("findings").replaceChildren()', text)
+        p.run(cleared, text)
         p.press('Check')
-        p.until(lambda: p.enabled('Check') and p.text('#findings'), 10)
+        p.until(lambda: p.enabled('Check') and p.text('#checked'), 10)
     checked(f'\n\n{flat}\n \n')
     same('blank lines are forgiven', p.values('#verdict', 'data-verdict'), ['yes'])
     same('what each pays', p.texts('#division [data-pays]'), ['7.00', '1.00', '1.00'])
@@ -638,12 +694,13 @@ def shown_names(p, flat):
     check('a name that is typed', 'Zoë' in p.text('#division') and 'Housemate 2' in p.text('#division'), p.text('#division'))
     look_at(p, 'the check with typed names')
     shots(p, '9-check-typed')
-    checked(json.dumps({'fairsplit': 1, 'title': 'Flat', 'members': ['Ann', 'Ben', 'Cy'], 'items': ['Attic', 'Back', 'Cellar'], 'certificate': flat, 'more': 1}))
-    check('the names of a saved file', all(words in p.text('#findings') for words in ('Flat', 'Ann → Attic', 'Cy → Cellar')), p.text('#findings'))
+    checked(json.dumps({'fairsplit': 1, 'title': 'Flat', 'members': ['Ann', 'Ben', 'Cy'], 'items': ['Attic', 'Back', 'Cellar'], 'currency': 'EUR', 'certificate': flat, 'more': 1}))
+    same('the names of a saved file', p.run(ROOMS), ['Ann → Attic', 'Ben → Back', 'Cy → Cellar'])
+    same('its currency', p.texts('#division [data-pays]'), ['€7.00', '€1.00', '€1.00'])
     look_at(p, 'the check with a saved file')
     shots(p, '9-check-saved')
     checked(json.dumps({'fairsplit': 1, 'title': 'Flat', 'members': ['Ann'], 'items': ['Attic', 'Back', 'Cellar'], 'certificate': flat}))
-    check('a file with too few names', 'This file isn’t from fairsplit' in p.text('#findings') and not p.all('#verdict'), p.text('#findings'))
+    check('a file with too few names', 'This file isn’t from fairsplit' in p.text('#checked') and not p.all('#verdict'), p.text('#checked'))
 
 
 def divided(rig, olive, ann, ben):
@@ -701,15 +758,14 @@ def greatest(rig, olive, ann, ben):
             api(rig, f'instances/{made["id"]}/bids', key, {'turn': 1, **({'values': value} if case['kind'] == 'rent' else {'place': value})})
         api(rig, f'instances/{made["id"]}/close', made['organiser'], {})
         ann.open(link)
-        ann.has('Check it yourself', seconds=60)
-        same('verdict', ann.values('#verdict', 'data-verdict'), ['yes'])
-        check('all holds', 'Yes: this is the best' in ann.text('#verdict'), ann.text('#findings'))
+        result_of(ann)
+        check('all holds', 'The numbers are right' in ann.text('#verdict'), ann.text('#findings'))
         report = program('report 1', json.dumps(case))
-        same('pays', ann.values('[data-pays]', 'data-pays'), re.findall(r', pays (-?\d+),', report))
+        same('pays', by_member(ann, 'pays'), re.findall(r', pays (-?\d+),', report))
         if case['kind'] == 'rent':
             same('the envy table', heat(ann, 0), envy_of(report))
         else:
-            same('fares', ann.values('[data-pays]', 'data-exact'), re.findall(r', fare (\S+),', report))
+            same('fares', by_member(ann, 'pays', 'exact'), re.findall(r', fare (\S+),', report))
         look_at(ann, f'the greatest result, {case["kind"]}')
         shots(ann, f'A-greatest-{case["kind"]}')
 
@@ -737,13 +793,14 @@ def german(rig, olive, ann, ben):
         for code, words in (('fr', 'C’est moi'), ('pl', 'To ja'), ('de', 'Das bin ich')):
             hanna.one('.me')
             hanna.speak(code)
-            hanna.has(words)
-            same(f'links that break in the middle, in {code}', hanna.run(BROKEN, '.me'), [])
+            hanna.until(lambda: words in hanna.run('return document.querySelector(".me")?.textContent ?? ""'), 30, f'no menu in {code}')
+            hanna.run('document.querySelector(".menu").open = true')
+            same(f'links that break in the middle, in {code}', hanna.run(BROKEN, '.menu[open] .me'), [])
         hanna.open(f'{rig.url}#{made["id"]}.{made["keys"][0]}.EUR')
         hanna.has('1.234,56')
         bid(hanna, ['1234,56', '0'])
-        hanna.press('Gebot senden')
-        hanna.has('Dein Gebot ist gespeichert.', '#message')
+        hanna.press('Senden')
+        hanna.has('Deine Antwort ist gespeichert.', '#message')
         look_at(hanna, 'a bid in German')
         same('the bid', api(rig, f'instances/{made["id"]}/bid', made['keys'][0])['values'], [123456, 0])
         same('complaints of the browser of the German', hanna.complaints(), [])

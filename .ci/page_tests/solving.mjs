@@ -10,7 +10,7 @@ import { has64Bits } from '../../page/judge/modules.js';
 import { numbersOf } from '../../page/js/solver.js';
 import { solveTask } from '../../page/js/solve_task.js';
 import { judgeTask } from '../../page/js/judge_task.js';
-import { together } from '../../page/js/verdict.js';
+import { linesOf, together } from '../../page/js/verdict.js';
 
 const [program, seed, count, changed] = [process.argv[2], ...process.argv.slice(3).map(Number)];
 const JUDGE = join(dirname(fileURLToPath(import.meta.url)), '../../page/judge');
@@ -92,7 +92,7 @@ async function compareChanged() {
   const { line } = await judge.check(new TextDecoder().decode(bytes));
   const known = {};
   for await (const step of judgeTask({ certificate: new TextDecoder().decode(bytes), module: modules.judge })) Object.assign(known, step);
-  const { verdict } = together(new TextDecoder().decode(bytes), { ...known, isOver: true });
+  const { verdict } = together(linesOf(new TextDecoder().decode(bytes)), { ...known, isOver: true });
   yes += theirs === 'yes';
   if ((line === 'yes' || verdict === 'yes') !== (theirs === 'yes')) { wrong++; console.log(`solving: ${theirs} and here ${line}, ${verdict}`); }
 }

@@ -6,13 +6,13 @@ import re
 from tally import api, check, get_text, money, same, soon, tag
 
 LOOKED = '''const verdict = document.querySelector("#verdict");
-const cards = [...document.querySelectorAll("main .hero, main .card")];
+const cards = [...document.querySelectorAll(".hero h1, .hero .lead, main section:not(.hero), main .fold, main .card")];
 // All that a card says, without the hint that a table goes on to the right, which depends on when the page was laid out.
-const said = (card) => [...card.querySelectorAll(".more")].reduce((text, more) => text.replace(more.innerText, ""), card.innerText).replace(/\\s+/g, " ");
-return {verdict: verdict ? verdict.dataset.verdict : null, good: !!verdict && verdict.classList.contains("good"), says: verdict ? verdict.innerText : "",
-  below: cards.map(said).join("\\n"), hero: (document.querySelector(".hero") || {innerText: ""}).innerText,
-  numbers: Object.fromEntries(["pays", "points", "product", "total", "all", "alone", "way", "flag", "leg"].map((key) => [key, [...document.querySelectorAll(`[data-${key}]`)].map((e) => e.dataset[key])])),
-  shown: [...document.querySelectorAll("[data-pays], [data-alone], [data-way], [data-flag], [data-leg], [data-total], [data-all], [data-saved]")].map((e) => [Object.entries(e.dataset).find(([key]) => key !== "exact")[1], e.innerText])}'''
+const said = (card) => [...card.querySelectorAll(".more")].reduce((text, more) => text.replace(more.textContent, ""), card.textContent).replace(/\\s+/g, " ");
+return {verdict: verdict ? verdict.dataset.verdict : null, good: !!verdict && verdict.classList.contains("good"), says: verdict ? verdict.textContent : "",
+  below: cards.map(said).join("\\n"), hero: [...document.querySelectorAll(".hero h1, .hero .lead")].map((e) => e.innerText).join(" "),
+  numbers: Object.fromEntries(["pays", "points", "product", "total", "all", "alone", "way", "flag", "leg"].map((key) => [key, [...document.querySelectorAll(`[data-${key}]`)].sort((a, b) => (a.dataset.member ?? 0) - (b.dataset.member ?? 0)).map((e) => e.dataset[key])])),
+  shown: [...document.querySelectorAll("[data-pays], [data-alone], [data-way], [data-flag], [data-leg], [data-total], [data-all], [data-saved]")].map((e) => [Object.entries(e.dataset).find(([key]) => key !== "exact" && key !== "member")[1], e.textContent])}'''
 IS_DRAWN = 'return !!document.querySelector("#verdict, main .box, #stands, h1 + .box")'
 OUTSIDE_OF_BDI = '''const walker = document.createTreeWalker(document.querySelector("main"), NodeFilter.SHOW_TEXT), found = [];
 while (walker.nextNode()) {
@@ -29,6 +29,9 @@ FIELDS_OF_NAMES = ('title', 'members', 'rooms', 'goods', 'places', 'you')
 DRAW_AGAIN = 'document.querySelector("main").replaceChildren(); dispatchEvent(new HashChangeEvent("hashchange"))'
 
 
+IS_JUDGED_TWICE = 'return !document.body.textContent.includes("Checking a second time")'
+
+
 def looked(p, url):
     """The result as a person reads it."""
     if p.run('return location.href') == url:
@@ -36,6 +39,7 @@ def looked(p, url):
     else:
         p.open(url)
     p.until(lambda: p.run(IS_DRAWN), 30, f'nothing is drawn: {p.text()!r}')
+    p.until(lambda: p.run(IS_JUDGED_TWICE), 60, f'nothing was checked a second time: {p.text()!r}')
     return p.run(LOOKED)
 
 
@@ -54,7 +58,7 @@ class Tampered:
         if self.kind == 'fares':
             ann.click('.place', bids[0] - 1)
         same(f'names outside of bdi in a bid, {self.kind}', ann.run(OUTSIDE_OF_BDI, ['~']), [])
-        ann.press('Send my bid')
+        ann.press('Send')
         ann.until(lambda: ann.text('#message'), 20, 'the bid was not answered')
         for key, bid in list(zip(self.keys, bids))[1:]:
             api(rig, f'{self.path}/bids', key, {'turn': 1, **({'values': bid} if isinstance(bid, list) else {'place': bid})})
@@ -63,7 +67,7 @@ class Tampered:
         self.honest = {}
         for who, p, url in (('ann', ann, self.urls[0]), ('ben', ben, self.urls[1])):
             self.honest[who] = view = looked(p, url)
-            same(f'an honest {self.kind}, {who}', (view['verdict'], view['good'], UNSEEN in view['says']), ('yes', True, who == 'ben'))
+            same(f'an honest {self.kind}, {who}', (view['verdict'], view['good'], UNSEEN in view['says']), ('yes', who == 'ann', who == 'ben'))  # a word alone is amber
             same(f'names outside of bdi, {self.kind}', p.run(OUTSIDE_OF_BDI, ['~']), [])
             for cents, shown in view['shown']:
                 check(f'{cents} is written {shown}', shown == money(int(cents)) or shown == money(abs(int(cents))))
@@ -107,7 +111,7 @@ class Tampered:
         """What the page says after a changed reply. `field` is the field of the status, if that was changed."""
         honest = self.honest[who]
         if view['verdict'] != 'yes':
-            check(f'{what}: no yes', not view['good'] and 'Yes' not in view['says'], view['says'])
+            check(f'{what}: no yes', not view['good'] and 'Checked' not in view['says'], view['says'])
             return
         same(f'{what}: the numbers', view['numbers'], honest['numbers'])
         if not field or (who == 'ann' and view['good']):
@@ -134,7 +138,7 @@ class Tampered:
                 elif view['verdict'] == 'yes':
                     check(f'{what}: a true certificate of other bids is told in red', not view['good'] or mine(forged) == mine(self.certificate), view['says'])
                 else:
-                    check(f'{what}: nothing is drawn', not view['hero'] and not view['shown'] and 'Yes' not in view['says'], view['says'])
+                    check(f'{what}: nothing is drawn', not view['hero'] and not view['shown'] and 'Checked' not in view['says'], view['says'])
         self.honest_again()
 
     def no_certificate(self):
@@ -214,12 +218,16 @@ def copied(rig, olive, ann, ben):
     made = api(rig, 'instances', body=flat)
     olive.cdp('Browser.grantPermissions', origin='/'.join(rig.url.split('/')[:3]), permissions=['clipboardReadWrite', 'clipboardSanitizedWrite'])
     olive.open(f'{rig.url}#{made["id"]}.{made["organiser"]}.EUR.{flat["tag"]}')
-    olive.one('.links input')
-    wanted = [f'{rig.url}#{made["id"]}.{key}.EUR' for key in made['keys']] + [olive.url()]
-    got = []
-    for line in range(len(wanted)):
-        olive.click('.links .row button:first-of-type', line)
-        olive.until(lambda: 'Copied' in olive.texts('.links li')[line], 20, f'line {line} is not copied')
-        got.append(olive.run(READ))
-    same('what Copy gives', got, wanted)
+    olive.one('#link-0')
+    bare = [f'{rig.url}#{made["id"]}.{key}.EUR' for key in made['keys']] + [olive.url()]
+    got, messages = [], []
+    for line in range(len(bare)):
+        for selector, into in (('.menu button', got), ('.do > button, .keep .row > button', messages)):
+            place = line * 2 if into is got else line  # the second button of a menu shows the code
+            olive.run('document.querySelectorAll("main .menu")[arguments[0]].open = true', line)
+            olive.click(selector, place)
+            olive.until(lambda: 'Copied' in olive.texts(selector)[place], 20, f'{selector} {line} is not copied')
+            into.append(olive.run(READ))
+    same('what Copy the link gives', got, bare)
+    check('the message has the link of its own line', all(message.endswith('\n' + url) for message, url in zip(messages, bare)), str(messages))
     same('names outside of bdi among the links', olive.run(OUTSIDE_OF_BDI, ['~']), [])

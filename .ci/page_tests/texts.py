@@ -1,5 +1,4 @@
 """Rung (a) of .ci/page, with Python's standard library only: compares the files of the page with each other, the documents and the proxies' files."""
-import colorsys
 import gzip
 import json
 import os
@@ -13,21 +12,23 @@ PAGE = os.path.join(TOP, 'page')
 LISTED = {'name': 'LONGEST_NAME', 'members': 'MOST_MEMBERS', 'riders': 'MOST_RIDERS', 'goods': 'MOST_GOODS', 'places': 'MOST_PLACES', 'rent': 'MOST_RENT', 'cost': 'MOST_FARE_CENTS',
           'steps': 'MOST_STEPS', 'points': 'WHOLE_POINTS', 'turns': 'MOST_TURNS', 'certificate': 'MOST_BYTES', 'digits': 'MOST_DIGITS', 'denominator': 'MOST_PRINTED_DENOMINATOR'}
 UNLOADED = ('try', 'make_check', 'make_divide', 'single_file.py', 'policy.txt')  # no browser loads these
-OF_FILES = ('check.html', 'divide.html', 'js/alone.js', 'js/divide_alone.js', 'js/carried_alone.js')  # the files that people can save, and what is only in them
+OF_FILES = ('check.html', 'divide.html', 'js/alone.js', 'js/divide_alone.js', 'js/carried_alone.js', 'js/more_style_alone.js')  # the files that people can save, and what is only in them
 # Loaded only if something is checked, or divided without a server. Counted apart, like judge/ and the languages.
-OF_CHECKS = [f'js/{name}.js' for name in ('carried', 'check', 'judges', 'judge_task', 'judge_worker', 'verdict')]
-OF_DIVISIONS = [f'js/{name}.js' for name in ('demo', 'divide', 'divide_form', 'solver', 'solve_task', 'solve_worker')]
-MOST_BYTES = 200_000
+OF_CHECKS = [f'js/{name}.js' for name in ('carried', 'check', 'judges', 'judge_task', 'judge_worker', 'module_of', 'verdict')]
+OF_DIVISIONS = [f'js/{name}.js' for name in ('demo', 'divide', 'divide_form', 'rounding', 'solver', 'solve_task', 'solve_worker')]
+MOST_BYTES = 250_000
 MOST_APART = 60_000
-MOST_FOR_A_BID = 32_000
+MOST_FOR_A_BID = 30_000
+MOST_OF_A_FIRST_VIEW = 83_700  # not compressed, with what a bid loads behind its form
 MOST_OF_A_PICTURE = 60_000
 MOST_LINES, MOST_SIGNS = 40, 120  # of a function, and in a line
 BID = ['index.html', 'style.css', 'icon.svg'] + [f'js/{name}.js' for name in (
     'main', 'dom', 'language', 'link', 'round', 'api', 'money', 'money_field', 'bid', 'value_fields', 'rules', 'seen', 'store')]
+FIRST = [*BID, 'js/bidders.js', 'js/remember.js', 'js/rounds_kept.js', 'js/device.js', 'js/all_seen.js']
 with open(os.path.join(PAGE, 'js/language.js'), encoding='utf-8') as language_file:
     LANGUAGES = re.findall(r"load: \(\) => import\('\./(words[.\w]*)\.js'\)", language_file.read())
 FORMS = {'zero', 'one', 'two', 'few', 'many', 'other'}  # of a plural; node tells which ones a language needs
-MORE = {words: words.replace('words', 'words.more') for words in LANGUAGES}  # what nobody needs to bid
+MORE = {words: [words.replace('words', f'words.{part}') for part in ('make', 'more')] for words in LANGUAGES}  # what nobody needs to bid
 PROXIES = ['hosting/nginx.site', 'hosting/Caddyfile', 'hosting/haproxy.cfg']
 # Codes that nobody sees on the page: they are for proxies and programs, or have sentences of their own.
 UNMET = {'no_key', 'role', 'open', 'bad_head', 'bad_host', 'framing', 'bad_length', 'length_missing', 'no_route', 'method', 'bad_json', 'bad_field', 'turn',
@@ -65,18 +66,19 @@ def files():
 
 def weigh(texts):
     """The page is no larger than it may be."""
-    others = [f'js/{words}.js' for words in [*MORE, *MORE.values()]]
+    others = [f'js/{words}.js' for words in [*MORE, *sum(MORE.values(), [])]]
     size = {name: len(text.encode()) for name, text in texts.items() if name not in OF_FILES and name not in others}
     apart = sum(size[name] for name in OF_CHECKS + OF_DIVISIONS)
     whole = sum(size.values()) - apart
     check(f'the page has {whole} bytes, above {MOST_BYTES}', whole <= MOST_BYTES)
     check(f'checks and divisions have {apart} bytes, above {MOST_APART}', apart <= MOST_APART)
     least = []
+    check('a member\'s first view has {0} bytes'.format(first := max(sum(len(texts[name].encode()) for name in [*FIRST, f'js/{words}.js']) for words in LANGUAGES)), first <= MOST_OF_A_FIRST_VIEW)
     for words in LANGUAGES:
         bid = sum(len(gzip.compress(texts[name].encode(), 6)) for name in BID + [f'js/{words}.js'])
         check(f'a member\'s bid has {bid} bytes compressed with {words}, above {MOST_FOR_A_BID}', bid <= MOST_FOR_A_BID)
         least.append(bid)
-    return f'{whole} bytes, a bid {" or ".join(map(str, least))} compressed'
+    return f'{whole} bytes, a member\'s first view {first}, a bid {" or ".join(map(str, least))} compressed'
 
 
 def look_for_danger(texts):
@@ -124,7 +126,7 @@ def follow_imports(texts):
                 check(f'{module}.js takes {name} of {needed}.js, which has none', re.search(rf'^export (?:async )?(?:const|let|class|function\*?) {name}\b', texts[f'js/{needed}.js'], re.M))
                 check(f'{module}.js takes {name} and does not use it', len(re.findall(rf'\b{name}\b', texts[f'js/{module}.js'])) > 1)
     workers = set(re.findall(r"'js/(\w+)\.js'", texts['js/carried.js']))
-    begun = {'main', 'alone', 'divide_alone', 'carried_alone'} | workers
+    begun = {'main', 'alone', 'divide_alone', 'carried_alone', 'more_style_alone'} | workers
     check(f'a module that nobody uses: {sorted((used | begun) ^ set(modules))}', used | begun == set(modules))
 
 
@@ -180,7 +182,7 @@ def keys_of(words):
 
 def sentences_of(words):
     """The sentences of a language by their keys, each with its forms: one, or those of a plural."""
-    table, found = {**keys_of(words), **keys_of(MORE[words])}, {}
+    table, found = {key: text for part in [words, *MORE[words]] for key, text in keys_of(part).items()}, {}
     beside = {}
     for key in table:
         beside.setdefault(key.rpartition('.')[0], set()).add(key.rpartition('.')[2])
@@ -292,18 +294,23 @@ def luminance(red, green, blue):
     return sum(part * weight for part, weight in zip(linear, (0.2126, 0.7152, 0.0722)))
 
 
-def measure_bars():
-    """The bar of each of twelve people has a contrast of 3:1 against its track, light and dark."""
+def contrast(one, other):
+    """The contrast of two colours, as WCAG has it."""
+    high, low = sorted((luminance(*(int(colour[at:at + 2], 16) / 255 for at in (0, 2, 4))) for colour in (one, other)), reverse=True)
+    return (high + 0.05) / (low + 0.05)
+
+
+def measure_people():
+    """Each person's colour stands out from the page, light and dark, its letter from it, and words from its ground."""
     style = text_of('page/style.css')
-    papers, levels = re.findall(r'--paper: #(\w{6})', style), re.findall(r'--full-l: (\d+)%', style)
-    check('bars and tracks have a light and a dark form', len(papers) == len(levels) == 2)
-    for paper, level in zip(papers, levels):
-        track = luminance(*(int(paper[at:at + 2], 16) / 255 for at in (0, 2, 4)))
-        for member in range(12):
-            hue = (member * 137 + 168) % 360
-            bar = luminance(*colorsys.hls_to_rgb(hue / 360, int(level) / 100, 0.55))
-            contrast = (max(bar, track) + 0.05) / (min(bar, track) + 0.05)
-            check(f'the bar of member {member + 1} has a contrast of {contrast:.2f} on #{paper}', contrast >= 3)
+    light, dark = style.split('@media (prefers-color-scheme: dark)')
+    for theme, text in (('light', light), ('dark', dark.split('.p1, .p7')[0])):
+        tokens = {name: colour * 2 if len(colour) == 3 else colour for name, colour in re.findall(r'--(\w+): #(\w{3}|\w{6});', text)}
+        check(f'six colours in the {theme}', all(f'{name}{at}' in tokens for name in ('p', 'on', 'tint') for at in range(1, 7)))
+        for at in range(1, 7):
+            for what, one, other, least in (('page', f'p{at}', 'paper', 3), ('letter', f'on{at}', f'p{at}', 4.5), ('ground', 'ink', f'tint{at}', 4.5)):
+                found = contrast(tokens[one], tokens[other])
+                check(f'colour {at} has a contrast of {found:.2f} in the {theme}: {what}', found >= least)
 
 
 # A line that opens a function, with what stands before it.
@@ -347,7 +354,7 @@ def main():
     compare_hosts(texts)
     compare_answers()
     compare_sizes()
-    measure_bars()
+    measure_people()
     outside_of_proof()
     for make in ('make_check', 'make_divide'):
         check(f'{make} would write another file', subprocess.run([sys.executable, os.path.join(PAGE, make), '--check'], check=False).returncode == 0)

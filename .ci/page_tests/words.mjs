@@ -33,7 +33,7 @@ for (const code of codes) {
   const rules = new Intl.PluralRules(code);
   const needed = [...new Set(NUMBERS.map((n) => rules.select(n)))].sort();
   const end = code === 'en' ? '' : `.${code}`;
-  for (const file of [`words${end}`, `words.more${end}`]) {
+  for (const file of [`words${end}`, `words.make${end}`, `words.more${end}`]) {
     const { words } = await import(`${JS}/${file}.js`);
     for (const [key, of] of plurals(words)) same(`${key} of ${file}`, needed.filter((form) => !(form in of)), []);
   }
@@ -72,7 +72,7 @@ const UNFIT = {
 };
 const sentences = (of) => (typeof of === 'string' ? [of] : Object.values(of).flatMap(sentences));
 for (const [code, unfit] of Object.entries(UNFIT)) {
-  for (const file of [`words.${code}`, `words.more.${code}`]) {
+  for (const file of [`words.${code}`, `words.make.${code}`, `words.more.${code}`]) {
     const { words } = await import(`${JS}/${file}.js`);
     same(`names that do not fit their place in ${file}`, sentences(words).filter((sentence) => new RegExp(`(?:^|[^\\p{L}])(?:${unfit})`, 'iu').test(sentence)), []);
   }

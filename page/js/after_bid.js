@@ -5,7 +5,7 @@ import { t, text } from './language.js';
 import { hostNow } from './api.js';
 import { address } from './link.js';
 import { calendarFile } from './calendar.js';
-import { shareControl } from './share.js';
+import { sendButton } from './share.js';
 
 /** The row of both. */
 export function takeAlong({ link, round: { title, deadline } }) {
@@ -16,6 +16,6 @@ export function takeAlong({ link, round: { title, deadline } }) {
     until: deadline * 1000, now: hostNow() });
   const save = () => download(`round-${link.id}.ics`, appointment(), 'text/calendar');
   return [h('p', { class: 'row' }, action({ click: save }, t('calendar.add')),
-    shareControl({ title, words, url, label: text('links.shareSelf') })),
+    sendButton({ title, words, url, whose: title }, () => {}, 'links.shareSelf')),
   h('p', { class: 'hint' }, t('calendar.why'))];
 }

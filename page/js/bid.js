@@ -1,10 +1,11 @@
 // One's own bid: the form, and what stands.
 import { action, announce, box, fill, h, name, p, showFault } from './dom.js';
-import { shortMoment, t, text } from './language.js';
-import { LIMITS, THINGS } from './rules.js';
+import { learnMore, shortMoment, t, text } from './language.js';
+import { CHIPS, LIMITS, THINGS } from './rules.js';
 import { money } from './money.js';
 import { SLOW, get, hostNow, isOpen, post, sentence } from './api.js';
 import { askBeforeLeaving, bidDraft } from './store.js';
+import { cameFrom } from './link.js';
 import { seeBid } from './seen.js';
 
 const TURNS_TOLD = 15; // from so many on it is told how many are left
@@ -27,9 +28,10 @@ class BidForm {
     this.stands = h('div', { id: 'stands' });
     this.along = h('div', {});
     this.earlier = h('div', {});
+    this.later = h('div', {});
     this.message = h('div', { id: 'message' });
     const calm = () => this.calm();
-    this.fields = fieldsOf(round, bid, { message: this.message, alive, calm });
+    this.fields = fieldsOf(round, bid, { message: this.message, alive, calm, hasChips: link.currency === CHIPS });
     this.send = h('button', { class: 'main' });
     this.back = action({ click: () => this.ask('withdraw') }, t('bid.takeBack'));
     this.remember = h('div', {});
@@ -42,9 +44,20 @@ class BidForm {
     const submit = (event) => { event.preventDefault(); this.ask('bids'); };
     const input = () => { this.calm(); this.typed.put(fields.raw); };
     fields.set.addEventListener('input', input);
-    return h('form', { class: 'card', novalidate: true, submit }, stands, along, earlier, fields.set, message,
-      h('div', { class: 'bar' }, fields.sum, h('p', { class: 'row' }, send, back)),
-      remember, h('p', { class: 'hint' }, t('bid.sealed')));
+    return h('form', { novalidate: true, submit }, stands, along, earlier, fields.set, message,
+      h('div', { class: 'bar' }, fields.sum, send), h('p', { class: 'row' }, back, this.wayBack()),
+      this.view.round.kind !== 'fares' && this.whoSees(), this.later, remember);
+  }
+
+  /** The way back to the organiser's view, for whoever came from there. */
+  wayBack() {
+    const from = cameFrom.get(this.view.link.id);
+    return from && h('a', { href: from }, t('links.back'));
+  }
+
+  /** Who can see a bid. */
+  whoSees() {
+    return h('details', {}, h('summary', {}, t('bid.whoSees')), h('p', { class: 'hint' }, t('bid.sealed')));
   }
 
   /** What was typed before and not sent is there again. */
@@ -67,7 +80,7 @@ class BidForm {
     const has = Boolean(bid.values ?? bid.place);
     const used = bid.turn >= LIMITS.turns;
     this.stands.setAttribute('data-turn', bid.turn);
-    fill(this.stands, h('h2', {}, t(has ? 'bid.stands' : bid.turn ? 'bid.tookBack' : 'bid.yours')),
+    fill(this.stands, (has || bid.turn > 0) && h('h2', {}, t(has ? 'bid.stands' : 'bid.tookBack')),
       has && h('p', { class: 'standing' }, standing(round, bid)),
       has && p(t('bid.resultAfter', { time: this.end() })),
       bid.turn >= TURNS_TOLD && h('p', { class: 'hint' },
@@ -85,12 +98,15 @@ class BidForm {
   async more(has) {
     const { round } = this.view;
     this.remembers ??= (await import('./remember.js')).rememberBid(this.remember, this.view);
-    if (has && !this.along.firstChild) fill(this.along, (await import('./after_bid.js')).takeAlong(this.view));
+    if (has && !this.along.firstChild) {
+      const [{ takeAlong }] = await Promise.all([import('./after_bid.js'), learnMore()]);
+      fill(this.along, takeAlong(this.view));
+    }
     if (!has) fill(this.along);
     const isNew = round.kind === 'goods' && this.bid.turn === 0;
-    if (isNew && !this.earlier.firstChild) {
-      (await import('./old_bid.js')).offerOld(this.earlier, round, (points) => this.fields.put(points));
-    } else if (!isNew) fill(this.earlier);
+    if (isNew && !this.earlier.firstChild && !this.later.firstChild) {
+      (await import('./old_bid.js')).offerOld(this, round, (points) => this.fields.putPoints(points));
+    } else if (!isNew) { fill(this.earlier); fill(this.later); }
   }
 
   /** What is to be sent, or null where something is wrong or the member thought better of it. */

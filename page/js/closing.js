@@ -1,23 +1,22 @@
 // The organiser's button that closes a round.
 import { action, announce, fill, h, showFault } from './dom.js';
-import { names, t, text } from './language.js';
+import { t, text } from './language.js';
 import { post, sentence } from './api.js';
 
 export class Closing {
   constructor(view) {
     this.view = view;
     this.isAsked = false; // whether the server was asked to close it, and has not answered
-    this.place = h('div', {});
     this.button = action({ class: 'main', click: () => this.close() });
+    this.place = h('div', { class: 'row' });
   }
 
-  /** The button, which is the same one however often it is drawn, and who is still missing. */
-  drawn(missing) {
-    fill(this.button, t(missing.length ? 'close' : 'closeAll'));
-    this.button.disabled = missing.length > 0;
-    const lacking = missing.length ? t('closeOnce', { names: names(missing) }) : '';
-    return fill(this.place, this.button, h('p', { class: missing.length ? 'hint' : 'sr' }, lacking),
-      h('p', { class: 'fault', id: 'close-fault' }));
+  /** The button, which is the same one however often it is drawn: only once nobody is missing. */
+  draw(missing) {
+    if (missing.length > 0) fill(this.place);
+    else if (!this.button.isConnected) {
+      fill(this.place, fill(this.button, t('closeAll')), h('p', { class: 'fault', id: 'close-fault' }));
+    }
   }
 
   async close() {

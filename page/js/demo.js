@@ -1,7 +1,7 @@
 // "Try it", on the start page: three invented people divide something. One moves what it is worth to one of them, and
 // sees the division change. The proved solver divides, and only what the proved judge says yes to is shown.
 import { action, fill, h, name, p } from './dom.js';
-import { card } from './parts.js';
+import { bar, colour, who } from './draw.js';
 import { learnMore, locale, t, text } from './language.js';
 import { money, setCurrency } from './money.js';
 import { currencyOf } from './currencies.js';
@@ -46,9 +46,10 @@ class Demo {
     const kindOf = (each) => choice(each === kind, () => this.pick(each, 0), t(`demo.${each}`));
     const memberOf = (who, i) => choice(i === member, () => this.pick(kind, i), name(who));
     fill(this.fields);
-    fill(this.root, card(t('demo.title'), p(t('demo.lead')), h('p', { class: 'row' }, Object.keys(CASES).map(kindOf)),
+    fill(this.root, h('h2', {}, t('demo.title')), h('p', { class: 'row' }, Object.keys(CASES).map(kindOf)), this.out,
       h('p', { class: 'row' }, made.members.map(memberOf)),
-      h('h3', {}, t('demo.of', { name: name(made.members[member]) })), this.fields, this.out));
+      h('h3', {}, t('demo.of', { name: name(made.members[member]) })), this.fields,
+      h('p', { class: 'hint' }, t('demo.lead')));
     fill(this.fields, kind === 'fares' ? this.places() : this.sliders());
   }
 
@@ -103,12 +104,11 @@ class Demo {
       fill(this.out, p(t(status === null ? 'divide.noModule' : 'demo.none')));
       return;
     }
-    const scene = { said: read(written), names: { members: this.made.members, things: this.things } };
-    const line = ({ member, says: gets, beside, part }) => h('li', { vars: { hue: (member * 137 + 168) % 360 } },
-      h('span', { class: 'of' }, gets),
-      h('span', { class: 'track', 'aria-hidden': 'true' }, h('span', { class: 'full', vars: { part } })),
-      h('span', { class: 'says' }, beside));
-    fill(this.out, h('ul', { class: 'bars' }, linesOf(scene).map(line)));
+    const { made } = this;
+    const scene = { said: read(written), names: { members: made.members, things: this.things } };
+    const line = ({ member, says: gets, beside, part }) => h('li', { class: `pay ${colour(member)}` },
+      who(made.members, member), h('span', { class: 'name' }, gets), h('b', {}, beside), bar(member, part));
+    fill(this.out, h('ul', { class: 'pays' }, linesOf(scene).map(line)));
   }
 }
 

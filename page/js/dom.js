@@ -75,9 +75,3 @@ export function showFault(id, text) {
 /** A message: its kind is good, bad or note. */
 export const box = (kind, ...children) => (
   h('div', { class: `box ${kind}`, role: kind === 'bad' ? 'alert' : null }, ...children));
-
-/** Loads the style of tables and pictures, once: a bid has none. */
-export const tableStyle = () => new Promise((done) => {
-  if (document.querySelector('link[href="tables.css"]')) done();
-  else document.head.append(h('link', { rel: 'stylesheet', href: 'tables.css', load: done, error: done }));
-});

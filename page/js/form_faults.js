@@ -22,19 +22,19 @@ function fieldOf(rows, of, at) {
 }
 
 /** A sentence for the id of each field that is wrong. `rows` says where in the form the names of the creation stand. */
-export function wrongFields({ rent, flag, ways, currency }, { rows, creation }, now) {
+export function wrongFields({ amount, ways, currency }, { rows, creation }, now) {
   const says = ([path, given]) => text(path, given?.least === undefined ? given
     : { least: money(given.least), most: money(given.most) });
   const found = new Map(faults(creation, now).map(({ field: of, at, says: why }) => {
     const id = fieldOf(rows, of, at);
-    const field = { rent, flag, legs: ways }[of];
+    const field = { rent: amount, flag: amount, legs: ways }[of];
     return [id, field ? field.fault(says(why), ...id.split('-').slice(1)) : says(why)];
   }));
   if (creation.kind === 'rent') {
     const given = { rooms: rows.things.length, people: rows.members.length };
     for (const row of rows.things.slice(given.people)) found.set(`things-${row}`, text('faults.moreRooms', given));
   }
-  if (codeOf(currency.value) === null) found.set('currency', text('faults.currency'));
+  if (creation.kind !== 'goods' && codeOf(currency.value) === null) found.set('currency', text('faults.currency'));
   return found;
 }
 

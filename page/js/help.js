@@ -1,5 +1,6 @@
 // The help of the view that is shown: one screen, in a dialog above it, and the way to the guide.
-import { action, byId, h, p, tableStyle } from './dom.js';
+import { action, byId, h, p } from './dom.js';
+import { tableStyle } from './more_style.js';
 import { knows, learnMore, t } from './language.js';
 
 /** The paragraphs of a topic, which are numbered from 1. */

@@ -1,13 +1,11 @@
 // Checks a certificate twice beside the page: by the proved judge, whose verdict comes at once, and by the page's own
 // script.
-import { fileOf, startWorker } from './carried.js';
-import { has64Bits } from '../judge/modules.js';
-import { together } from './verdict.js';
+import { startWorker } from './carried.js';
+import { moduleOf } from './module_of.js';
+import { linesOf, together } from './verdict.js';
 
 /** The module of the proved judge; null where none runs, or it doesn't come. */
-async function judgeModule() {
-  try { return await fileOf(has64Bits() ? 'judge64.wasm' : 'judge32.wasm'); } catch { return null; }
-}
+const judgeModule = () => moduleOf('judge').catch(() => null);
 
 /** The task in a worker. */
 function inWorker(task, heard) {
@@ -35,15 +33,16 @@ async function work(task, heard) {
     much of a long tree the second check has read. */
 export function judge(certificate, progress = () => {}) {
   const known = {};
+  const lines = linesOf(certificate);
   let tell;
   const first = new Promise((done) => { tell = done; });
   const heard = ({ branches, ...step }) => {
     Object.assign(known, step);
-    if (step.proved) tell(together(certificate, known));
+    if (step.proved) tell(together(lines, known));
     if (branches) progress(branches);
   };
   const last = judgeModule().then((module) => work({ certificate, module }, heard)).catch(() => {}).then(() => {
-    const all = together(certificate, { ...known, isOver: true });
+    const all = together(lines, { ...known, isOver: true });
     tell(all);
     return all;
   });

@@ -1,15 +1,21 @@
-// Which language the page speaks, and how a sentence of words.js becomes text and elements. A translation is one more
-// pair of files, and one more line here.
+// Which language the page speaks, and how a sentence of words.js becomes text and elements. A translation is three more
+// files, and two lines here.
 import { h, name } from './dom.js';
 import { keep, kept } from './store.js';
 
 const LANGUAGES = {
-  en: { called: 'English', load: () => import('./words.js'), more: () => import('./words.more.js') },
-  de: { called: 'Deutsch', load: () => import('./words.de.js'), more: () => import('./words.more.de.js') },
-  es: { called: 'Español', load: () => import('./words.es.js'), more: () => import('./words.more.es.js') },
-  fr: { called: 'Français', load: () => import('./words.fr.js'), more: () => import('./words.more.fr.js') },
-  it: { called: 'Italiano', load: () => import('./words.it.js'), more: () => import('./words.more.it.js') },
-  pl: { called: 'Polski', load: () => import('./words.pl.js'), more: () => import('./words.more.pl.js') },
+  en: { called: 'English', load: () => import('./words.js'),
+    more: () => [import('./words.make.js'), import('./words.more.js')] },
+  de: { called: 'Deutsch', load: () => import('./words.de.js'),
+    more: () => [import('./words.make.de.js'), import('./words.more.de.js')] },
+  es: { called: 'Español', load: () => import('./words.es.js'),
+    more: () => [import('./words.make.es.js'), import('./words.more.es.js')] },
+  fr: { called: 'Français', load: () => import('./words.fr.js'),
+    more: () => [import('./words.make.fr.js'), import('./words.more.fr.js')] },
+  it: { called: 'Italiano', load: () => import('./words.it.js'),
+    more: () => [import('./words.make.it.js'), import('./words.more.it.js')] },
+  pl: { called: 'Polski', load: () => import('./words.pl.js'),
+    more: () => [import('./words.make.pl.js'), import('./words.more.pl.js')] },
 };
 
 let words = {};
@@ -34,8 +40,8 @@ export async function learn(wanted = kept('language') ?? best()) {
 /** Loads the sentences that nobody needs to bid: of results, checks, and divisions without a server. */
 export async function learnMore() {
   const code = spoken;
-  const { words: more } = await LANGUAGES[code].more();
-  if (code === spoken) words = { ...words, ...more };
+  const more = await Promise.all(LANGUAGES[code].more());
+  if (code === spoken) words = Object.assign({}, words, ...more.map((one) => one.words));
 }
 
 /** The list of languages to choose from. `redraw` shows the view anew; `failed` says that a language did not load. */

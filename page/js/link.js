@@ -13,3 +13,6 @@ export const fragment = ({ id, key, currency = '', tag = '' }) => (
 
 /** The link as an address. */
 export const address = (link) => location.origin + location.pathname + fragment(link);
+
+/** The organiser's links from which somebody went to bid for themselves, by their rounds: the way back. */
+export const cameFrom = new Map();

@@ -1,5 +1,5 @@
 // Which view is shown goes by the fragment: nothing, #new-KIND, #check, or the link of a round.
-import { action, announce, box, byId, fill, h, heading, p, tableStyle } from './dom.js';
+import { action, announce, box, byId, fill, h, heading, p } from './dom.js';
 import { entitle, languageSwitch, learn, t, text } from './language.js';
 import { parse } from './link.js';
 import { askBeforeLeaving } from './store.js';
@@ -7,6 +7,7 @@ import { askBeforeLeaving } from './store.js';
 const root = byId('main');
 let moved = false; // whether a view was shown before, so that the focus has to go to the new one
 let view = null; // the round that is shown, as its module
+let shownHash = null; // the fragment of the view that is shown
 
 /** A part of the page did not load: said above what is there, or in its place. */
 function notLoaded(isAll) {
@@ -26,11 +27,9 @@ const openHelp = () => import('./help.js').then(({ help }) => help()).catch(() =
 function frame() {
   byId('skip').textContent = text('skip');
   fill(byId('home'), h('img', { src: 'icon.svg', alt: '', width: 28, height: 28 }), ` ${text('site')}`);
-  fill(byId('languages'), action({ class: 'language', click: openHelp }, t('help')),
+  fill(byId('languages'), action({ click: openHelp }, t('help')),
     languageSwitch(show, () => notLoaded(false)));
-  const check = h('a', { href: '#check' }, t('check.link'));
-  const file = h('a', { href: 'check.html', download: 'fairsplit-check.html' }, t('check.file'));
-  fill(byId('foot'), p(check, ' · ', file), p(t('foot')), h('div', { id: 'device' }));
+  fill(byId('foot'), p(t('foot')), p(h('a', { href: '#check' }, t('toCheck'))), h('div', { id: 'device' }));
 }
 
 async function show() {
@@ -48,13 +47,18 @@ async function show() {
       view = round;
       round.show(root, link, () => notLoaded(true));
     } else {
-      const [{ showOwn }] = await Promise.all([import('./views.js'), tableStyle()]);
+      const { showOwn } = await import('./views.js');
       await showOwn(root, hash);
     }
   } catch { notLoaded(true); }
   if (moved) { window.scrollTo(0, 0); root.querySelector('h1')?.focus(); }
   moved = true;
-  import('./device.js').then(({ tellDevice }) => tellDevice(root, show), () => {}); // nobody needs it at once
+  const leaves = hash !== shownHash;
+  shownHash = hash;
+  import('./device.js').then(({ leaveDevice, tellDevice }) => { // nobody needs it at once
+    if (leaves) leaveDevice();
+    tellDevice(root, show);
+  }, () => {});
 }
 
 byId('skip').addEventListener('click', (event) => { event.preventDefault(); root.querySelector('h1')?.focus(); });

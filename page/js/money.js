@@ -18,12 +18,14 @@ function wholeOf(text, sign) {
 
 const sumOf = (whole, fraction) => whole * 100 + Number(fraction.padEnd(2, '0'));
 
-/** Three digits behind the only sign: thousands or cents, by the habit; both where there is none. */
+/** Three digits behind the only sign: thousands where that is the habit; else it could be both,
+    as 1.450 in English: whoever typed it is asked. */
 function three(whole, sign, fraction, { point, group }) {
   const isWhole = /^[1-9]\d{0,2}$/.test(whole);
   const [asGroup, asPoint] = [Number(whole + fraction) * 100, Math.round(Number(`${whole}.${fraction}`) * 100)];
   if (sign === group) return isWhole ? { cents: asGroup, isGuess: true } : none;
-  if (sign === point || !isWhole) return fraction.endsWith('0') ? { cents: asPoint, isGuess: true } : none;
+  if (!isWhole) return fraction.endsWith('0') ? { cents: asPoint, isGuess: true } : none;
+  if (sign === point && !fraction.endsWith('0')) return none;
   return { cents: NaN, either: [asGroup, asPoint] };
 }
 

@@ -1,12 +1,13 @@
 // A list of names in a form: a row each, to which rows can be added.
 import { action, byId, faultLine, fill, h } from './dom.js';
+import { colour } from './draw.js';
 import { text } from './language.js';
 
 export class NameList {
   /** `names` are what stands in the rows; `least` and `most` bound how many there are; `isFixed` where another list
       says how many; `drawn` is called after rows came or went, `renamed` after a letter. */
-  constructor({ id, label, names, least, most, isFixed = false, drawn, renamed, removed }) {
-    Object.assign(this, { id, label, names, least, most, isFixed, drawn, renamed, removed });
+  constructor({ id, label, names, least, most, isFixed = false, isPeople = false, drawn, renamed, removed }) {
+    Object.assign(this, { id, label, names, least, most, isFixed, isPeople, drawn, renamed, removed });
     this.rows = h('div', { class: 'list' });
   }
 
@@ -28,10 +29,12 @@ export class NameList {
       input: () => { this.names[i] = input.value; this.renamed(); },
     });
     const remove = {
-      class: 'small', 'aria-label': text('form.remove', { what: label }), disabled: this.names.length <= this.least,
+      class: 'icon-only', 'aria-label': text('form.remove', { what: label }), disabled: this.names.length <= this.least,
       click: () => this.remove(i),
     };
-    return h('div', { class: 'item' }, h('span', { class: 'number', 'aria-hidden': 'true' }, i + 1), input,
+    const sign = this.isPeople ? h('span', { class: `who ${colour(i)}`, 'aria-hidden': 'true' }, i + 1)
+      : h('span', { class: 'no', 'aria-hidden': 'true' }, i + 1);
+    return h('div', { class: 'item' }, sign, input,
       !this.isFixed && action(remove, '×'), faultLine(id));
   }
 

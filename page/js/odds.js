@@ -13,14 +13,14 @@ export const ANSWERED = {
     [20,20,0,14,20,15,9,0,0], [20,0,0,0,15,16,13,3,0]],
 };
 
-/** How likely goods have an answer, { any, stepped, of }: the least of the cells around so many. */
-export function odds(people, goods) {
-  const around = (list, n) => {
-    const above = list.findIndex((x) => x >= n);
-    const last = above < 0 ? list.length - 1 : above;
-    return [list[last] > n ? Math.max(0, last - 1) : last, last];
-  };
-  const [rows, columns] = [around(ANSWERED.people, people), around(ANSWERED.goods, goods)];
-  const least = (table) => Math.min(...rows.flatMap((row) => columns.map((column) => table[row][column])));
-  return { any: least(ANSWERED.any), stepped: least(ANSWERED.stepped), of: ANSWERED.of };
+/** The measured size that tells most of so many people and items: { people, things, any, stepped, of }. It is the next
+    larger one; where fewer items had no answer already, more of them were not tried, and that one is it. */
+export function oddsFor(people, things) {
+  const next = (list, n) => { const at = list.findIndex((x) => x >= n); return at < 0 ? list.length - 1 : at; };
+  const row = next(ANSWERED.people, people);
+  let column = next(ANSWERED.goods, things);
+  const hasNone = (at) => ANSWERED.goods[at] >= ANSWERED.people[row] && ANSWERED.any[row][at] === 0;
+  while (column > 0 && hasNone(column - 1)) column--;
+  return { people: ANSWERED.people[row], things: ANSWERED.goods[column], any: ANSWERED.any[row][column],
+    stepped: ANSWERED.stepped[row][column], of: ANSWERED.of };
 }

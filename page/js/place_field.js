@@ -9,7 +9,7 @@ export class PlaceField {
       h('input', { type: 'radio', name: 'place', value: i + 1, checked: bid.place === i + 1 }),
       h('span', {}, h('strong', {}, name(words)),
         h('small', {}, t('bid.alone', { amount: money(round.flag + round.legs[0][i]) }))));
-    this.set = h('fieldset', { class: 'plain' }, h('legend', {}, t('bid.place')), faultLine('place'),
+    this.set = h('fieldset', { class: 'plain' }, h('legend', { class: 'hint' }, t('bid.noPlace')), faultLine('place'),
       h('div', { class: 'places', id: 'place', input: () => showFault('place', '') }, round.places.map(place)));
     this.sum = null;
   }

@@ -5,9 +5,11 @@ import { money } from './money.js';
 import { fareShares, goodsShares, rentShares } from './shares.js';
 import { peopleOf } from './compare.js';
 import { action } from './dom.js';
+import { icon } from './draw.js';
 import { downloadBlob } from './parts.js';
 
 const [WIDTH, SIDE, HEAD, LINE, BAR] = [1000, 40, 110, 104, 26];
+const COLOURS = ['#2252af', '#a93900', '#681944', '#009b8c', '#918d16', '#390185']; // those of the style, in the light
 const SVG = 'http://www.w3.org/2000/svg';
 const LONGEST = 76; // signs in a line
 const short = (words) => (words.length > LONGEST ? `${words.slice(0, LONGEST - 1)}…` : words);
@@ -47,7 +49,7 @@ function shape(tag, attributes, words) {
 }
 
 const written = (x, y, size, words, more = {}) => shape('text',
-  { x, y, 'font-size': size, 'font-family': 'system-ui, sans-serif', fill: '#1f2933', ...more }, words);
+  { x, y, 'font-size': size, 'font-family': 'system-ui, sans-serif', fill: '#18211f', ...more }, words);
 
 /** A line: what somebody gets, and a bar. */
 function drawn({ member, says, beside, part }, i) {
@@ -55,7 +57,7 @@ function drawn({ member, says, beside, part }, i) {
   const whole = WIDTH - 2 * SIDE;
   const bar = (width, fill) => shape('rect', { x: SIDE, y: top + 44, width, height: BAR, rx: 6, fill });
   return [written(SIDE, top + 30, 24, short(says), { 'font-weight': 600 }),
-    bar(whole, '#f7f5f0'), bar(Math.max(1, part * whole), `hsl(${(member * 137 + 168) % 360} 55% 32%)`),
+    bar(whole, '#f1ece3'), bar(Math.max(1, part * whole), COLOURS[member % COLOURS.length]),
     written(WIDTH - SIDE, top + 30, 24, beside, { 'text-anchor': 'end', 'font-weight': 600 })];
 }
 
@@ -67,7 +69,7 @@ export function posterOf(scene) {
   const title = short(scene.names.title || text(`kinds.${scene.said.kind}.title`));
   svg.append(shape('rect', { width: WIDTH, height, fill: '#fff' }),
     written(SIDE, 70, 38, title, { 'font-weight': 700 }),
-    ...lines.flatMap(drawn), written(SIDE, height - 24, 18, text('site'), { fill: '#55606b' }));
+    ...lines.flatMap(drawn), written(SIDE, height - 24, 18, text('site'), { fill: '#55605d' }));
   return svg;
 }
 
@@ -88,4 +90,4 @@ async function pngOf(svg) {
 /** The button that saves a division as a picture. */
 export const pictureButton = (scene, file) => action({
   click: async () => downloadBlob(`${file}.png`, await pngOf(posterOf(scene))),
-}, t('own.picture'));
+}, icon('picture'), t('own.picture'));

@@ -5,14 +5,13 @@ import { names, number, t, text } from './language.js';
 import { listedBid } from './compare.js';
 import { money } from './money.js';
 import { savedFile } from './saved.js';
+import { icon } from './draw.js';
 
 const ruleLine = ([path, holds]) => h('li', { class: holds ? 'yes' : 'no' }, sign(holds ? '✓ ' : '✗ '),
   h('span', { class: 'sr' }, t(holds ? 'check.holds' : 'check.fails'), ' '), t(path));
 
-/** The verdict, in a sentence. */
-function judged({ verdict, rule, line, by }, differ) {
-  if (verdict === 'yes' && differ.length) return t('check.beside');
-  if (verdict === 'yes') return t(by === 'script' ? 'check.yesUnproved' : 'check.yes');
+/** Why no division is shown, in a sentence. */
+function refusal({ verdict, rule, line }) {
   if (verdict === 'no') return t('check.no', { rule });
   if (verdict === 'differ') return t('judge.differ');
   if (verdict === 'none') return t('judge.none');
@@ -30,23 +29,37 @@ function judgedBy({ verdict, by, proved, script, isLowered, isOver }) {
   return [t(isLowered ? 'judge.lowered' : 'judge.proved'), ' ', t(second)];
 }
 
-/** The verdict, in one box with whatever it depends on. `differ` are sentences on what this browser saw otherwise, and
-    `names` says whose word the names are. */
-export function verdictBox(found, differ = [], whose = null) {
-  const good = found.verdict === 'yes' && differ.length === 0;
-  return h('div', {
-    class: `verdict ${good ? 'good' : 'bad'}`, id: 'verdict', role: good ? null : 'alert',
-    'data-verdict': found.verdict, 'data-rule': found.rule ?? 0, 'data-differ': differ.length,
-  }, h('p', {}, h('strong', {}, judged(found, differ))),
-  differ.length > 0 && h('ul', { class: 'differ' }, differ.map((says) => h('li', {}, says))),
-  h('p', { id: 'judges', 'data-by': found.by }, judgedBy(found)),
-  found.verdict === 'yes' && whose && p(whose));
+const judges = (found) => h('p', { id: 'judges', 'data-by': found.by }, judgedBy(found));
+const told = (found, differ) => (
+  { id: 'verdict', 'data-verdict': found.verdict, 'data-rule': found.rule ?? 0, 'data-differ': differ.length });
+
+/** A verdict that is no yes, with whatever it depends on. */
+export const noYes = (found) => h('div', { class: 'box bad', role: 'alert', ...told(found, []) },
+  p(h('strong', {}, refusal(found))), judges(found));
+
+/** How far a yes goes: { mood, says, asks }. `isDoubtful` where the names are only somebody's word. */
+function reach({ by, said }, differ, isDoubtful) {
+  if (differ.length) return { mood: 'bad', says: 'check.beside' };
+  if (by === 'script') return { mood: 'amber', says: 'check.yesUnproved', asks: 'check.how' };
+  if (isDoubtful) return { mood: 'amber', says: 'names.only', asks: 'check.whatNow' };
+  return { mood: 'good', says: said.kind === 'fares' ? 'check.yesFares' : 'check.yes', asks: 'check.how' };
+}
+
+/** A yes in one line, and behind it how it came about. `differ` are sentences on what this browser saw otherwise. */
+export function proofLine(found, differ, isDoubtful, ...behind) {
+  const { mood, says, asks } = reach(found, differ, isDoubtful);
+  return h('details', { class: `proof ${mood}`, open: mood === 'bad', role: mood === 'bad' ? 'alert' : null,
+    ...told(found, differ) },
+  h('summary', {}, icon(mood === 'good' ? 'check' : 'careful'),
+    h('span', {}, t(says), asks && [' ', h('span', { class: 'more' }, t(asks))])),
+  h('div', {}, differ.length > 0 && h('ul', { class: 'differ' }, differ.map((one) => h('li', {}, one))),
+    judges(found), behind));
 }
 
 /** Where there is no certificate, this stands in the place of the verdict. */
 export const nothingChecked = (why) => h('div',
-  { class: 'verdict bad', id: 'verdict', role: 'alert', 'data-verdict': 'none' },
-  h('p', {}, h('strong', {}, t('check.nothing'))), p(why));
+  { class: 'box bad', id: 'verdict', role: 'alert', 'data-verdict': 'none' },
+  p(h('strong', {}, t('check.nothing'))), p(why));
 
 /** What the second check looked at: facts in plain words, then the rules one by one. */
 export function findings({ verdict, by, second }) {
@@ -111,22 +124,19 @@ function listed(said, { things, you }) {
   return t('proof.printed', { bid: h('strong', { id: 'printed' }, bidText(said.kind, things, bid)) });
 }
 
-/** The card at the end of a result that holds. */
-export function panel({ found, scene, certificate, file }) {
-  const { names: known, said } = scene;
-  const click = () => download(`${file}.json`, savedFile(known, certificate));
-  const page = h('a', { href: 'check.html', download: 'fairsplit-check.html' }, t('check.file'));
-  const bare = `${file}-certificate.txt`;
+/** How to check a certificate elsewhere: the file with the names and the currency, the page that reads it, and the
+    program. */
+export function elsewhere({ said, names: known }, certificate, { file, currency }) {
+  const save = { class: 'button', click: () => download(`${file}.json`, savedFile(known, certificate, currency)) };
+  const page = { class: 'button', href: 'check.html', download: 'fairsplit-check.html' };
   return [
-    p(t('proof.what')),
-    h('ol', {}, h('li', {}, t('proof.download'), ' ', action({ click }, t('proof.downloadButton'))),
-      h('li', {}, t('proof.file', { link: page })),
-      h('li', {}, t('proof.judge', {
-        program: h('code', {}, 'fairsplit'), yes: h('code', {}, 'yes'),
-        command: h('kbd', {}, `fairsplit check < ${bare}`),
-      })),
-      h('li', {}, listed(said, known))),
-    h('h3', {}, t('proof.here')), h('p', { class: 'hint' }, t('proof.hereHow')),
-    h('div', { id: 'findings', class: 'second' }, findings(found)),
+    p(listed(said, known)), p(t('proof.file')),
+    h('p', { class: 'row' }, action(save, icon('save'), t('proof.downloadButton')), h('a', page, t('check.file'))),
+    p(t('proof.judge', { program: h('code', {}, 'fairsplit'), yes: h('code', {}, 'yes'),
+      command: h('kbd', {}, `fairsplit check < ${file}-certificate.txt`) })),
   ];
 }
+
+/** What the second check found. */
+export const secondCheck = (found) => [h('h2', {}, t('judge.second')),
+  h('div', { id: 'findings', class: 'second' }, findings(found)), h('p', { class: 'hint' }, t('proof.hereHow'))];

@@ -1,12 +1,12 @@
-// A division of their own, where the search found none: typed in the page, looked at by it, and saved as the file that
-// `fairsplit weigh` takes.
+// A division of their own, where the search found none: it starts from what is known of everyone's points and from a
+// good division, is looked at by the page, and kept as a draft.
 import { action, fill, h, name, p } from './dom.js';
-import { card, download, table } from './parts.js';
+import { card, table } from './parts.js';
 import { t, text } from './language.js';
-import { get } from './api.js';
 import { whole } from './money.js';
 import { LIMITS } from './rules.js';
-import { seen } from './seen.js';
+import { bestFound } from './best_found.js';
+import { icon } from './draw.js';
 
 const sum = (all) => all.reduce((a, b) => a + b, 0);
 
@@ -23,32 +23,31 @@ export function weighed(points, owners) {
   return { own, envies };
 }
 
-/** The points that are known here: one's own, from this browser or the server. */
-async function knownPoints({ round, path, link }) {
-  if (round.you === 0) return null;
-  const bid = seen(link)?.bid ?? await get(`${path}/bid`, link.key).catch(() => null);
-  return bid?.values ?? null;
-}
-
-class Proposal {
-  constructor(view, mine) {
-    const { round } = view;
-    Object.assign(this, { view, round, people: round.bids.map((m) => round.members[m - 1]) });
-    this.cells = round.bids.map((m, at) => round.goods.map((good, g) => h('input', {
-      id: `points-${at}-${g}`, inputmode: 'numeric', autocomplete: 'off', value: (m === round.you && mine?.[g]) || 0,
+export class Proposal {
+  /** `bids` are the points of those who bid, null where this browser can't know them; `saved` keeps the draft. */
+  constructor(round, bids, saved) {
+    Object.assign(this, { round, people: round.bids.map((m) => round.members[m - 1]), saved });
+    const had = saved.get();
+    const draft = had && JSON.stringify(had.of) === JSON.stringify([round.members, round.goods, bids]) ? had : null;
+    this.of = [round.members, round.goods, bids];
+    const points = draft?.points ?? round.bids.map((_, at) => bids[at] ?? round.goods.map(() => ''));
+    this.isKnown = bids.every(Boolean);
+    const owners = draft?.owners ?? (this.isKnown ? bestFound(bids) : round.goods.map(() => 0));
+    this.cells = round.bids.map((_, at) => round.goods.map((good, g) => h('input', {
+      id: `points-${at}-${g}`, inputmode: 'numeric', autocomplete: 'off', value: points[at]?.[g] ?? '',
       'aria-label': text('none.pointsOf', { name: this.people[at], thing: good }) })));
     this.owners = round.goods.map((good, g) => h('select', {
       id: `owner-${g}`, 'aria-label': text('none.ownerOf', { thing: good }) },
-    this.people.map((member, at) => h('option', { value: at }, member))));
+    this.people.map((member, at) => h('option', { value: at, selected: owners[g] === at }, member))));
     this.found = h('div', { 'aria-live': 'polite', id: 'found' });
     this.wrong = h('p', { class: 'fault', id: 'proposal-fault' });
-    this.file = `round-${view.link.id}-proposal.json`;
   }
 
-  points() { return this.cells.map((row) => row.map((cell) => whole(cell.value))); }
+  typed() { return this.cells.map((row) => row.map((cell) => cell.value)); }
+  points() { return this.typed().map((row) => row.map((value) => (value.trim() ? whole(value) : 0))); }
   owner() { return this.owners.map((select) => Number(select.value)); }
 
-  /** What is wrong with the points, or null. */
+  /** What is wrong with the points, once somebody typed any; or null. */
   fault(points) {
     const bad = points.findIndex((row) => row.some(Number.isNaN) || sum(row) !== LIMITS.points);
     if (bad < 0) return null;
@@ -56,11 +55,10 @@ class Proposal {
     return t('none.pointsFault', { name: name(this.people[bad]), all: LIMITS.points, has });
   }
 
-  look() {
+  look(isTyped) {
     const points = this.points();
     const fault = this.fault(points);
-    fill(this.wrong, fault);
-    this.save.disabled = Boolean(fault);
+    fill(this.wrong, isTyped && fault);
     fill(this.found, !fault && this.told(weighed(points, this.owner())));
   }
 
@@ -73,29 +71,21 @@ class Proposal {
       h('p', { class: 'hint' }, t('none.notProved'))];
   }
 
-  write() {
-    const { round } = this;
-    const points = this.points();
-    const bids = round.members.map((_, i) => points[round.bids.indexOf(i + 1)] ?? null);
-    const owners = this.owner().map((at) => round.bids[at]);
-    const { kind, title, members, goods, limit } = round;
-    download(this.file, JSON.stringify({ kind, title, members, goods, limit, bids, owners }, null, 1));
+  change() {
+    this.saved.put({ of: this.of, points: this.typed(), owners: this.owner() });
+    this.look(true);
   }
 
   drawn() {
-    this.save = action({ click: () => this.write() }, t('none.proposalFile'));
     const people = this.people.map((member) => h('th', { scope: 'col' }, name(member)));
     const head = [t('goods.thing'), t('none.owner'), people];
     const rows = this.round.goods.map((good, g) => h('tr', {}, h('th', { scope: 'row' }, name(good)),
       h('td', {}, this.owners[g]), this.cells.map((row) => h('td', {}, row[g]))));
-    const node = card(t('none.proposal'), p(t('none.proposalHow')),
-      h('div', { input: () => this.look() }, table(text('none.proposalTable'), head, rows, { class: 'grid' })),
-      this.wrong, this.found,
-      p(this.save, ' ', t('none.proposalThen', { command: h('kbd', {}, `fairsplit weigh < ${this.file}`) })));
-    this.look();
+    const node = card(t(this.isKnown ? 'none.bestFound' : 'none.proposal'),
+      h('p', { class: 'box note' }, t(this.isKnown ? 'none.bestFoundHow' : 'none.proposalHow')), this.found,
+      h('div', { input: () => this.change() }, table(text('none.proposalTable'), head, rows, { class: 'grid' })),
+      this.wrong, h('p', { class: 'row' }, action({ click: () => print() }, icon('print'), t('files.print'))));
+    this.look(false);
     return node;
   }
 }
-
-/** The card, with one's own points in it. */
-export const proposalCard = async (view) => new Proposal(view, await knownPoints(view)).drawn();

@@ -1,12 +1,15 @@
 // The result of a closed round. What is shown comes from the certificate, once it is judged here.
-import { action, announce, box, fill, h, p } from './dom.js';
-import { card, download } from './parts.js';
+import { action, announce, box, h, heading, name, p, turn } from './dom.js';
+import { download } from './parts.js';
 import { learnMore, t, text } from './language.js';
 import { get, getText, sentence } from './api.js';
 import { held, peopleOf } from './compare.js';
-import { differenceText, findings, nothingChecked, panel, showVerdicts, tellBranches, verdictBox } from './proof.js';
+import {
+  differenceText, elsewhere, noYes, nothingChecked, proofLine, secondCheck, showVerdicts, tellBranches,
+} from './proof.js';
+import { icon } from './draw.js';
 import { judge } from './judges.js';
-import { numbered, picture } from './picture.js';
+import { hero, numbered, picture } from './picture.js';
 import { pictureButton } from './poster.js';
 import { faceOf, seen } from './seen.js';
 import { unchecked } from './unchecked.js';
@@ -14,7 +17,7 @@ import { unchecked } from './unchecked.js';
 /** Shows the result, or why there is none. */
 export async function result(place, view) {
   const { path, link } = view;
-  fill(place, h('p', { role: 'status' }, t('result.wait')));
+  turn(place, heading(t('wait')), h('p', { role: 'status' }, t('result.wait')));
   await learnMore();
   let certificate;
   try { certificate = await getText(`${path}/certificate`, link.key); } catch (refused) {
@@ -24,7 +27,7 @@ export async function result(place, view) {
   }
   const checks = judge(certificate, (count) => tellBranches(place, count));
   showVerdicts(place, checks, (found) => {
-    fill(place, drawn(found, certificate, view));
+    turn(place, drawn(found, certificate, view));
     announce(text('result.ready'));
   });
   await checks.first;
@@ -32,11 +35,10 @@ export async function result(place, view) {
 
 /** The view of a verdict: the division only where it is yes. */
 const drawn = (found, certificate, view) => (found.verdict === 'yes' ? whole(found, certificate, view)
-  : [verdictBox(found), refusal(found), files(certificate, view, view.round)]);
+  : [heading(name(String(view.round.title))), noYes(found), isNo(found) && h('section', {}, secondCheck(found)),
+    h('div', { id: isNo(found) ? null : 'findings' }, files(certificate, view, view.round))]);
 
-/** Which rules do not hold: no division is shown. */
-const refusal = (found) => (found.verdict === 'no' || found.verdict === 'differ')
-  && card(t('judge.second'), h('div', { id: 'findings', class: 'second' }, findings(found)));
+const isNo = ({ verdict }) => verdict === 'no' || verdict === 'differ';
 
 /** The sentence on whose word the names are. */
 function whoseNames(saw, differ) {
@@ -45,27 +47,31 @@ function whoseNames(saw, differ) {
   return differ.length ? 'names.drawn' : saw.bid ? 'names.seenBid' : 'names.seen';
 }
 
-/** A result that holds: the verdict, with whatever this browser saw otherwise; the division; how to check it
-    elsewhere. */
+/** A result that holds: what it means for whoever looks, how far it was checked, and the pictures. */
 function whole(found, certificate, view) {
   const { link, round } = view;
   const { said } = found;
   const saw = seen(link);
   const { names: known, differ } = held(said, faceOf(round), saw, numbered);
   const scene = { said, names: known };
+  const shown = picture(scene);
   const says = differ.map((one) => differenceText(one, { ...known, kind: said.kind }));
   const whose = whoseNames(saw, differ);
+  const file = `round-${link.id}`;
+  const isDoubtful = !saw || differ.length > 0;
   return [
-    verdictBox(found, says, whose && t(whose)), picture(scene),
-    h('p', { class: 'row keep' }, pictureButton(scene, `round-${link.id}`),
-      action({ click: () => print() }, t('files.print'))),
-    card(t('proof.title'), panel({ found, scene, certificate, file: `round-${link.id}` })),
-    files(certificate, view, { kind: said.kind, bids: peopleOf(said), you: known.you }),
+    hero(scene, shown, isDoubtful, proofLine(found, says, isDoubtful, whose && p(t(whose)), p(shown.why),
+      elsewhere(scene, certificate, { file, currency: link.currency }), secondCheck(found),
+      files(certificate, view, { kind: said.kind, bids: peopleOf(said) }))),
+    shown.parts,
+    h('p', { class: 'row after' }, pictureButton(scene, file),
+      action({ click: () => print() }, icon('print'), t('files.print')),
+      round.you === 0 && action({ click: view.again }, t('none.again'))),
   ];
 }
 
 /** The texts of a closed round, as files: which there are goes by its kind and by who has a bid. */
-function files(certificate, view, { kind, bids, you }) {
+function files(certificate, view, { kind, bids }) {
   const { path, link } = view;
   const textOf = async (what) => (what === 'certificate' ? certificate : getText(`${path}/${what}`, link.key));
   const fetched = (label, what) => action({ click: async (event) => {
@@ -78,25 +84,26 @@ function files(certificate, view, { kind, bids, you }) {
     } catch (refused) { button.after(box('bad', sentence(refused))); }
     button.disabled = false;
   } }, t(label));
-  return card(t('files.title'), p(t('files.whose')), h('p', { class: 'row' },
+  return [h('h2', {}, t('files.title')), p(t('files.whose')), h('p', { class: 'row' },
     fetched('files.certificate', 'certificate'), fetched('files.report', 'report'),
     kind !== 'rent' && fetched('files.audit', 'audit'),
-    kind === 'goods' && bids.length === 2 && fetched('files.winner', 'winner')),
-  you === 0 && p(action({ click: view.again }, t('none.again'))));
+    kind === 'goods' && bids.length === 2 && fetched('files.winner', 'winner'))];
 }
 
 /** No certificate came: why there is no result, or that nothing was checked. */
 async function none(place, refused, view) {
   const { noResult } = await import('./no_result.js');
   const told = await noResult(refused, view);
-  if (told) fill(place, told);
-  else await withoutCertificate(place, refused, view);
+  if (!told) { await withoutCertificate(place, refused, view); return; }
+  place.closest('main').dataset.view = 'none'; // whose help is another one
+  turn(place, told);
 }
 
 /** No certificate could be had: that nothing was checked stands there, and what the server says, if it says any. */
 async function withoutCertificate(place, refused, view) {
   let division = null;
   try { division = await get(`${view.path}/division`, view.link.key); } catch { /* then nothing is shown */ }
-  fill(place, nothingChecked(sentence(refused)), division && unchecked(division, faceOf(view.round)),
+  turn(place, heading(name(String(view.round.title))), nothingChecked(sentence(refused)),
+    division && unchecked(division, faceOf(view.round)),
     p(action({ class: 'main', click: () => result(place, view) }, t('again'))));
 }

@@ -1,22 +1,22 @@
 // A round as its link shows it. Who has bid, one's own bid, the organiser's links and the result have files of their
 // own, loaded when needed.
 import { action, box, fill, h, heading, name, p, turn } from './dom.js';
-import { entitle, locale, t, text } from './language.js';
+import { entitle, locale, shortMoment, t, text } from './language.js';
 import { setCurrency } from './money.js';
-import { NoReply, SLOW, get, isRound, sentence } from './api.js';
+import { NoReply, SLOW, get, hostNow, isRound, sentence } from './api.js';
 import { seen } from './seen.js';
 
 let shown = 0; // counts views, so that a late reply to an earlier one is dropped
-let asked = null; // who has bid: asks the host now and then
+let asks = null; // who has bid: asks the host now and then
 
 /** Ends the view: nothing is asked any more. */
 export function stop() {
-  asked?.stop();
-  asked = null;
+  asks?.stop();
+  asks = null;
   shown++;
 }
 
-document.addEventListener('visibilitychange', () => { if (!document.hidden) asked?.tick(); });
+document.addEventListener('visibilitychange', () => { if (!document.hidden) asks?.tick(); });
 
 /** Asks for the round of a link, and for one's own bid while it is open. */
 async function ask(path, link) {
@@ -26,11 +26,14 @@ async function ask(path, link) {
   return { round, bid };
 }
 
-/** What stands above a round. */
-const topOf = ({ kind, title, members, you }, link) => h('header', { class: 'top' },
-  h('p', { class: 'eyebrow' }, t(`kinds.${kind}.round`, { id: link.id })),
-  heading(name(title)),
-  h('p', { class: 'who' }, you > 0 ? t('youAre', { name: name(String(members[you - 1])) }) : t('youOrganise')));
+/** What stands above an open round: a question to a member, or the title for the organiser. */
+const topOf = ({ kind, title, members, you, deadline }) => h('header', {}, h('p', { class: 'eyebrow' }, you > 0
+  ? [name(title), ' · ', t('until', { time: shortMoment(deadline * 1000, hostNow()) })] : t('youOrganise')),
+you > 0 ? asked(kind, members[you - 1]) : heading(name(title)));
+
+/** What somebody is asked. */
+const asked = (kind, member) => h('h1', { class: 'tight', tabindex: -1 },
+  t(`bid.${kind}`, { name: name(String(member)) }));
 
 /** What to do where nothing can be shown. */
 const ways = (retry) => h('p', { class: 'row' }, action({ class: 'main', click: retry }, t('again')),
@@ -78,8 +81,8 @@ async function draw(root, link, reload, closing = false) {
   const face = (round.closed && seen(link)) || round;
   entitle(roleOf(face));
   root.dataset.view = round.closed ? 'result' : round.you > 0 ? 'bid' : 'organiser';
-  const top = topOf(face, link);
-  await (round.closed ? (await import('./closed.js')).showClosed : showOpen)(root, top, view);
+  if (round.closed) await (await import('./closed.js')).showClosed(root, face, view);
+  else await showOpen(root, view);
 }
 
 /** Shows the round of a link; `failed` is called where a part of the page did not load. */
@@ -90,19 +93,26 @@ export async function show(root, link, failed = () => {}) {
 /** Who has bid, in `place`. */
 async function showBidders(place, view) {
   const { Bidders } = await import('./bidders.js');
-  if (view.alive()) asked = new Bidders(place, view);
+  if (view.alive()) asks = new Bidders(place, view);
 }
 
-/** An open round: who has bid, and one's own bid or the organiser's links. */
-async function showOpen(root, top, view) {
+/** An open round: one's own bid and who has bid, or all that the organiser has. */
+async function showOpen(root, view) {
   const { round } = view;
-  const body = h('div', {});
-  const people = h('section', { class: 'card people' });
-  turn(root, top, round.you > 0 || round.bids.length ? [people, body] : [body, people]);
+  const body = h('div', { class: 'form' });
+  if (round.you === 0) {
+    const { Organiser } = await import('./organiser.js');
+    if (!view.alive()) return;
+    turn(root, h('div', { class: 'narrow' }, topOf(round), body));
+    asks = new Organiser(body, view);
+    await asks.begin();
+    return;
+  }
+  const people = h('section', { class: 'people form' });
+  turn(root, h('div', { class: 'form' }, topOf(round)), body, people);
   const told = showBidders(people, view);
-  const tick = (quiet) => asked?.tick(quiet);
-  const own = (has) => asked?.own(has);
-  if (round.you > 0) await (await import('./bid.js')).bidForm(body, { ...view, tick, own });
+  const tick = (quiet) => asks?.tick(quiet);
+  const own = (has) => asks?.own(has);
+  await (await import('./bid.js')).bidForm(body, { ...view, tick, own });
   await told;
-  if (round.you === 0 && asked) await (await import('./organiser.js')).organise(body, { ...view, tick }, asked);
 }

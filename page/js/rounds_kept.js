@@ -11,7 +11,16 @@ export const rememberRound = (link, { kind, title, members, you, deadline }, at 
 
 export const forgetRound = (link) => keep(slot(link), null);
 
+/** Remembers again what was forgotten. */
+export const putBack = (round) => keep(slot(parse(round.link)), round);
+
 export const isRemembered = (link) => kept(slot(link)) !== null;
+
+/** Notes that a round which is remembered has closed. */
+export function rememberClose(link) {
+  const known = kept(slot(link));
+  if (known && !known.isClosed) keep(slot(link), { ...known, isClosed: true });
+}
 
 const isRound = (one) => Boolean(THINGS[one?.kind]) && typeof one.title === 'string' && typeof one.who === 'string'
   && Number.isFinite(one.until) && Boolean(parse(String(one.link)));

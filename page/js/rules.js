@@ -8,8 +8,12 @@ export const LIMITS = {
   certificate: 4_000_000, digits: 25, denominator: 4_294_967_295,
 };
 
-/** Points go by steps of this size: the search ends more often then. */
+/** Points in steps of this size: the search ends more often then. */
 export const STEP = 50;
+
+/** The mark in a link, in place of a currency, of items to which everyone gives ten chips of a hundred points each. */
+export const CHIPS = 'TEN';
+export const CHIP = 100;
 
 /** The field of a creation in which the things stand that are divided. */
 export const THINGS = { rent: 'rooms', goods: 'goods', fares: 'places' };

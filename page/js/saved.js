@@ -6,10 +6,11 @@ const isText = (one) => typeof one === 'string';
 const isList = (list) => Array.isArray(list) && list.every(isText);
 
 /** The text of the file. */
-export const savedFile = ({ title, members, things }, certificate) => (
-  `${JSON.stringify({ fairsplit: 1, title, members, items: things, certificate })}\n`);
+export const savedFile = ({ title, members, things }, certificate, currency = '') => (
+  `${JSON.stringify({ fairsplit: 1, title, members, items: things, ...(currency && { currency }), certificate })}\n`);
 
-/** What a text holds that somebody opened or pasted: { certificate }, with { names } where it is a saved file; where it
+/** What a text holds that somebody opened or pasted: { certificate }, with { names }, and perhaps { currency }, where
+    it is a saved file; where it
     is neither, { fault }, the key of a sentence. */
 export function opened(text) {
   if (!text.trim()) return { fault: 'check.empty' };
@@ -21,10 +22,11 @@ export function opened(text) {
   try { held = JSON.parse(text); } catch {
     return /^[[{]/.test(bare) ? { fault: 'check.notOurs' } : { certificate: bare };
   }
-  const { fairsplit, title, members, items, certificate } = held ?? {};
+  const { fairsplit, title, members, items, currency, certificate } = held ?? {};
   const whole = fairsplit === 1 && [title, certificate].every(isText) && isList(members) && isList(items);
   if (!whole || new TextEncoder().encode(text).length > MOST_BYTES) return { fault: 'check.notOurs' };
-  return { certificate, names: { title, members, things: items } };
+  const hasCurrency = /^[A-Z]{3}$/.test(currency);
+  return { certificate, names: { title, members, things: items }, ...(hasCurrency && { currency }) };
 }
 
 /** Whether the names of a saved file can be those of its certificate. */

@@ -1,37 +1,55 @@
-// Ways to hand a link on: the system's share sheet, or a letter where there is none; and a code to be scanned.
-import { action, announce, build, fill, h } from './dom.js';
+// Ways to hand a link on: the system's share sheet, a message to be pasted, a letter, and a code to be scanned.
+import { action, announce, fill, h } from './dom.js';
 import { t, text } from './language.js';
+import { icon, svg } from './draw.js';
 import { qrCode } from './qr.js';
 
-/** A button, or a link to a letter, that hands on `url` with `words`. */
-export function shareControl({ title, words, url, label }) {
-  const given = { title, text: words, url };
-  if (navigator.share && (navigator.canShare?.(given) ?? true)) {
-    return action({ 'aria-label': label, click: () => navigator.share(given).catch(() => {}) }, t('links.share'));
-  }
-  const letter = `mailto:?subject=${encodeURIComponent(title)}&body=${encodeURIComponent(`${words}\n\n${url}\n`)}`;
-  return h('a', { class: 'button', href: letter, 'aria-label': label }, t('links.share'));
+const SHOWN = 3000; // so long a button says that it has done it
+
+/** Says on a button that it has done it, and then what it says otherwise. */
+function done(button, sign, says, usual) {
+  fill(button, icon(sign), says);
+  setTimeout(() => fill(button, icon(sign), usual), SHOWN);
 }
 
-/** A button that copies a link; where that is forbidden it marks the field that has it. */
-export function copyButton(url, whose, input) {
-  return action({ 'aria-label': text('links.copyOf', { whose }), click: async (event) => {
-    const button = event.currentTarget;
-    try {
-      await navigator.clipboard.writeText(url);
-      fill(button, t('links.copied'));
-      announce(text('links.copiedOf', { whose }));
-    } catch {
-      input.select();
-      fill(button, t('links.byKeys'));
-    }
-    setTimeout(() => fill(button, t('links.copy')), 3000);
-  } }, t('links.copy'));
+/** Puts a text onto the clipboard; where that is forbidden, marks the field that has the link. */
+async function copied(words, button, { whose, usual, input }) {
+  try {
+    await navigator.clipboard.writeText(words);
+    done(button, 'copy', t('links.copied'), usual);
+    announce(text('links.copiedOf', { whose }));
+  } catch {
+    if (input) { input.focus(); input.select(); }
+    done(button, 'copy', t('links.byKeys'), usual);
+  }
 }
+
+/** The button that hands `url` on with `words`: by the share sheet of the system, or as a message to be pasted. `sent`
+    is called once it was pressed; `says` is what stands on it otherwise. */
+export function sendButton({ title, words, url, whose }, sent, says) {
+  const given = { title, text: words, url };
+  const named = (of) => ({ class: 'button', 'aria-label': says ? `${text(says)}: ${whose}` : text(of, { whose }) });
+  if (navigator.share && (navigator.canShare?.(given) ?? true)) {
+    const click = () => navigator.share(given).then(sent, () => {});
+    return action({ ...named('links.sendOf'), click }, icon('send'), t(says ?? 'links.sendIt'));
+  }
+  const usual = t(says ?? 'links.copyMessage');
+  const click = ({ currentTarget }) => copied(`${words}\n${url}`, currentTarget, { whose, usual }).then(sent);
+  return action({ ...named('links.copyMessageOf'), click }, icon('copy'), usual);
+}
+
+/** A button that copies the bare link. */
+export function copyButton(url, whose, input) {
+  return action({ 'aria-label': text('links.copyOf', { whose }), click: ({ currentTarget }) => (
+    copied(url, currentTarget, { whose, usual: t('links.copy'), input })) }, icon('copy'), t('links.copy'));
+}
+
+/** A link to a letter with it. */
+export const letterLink = ({ title, words, url, whose }) => h('a', { class: 'button',
+  href: `mailto:?subject=${encodeURIComponent(title)}&body=${encodeURIComponent(`${words}\n\n${url}\n`)}`,
+  'aria-label': text('links.letterOf', { whose }) }, icon('send'), t('links.letter'));
 
 const QUIET = 4; // squares of light around a code
-const SVG = 'http://www.w3.org/2000/svg';
-const svg = (tag, attributes, ...children) => build(document.createElementNS(SVG, tag), attributes, children);
 
 /** The code of a link as a drawing. */
 function drawn(url, whose) {
@@ -50,6 +68,6 @@ export function codeButton(url, whose, place) {
     const isShown = button.getAttribute('aria-expanded') === 'true';
     button.setAttribute('aria-expanded', String(!isShown));
     fill(place, !isShown && [drawn(url, whose), h('p', { class: 'hint' }, t('links.scan'))]);
-  } }, t('links.code'));
+  } }, icon('code'), t('links.code'));
   return button;
 }

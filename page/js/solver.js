@@ -1,7 +1,7 @@
 // Divides by the proved modules, in a worker that can be stopped. `numbersOf` says of a case what the solver wants to
 // know.
-import { fileOf, startWorker } from './carried.js';
-import { has64Bits } from '../judge/modules.js';
+import { startWorker } from './carried.js';
+import { moduleOf } from './module_of.js';
 
 /** What the solver of a kind is called with. `bids` has null for a member who takes no part. */
 const NUMBERS = {
@@ -20,8 +20,7 @@ let modules = null;
 
 /** The bytes of both modules. They are asked for once. */
 function moduleBytes() {
-  const bits = has64Bits() ? '64' : '32';
-  modules ??= Promise.all([fileOf(`solver${bits}.wasm`), fileOf(`judge${bits}.wasm`)])
+  modules ??= Promise.all([moduleOf('solver'), moduleOf('judge')])
     .then(([solver, judge]) => ({ solver, judge })).catch((fault) => { modules = null; throw fault; });
   return modules;
 }

@@ -77,9 +77,21 @@ export const bidDraft = ({ id, key }) => draftOf(`bid.${id}.${key.slice(0, 12)}`
 
 export const formDraft = (kind) => draftOf(`new.${kind}`);
 
-/** Forgets all that was kept, but for the language. */
+/** A division of their own, of a round that has no result. */
+export const proposalDraft = ({ id, key }) => draftOf(`proposal.${id}.${key.slice(0, 12)}`);
+
+/** What was typed of a division on this device. */
+export const divideDraft = () => draftOf('divide');
+
+/** Forgets all that was kept, but for the language; answers it. */
 export function forgetAll() {
-  for (const store of [lasting, passing]) {
-    for (const name of store.names()) if (name !== slot('language')) store.put(name, null);
-  }
+  const all = [lasting, passing].map((store) => store.names().filter((name) => name !== slot('language'))
+    .map((name) => [name, store.get(name)]));
+  [lasting, passing].forEach((store, i) => all[i].forEach(([name]) => store.put(name, null)));
+  return all;
+}
+
+/** Keeps again what was forgotten. */
+export function restoreAll(all) {
+  [lasting, passing].forEach((store, i) => all[i].forEach(([name, value]) => store.put(name, value, true)));
 }

@@ -1,6 +1,7 @@
 // The views that belong to no round.
 import { box, fill, h, heading, p } from './dom.js';
 import { entitle, learnMore, t, text } from './language.js';
+import { tableStyle } from './more_style.js';
 import { choose } from './start.js';
 import { pending } from './creation.js';
 
@@ -10,7 +11,7 @@ export async function showOwn(root, hash) {
   const { create } = made ? await import('./create.js') : {};
   const { checkView } = hash === '#check' ? await import('./checkview.js') : {};
   const { divideView } = hash === '#divide' ? await import('./divide.js') : {};
-  await learnMore();
+  await Promise.all([learnMore(), tableStyle()]);
   if (hash !== location.hash) return;
   root.dataset.view = made ? 'form' : { '#check': 'check', '#divide': 'divide' }[hash] ?? 'start';
   if (made) create(root, made[1]);

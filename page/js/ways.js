@@ -41,8 +41,8 @@ export class Ways {
 
   cell(row, to) {
     const input = ({ target: { value } }) => { this.put(row, to, value); this.look(row, to); this.changed(); };
-    return h('input', { id: `legs-${row}-${to}`, value: this.legs[row][to], inputmode: 'decimal', autocomplete: 'off',
-      'aria-describedby': 'legs-fault', input });
+    return h('input', { id: `legs-${row}-${to}`, class: 'cost', value: this.legs[row][to], inputmode: 'decimal',
+      autocomplete: 'off', 'aria-describedby': 'legs-fault', input });
   }
 
   /** A cost, and those that follow from it. */

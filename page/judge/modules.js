@@ -10,25 +10,41 @@ export function has64Bits() {
   return WebAssembly.validate(WITH_64_BITS);
 }
 
-/** The module of this name for the memory that this browser has. `fileOf` gives the bytes of a file. */
+/**
+ * Gives the bytes of the file of this name.
+ * @typedef {(name: string) => Promise<BufferSource> | BufferSource} FileOf
+ */
+
+/**
+ * The module of this name for the memory that this browser has.
+ * @param {string} name
+ * @param {FileOf} fileOf
+ */
 export async function compiled(name, fileOf) {
   return WebAssembly.compile(await fileOf(`${name}${has64Bits() ? '64' : '32'}.wasm`));
 }
 
-/** Lets the memory have all bytes below this address. */
+/**
+ * Lets the memory have all bytes below this address.
+ * @param {WebAssembly.Memory} memory
+ * @param {number} end
+ */
 function reserve(memory, end) {
   const missing = end - memory.buffer.byteLength;
   if (missing <= 0) return;
   const pages = Math.ceil(missing / PAGE_BYTES);
   try {
-    memory.grow(BigInt(pages));
+    memory.grow(/** @type {any} */ (BigInt(pages)));
   } catch (error) {
     if (!(error instanceof TypeError)) throw error;
     memory.grow(pages); // a 32-bit memory, and the 64-bit one of older engines, take a number
   }
 }
 
-/** The next address at which a list may begin. */
+/**
+ * The next address at which a list may begin.
+ * @param {number} address
+ */
 function aligned(address) {
   return Math.ceil(address / APART) * APART;
 }
@@ -37,12 +53,20 @@ function aligned(address) {
  * Calls a function of a module in an instance of its own, so that nothing of one call can reach another: with these numbers, these lists, lists
  * that it fills, and a buffer with this room. Memory from the heap's base on is the caller's, because no module has an allocator. The answer has
  * the status, the text, and how many amounts or bytes the function says that there are.
+ * @param {WebAssembly.Module} module
+ * @param {string} name
+ * @param {number[]} numbers
+ * @param {(Uint8Array | Uint32Array)[]} lists
+ * @param {number} room
+ * @param {(Uint8Array | BigInt64Array | BigUint64Array)[]} [filled]
  */
 export async function called(module, name, numbers, lists, room, filled = []) {
-  const { exports } = await WebAssembly.instantiate(module, {});
+  const exports = /** @type {any} */ ((await WebAssembly.instantiate(module, {})).exports);
   const sizeAt = aligned(Number(exports.__heap_base.value));
   const textAt = sizeAt + APART;
+  /** @type {(number | bigint)[]} */
   const words = [...numbers];
+  /** @type {number[]} */
   const places = [];
   let end = aligned(textAt + room);
   for (const list of [...lists, ...filled]) {

@@ -15,16 +15,9 @@ import fairsplit
 
 
 # %% Draw the estates
-def points(draw, goods):
-    """A thousand points over the goods: the steps between numbers that were drawn and sorted."""
-    cuts = sorted(draw.randint(0, 1000) for _ in range(goods - 1))
-    return [after - before for before, after in zip([0, *cuts], [*cuts, 1000])]
-
-
-def estate(draw):
+def estate(choice, number):
     """The bids of two to five heirs for three to nine goods."""
-    heirs, goods = draw.randint(2, 5), draw.randint(3, 9)
-    return [points(draw, goods) for _ in range(heirs)]
+    return fairsplit.draw.goods(choice.randint(2, 5), choice.randint(3, 9), seed=number)
 
 
 # %% Divide one, and measure it
@@ -39,8 +32,8 @@ def divided(bids):
 
 # %% Divide them all
 def main(count=1000, threads=4, seed=7):
-    draw = random.Random(seed)
-    estates = [estate(draw) for _ in range(count)]
+    choice = random.Random(seed)
+    estates = [estate(choice, f'{seed}, estate {number}') for number in range(count)]
     begun = time.perf_counter()
     with ThreadPoolExecutor(threads) as pool:
         rows = list(pool.map(divided, estates))

@@ -1,164 +1,308 @@
-"""What a division is: read from its certificate, and from what the caller handed over. Amounts are in cents, and exact.
+"""What a division is: read from the library's text, with the caller's names, in the caller's unit. Exact amounts are fractions.
 
-A report and the other texts come from the commands, which read JSON.
+A report comes from the command, which reads JSON.
 """
 from __future__ import annotations
 
-import json
-import re
-from dataclasses import asdict, dataclass, field
+from dataclasses import dataclass, field
 from fractions import Fraction
 from functools import cached_property
 from math import lcm, prod
-from typing import Any, Dict, Hashable, List, Optional, Sequence, Tuple
+from typing import Any, Generic, Hashable, List, Optional, Sequence, Tuple, TypeVar
 
-from ._errors import error_of
-from ._library import run
+from ._amounts import Amount, Money
+from ._commands import case_of, text_of
+from ._results import Division
 from ._tables import Table, bids_of
+from ._texts import fractions_of, number_of, numbers_of, places_in
 
-Names = Tuple[Hashable, ...]
-Case = Dict[str, Any]
-
-
-def _numbered(letter: str, count: int) -> List[str]:
-    """Names for the library, which never change a division: yours may be anything."""
-    return [f'{letter}{number}' for number in range(1, count + 1)]
-
-
-def _case(kind: str, members: int, items: str, count: int, bids: Sequence[Any], **facts: Any) -> Case:
-    """A case as the commands read it. `items` are its rooms, goods or places."""
-    return {'kind': kind, 'title': 'x', 'members': _numbered('m', members), items: _numbered(items[0], count), **facts, 'bids': bids}
-
-
-def goods_case(table: Table, limit: Optional[int] = None) -> Case:
-    """The case of goods that a table is."""
-    facts = {} if limit is None else {'limit': limit}
-    return _case('goods', len(table.members), 'goods', len(table.columns), table.rows, **facts)
-
-
-def text_of(command: str, case: Case, members: Names) -> str:
-    """What a command writes on a case, or its refusal as an error."""
-    status, text = run(command, json.dumps(case).encode())
-    if status:
-        raise error_of(status, text.decode().strip(), members)
-    return text.decode()
-
-
-class _Shares:
-    """What all divisions can do."""
-
-    shares: Tuple[Any, ...]
-    _case: Case
-
-    @cached_property
-    def report(self) -> str:
-        """What the program's `report` writes of this division, with m1, m2 and so on for the members. The library makes it from JSON when it is asked for."""
-        return text_of('report', self._case, ())
-
-    def records(self) -> List[Dict[str, Any]]:
-        """The shares as dictionaries, one a member, such as pandas.DataFrame takes."""
-        return [asdict(share) for share in self.shares]
+Member = TypeVar('Member', bound=Hashable)
+Room = TypeVar('Room', bound=Hashable)
+Good = TypeVar('Good', bound=Hashable)
+Place = TypeVar('Place', bound=Hashable)
 
 
 @dataclass(frozen=True)
-class RentShare:
-    """One member's room: the exact price, what they pay in whole cents, and what the room is worth to them beyond its price."""
+class RentShare(Generic[Member, Room]):
+    """One member's room.
 
-    member: Hashable
-    room: Hashable
+    Attributes
+    ----------
+    member, room : name
+    price : Fraction
+        The exact price of the room.
+    pays : int or Decimal
+        What the member pays: the price in whole cents, such that all together pay the rent.
+    utility : Fraction
+        What the room is worth to the member beyond its exact price.
+    """
+
+    member: Member
+    room: Room
     price: Fraction
-    pays: int
+    pays: Amount
     utility: Fraction
 
 
 @dataclass(frozen=True)
-class RentDivision(_Shares):
-    """A rent, divided so that nobody envies and the least utility is as great as can be. `envy[i][j]` is how much member i would gain by
-    having the room of member j at its price: never above 0."""
+class RentDivision(Division[RentShare[Member, Room]], Generic[Member, Room]):
+    """A rent, divided so that nobody envies and the least utility is as great as can be.
 
-    shares: Tuple[RentShare, ...]
-    least_utility: Fraction
-    envy: Tuple[Tuple[Fraction, ...], ...]
-    certificate: str
-    _case: Case = field(repr=False, compare=False)
+    Attributes
+    ----------
+    shares : tuple of RentShare
+        By member.
+    text : str
+        The certificate.
+    rooms : tuple
+        The names of the rooms, in the order of the certificate.
+    title : str
+        The title of the report.
+    """
+
+    shares: Tuple[RentShare[Member, Room], ...]
+    text: str = field(repr=False)
+    rooms: Tuple[Room, ...] = field(repr=False)
+    title: str = field(repr=False, compare=False)
+
+    @property
+    def certificate(self) -> str:
+        """The division's text, which is a certificate."""
+        return self.text
+
+    @property
+    def members(self) -> Tuple[Member, ...]:
+        """The members, in the order of the certificate."""
+        return tuple(share.member for share in self.shares)
+
+    @cached_property
+    def _values(self) -> List[List[int]]:
+        """What each member would pay for each room, in cents."""
+        return numbers_of(self.text, 'values')
+
+    @property
+    def least_utility(self) -> Fraction:
+        """The utility of the member who gains least."""
+        return min(share.utility for share in self.shares)
+
+    @cached_property
+    def envy(self) -> Tuple[Tuple[Fraction, ...], ...]:
+        """How much member i would gain by having the room of member j at its exact price: never above 0."""
+        money = Money.like(self.shares[0].pays)
+        rooms = list(zip(places_in(self.text, 'rooms'), (share.price for share in self.shares)))
+        return tuple(tuple(money.exact(row[room]) - price - share.utility for room, price in rooms) for row, share in zip(self._values, self.shares))
+
+    def _envy(self) -> Sequence[Sequence[Fraction]]:
+        return self.envy
+
+    @cached_property
+    def report(self) -> str:
+        """What the program's `report` writes of this division. A name that a case can't have is m1, r1 and so on there."""
+        return text_of('report', case_of(self.title, 'rent', self.members, 'rooms', self.rooms, self._values, rent=number_of(self.text, 'rent')), self.members)
 
 
 @dataclass(frozen=True)
-class GoodsShare:
-    """One member's goods, and their points to the member."""
+class GoodsShare(Generic[Member, Good]):
+    """One member's goods.
 
-    member: Hashable
-    goods: Names
+    Attributes
+    ----------
+    member : name
+    goods : tuple
+        The names of the goods that the member gets.
+    points : int
+        What they are worth to the member.
+    """
+
+    member: Member
+    goods: Tuple[Good, ...]
     points: int
 
 
 @dataclass(frozen=True)
-class GoodsDivision(_Shares):
-    """Goods, divided with the greatest Nash welfare: `positive` members get something, and the product of their points is `product`. Only
-    members who have bid have a share. `envy[i][j]` is how many points share i would gain by having the goods of share j. `owners` has for each
-    good the member who gets it."""
+class GoodsDivision(Division[GoodsShare[Member, Good]], Generic[Member, Good]):
+    """Goods, divided with the greatest Nash welfare. Only members who have bid have a share.
 
-    shares: Tuple[GoodsShare, ...]
-    owners: Names
-    positive: int
-    product: int
-    steps: int
-    envy: Tuple[Tuple[int, ...], ...]
-    certificate: str
-    _case: Case = field(repr=False, compare=False)
+    Attributes
+    ----------
+    shares : tuple of GoodsShare
+        By member who has bid.
+    text : str
+        The certificate.
+    members, goods : tuple
+        The names of all members, and of the goods in the order of the certificate.
+    owners : tuple
+        For each good the member who gets it.
+    title : str
+        The title of the report.
+    """
+
+    shares: Tuple[GoodsShare[Member, Good], ...]
+    text: str = field(repr=False)
+    members: Tuple[Member, ...] = field(repr=False)
+    goods: Tuple[Good, ...] = field(repr=False)
+    owners: Tuple[Member, ...] = field(repr=False)
+    title: str = field(repr=False, compare=False)
+
+    @property
+    def certificate(self) -> str:
+        """The division's text, which is a certificate."""
+        return self.text
+
+    @property
+    def positive(self) -> int:
+        """How many members get something that they want."""
+        return sum(share.points > 0 for share in self.shares)
+
+    @property
+    def product(self) -> int:
+        """The product of the points of these members."""
+        return prod(share.points for share in self.shares if share.points)
+
+    @property
+    def steps(self) -> int:
+        """How many steps the search took."""
+        return number_of(self.text, 'steps')
+
+    @cached_property
+    def envy(self) -> Tuple[Tuple[int, ...], ...]:
+        """How many points share i would gain by having the goods of share j."""
+        return envy_between(numbers_of(self.text, 'values'), places_in(self.text, 'owners'))
+
+    def _envy(self) -> Sequence[Sequence[int]]:
+        return self.envy
+
+    @cached_property
+    def report(self) -> str:
+        """What the program's `report` writes of this division. A name that a case can't have is m1, g1 and so on there."""
+        bids: List[Optional[List[int]]] = [None] * len(self.members)
+        for member, row in zip(places_in(self.text, 'who'), numbers_of(self.text, 'values')):
+            bids[member] = row
+        case = case_of(self.title, 'goods', self.members, 'goods', self.goods, bids, limit=number_of(self.text, 'limit'))
+        return text_of('report', case, self.members)
 
 
 @dataclass(frozen=True)
-class FareShare:
-    """One rider's fare: the exact one, what they pay in whole cents, and what they would pay alone."""
+class FareShare(Generic[Member, Place]):
+    """One rider's fare.
 
-    member: Hashable
-    place: Hashable
+    Attributes
+    ----------
+    member, place : name
+    fare : Fraction
+        The exact fare.
+    pays : int or Decimal
+        What the rider pays: the fare in whole cents, such that all together pay the ride.
+    alone : Fraction
+        What the rider would pay alone.
+    """
+
+    member: Member
+    place: Place
     fare: Fraction
-    pays: int
+    pays: Amount
     alone: Fraction
 
 
 @dataclass(frozen=True)
-class FareDivision(_Shares):
-    """A fare, shared by the Shapley value on the cheapest route. `route` has the riders in the order in which they get off. Only members who
-    have bid have a share."""
+class FareDivision(Division[FareShare[Member, Place]], Generic[Member, Place]):
+    """A fare, shared by the Shapley value on the cheapest route. Only members who ride have a share.
 
-    shares: Tuple[FareShare, ...]
-    total: int
-    route: Names
-    certificate: str
-    _case: Case = field(repr=False, compare=False)
+    Attributes
+    ----------
+    shares : tuple of FareShare
+        By member who rides.
+    text : str
+        The certificate.
+    members, places : tuple
+        The names of all members, and of the places in the order of the certificate.
+    total : int or Decimal
+        What the ride costs.
+    route : tuple
+        The riders in the order in which they get off.
+    title : str
+        The title of the report.
+    """
+
+    shares: Tuple[FareShare[Member, Place], ...]
+    text: str = field(repr=False)
+    members: Tuple[Member, ...] = field(repr=False)
+    places: Tuple[Place, ...] = field(repr=False)
+    total: Amount
+    route: Tuple[Member, ...]
+    title: str = field(repr=False, compare=False)
+
+    @property
+    def certificate(self) -> str:
+        """The division's text, which is a certificate."""
+        return self.text
+
+    @cached_property
+    def report(self) -> str:
+        """What the program's `report` writes of this division. A name that a case can't have is m1, p1 and so on there."""
+        bids: List[Optional[int]] = [None] * len(self.members)
+        for member, stop in zip(places_in(self.text, 'who'), numbers_of(self.text, 'at')[0]):
+            bids[member] = stop
+        facts = {'flag': number_of(self.text, 'flag'), 'legs': numbers_of(self.text, 'legs')}
+        return text_of('report', case_of(self.title, 'fares', self.members, 'places', self.places, bids, **facts), self.members)
 
 
 @dataclass(frozen=True)
-class Audit:
-    """What is said of proposed owners. `dominating` has for each good the owner in a division that is better for somebody and worse for nobody,
-    or is None if the search finds that there is none. `envy` tells of two members by name 'content', 'without GOOD' if they would be content
-    without that good of the other's, by number, or 'fails'."""
+class PairShare(Generic[Member]):
+    """One of two members' part of each good.
 
-    dominating: Optional[Names]
-    envy: Tuple[Tuple[Hashable, Hashable, str], ...]
-    positive: int
-    product: int
-    text: str
+    Attributes
+    ----------
+    member : name
+    parts : tuple of Fraction
+        For each good the part of it that the member gets.
+    points : Fraction
+        What they are worth to the member.
+    """
+
+    member: Member
+    parts: Tuple[Fraction, ...]
+    points: Fraction
 
 
 @dataclass(frozen=True)
-class PairDivision:
-    """Goods between two members by adjusted winner (Brams and Taylor 1996). `shares` has for each good the part of it that the first member
-    gets; both members have `total` points."""
+class PairDivision(Division[PairShare[Member]], Generic[Member, Good]):
+    """Goods between two members by adjusted winner (Brams and Taylor 1996).
 
-    members: Names
-    goods: Names
-    shares: Tuple[Fraction, ...]
+    Attributes
+    ----------
+    shares : tuple of PairShare
+        Of the two members.
+    text : str
+        The text of adjusted winner, which `check_winner` judges.
+    goods : tuple
+        The names of the goods.
+    total : Fraction
+        The points that each of the two has.
+    """
+
+    shares: Tuple[PairShare[Member], ...]
+    text: str = field(repr=False)
+    goods: Tuple[Good, ...]
     total: Fraction
-    text: str
+
+    @property
+    def cut(self) -> Optional[Good]:
+        """The good that is cut, or None."""
+        return next((good for good, part in zip(self.goods, self.shares[0].parts) if part.denominator > 1), None)
 
 
 @dataclass(frozen=True)
 class Verdict:
-    """Whether all rules of a text hold, and else the number of the first that does not. It is true where they hold."""
+    """What a judge says of a text. It is true where all rules hold.
+
+    Attributes
+    ----------
+    holds : bool
+        Whether all rules hold.
+    rule : int or None
+        The number of the first rule that does not.
+    """
 
     holds: bool
     rule: Optional[int] = None
@@ -167,74 +311,55 @@ class Verdict:
         return self.holds
 
 
-def _words(text: str, word: str) -> List[str]:
-    """The words behind the word with which a line begins."""
-    found = re.search(rf'^{word} (.*)$', text, re.MULTILINE)
-    assert found, f'the library wrote no line {word}'
-    return found[1].split()
+def envy_between(values: Sequence[Sequence[int]], owners: Sequence[int]) -> Tuple[Tuple[int, ...], ...]:
+    """How many points each player would gain by having the goods of each other one. `owners` has for each good its player, from 0."""
+    worth = [[sum(row[good] for good, owner in enumerate(owners) if owner == player) for player in range(len(values))] for row in values]
+    return tuple(tuple(other - row[player] for other in row) for player, row in enumerate(worth))
 
 
-def _places(text: str, word: str) -> List[int]:
-    """The numbers behind that word, which count from 1, as places in a list."""
-    return [int(number) - 1 for number in _words(text, word)]
-
-
-def rent_division(table: Table, total: int, certificate: str, pays: Sequence[int]) -> RentDivision:
+def rent_division(table: Table[Any, Any], certificate: str, pays: Sequence[int], money: Money, title: str) -> RentDivision[Any, Any]:
     """The division of a rent from its certificate, and from what each member pays."""
-    rooms = _places(certificate, 'rooms')
-    prices = [Fraction(price) for price in _words(certificate, 'prices')]
-    # what each room is worth to each member beyond its price, in parts of a cent of which each price has a whole number
+    rooms, prices = places_in(certificate, 'rooms'), fractions_of(certificate, 'prices')
+    # utilities in parts of a cent of which each price has a whole number
     parts = lcm(*(price.denominator for price in prices))
     costs = [int(price * parts) for price in prices]
-    gains = [[value * parts - cost for value, cost in zip(row, costs)] for row in bids_of(table)]
-    own = [row[room] for row, room in zip(gains, rooms)]
-    utilities = [Fraction(gain, parts) for gain in own]
     shares = tuple(
-        RentShare(member, table.columns[room], prices[room], paid, utility) for member, room, paid, utility in zip(table.members, rooms, pays, utilities))
-    envy = tuple(tuple(Fraction(row[room] - gain, parts) for room in rooms) for row, gain in zip(gains, own))
-    count = len(rooms)
-    return RentDivision(shares, min(utilities), envy, certificate, _case('rent', count, 'rooms', count, table.rows, rent=total))
+        RentShare(member, table.columns[room], money.exact(prices[room]), money.paid(paid), money.exact(Fraction(row[room] * parts - costs[room], parts)))
+        for member, row, room, paid in zip(table.members, bids_of(table), rooms, pays))
+    return RentDivision(shares, certificate, table.columns, title)
 
 
-def goods_division(table: Table, limit: Optional[int], certificate: str) -> GoodsDivision:
+def goods_division(table: Table[Any, Any], certificate: str, title: str) -> GoodsDivision[Any, Any]:
     """The division of goods from its certificate."""
-    owners = _places(certificate, 'owners')
+    owners = places_in(certificate, 'owners')
     players = [member for member, row in zip(table.members, table.rows) if row is not None]
-    goods = [[good for good, owner in enumerate(owners) if owner == player] for player in range(len(players))]
-    # what the goods of each player are worth to each
-    worth = [[sum(row[good] for good in got) for got in goods] for row in bids_of(table)]
-    points = [row[player] for player, row in enumerate(worth)]
-    shares = tuple(GoodsShare(member, tuple(table.columns[good] for good in got), own) for member, got, own in zip(players, goods, points))
-    positive = [own for own in points if own]
-    envy = tuple(tuple(other - own for other in row) for row, own in zip(worth, points))
-    steps = int(_words(certificate, 'steps')[0])
-    names = tuple(players[owner] for owner in owners)
-    return GoodsDivision(shares, names, len(positive), prod(positive), steps, envy, certificate, goods_case(table, limit))
+    return GoodsDivision(goods_shares(table, owners), certificate, table.members, table.columns, tuple(players[owner] for owner in owners), title)
 
 
-def fare_division(flag: int, legs: Table, members: Names, stops: Sequence[Optional[int]], certificate: str, pays: Sequence[int]) -> FareDivision:
+def goods_shares(table: Table[Any, Any], owners: Sequence[int]) -> Tuple[GoodsShare[Any, Any], ...]:
+    """What each of those who have bid gets, if `owners` has for each good its player, from 0."""
+    players = [(member, row) for member, row in zip(table.members, table.rows) if row is not None]
+    shares = []
+    for player, (member, row) in enumerate(players):
+        got = [good for good, owner in enumerate(owners) if owner == player]
+        shares.append(GoodsShare(member, tuple(table.columns[good] for good in got), sum(row[good] for good in got)))
+    return tuple(shares)
+
+
+def fare_division(flag: int, legs: Table[Any, Any], members: Tuple[Any, ...], stops: Sequence[Optional[int]], certificate: str, pays: Sequence[int],
+                  money: Money, title: str) -> FareDivision[Any, Any]:
     """The division of a fare from its certificate, and from what each rider pays."""
     riders = [(member, stop - 1) for member, stop in zip(members, stops) if stop is not None]
-    fares = map(Fraction, _words(certificate, 'fares'))
     from_origin = bids_of(legs)[0]
     shares = tuple(
-        FareShare(member, legs.columns[stop], fare, paid, Fraction(flag + from_origin[stop])) for (member, stop), fare, paid in zip(riders, fares, pays))
-    route = tuple(riders[rider][0] for rider in _places(certificate, 'route'))
-    case = _case('fares', len(members), 'places', len(legs.columns), stops, flag=flag, legs=legs.rows)
-    return FareDivision(shares, sum(pays), route, certificate, case)
+        FareShare(member, legs.columns[stop], money.exact(fare), money.paid(paid), money.exact(flag + from_origin[stop]))
+        for (member, stop), fare, paid in zip(riders, fractions_of(certificate, 'fares'), pays))
+    route = tuple(riders[rider][0] for rider in places_in(certificate, 'route'))
+    return FareDivision(shares, certificate, members, legs.columns, money.paid(sum(pays)), route, title)
 
 
-def audit(table: Table, text: str) -> Audit:
-    """The audit of proposed owners from its text."""
-    envy = tuple(
-        (table.members[int(one) - 1], table.members[int(other) - 1], said) for one, other, said in re.findall(r'^envy (\d+) (\d+): (.+)$', text, re.MULTILINE))
-    positive, product = (int(number) for number in re.findall(r'\d+', ' '.join(_words(text, 'positive'))))
-    last = text.splitlines()[-1].split()
-    dominating = tuple(table.members[int(number) - 1] for number in last[2:]) if last[0] == 'dominated' else None
-    return Audit(dominating, envy, positive, product, text)
-
-
-def pair_division(table: Table, text: str) -> PairDivision:
+def pair_division(members: Sequence[Any], goods: Tuple[Any, ...], text: str) -> PairDivision[Any, Any]:
     """The division between two members from its text."""
-    members = tuple(table.members[int(number) - 1] for number in _words(text, 'who'))
-    return PairDivision(members, table.columns, tuple(map(Fraction, _words(text, 'shares'))), Fraction(_words(text, 'total')[0]), text)
+    total, parts = fractions_of(text, 'total')[0], tuple(fractions_of(text, 'shares'))
+    first, second = members
+    return PairDivision((PairShare(first, parts, total), PairShare(second, tuple(1 - part for part in parts), total)), text, goods, total)

@@ -5,14 +5,27 @@ from typing import Hashable, Optional, Tuple
 
 
 class FairsplitError(Exception):
-    """The base of all that the library refuses. `status` is the status of the command line. What an error is made from is in `args`, so that it can be
-    pickled and come from another process."""
+    """The base of all that the library refuses.
+
+    What an error is made from is in `args`, so that it can be pickled and come from another process.
+
+    Attributes
+    ----------
+    status : int
+        The status of the command line.
+    """
 
     status = 0
 
 
 class Void(FairsplitError):
-    """Bids are missing: of a rent any, of goods and fares all. `missing` holds the members, as you named them."""
+    """Bids are missing: of a rent any, of goods and fares all.
+
+    Attributes
+    ----------
+    missing : tuple
+        The members who have not bid, as you named them.
+    """
 
     status = 1
 
@@ -25,7 +38,13 @@ class Void(FairsplitError):
 
 
 class OverLimit(FairsplitError):
-    """The search takes more steps than `limit`. Try a greater limit, up to 200,000, or put small goods together."""
+    """The search takes more steps than its limit. Try a greater limit, up to 200,000, or put small goods together.
+
+    Attributes
+    ----------
+    limit : int
+        The most steps that the search was allowed.
+    """
 
     status = 1
 
@@ -46,6 +65,25 @@ class NotTwo(FairsplitError):
         return 'adjusted winner wants exactly two members who have bid'
 
 
+class BrokenRule(FairsplitError, ValueError):
+    """A text that is to be read breaks a rule, so it doesn't show that its division is the best one.
+
+    Attributes
+    ----------
+    rule : int
+        The number of the first rule that does not hold. docs/CERTIFICATES.md lists them.
+    """
+
+    status = 1
+
+    def __init__(self, rule: int):
+        super().__init__(rule)
+        self.rule = rule
+
+    def __str__(self) -> str:
+        return f'rule {self.rule} does not hold, so the text does not show that its division is the best one'
+
+
 class OutOfMemory(FairsplitError):
     """Memory ran out inside the library."""
 
@@ -58,21 +96,33 @@ class OutOfMemory(FairsplitError):
 class Refused(FairsplitError, ValueError):
     """The input is no case, or no text of the grammar.
 
-    `field` is the first field of a case that breaks its rule, such as 'bids'. `line` is the first broken line of a text, from 1. Both are None if
-    the input is refused as a whole.
+    Attributes
+    ----------
+    field : str or None
+        The first field of a case that breaks its rule, such as 'bids'.
+    line : int or None
+        The first broken line of a text, from 1. Both are None if the input is refused as a whole.
+    said : str
+        The line of the command line, such as 'refused: field bids'.
+    reason : str or None
+        What is wrong, with names and numbers, such as "Ben's bids add up to 901, not 900". It is what the error says.
     """
 
-    def __init__(self, status: int, field: Optional[str], line: Optional[int], said: str):
-        super().__init__(status, field, line, said)
-        self.status, self.field, self.line, self.said = status, field, line, said
+    def __init__(self, status: int, field: Optional[str], line: Optional[int], said: str, reason: Optional[str] = None):
+        super().__init__(status, field, line, said, reason)
+        self.status, self.field, self.line, self.said, self.reason = status, field, line, said, reason
 
     def __str__(self) -> str:
-        return self.said
+        return self.reason or self.said
 
     @classmethod
-    def of_field(cls, field: str) -> 'Refused':
+    def of_field(cls, field: str) -> Refused:
         """The refusal of a field, as the library says it."""
         return cls(3, field, None, f'refused: field {field}')
+
+    def because(self, reason: Optional[str]) -> Refused:
+        """The same refusal, with a reason."""
+        return Refused(self.status, self.field, self.line, self.said, reason)
 
 
 def error_of(status: int, said: str, members: Tuple[Hashable, ...] = ()) -> FairsplitError:

@@ -1,4 +1,4 @@
-"""The shared object: its functions take bytes, and give a status and bytes.
+"""The shared object: its functions take bytes or numbers, and give a status and bytes.
 
 A call lets go of the interpreter's lock, and the library is thread-safe, so calls in several threads run side by side.
 """
@@ -8,38 +8,34 @@ import ctypes
 import mmap
 import os
 import threading
-from concurrent.futures import Future
 from pathlib import Path
-from typing import Any, Callable, List, Tuple, TypeVar, Union
+from typing import Any, List, Tuple, Union
 
+from ._stack import with_stack
+
+OBJECT = 'libfairsplit.so.1'
 COMMANDS = ('check', 'checkwinner', 'solve', 'report', 'weigh', 'winner')
 SOLVERS = ('rent', 'goods', 'fares', 'rent_cents', 'fares_cents')
 # No certificate has more bytes, and the system gives a page of the buffer only when it is written to.
 ROOM = 4_000_000
-# The library needs 512 kB of stack; this leaves as much for Python.
-LEAST_STACK = 1 << 20
-NEW_STACK = 4 << 20
 
 _here = threading.local()
-_starting = threading.Lock()
-
 
 # Whole numbers of one width, as C has them.
 Numbers = Union['ctypes.Array[ctypes.c_uint32]', 'ctypes.Array[ctypes.c_uint8]', 'ctypes.Array[ctypes.c_int64]']
 Lists = List[Numbers]
-Answer = TypeVar('Answer')
 
 
-class _Attributes(ctypes.Structure):
-    """A pthread_attr_t, which has 56 bytes on x86-64 Linux."""
-
-    _fields_ = [('words', ctypes.c_ulong * 8)]
+def _path() -> str:
+    """The shared object: that of the variable FAIRSPLIT_LIBRARY, or of this package, or in a checkout the one that include/build made."""
+    here = Path(__file__).resolve()
+    beside = here.with_name(OBJECT)
+    return os.environ.get('FAIRSPLIT_LIBRARY') or str(beside if beside.exists() else here.parents[2] / 'include' / 'out' / OBJECT)
 
 
 def _load() -> ctypes.CDLL:
-    """The shared object of this package, or that of the variable FAIRSPLIT_LIBRARY."""
-    path = os.environ.get('FAIRSPLIT_LIBRARY') or str(Path(__file__).with_name('libfairsplit.so.1'))
-    library = ctypes.CDLL(path)
+    """The shared object, and what its functions take and answer."""
+    library = ctypes.CDLL(_path())
     for name in COMMANDS:
         function = getattr(library, f'fair_{name}')
         function.restype = ctypes.c_uint8
@@ -50,25 +46,6 @@ def _load() -> ctypes.CDLL:
 
 
 _library = _load()
-_system = ctypes.CDLL(None)
-_system.pthread_self.restype = ctypes.c_ulong
-
-
-def _stack_size() -> int:
-    """The size of this thread's stack in bytes."""
-    attributes, size = _Attributes(), ctypes.c_size_t()
-    if _system.pthread_getattr_np(ctypes.c_ulong(_system.pthread_self()), ctypes.byref(attributes)):
-        return 0
-    _system.pthread_attr_getstacksize(ctypes.byref(attributes), ctypes.byref(size))
-    _system.pthread_attr_destroy(ctypes.byref(attributes))
-    return size.value
-
-
-def _has_stack() -> bool:
-    """Whether this thread has stack enough. It is asked once in each thread."""
-    if not hasattr(_here, 'has_stack'):
-        _here.has_stack = _stack_size() >= LEAST_STACK
-    return bool(_here.has_stack)
 
 
 def _buffer() -> Any:
@@ -100,36 +77,41 @@ def _call_on_numbers(name: str, numbers: List[int], lists: Lists) -> Tuple[int, 
     return status, ctypes.string_at(text, min(size.value, ROOM)), size.value
 
 
-def _answer(answer: 'Future[Answer]', call: Callable[[], Answer]) -> None:
-    """Sets what a call gives, or the error that it ends with."""
-    try:
-        answer.set_result(call())
-    except BaseException as error:
-        answer.set_exception(error)
+def run(name: str, data: Union[bytes, bytearray, memoryview]) -> Tuple[int, bytes]:
+    """Run one of the library's commands on bytes.
 
+    Parameters
+    ----------
+    name : str
+        A command that reads an input: 'check', 'checkwinner', 'solve', 'report', 'weigh' or 'winner'. `solve` and `report` have one worker.
+    data : bytes
+        What the command reads.
 
-def _with_stack(call: Callable[[], Answer]) -> Answer:
-    """What a call gives: in this thread if it has stack enough, and otherwise in a new one that has."""
-    if _has_stack():
-        return call()
-    answer: 'Future[Answer]' = Future()
-    thread = threading.Thread(target=_answer, args=(answer, call))
-    with _starting:
-        before = threading.stack_size(NEW_STACK)
-        try:
-            thread.start()
-        finally:
-            threading.stack_size(before)
-    return answer.result()
+    Returns
+    -------
+    tuple of int and bytes
+        The command's status, and what it writes.
 
+    Raises
+    ------
+    ValueError
+        If it is none of these commands.
+    TypeError
+        If the input is not bytes.
 
-def run(name: str, data: bytes) -> Tuple[int, bytes]:
-    """What the command `fairsplit NAME` answers to these bytes (`solve` and `report` with one worker): its status and what it writes."""
+    Examples
+    --------
+    >>> run('check', b'hello')
+    (3, b'refused: line 1\\n')
+    """
     if name not in COMMANDS:
         raise ValueError(f'{name!r} is none of {", ".join(COMMANDS)}')
-    return _with_stack(lambda: _call(name, data))
+    if not isinstance(data, (bytes, bytearray, memoryview)):
+        raise TypeError(f'a command reads bytes, and not {type(data).__name__}')
+    given = bytes(data)
+    return with_stack(lambda: _call(name, given))
 
 
 def run_on_numbers(name: str, numbers: List[int], lists: Lists) -> Tuple[int, bytes, int]:
     """What a solver answers to numbers, and to lists that it reads or fills: its status, its text, and how many amounts or bytes it tells."""
-    return _with_stack(lambda: _call_on_numbers(name, numbers, lists))
+    return with_stack(lambda: _call_on_numbers(name, numbers, lists))

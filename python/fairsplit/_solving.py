@@ -6,14 +6,13 @@ library to refuse: a number that 32 bits can't hold becomes one that no field ma
 from __future__ import annotations
 
 import ctypes
-from typing import Hashable, Iterable, List, Optional, Sequence, Tuple
+from typing import Any, Hashable, Iterable, List, Optional, Sequence, Tuple
 
 from ._errors import Refused, Void, error_of
 from ._library import Lists, Numbers, run_on_numbers
-from ._tables import Row, Table, bids_of
+from ._limits import FEWEST_MEMBERS, MOST_MEMBERS, MOST_RIDERS, USUAL_STEPS
+from ._tables import Table, bids_of
 
-FEWEST_MEMBERS, MOST_MEMBERS, MOST_RIDERS = 2, 12, 10
-USUAL_LIMIT = 100_000
 _MOST_WORD = (1 << 32) - 1
 _MOST_BYTE = (1 << 8) - 1
 
@@ -35,7 +34,7 @@ def _bytes(numbers: Iterable[int]) -> Numbers:
     return (ctypes.c_uint8 * len(found))(*found)
 
 
-def _words(rows: Sequence[Row], count: int, width: int) -> Numbers:
+def _words(rows: Sequence[Optional[Sequence[int]]], count: int, width: int) -> Numbers:
     """So many rows of this width, one after another; or no number at all, if the rows are others or 32 bits can't hold a number."""
     found = [number for row in rows if row is not None and len(row) == width for number in row]
     if len(rows) != count or len(found) != count * width or any(_word(number) != number for number in found):
@@ -70,7 +69,18 @@ def _cents(name: str, numbers: List[int], lists: Lists, count: int) -> Tuple[int
     return tuple(pays)
 
 
-def solve_rent(total: int, table: Table) -> Tuple[str, Tuple[int, ...]]:
+def rent_cents(total: int, rows: Sequence[Sequence[int]]) -> Tuple[int, ...]:
+    """What each member pays of a rent that has a certificate, in whole cents."""
+    return _cents('rent', [len(rows), total], [_words(rows, len(rows), len(rows))], len(rows))
+
+
+def fare_cents(flag: int, legs: Sequence[Sequence[int]], who: Sequence[int], at: Sequence[int]) -> Tuple[int, ...]:
+    """What each rider pays of a fare that has a certificate, in whole cents."""
+    places = len(legs) - 1
+    return _cents('fares', [places, flag], [_words(legs, places + 1, places), _bytes(who), _bytes(at)], len(who))
+
+
+def solve_rent(total: int, table: Table[Any, Any]) -> Tuple[str, Tuple[int, ...]]:
     """The certificate of a rent, and what each member pays in whole cents."""
     count = len(table.members)
     _test_members(count, MOST_MEMBERS)
@@ -79,24 +89,23 @@ def solve_rent(total: int, table: Table) -> Tuple[str, Tuple[int, ...]]:
     # Who has not bid stands in with the whole rent for the first room, which breaks no rule: so what is wrong with the other bids is said first.
     all_for_one = [total] + [0] * (count - 1)
     rows = [all_for_one if row is None else row for row in table.rows]
-    numbers, lists = [count, _word(total)], [_words(rows, count, count)]
-    certificate = _certificate('rent', numbers, lists)
+    certificate = _certificate('rent', [count, _word(total)], [_words(rows, count, count)])
     missing = tuple(member for member, row in zip(table.members, table.rows) if row is None)
     if missing:
         raise Void(missing)
-    return certificate, _cents('rent', numbers, lists, count)
+    return certificate, rent_cents(total, rows)
 
 
-def solve_goods(limit: Optional[int], table: Table) -> str:
+def solve_goods(limit: Optional[int], table: Table[Any, Any]) -> str:
     """The certificate of goods."""
     _test_members(len(table.members), MOST_MEMBERS)
     who = [number for number, row in enumerate(table.rows, 1) if row is not None]
     width = len(table.columns)
-    numbers = [width, _word(USUAL_LIMIT if limit is None else limit)]
+    numbers = [width, _word(USUAL_STEPS if limit is None else limit)]
     return _certificate_of_some('goods', numbers, [_bytes(who), _words(bids_of(table), len(who), width)], table.members, not who)
 
 
-def solve_fares(flag: int, legs: Table, members: Tuple[Hashable, ...], stops: Sequence[Optional[int]]) -> Tuple[str, Tuple[int, ...]]:
+def solve_fares(flag: int, legs: Table[Any, Any], members: Tuple[Hashable, ...], stops: Sequence[Optional[int]]) -> Tuple[str, Tuple[int, ...]]:
     """The certificate of a fare, and what each rider pays in whole cents. `stops` has for each member the place, from 1, where they get off."""
     _test_members(len(members), MOST_RIDERS)
     who = [number for number, stop in enumerate(stops, 1) if stop is not None]
@@ -105,6 +114,6 @@ def solve_fares(flag: int, legs: Table, members: Tuple[Hashable, ...], stops: Se
     # Riders without stops are no bids of anyone.
     riders = [_bytes(who), _bytes(at)] if has_stops else [_bytes([1]), _bytes([])]
     places = len(legs.columns)
-    numbers, lists = [places, _word(flag)], [_words(legs.rows, places + 1, places), *riders]
-    certificate = _certificate_of_some('fares', numbers, lists, members, has_stops and not who)
-    return certificate, _cents('fares', numbers, lists, len(who))
+    lists = [_words(legs.rows, places + 1, places), *riders]
+    certificate = _certificate_of_some('fares', [places, _word(flag)], lists, members, has_stops and not who)
+    return certificate, fare_cents(flag, bids_of(legs), who, at)

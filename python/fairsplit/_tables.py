@@ -1,112 +1,145 @@
-"""What callers hand over, as rows of whole numbers with names: mappings of mappings, lists, NumPy arrays, pandas frames, and files of values with
-commas between. Neither NumPy nor pandas is imported: what looks like theirs is taken.
+"""What callers hand over, as rows of whole numbers with names: mappings of mappings, lists, NumPy arrays, pandas frames and tables. Neither NumPy nor
+pandas is imported: what looks like theirs is taken.
 """
 from __future__ import annotations
 
-import csv
-import operator
 from dataclasses import dataclass
-from decimal import Decimal
-from fractions import Fraction
-from typing import Any, Callable, Hashable, Iterable, List, Mapping, Optional, Sequence, Tuple
+from typing import Any, Callable, Generic, Hashable, List, Mapping, Optional, Sequence, Tuple, TypeVar
+
+from ._amounts import is_missing, unfloated
+from ._names import Given, Names, by_name, called, is_counted, is_frame, labelled, listed, named, ordered, place_of, places_of
 
 Row = Optional[List[int]]
-
-
-def whole(number: Any) -> int:
-    """A whole number, as points and counts are. A float is a TypeError, even 300.0."""
-    if isinstance(number, (bool, float, str)):
-        raise TypeError(f'{number!r} is no whole number: give an int')
-    return operator.index(number)
-
-
-class Money:
-    """Reads amounts: whole cents as int, or a Decimal with at most two places. One call has amounts of one sort only."""
-
-    def __init__(self) -> None:
-        self.sort: Optional[type] = None
-
-    def __call__(self, amount: Any) -> int:
-        sort = Decimal if isinstance(amount, Decimal) else int
-        if self.sort not in (None, sort):
-            raise TypeError('give all amounts in whole cents (int), or all of them as Decimal')
-        self.sort = sort
-        return cents(amount) if sort is Decimal else whole(amount)
-
-
-def cents(amount: Decimal) -> int:
-    """The cents of an amount with at most two places, exact whatever precision the caller's context has."""
-    if not amount.is_finite():
-        raise ValueError(f'{amount} is no amount')
-    found = Fraction(amount) * 100
-    if found.denominator != 1:
-        raise ValueError(f'{amount} has more than two places')
-    return found.numerator
+Number = Callable[[Any], int]
+Member = TypeVar('Member', bound=Hashable)
+Item = TypeVar('Item', bound=Hashable)
 
 
 @dataclass(frozen=True)
-class Table:
-    """A row of numbers for each member, or None if they have not bid, and a column for each room, good or place."""
+class Table(Generic[Member, Item]):
+    """A row of numbers for each member, or None if they have not bid, and a column for each room, good or place.
 
-    members: Tuple[Hashable, ...]
-    columns: Tuple[Hashable, ...]
-    rows: Tuple[Row, ...]
+    Attributes
+    ----------
+    members : tuple
+        The names of the rows.
+    columns : tuple
+        The names of the columns.
+    rows : tuple
+        For each member a list of numbers, or None.
+    """
+
+    members: Tuple[Member, ...]
+    columns: Tuple[Item, ...]
+    rows: Tuple[Optional[Sequence[Any]], ...]
 
 
-def bids_of(table: Table) -> List[List[int]]:
+def bids_of(table: Table[Any, Any]) -> List[Sequence[int]]:
     """The rows of those who have bid."""
     return [row for row in table.rows if row is not None]
 
 
-def _named(names: Optional[Iterable[Hashable]], count: int, word: str) -> Tuple[Hashable, ...]:
-    """So many names: those that are given, or the numbers from 1. A name may occur twice."""
-    found = tuple(range(1, count + 1) if names is None else names)
-    if len(found) != count:
-        raise ValueError(f'{len(found)} names for {count} {word}')
+def _of_frame(frame: Any, members: Given, columns: Given) -> Tuple[Optional[Names], Optional[Names], List[Any]]:
+    """The labels of a frame, except those that only count where names are given, and its rows."""
+    rows = [list(row) for row in frame.itertuples(index=False, name=None)]
+    index = None if members is not None and is_counted(frame.index) else tuple(frame.index)
+    heads = None if columns is not None and is_counted(frame.columns) else tuple(frame.columns)
+    return index, heads, rows
+
+
+def _opened(bids: Any, members: Given, columns: Given) -> Tuple[Optional[Names], Optional[Names], List[Any]]:
+    """The names that bids have of their own, of rows and of columns, and their rows as they are."""
+    if is_frame(bids):
+        return _of_frame(bids, members, columns)
+    if isinstance(bids, Table):
+        return bids.members, bids.columns, list(bids.rows)
+    found = labelled(bids)
+    if isinstance(found, Mapping):
+        return tuple(found), None, list(found.values())
+    return None, None, listed(bids, 'list of rows')
+
+
+def _entries(row: Any) -> Any:
+    """A row as a mapping, as a list, or as None if there is no number in it."""
+    if row is None:
+        return None
+    found = labelled(row)
+    if not isinstance(found, Mapping):
+        found = listed(found, 'row of numbers')
+    entries = list(found.values() if isinstance(found, Mapping) else found)
+    return None if entries and all(map(is_missing, entries)) else found
+
+
+def _columns(members: Names, rows: Sequence[Any], names: Given, word: str) -> Names:
+    """The names of columns that have none of their own: those that are given, or those in the rows."""
+    bids = [(member, row) for member, row in zip(members, rows) if row is not None]
+    if not bids:
+        return () if names is None else tuple(names)
+    with_names = [(member, row) for member, row in bids if isinstance(row, Mapping)]
+    if not with_names:
+        return named(names, len(bids[0][1]), word)
+    if names is not None:
+        return tuple(names)
+    if len(with_names) != len(bids):
+        one, other = (called(next(member for member, row in bids if isinstance(row, Mapping) == has_names), 'member') for has_names in (True, False))
+        raise ValueError(f'the bids of {one} have names, and those of {other} have none: say their order by {word}=')
+    return tuple(with_names[0][1])
+
+
+def _in_order(member: Hashable, row: Any, columns: Names, word: str) -> Any:
+    """The entries of a row in the order of the columns."""
+    if not isinstance(row, Mapping):
+        return row
+    try:
+        return by_name(row, columns, word)
+    except ValueError as error:
+        raise ValueError(f'{called(member, "member")}: {error}') from None
+
+
+def _numbers(member: str, row: Any, columns: Names, word: str, number: Number) -> Row:
+    """The numbers of one member."""
+    found = []
+    for place, entry in enumerate(row):
+        where = f'{member}, {called(columns[place], word[:-1]) if place < len(columns) else f"number {place + 1}"}'
+        if is_missing(entry):
+            raise ValueError(f'{where}: there is no number; who has not bid has none at all')
+        try:
+            found.append(number(entry))
+        except (TypeError, ValueError) as error:
+            raise (TypeError if isinstance(error, TypeError) else ValueError)(f'{where}: {error}') from None
     return found
 
 
-def _row(entries: Any, columns: Tuple[Hashable, ...], number: Callable[[Any], int]) -> Row:
-    """The row of one member."""
-    if entries is None:
-        return None
-    if not isinstance(entries, Mapping):
-        return [number(entry) for entry in entries]
-    if set(entries) != set(columns):
-        raise ValueError(f'{sorted(map(str, entries))} are not {sorted(map(str, columns))}')
-    return [number(entries[column]) for column in columns]
+def table_of(bids: Any, members: Given, columns: Given, word: str, number: Number, row_word: str = 'member') -> Table[Any, Any]:
+    """Bids in any of the forms, as a table. Names that are given are those of rows and columns without any; for others they say the order."""
+    index, heads, given = _opened(bids, members, columns)
+    rows = [_entries(row) for row in given]
+    if index is None:
+        index = named(members, len(rows), 'members')
+    else:
+        index, places = ordered(members, index, 'members')
+        rows = [rows[place] for place in places]
+    if heads is None:
+        heads = _columns(index, rows, columns, word)
+        rows = [_in_order(member, row, heads, word) for member, row in zip(index, rows)]
+    else:
+        width = len(heads)
+        heads, places = ordered(columns, heads, word)
+        rows = [row if row is None or len(row) != width else [row[place] for place in places] for row in rows]
+    if (is_frame(bids) or hasattr(bids, 'dtype')) and any(row is None or any(map(is_missing, row)) for row in rows):
+        rows = [row and [unfloated(entry) for entry in row] for row in rows]
+    found = (None if row is None else _numbers(called(member, row_word), row, heads, word, number) for member, row in zip(index, rows))
+    return Table(index, heads, tuple(found))
 
 
-def _columns(rows: Sequence[Any], names: Optional[Iterable[Hashable]], word: str) -> Tuple[Hashable, ...]:
-    """The names of the columns: those that are given, or those of the first member who has bid."""
-    for row in rows:
-        if isinstance(row, Mapping):
-            return tuple(row) if names is None else tuple(names)
-        if row is not None:
-            return _named(names, len(row), word)
-    return () if names is None else tuple(names)
-
-
-def table_of(bids: Any, members: Optional[Iterable[Hashable]], columns: Optional[Iterable[Hashable]], word: str, number: Callable[[Any], int]) -> Table:
-    """Bids in any of the forms, as a table."""
-    if isinstance(bids, Table):
-        members, columns, bids = bids.members, bids.columns, bids.rows
-    elif hasattr(bids, 'itertuples'):  # a pandas frame
-        members = tuple(bids.index) if members is None else members
-        columns = tuple(bids.columns) if columns is None else columns
-        bids = [list(row) for row in bids.itertuples(index=False, name=None)]
-    elif isinstance(bids, Mapping):
-        members = tuple(bids) if members is None else members
-        bids = list(bids.values())
-    rows = list(bids)
-    names = _columns(rows, columns, word)
-    return Table(_named(members, len(rows), 'members'), names, tuple(_row(row, names, number) for row in rows))
-
-
-def read_table(file: Iterable[str]) -> Table:
-    """A table from an open file of values with commas between. The first line names the columns, behind an empty value or any word. Each other
-    line has a member and their whole numbers; a member with no number has not bid.
-    """
-    (_, *columns), *rows = [line for line in csv.reader(file) if line]
-    numbers = [[int(value) for value in row[1:]] if any(row[1:]) else None for row in rows]
-    return Table(tuple(row[0] for row in rows), tuple(columns), tuple(numbers))
+def legs_of(legs: Any, places: Given, number: Number) -> Table[Any, Any]:
+    """A table of legs: the row from the origin, and then the rows from the places, in the order of the columns if the rows have names."""
+    has_names = not is_counted(legs.index) if is_frame(legs) else isinstance(legs, Table) or isinstance(labelled(legs), Mapping)
+    table = table_of(legs, None, places, 'places', number, 'row')
+    if not has_names or len(table.members) != len(table.columns) + 1:
+        return table
+    origins = [name for name in table.members if name not in table.columns]
+    if len(origins) != 1:
+        raise ValueError(f'the rows of legs are those of {list(table.members)}: give one from the origin, and one from each of {list(table.columns)}')
+    order = [place_of(origins[0], table.members, 'rows of legs'), *places_of(table.columns, table.members, 'rows of legs')]
+    return Table(tuple(table.members[row] for row in order), table.columns, tuple(table.rows[row] for row in order))

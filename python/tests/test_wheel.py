@@ -48,6 +48,16 @@ class Wheels(unittest.TestCase):
         for name in ('__init__.py', '_solving.py', 'py.typed', 'libfairsplit.so.1'):
             self.assertIn(f'fairsplit/{name}', names)
 
+    def test_an_editable_one_leads_to_the_checkout(self):
+        wheel = zipfile.ZipFile(self.folder / wheel_backend.build_editable(self.folder))
+        self.assertEqual(wheel.read('fairsplit.pth').decode(), f'{wheel_backend.HERE}\n')
+        self.assertFalse([name for name in wheel.namelist() if name.startswith('fairsplit/')])
+
+    def test_the_version_and_the_description_are_in_it(self):
+        said = zipfile.ZipFile(self.built('one')).read(f'fairsplit-{wheel_backend.version()}.dist-info/METADATA').decode()
+        self.assertIn(f'Version: {wheel_backend.version()}\n', said)
+        self.assertIn('# fairsplit as a library', said)
+
     def test_another_platform_is_refused_with_one_sentence(self):
         with mock.patch('platform.machine', lambda: 'aarch64'):
             self.assertEqual(self.refusal(), 'fairsplit needs Linux on x86-64, and this is Linux on aarch64.')

@@ -20,7 +20,7 @@ mod streams;
 mod words;
 
 pub use arguments::{Arguments, Started};
-pub use clocks::SystemClock;
+pub use clocks::{Arrival, SystemClock, second_of};
 pub use dialers::TcpDialer;
 pub use files::JournalFile;
 pub use limits::LinkLimits;

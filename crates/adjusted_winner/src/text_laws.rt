@@ -19,7 +19,7 @@ use winner_definition::{
 };
 
 /// The text of the winner is the text of a pair. It gives the case, with as many members and steps as there may be, and the winner's shares, weights and total;
-/// all its rules hold, so the verdict on it is yes. It has at most 4,000,000 bytes, and a case has only one such text.
+/// all its rules hold, so the verdict on it is yes. It has at most `MOST_BYTES` bytes, and a case has only one such text.
 pub fn winner_lines_law()
     ensures case { (case : GoodsCase) (winner : Winner)
         → printed_case (winner_view case winner) ≡ with_most case }

@@ -53,7 +53,7 @@ fn push_winner(text: &mut String, winner: &Winner) -> Result<(), NoMemory>
 
 /// The text of the division: the case, player 1's share of each good, the weights, and what each player has.
 ///
-/// The division is the solver's for that case. `NoMemory` is returned only when memory runs out.
+/// The division is the solver's for that case.
 pub fn write_winner(alloc: Global, case: &GoodsCase, winner: &Winner) -> Result<Vec<u8>, NoMemory>
     requires winner { HasWinner case.now winner.now }
     ensures text { IfOk result (λ text. IsWinnerText case.now text.items) }
@@ -66,8 +66,6 @@ pub fn write_winner(alloc: Global, case: &GoodsCase, winner: &Winner) -> Result<
 }
 
 /// The text of the division of a case.
-///
-/// `NoMemory` is returned only when memory runs out.
 pub fn winner_text(alloc: Global, case: &GoodsCase) -> Result<Vec<u8>, NoMemory>
     requires case { IsValidGoodsCase case.now }
     requires two { player_count case.now ≡ PAIR }

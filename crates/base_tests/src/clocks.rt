@@ -1,5 +1,5 @@
 // The clock of this system, and of systems whose time no date can tell.
-use adapters::SystemClock;
+use adapters::{Arrival, SystemClock};
 use split_base::limits::LAST_MOMENT;
 use split_base::{Clock, Failed};
 use std::io::ErrorKind;
@@ -38,12 +38,35 @@ fn tells_whole_seconds(rt: HostRuntime) {
     ];
     for (second, moment) in cases {
         let standing = Standing { second };
-        let mut clock = SystemClock::new(&standing);
+        let arrival = Arrival::none();
+        let mut clock = SystemClock::new(&standing, &arrival);
         assert_eq!(rt; clock.now(), moment);
         assert_eq!(rt; clock.faults(), u64::from(moment.is_err()));
     }
 
-    // The code was written after the second 1,700,000,000.
-    let mut clock = SystemClock::new(&rt);
+    // The code was written after this second.
+    let arrival = Arrival::none();
+    let mut clock = SystemClock::new(&rt, &arrival);
     assert!(rt; clock.now().is_ok_and(|moment| moment > 1_700_000_000));
+}
+
+// A request counts from when it had arrived, but no answer is dated before an earlier one, nor ahead of the clock.
+#[test]
+fn tells_when_a_request_arrived(rt: HostRuntime) {
+    let standing = Standing {
+        second: Some(1_000),
+    };
+    let arrival = Arrival::none();
+    let mut clock = SystemClock::new(&standing, &arrival);
+    for (arrived, moment) in [
+        (Some(990), 990),
+        (Some(980), 990),
+        (Some(995), 995),
+        (Some(1_005), 1_000),
+        (None, 1_000),
+        (Some(999), 1_000),
+    ] {
+        arrival.note(arrived);
+        assert_eq!(rt; clock.now(), Ok(moment));
+    }
 }

@@ -63,6 +63,17 @@ fn fails_to_hand_out(rt: &impl Abort, port: &mut MemPort)
     }
 }
 
+// Listens once more, so that the port may be asked again after it has ended.
+fn listens_again(rt: &impl Abort, port: &mut MemPort)
+    ensures out { port.new.out ≡ port.old.out }
+    ensures goes_on { IsTrue port.new.is_over → ⊥ }
+{
+    match port.listen(8081) {
+        Ok(()) => {}
+        Err(Failed) => panic!(rt; "it does not listen"),
+    }
+}
+
 // Reads the byte of the link, and writes it back.
 fn echo(rt: &impl Abort, link: &mut MemLink) {
     let mut byte = [0];
@@ -81,7 +92,7 @@ fn clock_repeats_its_last_moment(rt: HostRuntime) {
     }
 }
 
-// A port gives its links in turn, keeps what it has room for, and then has none.
+// A port gives its links in turn, keeps what it has room for, and then has none, also when it listens anew.
 #[test]
 fn port_hands_out_its_links(rt: HostRuntime) {
     let mut port = port_of(&rt, rt.alloc());
@@ -96,13 +107,15 @@ fn port_hands_out_its_links(rt: HostRuntime) {
     // There is no place for a third one.
     port.done(link_of(&rt, rt.alloc(), b'2'));
     assert!(rt; port.accept().is_ok_and(|next| next.is_none()));
+    listens_again(&rt, &mut port);
+    assert!(rt; port.accept().is_ok_and(|next| next.is_none()));
     let back = port.finished();
     assert!(rt; back.len() == 2 && back[0].output().bytes() == b"0".as_slice());
     assert!(rt;
         port.asked()
             == Asked {
-                times: 2,
-                last: Some(8080)
+                times: 3,
+                last: Some(8081)
             }
     );
 }

@@ -1,7 +1,7 @@
 // A TCP port and its clients, all on this machine.
 ghost use Rattle.std.specs.Prelude.{◌≡◌};
 
-use adapters::{LinkLimits, TcpDialer};
+use adapters::{Arrival, LinkLimits, TcpDialer};
 use client_port::{PortLimits, TcpPort};
 use split_base::{Dial, Failed, Port, Sink, Source};
 use std::process::Abort;
@@ -49,10 +49,10 @@ fn waits_no_longer_than_its_limits(rt: HostRuntime) {
     let limits = PortLimits {
         idle: Duration::from_millis(100),
         closing: Duration::from_millis(50),
-        purse: Duration::ZERO,
         ..PortLimits::usual()
     };
-    let mut port = TcpPort::new(rt.alloc(), &rt, limits);
+    let arrival = Arrival::none();
+    let mut port = TcpPort::new(rt.alloc(), &rt, &arrival, limits);
     let mut dialer = TcpDialer::new(&rt, LinkLimits::usual());
     let number = listening(&mut port, 42_000);
     // This client sends half a head, and is dropped. It has its turn all the same.

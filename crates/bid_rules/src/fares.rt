@@ -12,13 +12,13 @@ use arrayvec::ArrayVec;
 /// The facts of a shared fare. Money is in cents.
 #[derive(Debug, Drop, PartialEq, Eq)]
 pub struct Fares {
-    /// How many members share the fare, 2 to 10.
+    /// How many members share the fare, `FEWEST_MEMBERS` to `MOST_RIDERS`.
     pub members: u8,
-    /// At how many places a rider may get off, 1 to 12.
+    /// At how many places a rider may get off, 1 to `MOST_PLACES`.
     pub places: u8,
-    /// The flag fall, which is paid once before any leg, 0 to 1,000,000.
+    /// The flag fall, which is paid once before any leg, at most `MOST_FARE_CENTS`.
     pub flag: u32,
-    /// What each leg costs, 0 to 1,000,000: a row from the origin, then a row from each place; each row has a leg to every
+    /// What each leg costs, at most `MOST_FARE_CENTS`: a row from the origin, then a row from each place; each row has a leg to every
     /// place in order. The leg from a place to itself is 0.
     pub legs: Legs,
 }
@@ -113,9 +113,9 @@ fn first_own_leg(facts: &Fares) -> Option<u8>
 
 /// Whether the facts are within the limits, or else the first fault in this order:
 ///
-/// - `Count` if there are not 2 to 10 members, or not 1 to 12 places, or the legs are not `places + 1` rows of `places` legs;
-/// - `Range` with place 0 if the flag fall is above 1,000,000;
-/// - `Range` with the place of the first leg above 1,000,000, row by row: the leg in `row` and `column`, each from 0, has the
+/// - `Count` if there are too few or too many members or places, or the legs are not `places + 1` rows of `places` legs;
+/// - `Range` with place 0 if the flag fall is above `MOST_FARE_CENTS`;
+/// - `Range` with the place of the first leg above `MOST_FARE_CENTS`, row by row: the leg in `row` and `column`, each from 0, has the
 ///   place `1 + row * places + column` (`leg_place_law`);
 /// - `Place` with the first place whose leg to itself is not 0.
 pub fn check_fares(facts: &Fares) -> Result<(), BidFault>

@@ -15,11 +15,11 @@ use crate::spread::check_spread;
 /// The facts of goods that are shared among members.
 #[derive(Debug, Drop, PartialEq, Eq)]
 pub struct Goods {
-    /// How many members may bid, 2 to 12.
+    /// How many members may bid, `FEWEST_MEMBERS` to `MOST_MEMBERS`.
     pub members: u8,
-    /// How many goods there are, 1 to 24.
+    /// How many goods there are, 1 to `MOST_GOODS`.
     pub goods: u8,
-    /// The most steps that the search for the best allocation may take, 1 to 200,000.
+    /// The most steps that the search for the best allocation may take, 1 to `MOST_STEPS`.
     pub limit: u32,
 }
 
@@ -94,7 +94,7 @@ fn rises(numbers: &[u8]) -> bool
 
 /// Whether the facts are within the limits, or else their first fault.
 ///
-/// `Count` if there are not 2 to 12 members and 1 to 24 goods, otherwise `Range` with place 0 if the limit is not 1 to 200,000.
+/// `Count` if there are too few or too many members or goods, otherwise `Range` with place 0 if the limit is not 1 to `MOST_STEPS`.
 pub fn check_goods(facts: &Goods) -> Result<(), BidFault>
     ensures fault { MatchResult result (λ _. IsCheckedGoods facts.now) (IsFaultOfGoods facts.now) }
     ensures accepted { IsOk result ↔ IsCheckedGoods facts.now }

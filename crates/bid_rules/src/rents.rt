@@ -10,9 +10,9 @@ use crate::spread::check_spread;
 /// The facts of a rent, with a room for each member. Money is in cents.
 #[derive(Debug, Drop, PartialEq, Eq)]
 pub struct Rent {
-    /// How many members share the rent, 2 to 12. There are as many rooms.
+    /// How many members share the rent, `FEWEST_MEMBERS` to `MOST_MEMBERS`. There are as many rooms.
     pub members: u8,
-    /// The rent in cents, 1 to 10,000,000.
+    /// The rent in cents, 1 to `MOST_RENT`.
     pub rent: u32,
 }
 
@@ -58,7 +58,7 @@ impl RentCase {
 
 /// Whether the facts are within their limits, or else their first fault.
 ///
-/// `Count` if there are not 2 to 12 members, otherwise `Range` with place 0 if the rent is not 1 to 10,000,000 cents.
+/// `Count` if there are too few or too many members, otherwise `Range` with place 0 if the rent is not 1 to `MOST_RENT`.
 pub fn check_rent(facts: &Rent) -> Result<(), BidFault>
     ensures fault { MatchResult result (λ _. IsCheckedRent facts.now) (IsFaultOfRent facts.now) }
     ensures accepted { IsOk result ↔ IsCheckedRent facts.now }

@@ -18,9 +18,9 @@ use split_base::Source;
 /// Reads certificate text to the end of the input, in one pass and in fixed memory, and judges it: whether all rules of its kind hold, or else the
 /// first that does not. Once a read has met the end, it does not read again.
 ///
-/// - `NotText` is returned exactly when the input has at most 4,000,000 bytes and is not certificate text, with its first broken line. It was read to
+/// - `NotText` is returned exactly when the input has at most `MOST_BYTES` bytes and is not certificate text, with its first broken line. It was read to
 ///   its end.
-/// - `TooLong` is returned exactly when it has more, whatever its lines. 4,000,001 bytes were read.
+/// - `TooLong` is returned exactly when it has more, whatever its lines. One byte more than `MOST_BYTES` was read.
 /// - `ReadFault` is returned only if the source's count of faults has risen, and at once: the failed read is not tried again.
 pub fn judge_text<S: Source>(source: &mut S) -> Result<Verdict, TextEnd>
     ensures judged { (taken : List ℕ) × Consumes (S.left source.old) (S.left source.new) taken

@@ -105,6 +105,7 @@ word_misses word.Ranks = refl
 word_misses word.Prices = refl
 word_misses word.Owners = refl
 word_misses word.Steps = refl
+word_misses word.Short = refl
 word_misses word.Tree = refl
 word_misses word.Route = refl
 word_misses word.Fares = refl
@@ -120,7 +121,7 @@ tree_misses = refl
 
 -- no word is longer than fourteen bytes
 word_short : (w : Word) → length (word_text w) ≤ 14
-word_short w = elim w as (λ v. length (word_text v) ≤ 14) [ word.Fairsplit ↦ omega arith | word.FairsplitPair ↦ omega arith | word.KindRent ↦ omega arith | word.KindGoods ↦ omega arith | word.KindFares ↦ omega arith | word.Members ↦ omega arith | word.Players ↦ omega arith | word.Riders ↦ omega arith | word.Goods ↦ omega arith | word.Places ↦ omega arith | word.Rent ↦ omega arith | word.Limit ↦ omega arith | word.Flag ↦ omega arith | word.Values ↦ omega arith | word.Legs ↦ omega arith | word.Who ↦ omega arith | word.At ↦ omega arith | word.Set ↦ omega arith | word.Rooms ↦ omega arith | word.Left ↦ omega arith | word.Right ↦ omega arith | word.Walks ↦ omega arith | word.Ranks ↦ omega arith | word.Prices ↦ omega arith | word.Owners ↦ omega arith | word.Steps ↦ omega arith | word.Tree ↦ omega arith | word.Route ↦ omega arith | word.Fares ↦ omega arith | word.Shares ↦ omega arith | word.Weights ↦ omega arith | word.Total ↦ omega arith | word.End ↦ omega arith ]
+word_short w = elim w as (λ v. length (word_text v) ≤ 14) [ word.Fairsplit ↦ omega arith | word.FairsplitPair ↦ omega arith | word.KindRent ↦ omega arith | word.KindGoods ↦ omega arith | word.KindFares ↦ omega arith | word.Members ↦ omega arith | word.Players ↦ omega arith | word.Riders ↦ omega arith | word.Goods ↦ omega arith | word.Places ↦ omega arith | word.Rent ↦ omega arith | word.Limit ↦ omega arith | word.Flag ↦ omega arith | word.Values ↦ omega arith | word.Legs ↦ omega arith | word.Who ↦ omega arith | word.At ↦ omega arith | word.Set ↦ omega arith | word.Rooms ↦ omega arith | word.Left ↦ omega arith | word.Right ↦ omega arith | word.Walks ↦ omega arith | word.Ranks ↦ omega arith | word.Prices ↦ omega arith | word.Owners ↦ omega arith | word.Steps ↦ omega arith | word.Short ↦ omega arith | word.Tree ↦ omega arith | word.Route ↦ omega arith | word.Fares ↦ omega arith | word.Shares ↦ omega arith | word.Weights ↦ omega arith | word.Total ↦ omega arith | word.End ↦ omega arith ]
 
 -- the text of a line's numbers has no LF
 numbers_plain : (whole : Bool) (ns : List Fraction) → All (IsNumber whole) ns → Avoids 10 (numbers_text ns)
@@ -129,6 +130,10 @@ numbers_plain whole (n ∷ ns) h =
     avoids_append 10 (32 ∷ pair_text n) (numbers_text ns)
     (avoids_append 10 (32 ∷ []) (pair_text n) (avoids_one 10 32 (λ e. omega arith)) (number_avoids 10 whole n (All-head (IsNumber whole) n ns h) (omega arith)))
     (numbers_plain whole ns (All-tail (IsNumber whole) n ns h))
+
+-- a word and numbers have no LF
+pub content_plain : (w : Word) (whole : Bool) (ns : List Fraction) → All (IsNumber whole) ns → Avoids 10 (word_text w ++ numbers_text ns)
+content_plain w whole ns h = avoids_append 10 (word_text w) (numbers_text ns) (avoids_misses 10 (word_text w) (word_misses w)) (numbers_plain whole ns h)
 
 -- a mark is no LF
 pub mark_plain : (m : ℕ) → IsMark m → m ≢ 10
@@ -150,7 +155,7 @@ pub said_line : (form : Form) (said : Said) → CanSay form said → PlainLine (
 unfolding line
 said_line (Line form) (Numbers numbers) h = record {
   front = word_text form.word ++ numbers_text numbers;
-  plain = avoids_append 10 (word_text form.word) (numbers_text numbers) (avoids_misses 10 (word_text form.word) (word_misses form.word)) (numbers_plain form.whole numbers h.written);
+  plain = content_plain form.word form.whole numbers h.written;
   ended = refl;
 }
 said_line (Line form) (Marks marks) h = absurd h

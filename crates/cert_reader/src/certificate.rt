@@ -21,8 +21,8 @@ pub enum Certificate {
 
 /// What a certificate of a rent says. Lists are by member, except that `right` and `prices` are by room.
 ///
-/// There are 1 to 12 members and as many rooms. The numbers have at most 25 digits, and the fractions have denominators up to
-/// 4294967295.
+/// There is at least one member, and as many rooms as members. Numbers have at most `MOST_DIGITS` digits, and denominators are at most
+/// `MOST_PRINTED_DENOMINATOR`.
 #[derive(Debug, Drop)]
 pub struct RentText {
     pub rent: i128,
@@ -53,7 +53,7 @@ pub struct RentText {
 
 /// What a certificate of goods says: the members who are players, their points by player and good, owners by good, and the tree.
 ///
-/// There are 1 to 12 players and 1 to 24 goods. The numbers have at most 25 digits, and the tree has a mark.
+/// There is at least one player and one good. Numbers have at most `MOST_DIGITS` digits, and the tree has a mark.
 #[derive(Debug, Drop)]
 pub struct GoodsText {
     pub goods: u8,
@@ -80,8 +80,8 @@ pub struct GoodsText {
 
 /// What a certificate of fares says: the legs from the origin and from each place, by place, and lists by rider.
 ///
-/// There are 1 to 12 places and 1 to 10 riders. The numbers have at most 25 digits, and the fractions have denominators up to
-/// 4294967295.
+/// There is at least one place and one rider. Numbers have at most `MOST_DIGITS` digits, and denominators are at most
+/// `MOST_PRINTED_DENOMINATOR`.
 #[derive(Debug, Drop)]
 pub struct FaresText {
     pub places: u8,

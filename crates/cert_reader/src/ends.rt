@@ -5,7 +5,7 @@ ghost use Rattle.cert_reader.specs.Ends.{read_answer};
 /// Why a reader that keeps nothing found no text. It needs no memory.
 #[derive(Clone, Copy, Debug, PartialEq, Eq)]
 pub enum TextEnd {
-    /// The input has at most 4,000,000 bytes and is no such text. It was read to its end.
+    /// The input has at most `MOST_BYTES` bytes and is no such text. It was read to its end.
     NotText {
         /// The first broken line, counted from 1: the least number of lines from the front with which no such text
         /// begins.
@@ -13,14 +13,14 @@ pub enum TextEnd {
     },
     /// A read failed. It was not tried again.
     ReadFault,
-    /// The input has more than 4,000,000 bytes. 4,000,001 were read.
+    /// The input has more than `MOST_BYTES` bytes, of which one more than that was read.
     TooLong,
 }
 
 /// Why a reader that keeps what it reads found no text.
 #[derive(Clone, Copy, Debug, PartialEq, Eq)]
 pub enum ReadEnd {
-    /// The input has at most 4,000,000 bytes and is not certificate text. It was read to its end.
+    /// The input has at most `MOST_BYTES` bytes and is not certificate text. It was read to its end.
     NotText {
         /// The first broken line, counted from 1: the least number of lines from the front with which no certificate
         /// text begins.
@@ -28,7 +28,7 @@ pub enum ReadEnd {
     },
     /// A read failed. It was not tried again.
     ReadFault,
-    /// The input has more than 4,000,000 bytes. 4,000,001 were read.
+    /// The input has more than `MOST_BYTES` bytes, of which one more than that was read.
     TooLong,
     /// There was no memory for what the input says.
     NoMemory,

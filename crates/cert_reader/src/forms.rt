@@ -31,6 +31,7 @@ pub enum Word {
     Prices,
     Owners,
     Steps,
+    Short,
     Tree,
     Route,
     Fares,
@@ -72,6 +73,7 @@ impl Word {
             Word::Prices => "prices",
             Word::Owners => "owners",
             Word::Steps => "steps",
+            Word::Short => "short",
             Word::Tree => "tree",
             Word::Route => "route",
             Word::Fares => "fares",
@@ -101,26 +103,26 @@ pub struct LineForm {
 pub enum Counts {
     /// A text of kind rent.
     Rent {
-        /// How many members and rooms, 1 to 12.
+        /// How many members and rooms, 1 to `MOST_MEMBERS`.
         members: u8,
     },
     /// A text of kind goods.
     Goods {
-        /// How many players, 1 to 12.
+        /// How many players, 1 to `MOST_MEMBERS`.
         players: u8,
-        /// How many goods, 1 to 24.
+        /// How many goods, 1 to `MOST_GOODS`.
         goods: u8,
     },
     /// A text of kind fares.
     Fares {
-        /// How many riders, 1 to 10.
+        /// How many riders, 1 to `MOST_RIDERS`.
         riders: u8,
-        /// How many places, 1 to 12.
+        /// How many places, 1 to `MOST_PLACES`.
         places: u8,
     },
     /// The text of a pair: what adjusted winner gives two players.
     Pair {
-        /// How many goods, 1 to 24.
+        /// How many goods, 1 to `MOST_GOODS`.
         goods: u8,
     },
 }

@@ -1,16 +1,22 @@
 // Laws about the text of certificates and of adjusted winner, above all that it has one meaning, and that other bytes have one first broken line.
 // Each is the contract of a function that does nothing.
-ghost use Rattle.std.specs.Prelude.{◌≡◌, ◌≤◌, ℕ, List, ◌+◌, ◌++◌, length};
+ghost use Rattle.std.specs.Prelude.{◌≡◌, ◌≤◌, ℕ, All, Bool, List, ◌+◌, ◌++◌, length};
+ghost use Rattle.bid_rules.specs.Fractions.{Fraction};
+ghost use Rattle.split_frac.specs.Texts.{numbers_text};
 ghost use Rattle.cert_reader.specs.declared.certificate.Certificate.{Certificate};
 ghost use Rattle.cert_reader.specs.declared.forms.Counts.{Counts};
+ghost use Rattle.cert_reader.specs.declared.forms.Word.{Word};
 ghost use Rattle.cert_reader.specs.declared.limits.TheConstants.{MOST_BESIDE_MARKS};
 ghost use Rattle.cert_reader.specs.Forms.{Pairs, forms_of};
 ghost use Rattle.cert_reader.specs.Layout.{PairView};
+ghost use Rattle.cert_reader.specs.Numbers.{IsNumber};
 ghost use Rattle.cert_reader.specs.Pairs.{IsPairText};
 ghost use Rattle.cert_reader.specs.Reading.{IsRead, Reading};
 ghost use Rattle.cert_reader.specs.Shapes.{HasRows};
+ghost use Rattle.cert_reader.specs.Stream.{IsPlain};
 ghost use Rattle.cert_reader.specs.Text.{CanSayAll, IsBrokenText, IsBrokenTextOf, IsText, Said};
 ghost use Rattle.cert_reader.specs.Views.{CertificateView, counts_of, marks_of, said_of, view_of};
+ghost use Rattle.cert_reader.specs.Words.{word_text};
 
 /// A text has one meaning: its counts and what its lines say are unique, and two certificates with this text are the same, and so are two views that have all
 /// rows. No text has a broken line. Other bytes have exactly one first broken line. What has been read of a text so far can be completed to a whole text.
@@ -50,4 +56,13 @@ pub fn pair_law()
         → length bytes ≤ MOST_BESIDE_MARKS }
     ensures apart { (bytes : List ℕ) (view : PairView) (counts : Counts) (said : List Said)
         → IsPairText bytes view → IsText bytes counts said → ⊥ }
+{}
+
+/// A line of a word and numbers has no LF before its end, and the numbers of a line are unique.
+pub fn numbers_law()
+    ensures plain { (word : Word) (whole : Bool) (numbers : List Fraction)
+        → All (IsNumber whole) numbers → IsPlain (word_text word ++ numbers_text numbers) }
+    ensures once { (whole : Bool) (numbers others : List Fraction) → All (IsNumber whole) numbers
+        → All (IsNumber whole) others → numbers_text numbers ≡ numbers_text others
+        → numbers ≡ others }
 {}

@@ -39,8 +39,8 @@ pub(crate) fn read_line(line: &[u8], form: LineForm, numbers: &mut LineNumbers) 
     }
 }
 
-// What follows the word.
-fn behind<'a>(line: &'a [u8], word: &[u8]) -> Option<&'a [u8]>
+/// What follows the word.
+pub fn behind<'a>(line: &'a [u8], word: &[u8]) -> Option<&'a [u8]>
     ensures { MatchOption result
         ((rest : List ℕ) → line.now ≡ word.now ++ rest → ⊥)
         (λ rest. line.now ≡ word.now ++ rest.now) }
@@ -69,8 +69,8 @@ fn is_whole(number: Frac, value: u64) -> bool
     number.num == i128::from(value) && number.den == 1
 }
 
-// Reads this many numbers, to the end of the line.
-fn push_numbers(rest: &[u8], count: usize, whole: bool, numbers: &mut LineNumbers) -> bool
+/// Reads this many numbers, to the end of the line.
+pub fn push_numbers(rest: &[u8], count: usize, whole: bool, numbers: &mut LineNumbers) -> bool
     requires { array_vec_len numbers.old + count ≤ MOST_NUMBERS }
     ensures { MatchBool result
         ((read : List Fraction)

@@ -87,8 +87,8 @@ fn negative(size: u128) -> i128
     -(size as i128)
 }
 
-// The first place at which the byte stands, or the length if it isn't there.
-pub(crate) fn front_len(bytes: &[u8], stop: u8) -> usize
+/// The first place at which the byte stands, or the length if it isn't there.
+pub fn front_len(bytes: &[u8], stop: u8) -> usize
     ensures { IsFront stop bytes.now result }
 {
     for (i, byte) in bytes.iter().enumerate() {

@@ -12,7 +12,8 @@ use split_frac::Frac;
 /// What the text of a pair says: two players, their points by player and good, how much of each good goes to player 1, the weights of the two, and the points
 /// that each gets. Its rules decide whether it shows a fair division.
 ///
-/// There are 1 to 24 goods. The numbers have at most 25 digits, and the fractions have denominators up to 4294967295.
+/// There is at least one good, and at most `MOST_GOODS`. Numbers have at most `MOST_DIGITS` digits, and denominators are at most
+/// `MOST_PRINTED_DENOMINATOR`.
 #[derive(Debug, Drop)]
 pub struct PairText {
     pub goods: u8,

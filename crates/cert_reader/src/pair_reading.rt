@@ -30,9 +30,9 @@ fn goods_of(counts: Counts) -> u8
 
 /// Reads the text of a pair, and gives what it says. It takes no memory.
 ///
-/// - `NotText` is returned exactly when the input has at most 4,000,000 bytes and is not the text of a pair, with its first broken line. It was read to
+/// - `NotText` is returned exactly when the input has at most `MOST_BYTES` bytes and is not the text of a pair, with its first broken line. It was read to
 ///   its end.
-/// - `TooLong` is returned exactly when it has more, whatever its lines. 4,000,001 bytes were read.
+/// - `TooLong` is returned exactly when it has more, whatever its lines. One byte more than `MOST_BYTES` was read.
 /// - `ReadFault` is returned only if the source's count of faults has risen, and at once: the failed read is not tried again.
 pub fn read_pair<S: Source>(source: &mut S) -> Result<PairText, TextEnd>
     ensures read { (taken : List ℕ) × Consumes (S.left source.old) (S.left source.new) taken

@@ -310,9 +310,9 @@ impl Pieces {
     /// The kind comes first. Then each line gives one piece, with its numbers. The tree of goods gives one piece for each of its characters. The last line,
     /// `end`, gives none: `Done` is returned once it has been read and the input has ended. After `Done` or a refusal there are no more pieces.
     ///
-    /// - `NotText` is returned exactly when the input has at most 4,000,000 bytes and is not certificate text, with its first broken line. It was read to
+    /// - `NotText` is returned exactly when the input has at most `MOST_BYTES` bytes and is not certificate text, with its first broken line. It was read to
     ///   its end.
-    /// - `TooLong` is returned exactly when it has more, whatever its lines. 4,000,001 bytes were read.
+    /// - `TooLong` is returned exactly when it has more, whatever its lines. One byte more than `MOST_BYTES` was read.
     /// - `ReadFault` is returned only if the source's count of faults has risen, and at once: the failed read is not tried again.
     pub fn next_piece<S: Source>(&mut self, source: &mut S) -> Result<Piece, TextEnd>
         requires { HasLineToCome self.old }

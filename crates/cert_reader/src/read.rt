@@ -16,11 +16,10 @@ use std::alloc::Global;
 
 /// Reads a certificate text, and gives what it says.
 ///
-/// - `NotText` is returned exactly when the input has at most 4,000,000 bytes and is not certificate text, with its first broken line. It was read
+/// - `NotText` is returned exactly when the input has at most `MOST_BYTES` bytes and is not certificate text, with its first broken line. It was read
 ///   to its end.
-/// - `TooLong` is returned exactly when it has more, whatever its lines. 4,000,001 bytes were read.
+/// - `TooLong` is returned exactly when it has more, whatever its lines. One byte more than `MOST_BYTES` was read.
 /// - `ReadFault` is returned only if the source's count of faults has risen, and at once: the failed read is not tried again.
-/// - `NoMemory` is returned only when memory runs out.
 ///
 /// The program judges line by line and keeps no certificate; this is for a caller who wants to look at what one says.
 pub fn read_certificate<S: Source>(alloc: Global, source: &mut S) -> Result<Certificate, ReadEnd>

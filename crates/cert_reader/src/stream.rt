@@ -38,7 +38,7 @@ pub(crate) enum Front {
 /// The line that was read last, without its LF.
 type HeldLine = ArrayVec<u8, LONGEST_LINE>;
 
-/// The bytes of a source. At most 4,000,000 are taken.
+/// The bytes of a source. At most `MOST_BYTES` are taken.
 #[derive(Debug, Drop)]
 pub(crate) struct Bytes {
     piece: [u8; PIECE_BYTES],

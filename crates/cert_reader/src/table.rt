@@ -4,7 +4,7 @@ ghost use Rattle.std.specs.Prelude.{◌≡◌};
 use std::marker::Model;
 
 /// The costs of all `set` lines in order, without the number of the set: for each set, what its route costs from the origin and from the place of each
-/// rider who is not in the set. There are at most 6,133.
+/// rider who is not in the set.
 #[derive(Debug, Drop)]
 pub struct Table {
     numbers: Vec<i128>,

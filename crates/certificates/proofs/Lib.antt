@@ -1,7 +1,6 @@
 pub mod Puts
 pub mod TreeMarks
 pub mod TreeSizes
-pub mod Made
 pub mod BestAnswer
 pub mod TreeRules
 pub mod GoodsPasses

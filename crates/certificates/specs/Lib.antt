@@ -1,7 +1,6 @@
 pub mod GoodsLines
 pub mod Marks
 pub mod Nodes
-pub mod Made
 pub mod Puts
 pub mod FareDivisions
 pub mod FareLines

@@ -7,15 +7,13 @@ ghost use Rattle.cert_reader.specs.Text.{Marks, said_text, wholes};
 ghost use Rattle.cert_reader.specs.Views.{OfGoods};
 ghost use Rattle.certificates.specs.Canonical.{text_saying};
 ghost use Rattle.certificates.specs.Lines.{number_line};
-ghost use Rattle.certificates.specs.GoodsLines.{answer_of, canonical_goods, canonical_tree};
-ghost use Rattle.certificates.specs.Made.{AreMade};
+ghost use Rattle.certificates.specs.GoodsLines.{canonical_goods, canonical_tree};
 ghost use Rattle.certificates.specs.Puts.{Puts};
 ghost use Rattle.nash_search.specs.Division.{IsGoodsDivision};
 
 use crate::lines::{put_amounts, put_rows, put_small};
 use crate::marks::put_marks;
 use crate::room::put;
-use crate::trees::MadeTrees;
 use bid_rules::{Goods, GoodsCase};
 use cert_reader::Word;
 use nash_bounds::players;
@@ -67,22 +65,15 @@ fn put_division(text: &mut [u8], used: usize, division: &GoodsDivision) -> usize
 }
 
 // Puts the line of the tree.
-fn put_tree_line(
-    text: &mut [u8],
-    used: usize,
-    case: &GoodsCase,
-    division: &GoodsDivision,
-    made: &MadeTrees<'_>,
-) -> usize
+fn put_tree_line(text: &mut [u8], used: usize, case: &GoodsCase, division: &GoodsDivision) -> usize
     requires case { IsValidGoodsCase case.now }
     requires division { IsGoodsDivision case.now division.now }
-    requires made { AreMade case.now (answer_of case.now division.now) made.now.by_worker.now }
     ensures { Puts (said_text Tree (Marks (canonical_tree case.now division.now))) used text.old
         text.new result }
 {
     let behind_word = put(text, used, Word::Tree.as_str().as_bytes());
     let behind_space = put(text, behind_word, b" ");
-    let behind_marks = put_marks(text, behind_space, case, division, made);
+    let behind_marks = put_marks(text, behind_space, case, division);
     put(text, behind_marks, b"\n")
 }
 
@@ -100,26 +91,10 @@ pub fn put_goods(text: &mut [u8], case: &GoodsCase, division: &GoodsDivision) ->
     ensures { Puts (text_saying (OfGoods (canonical_goods case.now division.now))) 0 text.old
         text.new result }
 {
-    put_goods_by(text, case, division, &MadeTrees::none())
-}
-
-// What `put_goods` does, with the trees that were made beforehand.
-pub(crate) fn put_goods_by(
-    text: &mut [u8],
-    case: &GoodsCase,
-    division: &GoodsDivision,
-    made: &MadeTrees<'_>,
-) -> usize
-    requires case { IsValidGoodsCase case.now }
-    requires division { IsGoodsDivision case.now division.now }
-    requires made { AreMade case.now (answer_of case.now division.now) made.now.by_worker.now }
-    ensures { Puts (text_saying (OfGoods (canonical_goods case.now division.now))) 0 text.old
-        text.new result }
-{
     let head = put_head(text, 0, players(case), &case.facts);
     let who = put_who(text, head, case);
     let points = put_points(text, who, case);
     let shown = put_division(text, points, division);
-    let tree = put_tree_line(text, shown, case, division, made);
+    let tree = put_tree_line(text, shown, case, division);
     put_end(text, tree)
 }

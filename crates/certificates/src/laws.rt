@@ -15,7 +15,7 @@ use rent_maximin::{division_range_law, one_rent_division_law};
 use shapley_core::division_law;
 
 /// The canonical certificate of a case is certificate text whose rules all hold, so the verdict on it is yes. It has at most
-/// 4,000,000 bytes, and a case has at most one such certificate.
+/// `MOST_BYTES` bytes, and a case has at most one such certificate.
 pub fn certificate_law()
     ensures certificate { (case : Case) (text : List ℕ) → IsValidCase case → IsCanonical case text
         → IsCertificate text }

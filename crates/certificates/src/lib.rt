@@ -1,15 +1,13 @@
 //! The division of a case of any kind, and its canonical certificate, whose lines keep the rules of the checker.
 //!
-//! The canonical certificate has at most 4,000,000 bytes, the judge says yes to it, and a case has at most one
+//! The canonical certificate has at most `MOST_BYTES` bytes, the judge says yes to it, and a case has at most one
 //! (`certificate_law`). A certificate of goods or fares doesn't say how many members there are, so it prints the
 //! case with as many as there may be. Of a rent, each member pays what the cent plan of the members' exact
 //! prices says (`rent_pays`).
 //!
 //! Lines are put into a slice, and what doesn't fit is only counted (`put_rent`, `put_goods` and `put_fares`),
 //! so the writer takes no memory and can't fail. `write_certificate` takes as much memory as a text probably
-//! needs, and if the text is longer, puts it again into as much memory as was counted. `write_certificate_by` lets
-//! workers make parts of a large tree of goods first, which are then put as they are: each is proved to be what
-//! the writer would put there.
+//! needs, and if the text is longer, puts it again into as much memory as was counted.
 #![tactic(auto)]
 
 mod division;
@@ -20,7 +18,6 @@ mod goods;
 mod goods_answer;
 mod goods_lines;
 mod laws;
-mod levels;
 mod lines;
 mod marks;
 mod node;
@@ -29,8 +26,6 @@ mod rent;
 mod rent_lines;
 mod room;
 mod sets;
-mod tree_workers;
-mod trees;
 mod write;
 
 pub use division::Division;
@@ -43,4 +38,4 @@ pub use laws::certificate_law;
 pub use payments::rent_pays;
 pub use rent::put_rent;
 pub use rent_lines::rent_lines_law;
-pub use write::{write_certificate, write_certificate_by};
+pub use write::write_certificate;

@@ -1,9 +1,8 @@
-// Writes the tree of the canonical certificate of goods into a buffer, mark by mark, or in parts that were made beforehand.
+// Writes the tree of the canonical certificate of goods into a buffer, mark by mark.
 ghost use Rattle.std.specs.Prelude.{◌≡◌, ◌-◌, ◌≤◌, [], ◌∷◌, length, false};
 ghost use Rattle.bid_rules.specs.Goods.{IsValidGoodsCase, player_count};
 ghost use Rattle.bid_rules.specs.declared.limits.TheConstants.{MEMBER_ROOM};
-ghost use Rattle.certificates.specs.GoodsLines.{answer_of, canonical_tree};
-ghost use Rattle.certificates.specs.Made.{AreMade, IsStart};
+ghost use Rattle.certificates.specs.GoodsLines.{canonical_tree};
 ghost use Rattle.certificates.specs.Marks.{canonical_marks};
 ghost use Rattle.certificates.specs.Nodes.{IsAnswer, IsNode};
 ghost use Rattle.certificates.specs.Puts.{Puts};
@@ -12,10 +11,8 @@ ghost use Rattle.nash_bounds.specs.Lanes.{IsLaneTable};
 ghost use Rattle.nash_search.specs.Division.{IsGoodsDivision};
 
 use crate::goods_answer::{Answer, answer_of};
-use crate::goods_lines_law;
 use crate::node::{Node, root_of};
 use crate::room::put;
-use crate::trees::MadeTrees;
 use best_laws::players_law;
 use bid_rules::GoodsCase;
 use nash_bounds::limits::MOST_SHORTER;
@@ -25,54 +22,17 @@ use nash_bounds::{
 };
 use nash_search::GoodsDivision;
 
-/// Everything that the walk over a tree begins with.
-#[derive(Drop)]
-pub(crate) struct Start {
-    /// How many points the players give each good.
-    pub(crate) table: LaneTable,
-    /// The allocation that nodes are compared with.
-    pub(crate) answer: Answer,
-    /// The node without owners.
-    pub(crate) root: Node,
-}
-
-// What the walk over the canonical tree of a case begins with, from its division.
-pub(crate) fn start_of(case: &GoodsCase, division: &GoodsDivision) -> Start
-    requires case { IsValidGoodsCase case.now }
-    requires division { IsGoodsDivision case.now division.now }
-    ensures start { IsStart case.now result }
-    ensures answer { result.answer.owners.items ≡ answer_of case.now division.now }
-    ensures none { result.root.owners.items ≡ [] }
-{
-    bound_law();
-    goods_lines_law();
-    open_prefixes_law();
-    owners_by_good_law();
-    players_law();
-    let order = search_order(case);
-    let table = lane_table(case, order.as_slice(), &point_table(case, order.as_slice()));
-    let answer = answer_of(case, order.as_slice(), division);
-    let root = root_of(case);
-    Start {
-        table,
-        answer,
-        root,
-    }
-}
-
-// Puts the tree below a node that may not be left out: that made beforehand, or mark by mark.
-pub(crate) fn put_tree(
+// Puts the tree below a node that may not be left out.
+fn put_tree(
     text: &mut [u8],
     used: usize,
     case: &GoodsCase,
     table: &LaneTable,
     answer: &Answer,
-    made: &MadeTrees<'_>,
     node: &mut Node,
 ) -> usize
     requires table { IsLaneTable case.now table.now }
     requires answer { IsAnswer case.now answer.now }
-    requires made { AreMade case.now answer.now.owners.items made.now.by_worker.now }
     requires node { IsNode case.now node.old }
     requires open { may_be_left case.now answer.now.owners.items node.old.owners.items ≡ false }
     ensures owners { node.new.owners.items ≡ node.old.owners.items }
@@ -81,9 +41,6 @@ pub(crate) fn put_tree(
         (case.now.facts.goods - length node.old.owners.items) node.old.owners.items) used text.old
         text.new result }
 {
-    if let Some(marks) = made.marks_below(node.owners.as_slice()) {
-        return put(text, used, marks);
-    }
     if node.owners.len() == case.facts.goods as usize {
         return put(text, used, b"=");
     }
@@ -91,7 +48,7 @@ pub(crate) fn put_tree(
     let parent = node.parent(case, table, answer);
     for k in 0..players(case) {
         if node.open_child(case, table, answer, &parent, k + 1) {
-            end = put_tree(text, end, case, table, answer, made, node);
+            end = put_tree(text, end, case, table, answer, node);
             node.ascend();
         } else {
             end = put(text, end, b"-");
@@ -111,21 +68,18 @@ pub(crate) fn put_marks(
     used: usize,
     case: &GoodsCase,
     division: &GoodsDivision,
-    made: &MadeTrees<'_>,
 ) -> usize
     requires case { IsValidGoodsCase case.now }
     requires division { IsGoodsDivision case.now division.now }
-    requires made { AreMade case.now (answer_of case.now division.now) made.now.by_worker.now }
     ensures { Puts (canonical_tree case.now division.now) used text.old text.new result }
 {
-    let mut start = start_of(case, division);
-    put_tree(
-        text,
-        used,
-        case,
-        &start.table,
-        &start.answer,
-        made,
-        &mut start.root,
-    )
+    bound_law();
+    open_prefixes_law();
+    owners_by_good_law();
+    players_law();
+    let order = search_order(case);
+    let table = lane_table(case, order.as_slice(), &point_table(case, order.as_slice()));
+    let answer = answer_of(case, order.as_slice(), division);
+    let mut root = root_of(case);
+    put_tree(text, used, case, &table, &answer, &mut root)
 }

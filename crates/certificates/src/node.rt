@@ -16,7 +16,7 @@ use nash_bounds::{
     LaneTable, Lanes, empty_prefix, give, lanes_of, open_prefixes_law, players, reaches,
 };
 
-/// A node of the tree. A walk has one value of this type, which moves from node to node; the nodes of one level are a list of them.
+/// A node of the tree. A walk has one value of this type, which moves from node to node.
 #[derive(Drop)]
 pub(crate) struct Node {
     /// The owner, a player from 1, of each of the first few goods in search order.
@@ -43,17 +43,6 @@ pub(crate) fn root_of(case: &GoodsCase) -> Node
 }
 
 impl Node {
-    // A copy of the node.
-    pub(crate) fn copy(&self) -> Node
-        ensures { result ≡ self.now }
-    {
-        Node {
-            owners: ArrayVec::try_from(self.owners.as_slice()).unwrap(),
-            lanes: self.lanes,
-            level: self.level,
-        }
-    }
-
     // Everything that the node's children are judged by.
     pub(crate) fn parent(&self, case: &GoodsCase, table: &LaneTable, answer: &Answer) -> Parent
         requires table { IsLaneTable case.now table.now }

@@ -5,35 +5,29 @@ ghost use Rattle.cert_checker.specs.Judged.{IsCertificate};
 ghost use Rattle.cert_reader.specs.declared.limits.TheConstants.{MOST_BYTES};
 ghost use Rattle.certificates.specs.Canonical.{IsCanonical, canonical_text};
 ghost use Rattle.certificates.specs.Division.{IsDivisionOf};
-ghost use Rattle.certificates.specs.Made.{AreMadeFor};
 ghost use Rattle.certificates.specs.Puts.{Puts};
 
 use crate::Division;
 use crate::fares::put_fare_division;
-use crate::goods::put_goods_by;
+use crate::goods::put_goods;
 use crate::laws::certificate_law;
 use crate::marks::likely_marks;
 use crate::rent::put_rent;
-use crate::tree_workers::trees_for;
-use crate::trees::MadeTrees;
 use bid_rules::Case;
 use bid_rules::limits::MOST_RIDERS;
 use cert_reader::limits::MOST_BYTES;
-use search_workers::{Means, Workers};
-use split_base::{Gate, NoMemory};
+use split_base::NoMemory;
 use std::alloc::Global;
-use std::thread::Threads;
 
 // Puts the canonical certificate of a case at the front of the text, and returns its size. What doesn't fit is only counted.
-fn put_certificate(text: &mut [u8], case: &Case, division: &Division, made: &MadeTrees<'_>) -> usize
+fn put_certificate(text: &mut [u8], case: &Case, division: &Division) -> usize
     requires case { IsValidCase case.now }
     requires division { IsDivisionOf case.now division.now }
-    requires made { AreMadeFor case.now division.now made.now.by_worker.now }
     ensures { Puts (canonical_text case.now division.now) 0 text.old text.new result }
 {
     match (case, division) {
         (Case::Rent(case), Division::Rent(division)) => put_rent(text, case, division),
-        (Case::Goods(case), Division::Goods(division)) => put_goods_by(text, case, division, made),
+        (Case::Goods(case), Division::Goods(division)) => put_goods(text, case, division),
         (Case::Fares(case), Division::Fares(division)) => put_fare_division(text, case, division),
         _ => unreachable!(),
     }
@@ -60,12 +54,10 @@ fn write_into(
     alloc: Global,
     case: &Case,
     division: &Division,
-    made: &MadeTrees<'_>,
     room: usize,
 ) -> Result<(Vec<u8>, usize), NoMemory>
     requires case { IsValidCase case.now }
     requires division { IsDivisionOf case.now division.now }
-    requires made { AreMadeFor case.now division.now made.now.by_worker.now }
     ensures room { IfOk result (λ made. length made.0.items ≡ room) }
     ensures size { IfOk result (λ made. made.1 ≡ length (canonical_text case.now division.now)) }
     ensures text { IfOk result (λ made.
@@ -75,39 +67,15 @@ fn write_into(
     let Ok(mut text) = vec![in alloc; 0; room] else {
         return Err(NoMemory);
     };
-    let size = put_certificate(text.as_mut_slice(), case, division, made);
+    let size = put_certificate(text.as_mut_slice(), case, division);
     Ok((text, size))
-}
-
-// The certificate with the trees that were made beforehand. It is written once into memory that is probably enough. Only a text that didn't fit is
-// written again, into as much as it takes.
-fn write_with(
-    alloc: Global,
-    case: &Case,
-    division: &Division,
-    made: &MadeTrees<'_>,
-) -> Result<Vec<u8>, NoMemory>
-    requires case { IsValidCase case.now }
-    requires division { IsDivisionOf case.now division.now }
-    requires made { AreMadeFor case.now division.now made.now.by_worker.now }
-    ensures canonical { IfOk result (λ text. IsCanonical case.now text.items) }
-    ensures certificate { IfOk result (λ text. IsCertificate text.items) }
-    ensures short { IfOk result (λ text. length text.items ≤ MOST_BYTES) }
-{
-    certificate_law();
-    let (mut text, size) = write_into(alloc, case, division, made, likely_size(case, division))?;
-    if text.len() < size {
-        let (text, _) = write_into(alloc, case, division, made, size)?;
-        return Ok(text);
-    }
-    text.truncate(size);
-    Ok(text)
 }
 
 /// The canonical certificate of a case: the case, its division, and the numbers that show that the division is the best (certifying
 /// algorithms: McConnell, Mehlhorn, Näher and Schweitzer 2011).
 ///
-/// The division is the solver's for that case. `NoMemory` is returned only when memory runs out.
+/// The division is the solver's for that case. The text is written once, into memory that is probably enough; only one that didn't fit is
+/// written again, into as much as it takes.
 pub fn write_certificate(
     alloc: Global,
     case: &Case,
@@ -119,29 +87,12 @@ pub fn write_certificate(
     ensures certificate { IfOk result (λ text. IsCertificate text.items) }
     ensures short { IfOk result (λ text. length text.items ≤ MOST_BYTES) }
 {
-    write_with(alloc, case, division, &MadeTrees::none())
-}
-
-/// What `write_certificate` gives. Parts of a large tree of goods are made by these workers, each in a thread, before the whole is written.
-///
-/// Their number never changes the text. Memory that is refused to them is not a fault.
-pub fn write_certificate_by<R: Threads + Sync, G: Gate + Sync>(
-    means: &Means<'_, R, G>,
-    workers: Workers,
-    case: &Case,
-    division: &Division,
-) -> Result<Vec<u8>, NoMemory>
-    requires case { IsValidCase case.now }
-    requires division { IsDivisionOf case.now division.now }
-    ensures canonical { IfOk result (λ text. IsCanonical case.now text.items) }
-    ensures certificate { IfOk result (λ text. IsCertificate text.items) }
-    ensures short { IfOk result (λ text. length text.items ≤ MOST_BYTES) }
-{
-    let trees = trees_for(means, workers, case, division);
-    write_with(
-        means.alloc,
-        case,
-        division,
-        &MadeTrees::of(trees.as_slice()),
-    )
+    certificate_law();
+    let (mut text, size) = write_into(alloc, case, division, likely_size(case, division))?;
+    if text.len() < size {
+        let (text, _) = write_into(alloc, case, division, size)?;
+        return Ok(text);
+    }
+    text.truncate(size);
+    Ok(text)
 }

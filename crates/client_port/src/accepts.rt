@@ -9,10 +9,9 @@ use std::time::Duration;
 /// Nobody is waiting.
 const EAGAIN: i32 = 11;
 
-/// Errors that concern one client (it has gone, or a rule of the system forbids it), and signals.
+/// Errors that concern one client: it has gone, or a rule of the system forbids it. An `accept` that a signal interrupted never comes here, since
+/// `mio` calls it again.
 const EPERM: i32 = 1;
-
-const EINTR: i32 = 4;
 
 const EACCES: i32 = 13;
 
@@ -40,9 +39,8 @@ const EHOSTDOWN: i32 = 112;
 const EHOSTUNREACH: i32 = 113;
 
 /// The errors that concern one client and not the port: the next client may do better.
-const OF_A_CLIENT: [i32; 14] = [
+const OF_A_CLIENT: [i32; 13] = [
     EPERM,
-    EINTR,
     EACCES,
     ECONNABORTED,
     ECONNRESET,

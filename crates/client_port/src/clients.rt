@@ -2,12 +2,13 @@
 ghost use Rattle.std.specs.Prelude.{◌≡◌, ◌≤◌, length, IfSome};
 ghost use Rattle.client_port.specs.Writes.{IsWritten};
 
+use adapters::second_of;
 use mio::net::TcpStream;
 use split_http::{Framing, INTERIM, MAX_BODY, MAX_HEAD, framing_of};
 use std::alloc::Global;
 use std::io::{ErrorKind, Read, Write};
 use std::net::Shutdown;
-use std::time::Duration;
+use std::time::{Clock, Duration};
 
 /// The most bytes that are read ahead from a client: those of the longest request, and less than one further read.
 const MOST_AHEAD: usize = MAX_HEAD + MAX_BODY as usize;
@@ -15,6 +16,9 @@ const MOST_AHEAD: usize = MAX_HEAD + MAX_BODY as usize;
 /// The most reads in one look at a client. What is left after that is read at the next look, or belongs to a client that is
 /// closed.
 const MOST_READS: usize = 16;
+
+/// The most times in a row that a signal may interrupt a write. Linux never does that to a write that doesn't wait, so beyond that the connection has failed.
+const MOST_INTERRUPTIONS: usize = 100;
 
 /// The most room that is kept for a client that has sent nothing further.
 const KEPT_ROOM: usize = 4_096;
@@ -60,6 +64,8 @@ pub(crate) struct Client {
     stream: TcpStream,
     stage: Stage,
     since: Duration,
+    heard: Option<u64>,
+    arrived: Option<u64>,
     input: Vec<u8>,
     looked: usize,
     given: usize,
@@ -82,6 +88,8 @@ impl Client {
             stream,
             stage: Stage::Filling,
             since: now,
+            heard: None,
+            arrived: None,
             input: Vec::new(alloc),
             looked: 0,
             given: 0,
@@ -150,7 +158,13 @@ impl Client {
     }
 
     // Takes note of what the system reports about the connection.
-    pub(crate) fn heed(&mut self, is_readable: bool, is_ending: bool, scratch: &mut [u8]) {
+    pub(crate) fn heed<C: Clock>(
+        &mut self,
+        is_readable: bool,
+        is_ending: bool,
+        scratch: &mut [u8],
+        clock: &C,
+    ) {
         if is_readable || is_ending {
             self.is_readable = true;
         }
@@ -158,11 +172,20 @@ impl Client {
             self.is_ending = true;
         }
         self.flush();
-        self.fill(scratch);
+        self.fill(scratch, clock);
+    }
+
+    // Reads ahead what has come, and notes by the clock when the last of it was here.
+    fn fill<C: Clock>(&mut self, scratch: &mut [u8], clock: &C) {
+        let before = self.input.len();
+        self.read_ahead(scratch);
+        if self.input.len() > before {
+            self.heard = second_of(clock);
+        }
     }
 
     // Reads ahead what has come, up to the most that is kept.
-    fn fill(&mut self, scratch: &mut [u8]) {
+    fn read_ahead(&mut self, scratch: &mut [u8]) {
         let most = scratch.len();
         for _ in 0..MOST_READS {
             if !self.is_readable || self.input.len() >= MOST_AHEAD {
@@ -203,7 +226,16 @@ impl Client {
         if self.end == End::Open && self.input.len() > self.looked {
             self.look();
         }
-        self.output.is_empty() && (self.is_whole() || self.is_cut())
+        let has_arrived = self.is_whole() || self.is_cut();
+        if has_arrived && self.arrived.is_none() {
+            self.arrived = self.heard;
+        }
+        self.output.is_empty() && has_arrived
+    }
+
+    // When all of its current request was here, in seconds since 1970. What came after that doesn't count. `None` if the system's clock failed.
+    pub(crate) fn arrived(&self) -> Option<u64> {
+        self.arrived
     }
 
     // Looks for the end of the request at the front.
@@ -296,7 +328,7 @@ impl Client {
     }
 
     // Goes on to the next request.
-    pub(crate) fn go_on(&mut self, scratch: &mut [u8]) {
+    pub(crate) fn go_on<C: Clock>(&mut self, scratch: &mut [u8], clock: &C) {
         drop_front(&mut self.input, self.given);
         if self.input.is_empty() && self.input.capacity() > KEPT_ROOM {
             self.input = Vec::new(*self.input.allocator());
@@ -305,7 +337,8 @@ impl Client {
         self.looked = 0;
         self.end = End::Open;
         self.has_interim = false;
-        self.fill(scratch);
+        self.arrived = None;
+        self.fill(scratch, clock);
     }
 
     // Whether this is the host's interim reply, which the client already has.
@@ -330,17 +363,15 @@ impl Client {
         if !self.output.is_empty() {
             return Written::Full;
         }
-        for _ in 0..u64::MAX {
+        for _ in 0..MOST_INTERRUPTIONS {
             match self.stream.write(piece) {
                 Ok(count) if count > 0 => return Written::Taken(count),
                 Err(error) if error.kind() == ErrorKind::Interrupted => {}
                 Err(error) if error.kind() == ErrorKind::WouldBlock => return Written::Full,
-                _ => {
-                    self.fail();
-                    return Written::Failed;
-                }
+                _ => break,
             }
         }
+        self.fail();
         Written::Failed
     }
 
@@ -372,6 +403,7 @@ impl Client {
 
     // Sends what is kept, and says whether all of it has gone out.
     fn sends(&mut self) -> bool {
+        let mut left = MOST_INTERRUPTIONS;
         for _ in 0..u64::MAX {
             let rest = match self.output.as_slice().get(self.sent..) {
                 Some(rest) if !rest.is_empty() => rest,
@@ -379,7 +411,7 @@ impl Client {
             };
             match self.stream.write(rest) {
                 Ok(count) if count > 0 => self.sent = self.sent.saturating_add(count),
-                Err(error) if error.kind() == ErrorKind::Interrupted => {}
+                Err(error) if error.kind() == ErrorKind::Interrupted && left > 0 => left -= 1,
                 Err(error) if error.kind() == ErrorKind::WouldBlock => return false,
                 _ => {
                     self.fail();

@@ -9,7 +9,7 @@ use mio::{Interest, Registry, Token};
 use slab::Slab;
 use std::alloc::Global;
 use std::collections::VecDeque;
-use std::time::Duration;
+use std::time::{Clock, Duration};
 
 /// The most connections that are accepted before the clients are looked at again.
 const MOST_ACCEPTS: usize = 64;
@@ -137,14 +137,19 @@ impl Crowd {
 
     // Accepts the connections that have come, as long as there is a place or a client can be dropped for another. After a failure of the port a
     // client is dropped, since descriptors may be lacking. If that doesn't help, those that are waiting are served first.
-    pub(crate) fn admit_all(&mut self, listener: &TcpListener, registry: &Registry) {
+    pub(crate) fn admit_all<C: Clock>(
+        &mut self,
+        listener: &TcpListener,
+        registry: &Registry,
+        clock: &C,
+    ) {
         let mut has_failed = false;
         let mut has_dropped = false;
         for _ in 0..MOST_ACCEPTS {
             if self.is_full() && !self.drop_longest() {
                 return;
             }
-            match self.accept(listener, registry) {
+            match self.accept(listener, registry, clock) {
                 None => {
                     has_failed = false;
                     has_dropped = false;
@@ -166,11 +171,16 @@ impl Crowd {
     }
 
     // Accepts a connection, or says why there is none.
-    fn accept(&mut self, listener: &TcpListener, registry: &Registry) -> Option<Refusal> {
+    fn accept<C: Clock>(
+        &mut self,
+        listener: &TcpListener,
+        registry: &Registry,
+        clock: &C,
+    ) -> Option<Refusal> {
         match listener.accept() {
             Ok((stream, _)) => {
                 self.backoff.end();
-                self.admit(stream, registry);
+                self.admit(stream, registry, clock);
                 None
             }
             Err(error) => {
@@ -194,7 +204,7 @@ impl Crowd {
     }
 
     // Takes a client in. If that is one too many, the one that has waited longest goes.
-    fn admit(&mut self, mut stream: TcpStream, registry: &Registry) {
+    fn admit<C: Clock>(&mut self, mut stream: TcpStream, registry: &Registry, clock: &C) {
         if self.clients.len() >= self.limits.clients {
             let _ = self.drop_longest();
         }
@@ -207,21 +217,27 @@ impl Crowd {
             self.gone = self.gone.saturating_add(1);
             return;
         }
-        self.heed(at, true, false);
+        self.heed(at, true, false, clock);
     }
 
     // Takes note of what the system reports about a client.
-    pub(crate) fn heed(&mut self, at: usize, is_readable: bool, is_ending: bool) {
+    pub(crate) fn heed<C: Clock>(
+        &mut self,
+        at: usize,
+        is_readable: bool,
+        is_ending: bool,
+        clock: &C,
+    ) {
         if let Some(client) = self.clients.get_mut(at) {
-            client.heed(is_readable, is_ending, self.scratch.as_mut_slice());
+            client.heed(is_readable, is_ending, self.scratch.as_mut_slice(), clock);
             self.settle(at);
         }
     }
 
     // Lets a client go on to its next request, and says whether that is ready.
-    pub(crate) fn goes_on(&mut self, at: usize) -> bool {
+    pub(crate) fn goes_on<C: Clock>(&mut self, at: usize, clock: &C) -> bool {
         if let Some(client) = self.clients.get_mut(at) {
-            client.go_on(self.scratch.as_mut_slice());
+            client.go_on(self.scratch.as_mut_slice(), clock);
             client.is_ready()
         } else {
             false
@@ -314,12 +330,12 @@ impl Crowd {
     }
 
     // Closes a client whose last reply has been sent or is kept.
-    pub(crate) fn close(&mut self, at: usize) {
+    pub(crate) fn close<C: Clock>(&mut self, at: usize, clock: &C) {
         let now = self.now;
         if let Some(client) = self.client(at) {
             client.close(now);
         }
-        self.heed(at, false, false);
+        self.heed(at, false, false, clock);
     }
 
     // Writes the front of a piece to a client. What the system doesn't take is kept.

@@ -9,7 +9,7 @@
 //! | connection, its buffers and its state | `Client`, `Stage` |
 //! | table of connections | `Crowd`, a `Slab`: the place of a client in it is the token of its events |
 //! | run queue | the line of `Crowd`, first come, first served |
-//! | time slice | `Purse`, and a hundred requests a turn, which the host counts |
+//! | time slice | one request while others wait, and else a hundred, which the host counts |
 //! | backpressure | a client for which bytes are kept has no turn |
 //! | backoff of `accept` | `Backoff` |
 //!
@@ -40,9 +40,10 @@
 //! request or without taking what is kept for it; and if too much is kept for all clients together, those for whom something has been kept longest are
 //! dropped. Each connection that was accepted is handed out at least once, even one that was dropped before that, so that the host counts it.
 //!
-//! **How time is shared.** The client whose request was whole first comes first. Between two requests of a turn the host waits for the next one as
-//! long as nobody else is in line. Otherwise the wait is paid for out of a purse of one second that all clients share and that refills by a hundredth
-//! of the time that passes. With an empty purse the link ends, and the client goes to the end of the line when its next request is whole.
+//! **How time is shared.** The client whose request was whole first comes first. A turn ends when another client's request is whole: the client then goes
+//! to the end of the line when its own next request is whole. As long as nobody else is in line, the host waits for that.
+//!
+//! **What the clock says.** A request may wait in line, for a search say. It is answered as of the second in which all of it was here (`Arrival`).
 //!
 //! **What fails.** A connection that fails is dropped. A listener that cannot accept is left alone for a while, longer with each failure in a row, and
 //! if that has not helped for ten seconds, the port has failed.
@@ -57,7 +58,6 @@ mod crowd;
 pub mod limits;
 mod pool;
 mod ports;
-mod purse;
 mod turns;
 
 pub use limits::PortLimits;

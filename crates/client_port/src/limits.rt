@@ -12,9 +12,6 @@ pub const IDLE_SECONDS: u64 = 600;
 /// may be on its way.
 pub const GRACE_MILLIS: u64 = 10;
 
-/// For how long clients may hold others up between two of their requests, in seconds and in total.
-pub const PURSE_SECONDS: u64 = 1;
-
 /// The pause after a first failed call of `accept`, in milliseconds. It doubles with each further failure in a row.
 pub const LEAST_PAUSE_MILLIS: u64 = 1;
 
@@ -41,8 +38,6 @@ pub struct PortLimits {
     pub idle: Duration,
     /// How long a closed client has to close its own end.
     pub closing: Duration,
-    /// For how long in total clients may hold others up between two of their requests. It refills by a hundredth of the time that passes.
-    pub purse: Duration,
     /// The most bytes that are kept to be sent to one client. If a reply has more, its connection fails.
     pub kept_of_one: usize,
     /// The most bytes that are kept to be sent to all clients. Beyond that, the client for which some have been kept longest is dropped.
@@ -57,7 +52,6 @@ impl PortLimits {
             grace: Duration::from_millis(GRACE_MILLIS),
             idle: Duration::from_secs(IDLE_SECONDS),
             closing: Duration::from_secs(CLOSING_SECONDS),
-            purse: Duration::from_secs(PURSE_SECONDS),
             kept_of_one: MOST_KEPT_OF_ONE,
             kept_of_all: MOST_KEPT_OF_ALL,
         }

@@ -5,7 +5,6 @@ use crate::accepts::Backoff;
 use crate::clients::Client;
 use crate::crowd::{Crowd, Next};
 use crate::limits::PortLimits;
-use crate::purse::Purse;
 use mio::net::TcpListener;
 use mio::{Events, Interest, Poll, Token};
 use std::alloc::Global;
@@ -29,9 +28,7 @@ pub(crate) struct Pool {
     poll: Poll,
     events: Events,
     crowd: Crowd,
-    purse: Purse,
     early: Backoff,
-    held_since: Option<Duration>,
     looked: Duration,
     limits: PortLimits,
 }
@@ -58,9 +55,7 @@ impl Pool {
             poll,
             events,
             crowd,
-            purse: Purse::new(limits.purse, now),
             early: Backoff::new(),
-            held_since: None,
             looked: now,
             limits,
         })
@@ -83,11 +78,12 @@ impl Pool {
                 self.crowd.knock();
             } else {
                 let is_ending = event.is_read_closed() || event.is_error();
-                self.crowd.heed(at, event.is_readable(), is_ending);
+                self.crowd.heed(at, event.is_readable(), is_ending, clock);
             }
         }
         if self.crowd.admits_in() == Some(Duration::ZERO) {
-            self.crowd.admit_all(&self.listener, self.poll.registry());
+            self.crowd
+                .admit_all(&self.listener, self.poll.registry(), clock);
         }
         self.crowd.sweep();
     }
@@ -103,15 +99,11 @@ impl Pool {
         }
     }
 
-    // Reads the clock. If that fails, no client may hold others up, and no pause ends.
+    // Reads the clock. If that fails, no pause ends.
     fn read_clock<C: Clock>(&mut self, clock: &C) {
         match clock.monotonic() {
-            Ok(now) => {
-                self.crowd.pass_to(now);
-                self.purse.refill(now);
-            }
+            Ok(now) => self.crowd.pass_to(now),
             Err(_) => {
-                self.purse.spend(Duration::MAX);
                 if self.crowd.is_refused() {
                     self.crowd.break_off();
                 }
@@ -129,7 +121,6 @@ impl Pool {
 
     // Waits for the next turn; gives nothing if the listener or the system's wait has failed.
     pub(crate) fn await_next<C: Clock>(&mut self, clock: &C) -> Option<Next> {
-        self.held_since = None;
         self.look(clock);
         for _ in 0..u64::MAX {
             if let Some(next) = self.crowd.next() {
@@ -143,20 +134,12 @@ impl Pool {
         None
     }
 
-    // How long the host may wait for the client whose turn it is. `None` if another client is ready and the purse is empty.
-    pub(crate) fn patience(&mut self) -> Option<Duration> {
-        if !self.crowd.has_next() {
-            return Some(self.limits.closing);
-        }
-        self.spend();
-        self.held_since = Some(self.crowd.now());
-        self.purse.left()
-    }
-
-    // Takes out of the purse the time for which others were held up.
-    fn spend(&mut self) {
-        if let Some(since) = self.held_since {
-            self.purse.spend(self.crowd.now().saturating_sub(since));
+    // How long the host may wait for the next request of the client whose turn it is. `None` if another client is ready.
+    pub(crate) fn patience(&self) -> Option<Duration> {
+        if self.crowd.has_next() {
+            None
+        } else {
+            Some(self.limits.closing)
         }
     }
 
@@ -182,7 +165,7 @@ impl Pool {
 
     // Lets a client go on to its next request. If there will be no wait for it, the other clients are looked at first.
     pub(crate) fn go_on<C: Clock>(&mut self, at: usize, clock: &C) {
-        if self.crowd.goes_on(at) || self.crowd.has_next() {
+        if self.crowd.goes_on(at, clock) || self.crowd.has_next() {
             self.look(clock);
         }
     }
@@ -196,19 +179,16 @@ impl Pool {
 
     // Takes back a client whose turn is over and that may make another request.
     pub(crate) fn keep(&mut self, at: usize) {
-        self.spend();
         self.crowd.keep(at);
     }
 
     // Closes a client whose last reply has been sent or is kept.
-    pub(crate) fn close(&mut self, at: usize) {
-        self.spend();
-        self.crowd.close(at);
+    pub(crate) fn close<C: Clock>(&mut self, at: usize, clock: &C) {
+        self.crowd.close(at, clock);
     }
 
     // Drops a client at once.
     pub(crate) fn drop_client(&mut self, at: usize) {
-        self.spend();
         self.crowd.drop_client(at);
     }
 

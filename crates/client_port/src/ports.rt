@@ -4,6 +4,7 @@ ghost use Rattle.std.specs.Prelude.{◌≡◌, None};
 use crate::limits::PortLimits;
 use crate::pool::Pool;
 use crate::turns::TurnLink;
+use adapters::Arrival;
 use adapters::counts::fault;
 use split_base::{Asked, Failed, Port};
 use std::alloc::Global;
@@ -16,6 +17,7 @@ use std::time::Clock;
 pub struct TcpPort<'r, R> {
     alloc: Global,
     system: &'r R,
+    arrival: &'r Arrival,
     limits: PortLimits,
     pool: Option<Pool>,
     out: u64,
@@ -24,14 +26,15 @@ pub struct TcpPort<'r, R> {
 }
 
 impl<'r, R: Net + Clock> TcpPort<'r, R> {
-    /// A port that isn't listening yet and has had no fault. It takes memory when it listens, and for its clients.
-    pub fn new(alloc: Global, system: &'r R, limits: PortLimits) -> Self
+    /// A port that isn't listening yet and has had no fault. It takes memory when it listens, and for its clients. It notes when each request had arrived.
+    pub fn new(alloc: Global, system: &'r R, arrival: &'r Arrival, limits: PortLimits) -> Self
         ensures faults { result.faults ≡ 0 }
         ensures out { result.out ≡ 0 }
     {
         TcpPort {
             alloc,
             system,
+            arrival,
             limits,
             pool: None,
             out: 0,
@@ -55,7 +58,7 @@ impl<'r, R: Net + Clock> TcpPort<'r, R> {
     {
         let mut pool = self.pool.take()?;
         match pool.await_next(self.system) {
-            Some(next) => Some(TurnLink::new(pool, next, self.system)),
+            Some(next) => Some(TurnLink::new(pool, next, self.system, self.arrival)),
             None => {
                 self.pool = Some(pool);
                 None

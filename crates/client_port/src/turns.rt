@@ -5,6 +5,7 @@ ghost use Rattle.split_base.specs.Links.{link_faults};
 
 use crate::crowd::Next;
 use crate::pool::Pool;
+use adapters::Arrival;
 use adapters::counts::answered;
 use split_base::{Failed, Link, Sink, Source};
 use std::time::{Clock, Duration};
@@ -24,14 +25,16 @@ enum Step {
 
 /// A client's turn: one request or several, each of them whole. It reveals none of its bytes.
 ///
-/// Its input ends if the client has closed its end, and between two requests if another client is ready and the port's time for waiting
-/// is used up. In the second case the connection stays, and has another turn when its next request is whole. A client that was dropped
-/// before it had a turn has one whose calls all fail.
+/// Its input ends if the client has closed its end, and between two requests if another client is ready. In the second case the connection
+/// stays, and has another turn when its next request is whole. A client that was dropped before it had a turn has one whose calls all fail.
+///
+/// It notes when each request had all arrived.
 #[derive(Drop)]
 pub struct TurnLink<'r, C> {
     pool: Pool,
     next: Next,
     clock: &'r C,
+    arrival: &'r Arrival,
     is_between: bool,
     gives_way: bool,
     asked: Duration,
@@ -41,15 +44,18 @@ pub struct TurnLink<'r, C> {
 
 impl<'r, C: Clock> TurnLink<'r, C> {
     // A turn, which begins where the loop stands now.
-    pub(crate) fn new(pool: Pool, next: Next, clock: &'r C) -> Self
+    pub(crate) fn new(pool: Pool, next: Next, clock: &'r C, arrival: &'r Arrival) -> Self
         ensures reads { result.read_faults ≡ 0 }
         ensures writes { result.write_faults ≡ 0 }
     {
         let asked = pool.now();
+        let mut pool = pool;
+        arrival.note(arrived(&mut pool, next));
         TurnLink {
             pool,
             next,
             clock,
+            arrival,
             is_between: false,
             gives_way: false,
             asked,
@@ -137,6 +143,7 @@ impl<'r, C: Clock> TurnLink<'r, C> {
         };
         if client.is_ready() {
             self.is_between = false;
+            self.arrival.note(client.arrived());
             return Step::Gives;
         }
         if client.has_failed() || is_over || is_broken {
@@ -170,10 +177,18 @@ impl<'r, C: Clock> TurnLink<'r, C> {
             } else if self.gives_way {
                 pool.keep(at);
             } else {
-                pool.close(at);
+                pool.close(at, self.clock);
             }
         }
         pool
+    }
+}
+
+// When all of the first request of a turn was here.
+fn arrived(pool: &mut Pool, next: Next) -> Option<u64> {
+    match next {
+        Next::Client(at) => pool.client(at)?.arrived(),
+        Next::Gone => None,
     }
 }
 

@@ -13,22 +13,34 @@
 //! a handle or starts a thread.
 #![tactic(auto)]
 
+ghost use Rattle.std.specs.Prelude.{◌≡◌};
+ghost use Rattle.fair_solver.specs.Numbers.{IsFareNumbersReply, IsOwnersReply, IsRentNumbersReply};
 ghost use Rattle.fair_solver.specs.Plans.{IsFarePlanReply, IsRentPlanReply};
 ghost use Rattle.fair_solver.specs.Replies.{IsFareReply, IsGoodsReply, IsRentReply};
 
 mod cases;
 mod dividing;
+mod numbers;
 mod plans;
 mod refusing;
 mod rows;
 
 use crate::cases::{fare_case, goods_case, rent_case};
 use crate::dividing::divide_fare;
+use crate::numbers::{fare_numbers, give, rent_numbers};
 use crate::plans::{copy_amounts, fare_plan, rent_plan};
 use crate::refusing::{refuse, refuse_limit};
 use certificates::{certificate_law, put_goods, put_rent};
 use nash_search::search_alone;
 use rent_maximin::solve_rent;
+
+/// The version of the library: 10000 for each first number, 100 for each second and 1 for each third.
+#[unsafe(no_mangle)]
+pub extern "C" fn fair_version() -> u32
+    ensures { result ≡ 100 }
+{
+    100
+}
 
 /// Divides a rent: `values` are what the members would pay for the rooms, member by member, in cents.
 #[unsafe(no_mangle)]
@@ -146,6 +158,100 @@ pub extern "C" fn fair_fares_cents(
         Ok(case) => {
             let plan = fare_plan(&case);
             *size = copy_amounts(plan.as_slice(), pays);
+            0
+        }
+        Err(name) => refuse(name, text, size),
+    }
+}
+
+/// Divides a rent in numbers: `rooms` by member, from 1, the exact prices by room as `numerators` and `denominators`, and what each member `pays`
+/// in whole cents.
+#[unsafe(no_mangle)]
+pub extern "C" fn fair_rent_rooms(
+    members: u32,
+    rent: u32,
+    values: &[u32],
+    rooms: &mut [u8],
+    numerators: &mut [i64],
+    denominators: &mut [u64],
+    pays: &mut [i64],
+    text: &mut [u8],
+    size: &mut usize,
+) -> u8
+    ensures { IsRentNumbersReply members rent values.now result size.new rooms.old rooms.new
+        numerators.old numerators.new denominators.old denominators.new pays.old pays.new text.old
+        text.new }
+{
+    match rent_case(members, rent, values) {
+        Ok(case) => {
+            let division = rent_numbers(&case);
+            give(division.own.as_slice(), rooms);
+            give(division.exact.numerators.as_slice(), numerators);
+            give(division.exact.denominators.as_slice(), denominators);
+            give(division.pays.as_slice(), pays);
+            *size = division.pays.len();
+            0
+        }
+        Err(name) => refuse(name, text, size),
+    }
+}
+
+/// Divides goods in numbers: `owners` has for each good the player who gets it, from 1, in the order of `who`.
+#[unsafe(no_mangle)]
+pub extern "C" fn fair_goods_owners(
+    goods: u32,
+    limit: u32,
+    who: &[u8],
+    values: &[u32],
+    owners: &mut [u8],
+    text: &mut [u8],
+    size: &mut usize,
+) -> u8
+    ensures { IsOwnersReply goods limit who.now values.now result size.new owners.old owners.new
+        text.old text.new }
+{
+    let case = match goods_case(goods, limit, who, values) {
+        Ok(case) => case,
+        Err(name) => return refuse(name, text, size),
+    };
+    match search_alone(&case) {
+        Ok(division) => {
+            give(division.owners.as_slice(), owners);
+            *size = division.owners.len();
+            0
+        }
+        Err(over) => refuse_limit(over.limit, text, size),
+    }
+}
+
+/// Shares a fare in numbers: the `route` as riders, from 1, in the order in which they get off, the exact fares by rider as `numerators` and
+/// `denominators`, and what each rider `pays` in whole cents.
+#[unsafe(no_mangle)]
+pub extern "C" fn fair_fares_route(
+    places: u32,
+    flag: u32,
+    legs: &[u32],
+    who: &[u8],
+    at: &[u8],
+    route: &mut [u8],
+    numerators: &mut [i64],
+    denominators: &mut [u64],
+    pays: &mut [i64],
+    text: &mut [u8],
+    size: &mut usize,
+) -> u8
+    ensures { IsFareNumbersReply places flag legs.now who.now at.now result size.new route.old
+        route.new numerators.old numerators.new denominators.old denominators.new pays.old pays.new
+        text.old text.new }
+{
+    match fare_case(places, flag, legs, who, at) {
+        Ok(case) => {
+            let division = fare_numbers(&case);
+            give(division.own.as_slice(), route);
+            give(division.exact.numerators.as_slice(), numerators);
+            give(division.exact.denominators.as_slice(), denominators);
+            give(division.pays.as_slice(), pays);
+            *size = division.pays.len();
             0
         }
         Err(name) => refuse(name, text, size),

@@ -3,7 +3,7 @@
 //!
 //! Each function takes the bytes of a text and a buffer. It answers the status of the command of its name, and sets `size` to the size of
 //! the line that the command writes. If the buffer has room for the whole line, the line is copied to its front; otherwise the buffer is left
-//! as it is, and the caller can come again with one of that size. Every line of a judge fits in 1,024 bytes.
+//! as it is, and the caller can come again with one of that size. A line never has more than `LINE_ROOM` bytes.
 //!
 //! To C a slice is a pointer and a count. No pointer may be null, the three pieces of memory may not overlap, and the stack needs 512 kB.
 //! No function keeps anything, takes a handle or starts a thread, so several threads may call at once.

@@ -1,12 +1,13 @@
 //! The program: the commands over the journal's file, TCP, the system's clock and the standard streams.
 //!
-//! `main` has no contract: it hands the outside to `run` and ends with its status. If there is
-//! no memory for the words it ends with 9, and writes `no memory` if it can. Only a program has a `main`, so it is a crate of its own.
+//! `main` has no contract: it hands the outside to `run` and ends with its status. Before that it may end by itself. If a standard
+//! descriptor is closed and the null device can't be opened in its place, it ends with 6 and writes nothing. If there is no memory for
+//! the words it ends with 9, and writes `no memory` if it can. Only a program has a `main`, so it is a crate of its own.
 #![tactic(auto)]
 
 use adapters::{
-    JournalFile, LinkLimits, Reading, StandardDescriptors, Started, SystemClock, TcpDialer,
-    Writing, words_of,
+    Arrival, JournalFile, LinkLimits, Reading, StandardDescriptors, Started, SystemClock,
+    TcpDialer, Writing, words_of,
 };
 use client_port::{PortLimits, TcpPort};
 use split_base::{NoMemory, Quiet, write_all};
@@ -20,12 +21,12 @@ const JOURNAL: &str = "split.journal";
 /// That folder.
 const FOLDER: &str = ".";
 
-/// The status if the standard descriptors can't be taken: the same as when a write fails.
+/// The status if a standard descriptor is closed and can't be taken: the same as when a write fails.
 const WRITE_FAILED: u8 = 6;
 
 // The standard descriptors are taken before anything is opened, so that no closed stream can lead into the journal.
 fn main(rt: HostRuntime) -> ExitCode {
-    let Ok(_taken) = StandardDescriptors::take(&rt) else {
+    let Ok(_taken) = StandardDescriptors::take(&rt, &rt.stdin(), &rt.stdout(), &rt.stderr()) else {
         return ExitCode::from(WRITE_FAILED);
     };
     let mut output = Writing::new(io::writer(&rt));
@@ -37,14 +38,15 @@ fn main(rt: HostRuntime) -> ExitCode {
             return ExitCode::from(owed.status);
         }
     };
-    let mut port = TcpPort::new(rt.alloc(), &rt, PortLimits::usual());
+    let arrival = Arrival::none();
+    let mut port = TcpPort::new(rt.alloc(), &rt, &arrival, PortLimits::usual());
     let status = run(
         rt.alloc(),
         &rt,
         &words,
         &mut JournalFile::new(&rt, JOURNAL, FOLDER),
         &mut port,
-        &mut SystemClock::new(&rt),
+        &mut SystemClock::new(&rt, &arrival),
         &mut Reading::new(rt.reader()),
         &mut output,
         &Quiet,

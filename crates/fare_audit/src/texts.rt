@@ -60,7 +60,7 @@ fn push_groups(lines: &mut String, groups: u32, all: u16) -> Result<(), NoMemory
 /// The audit of a shared fare under its title, in three lines that each end with LF: how many groups of riders pay more than a ride of
 /// their own would cost, and which overpays most, in the numbers of members, and by how many cents.
 ///
-/// The division is the solver's for the case. `NoMemory` is returned only when memory runs out.
+/// The division is the solver's for the case.
 pub fn fare_audit_text(
     alloc: Global,
     title: &str,

@@ -42,10 +42,9 @@ fn copied_case(case: &FareCase) -> FareCase
     }
 }
 
-/// What each coalition of a valid case costs, for 1 to 10 riders.
+/// What each coalition of a valid case costs.
 ///
-/// It takes about `n^2 * 2^n` steps for n riders, and takes memory just once. `NoMemory` is returned only if
-/// memory runs out.
+/// It takes about `n^2 * 2^n` steps for n riders, and takes memory just once.
 pub fn costs(alloc: Global, case: &FareCase) -> Result<Costs, NoMemory>
     requires { IsValidFareCase case.now }
     ensures { IfOk result (λ costs. costs ≡ case.now) }

@@ -1,8 +1,7 @@
 // The costs of all coalitions of a case, as a table.
-ghost use Rattle.std.specs.Prelude.{◌≡◌, ◌+◌, ◌*◌, ◌<◌, ◌≤◌, ◌^◌, length, Contains, unsigned_abs};
+ghost use Rattle.std.specs.Prelude.{◌≡◌, ◌+◌, ◌*◌, ◌<◌, ◌≤◌, ◌^◌, length, Contains};
 ghost use Rattle.bid_rules.specs.Coalitions.{riders_in, start_of};
-ghost use Rattle.bid_rules.specs.Fares.{IsLeastRoute, coalition_cost, route_cost, sum_of_marginal_costs};
-ghost use Rattle.bid_rules.specs.Orders.{factorial};
+ghost use Rattle.bid_rules.specs.Fares.{IsLeastRoute, coalition_cost, route_cost};
 
 use bid_rules::FareCase;
 use bid_rules::limits::{MOST_FARE_CENTS, MOST_RIDERS, RiderList};
@@ -64,18 +63,5 @@ impl Costs {
         ensures { IsLeastRoute self.now result.items }
     {
         self.borrowed().route()
-    }
-
-    /// The sum of a rider's marginal costs in cents over all orders of all riders.
-    pub fn sum_over_orders(&self, rider: u8) -> i128
-        requires low { 1 ≤ rider }
-        requires high { rider ≤ length self.now.at.items }
-        ensures value { result ≡ sum_of_marginal_costs self.now rider }
-        ensures small { unsigned_abs result
-            ≤ MOST_FARE_CENTS * (MOST_RIDERS + 1) * factorial (length self.now.at.items) }
-        ensures fits { unsigned_abs result
-            ≤ MOST_FARE_CENTS * (MOST_RIDERS + 1) * factorial MOST_RIDERS }
-    {
-        self.borrowed().sum_over_orders(rider)
     }
 }

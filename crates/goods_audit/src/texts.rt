@@ -103,8 +103,7 @@ fn audit_of(
 /// The audit of a division of goods, the published one or any other: who gets what, the pair of its welfare, who envies whom past one good
 /// (Budish 2011), and an allocation that dominates it, if one is given. Lines end with LF.
 ///
-/// The owners are players, in the order of the goods, and so are the better ones. There is a name for each member of the case. `NoMemory`
-/// is returned only when memory runs out.
+/// The owners are players, in the order of the goods, and so are the better ones. There is a name for each member of the case.
 pub fn named_audit(
     alloc: Global,
     names: &Names<'_>,
@@ -138,7 +137,7 @@ pub fn named_audit(
 /// The audit of a division of the case that an input makes.
 ///
 /// The lists of the input have the counts of its facts, the facts and bids have no fault, and the case is the one that they make. The
-/// owners are players, in the order of the goods, and so are the better ones. `NoMemory` is returned only when memory runs out.
+/// owners are players, in the order of the goods, and so are the better ones.
 pub fn audit_text(
     alloc: Global,
     input: &CaseInput,
@@ -164,7 +163,7 @@ pub fn audit_text(
 /// The audit of the best division of a case of goods, as it is published: it says that nothing dominates the division, which is true, and
 /// that nobody's envy goes past one good.
 ///
-/// There is a name for each member of the case, and the division is the solver's for it. `NoMemory` is returned only when memory runs out.
+/// There is a name for each member of the case, and the division is the solver's for it.
 pub fn division_audit(
     alloc: Global,
     names: &Names<'_>,

@@ -131,7 +131,8 @@ module _ {D P L C : Type 0} (d : Ghosts D) (p : PortSide P L) (tells : LinkTells
           read = opens.opened.read;
           found = opens.opened.file;
           begins = begins;
-          last = served.serving.0;
+          serving = runs.serving;
+          stands = served.serving;
           holds = holds;
           states = states;
           handled = handled;

@@ -2,6 +2,7 @@
 use Rattle.std.specs.Prelude.{◌≡◌, ◌⊎◌, ℕ, List, Option, None, IfSome, length, map, take, Contains}
 use Rattle.host_journal.specs.Calls.{IsFound}
 use Rattle.host_journal.specs.Journal.{HasEvents, HoldsEvents}
+use Rattle.host_journal.specs.declared.serving.Serving.{Serving}
 use Rattle.host_journal.specs.States.{IsFile, State, host_in, lists_of}
 use Rattle.serving.specs.Exchanges.{Answered, Exchange}
 use Rattle.serving.specs.Ports.{GivesBack, HandsOut}
@@ -10,7 +11,7 @@ use Rattle.sealed_core.specs.declared.commands.What.{What}
 use Rattle.sealed_core.specs.Host.{CanApply}
 use Rattle.sealed_core.specs.Runs.{CanApplyAll}
 use Rattle.sealed_core.specs.Sealed.{empty}
-use Rattle.serving.specs.Serving.{host_service}
+use Rattle.serving.specs.Serving.{StandsAt, host_service}
 use Rattle.serving_laws.specs.Accepting.{Accepts}
 use Rattle.serving_laws.specs.Crashes.{Acknowledges, IsFileOfOne, Since}
 use Rattle.serving_laws.specs.Handling.{AreHandled}
@@ -55,12 +56,14 @@ pub record Headline {D P L C : Type 0} (d : Ghosts D) (p : PortSide P L) (tells 
   pub machine : Answered (host_service d) begun run ended
   pub written : LinksAnswered (host_service d) tells links answers begun run ended
   -- the machine begins with the events of the file and no other, and none waits: where the file was one of a state, with those that this state keeps, or
-  -- with the one more for which it waits; and the disk is left with the file of its last state
+  -- with the one more for which it waits; and the host that serves stands for its last state, whose file the disk is left with, and has its log at the
+  -- end of that file if no event waits
   pub ready : begun.1.waiting ≡ None
   pub read : d.tells disk → HoldsEvents begun.1.secret begun.1.kept (d.seen disk)
   pub found : d.is_honest disk → IsFound d disk begun.0 begun.1.secret begun.1.kept
   pub begins : d.is_honest disk → (s : State) → Each (d.images disk) (IsFile s) → (begun.1.secret ≡ s.secret) × Contains (lists_of s.kept s.waiting) begun.1.kept
-  pub last : ended.0 ≡ after
+  pub serving : Serving
+  pub stands : StandsAt d serving after ended
   pub holds : HoldsState d after ended.1
   -- Each request is answered at one state: the one before it, or the one that the file of a waiting host gives when it is opened. All that `IsHandled`
   -- says of the request is said of that state. The request changes it by at most one event, which one step of the machine makes. It has the reply of that

@@ -13,7 +13,6 @@ use std::alloc::Global;
 ///
 /// - `BadJournal` is returned exactly when the file isn't a journal, with the place of its first fault.
 /// - `StoreFault` is returned only if the disk's count of faults has risen, by one.
-/// - `NoMemory` is returned only where memory runs out.
 ///
 /// There are no other stops. Only the byte of the version is ever written, and none before `BadJournal`.
 pub fn dump<D: Disk>(alloc: Global, disk: &mut D) -> Result<Text, Stop>

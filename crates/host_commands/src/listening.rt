@@ -20,7 +20,7 @@ use std::thread::Threads;
 
 /// Opens the file of a host, listens at the port with this number, and serves `count` links, or fewer only if no more links come. The text says how many were
 /// served. Each link is given back, whatever its end, before the port is asked for the next one, and the port is not asked again once it has answered that no
-/// more come. So it must have no link out at the start, and must not have answered that yet.
+/// more come. So it must have no link out at the start, and it has none at the end.
 ///
 /// - `BadJournal` is returned exactly when the file is not a journal, with the place of its first fault.
 /// - `StoreFault` is returned only if the disk's count of faults has risen, by one, in the opening. A fault of the disk within a request is reported in that
@@ -39,8 +39,7 @@ pub fn serve_port<D: Disk, P: Port, C: Clock, R: Threads + Sync, G: Gate + Sync>
     number: u16,
     count: u64,
 ) -> Result<Text, Stop>
-    requires none_out { P.out port.old ≡ 0 }
-    requires goes_on { P.is_over port.old → ⊥ }
+    requires { P.out port.old ≡ 0 }
     ensures serves { Serves D.Disk P.Port (tells_of P.Link.Source P.Link.Sink) C.Clock disk.old
         disk.new port.old port.new clock.old clock.new number count (ending_of result) }
     ensures disk { D.faults disk.old ≤ D.faults disk.new }
@@ -78,8 +77,7 @@ fn serve_opened<D: Disk, P: Port, C: Clock, R: Threads + Sync, G: Gate + Sync>(
     number: u16,
     count: u64,
 ) -> Result<Text, Stop>
-    requires none_out { P.out port.old ≡ 0 }
-    requires goes_on { P.is_over port.old → ⊥ }
+    requires { P.out port.old ≡ 0 }
     ensures serves { (w : D × State) → StandsAt D.Disk serving disk.old w
         → ServesOpened D.Disk P.Port (tells_of P.Link.Source P.Link.Sink) C.Clock w disk.new
         port.old port.new clock.old clock.new number count (ending_of result) }

@@ -226,8 +226,8 @@ pub fn spell_event(event: &Event) -> Body
     body
 }
 
-/// The spelling of an event, as `spell_event` gives it, in memory of its own. `NoMemory` is returned only when
-/// memory runs out. The host writes by `spell_event`, which takes none; this is for a caller who wants a `Vec`.
+/// The spelling of an event, as `spell_event` gives it, in memory of its own. The host writes by `spell_event`, which
+/// takes none; this is for a caller who wants a `Vec`.
 pub fn write_event(alloc: Global, event: &Event) -> Result<Vec<u8>, NoMemory>
     ensures spelled { IfOk result (λ body. body.items ≡ spelling (event_view event.now)) }
     ensures fits { OnOk result (FitsTypes (event_view event.now)) }

@@ -17,7 +17,7 @@ HasNone IsText bytes = (text rest : List ℕ) → IsText text → bytes ≢ text
 abbrev pub NeverHasOne : (List ℕ → Type 0) → List ℕ → Type 0
 NeverHasOne IsText bytes = (more : List ℕ) → HasNone IsText (bytes ++ more)
 
--- there are bytes, and no first part of them is the text of a head of at most 8,192 bytes
+-- there are bytes, and no first part of them is the text of a head of at most `MAX_HEAD` bytes
 pub record IsBad (IsText : List ℕ → Type 0) (bytes : List ℕ) : Type 0 where
   pub some : 0 < length bytes
   pub none : (text rest : List ℕ) → IsText text → length text ≤ MAX_HEAD → bytes ≢ text ++ rest

@@ -10,13 +10,14 @@ ghost use Rattle.input_commands.specs.Answers.{OfBody, OfCase};
 ghost use Rattle.input_commands.specs.Steps.{IsTextOf, UpToMemory};
 
 use bid_rules::{Case, case_law};
-use certificates::{Division, write_certificate_by};
+use certificates::{Division, write_certificate};
 use command_results::{Stop, Text};
 use search_workers::{Means, Workers};
 use split_base::{Gate, NoMemory};
 use split_json::{CaseInput, read_case};
 use split_reports::report;
 use split_solve::{SolveFault, solve};
+use std::alloc::Global;
 use std::thread::Threads;
 
 /// What is written of a case and its division.
@@ -57,7 +58,7 @@ fn divide_case<R: Threads + Sync, G: Gate + Sync>(
     let bids = input.bids.as_slice();
     match solve(alloc, means.rt, &input.facts, bids, count, means.gate) {
         Ok((case, division)) => {
-            let text = division_text(means, workers, sort, input, &case, &division)?;
+            let text = division_text(alloc, sort, input, &case, &division)?;
             Ok(Text::Kept(text))
         }
         Err(fault) => Err(stop_of(fault)),
@@ -78,9 +79,8 @@ pub(crate) fn stop_of(fault: SolveFault) -> Stop
 }
 
 // The text of a case and its division.
-fn division_text<R: Threads + Sync, G: Gate + Sync>(
-    means: &Means<'_, R, G>,
-    workers: Workers,
+fn division_text(
+    alloc: Global,
     sort: DivisionText,
     input: &CaseInput,
     case: &Case,
@@ -94,7 +94,7 @@ fn division_text<R: Threads + Sync, G: Gate + Sync>(
 {
     case_law();
     match sort {
-        DivisionText::Certificate => write_certificate_by(means, workers, case, division),
-        DivisionText::Report => report(means.alloc, input, case, division),
+        DivisionText::Certificate => write_certificate(alloc, case, division),
+        DivisionText::Report => report(alloc, input, case, division),
     }
 }

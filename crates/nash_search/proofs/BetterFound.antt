@@ -25,7 +25,7 @@ not_before a b d h k l = go (slice_cmp nat_cmp b d) refl
     go Greater e = h (nat_list_cmp_total.trans a d b l (nat_list_cmp_total.antisymm d b ∙ ap ordering_reverse e))
 
 -- two lists are not before each other
-pub both_before : (a b : List ℕ) → slice_cmp nat_cmp a b ≡ Less → slice_cmp nat_cmp b a ≡ Less → ⊥
+both_before : (a b : List ℕ) → slice_cmp nat_cmp a b ≡ Less → slice_cmp nat_cmp b a ≡ Less → ⊥
 both_before a b h k = let e : slice_cmp nat_cmp b a ≡ Greater = nat_list_cmp_total.antisymm b a ∙ ap ordering_reverse h in let f : Less ≡ Greater = sym k ∙ e in cc
 
 -- where two have the same pair and the first comes before, the second is no better
@@ -38,7 +38,7 @@ same_ahead case a b before is same own other h = inr (sym other ∙ sym same ∙
     yes_before false e = cc
 
 -- where the first is no better than the second, and the second is no better than a third, the first is no better than the third
-pub behind_trans : (case : GoodsCase) (a b d : List ℕ) → IsBehind case a b → IsBehind case b d → IsBehind case a d
+behind_trans : (case : GoodsCase) (a b d : List ℕ) → IsBehind case a b → IsBehind case b d → IsBehind case a d
 behind_trans case a b d (inl l) (inl m) = inl (less_through (pair_of case a) (pair_of case b) (pair_of case d) l (less_at_most (pair_of case b) (pair_of case d) m))
 behind_trans case a b d (inl l) (inr f) = inl (subst (λ (p : Pair). IsLess (pair_of case a) p) f.0 l)
 behind_trans case a b d (inr e) (inl m) = inl (subst (λ (p : Pair). IsLess p (pair_of case d)) (sym e.0) m)

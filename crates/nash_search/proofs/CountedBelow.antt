@@ -139,7 +139,7 @@ not_counted_after falls case floor above owners owner valid l a b uncounted =
     by_cases false e = e
 
 -- what isn't counted has nothing counted below
-pub none_below : BoundFalls → (case : GoodsCase) (floor : Pair) (above : Option Pair) (k : ℕ) (owners : List ℕ) → IsValidGoodsCase case → length owners + k ≤ case.facts.goods → is_counted case floor above owners ≡ false
+none_below : BoundFalls → (case : GoodsCase) (floor : Pair) (above : Option Pair) (k : ℕ) (owners : List ℕ) → IsValidGoodsCase case → length owners + k ≤ case.facts.goods → is_counted case floor above owners ≡ false
     → (filter (is_counted case floor above) (below (player_count case) k owners) ≡ []) × (filter (is_counted case floor above) (leaves (player_count case) k owners) ≡ [])
 none_below falls case floor above zero owners valid l uncounted = let p = is_counted case floor above in (ap (λ b. cond b (owners ∷ []) []) uncounted, ap (λ b. cond b (owners ∷ []) []) uncounted)
 none_below falls case floor above (suc k) owners valid l uncounted =

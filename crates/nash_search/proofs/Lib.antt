@@ -3,13 +3,11 @@ pub mod WaitingOwners
 pub mod WalkMoves
 pub mod ReachedGoals
 pub mod LevelForks
-pub mod PartCounts
-pub mod PartWalks
-pub mod BestInOrder
+pub mod WalkPieces
 pub mod TaskPlaces
 pub mod FirstPlayers
 pub mod SomeStart
 pub mod BetterFound
 pub mod BlockEnds
 pub mod OneDivision
-pub mod PartEnds
+pub mod TaskEnds

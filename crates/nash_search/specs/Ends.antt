@@ -1,4 +1,4 @@
--- How a walk through a part or a task, or through tasks in a row, ends: done, with the best allocation found, or stopped one prefix past the allowance.
+-- How a walk through a task, or through tasks in a row, ends: done, with the best allocation found, or stopped one prefix past the allowance.
 use Rattle.std.specs.Prelude.{◌≡◌, ℕ, ◌+◌, ◌≤◌, List}
 use Rattle.bid_rules.specs.declared.goods.GoodsCase.{GoodsCase}
 use Rattle.nash_search.specs.Best.{IsFoundBest}

@@ -4,6 +4,5 @@ pub mod Progress
 pub mod Division
 pub mod First
 pub mod Waiting
-pub mod Parts
 pub mod Pieces
 pub mod Tables

@@ -1,25 +1,25 @@
-// A walk through one task that can stop after any number of prefixes and go on later: the walk through the part that begins with the task's owners.
+// A walk through one task that can stop after any number of prefixes and go on later.
 ghost use Rattle.std.specs.Prelude.{◌≡◌, ◌+◌, ◌<◌, ◌≤◌, ◌↔◌, ◌^◌, true, None};
 ghost use Rattle.bid_rules.specs.Goods.{IsValidGoodsCase};
-ghost use Rattle.nash_bounds.specs.Counted.{count_task, counted_leaves};
+ghost use Rattle.nash_bounds.specs.Counted.{count_task};
 ghost use Rattle.nash_bounds.specs.Tasks.{tasks_of};
-ghost use Rattle.nash_search.specs.Parts.{Advanced};
-ghost use Rattle.nash_search.specs.Pieces.{IsTaskWalk};
+ghost use Rattle.nash_search.specs.Pieces.{IsTaskWalk, Advanced};
 ghost use Rattle.nash_search.specs.Tables.{AreTables};
 
-use crate::found::Found;
-use crate::parts::{PartWalk, part_law, walk_part};
+use crate::found::{Found, copied};
+use crate::rules::rules_of;
 use crate::tables::Tables;
 use crate::task::task_prefix;
+use crate::walk::{Walk, start};
 use bid_rules::GoodsCase;
-use nash_bounds::Pair;
+use nash_bounds::{Pair, best_counted_law, bound_law};
 use std::marker::Model;
 
 /// A walk through the counted prefixes of a task, in pieces of any size.
 #[derive(Drop)]
 pub struct TaskWalk {
     task: u32,
-    part: PartWalk,
+    walk: Walk,
 }
 
 impl Model for TaskWalk {
@@ -27,7 +27,14 @@ impl Model for TaskWalk {
 
     ghost Value = { Pieces };
 
-    ghost view = { λ pieces. record { task = pieces.task; part = pieces.part } };
+    ghost view = { λ pieces. record {
+      task = pieces.task;
+      floor = pieces.walk.rules.floor;
+      above = pieces.walk.rules.above;
+      nodes = pieces.walk.nodes;
+      best = pieces.walk.best;
+      place = pieces.walk;
+    } };
 }
 
 /// A walk that still has its whole task to come. It will count the prefixes whose bound is at least `floor` and, if there is an `above`,
@@ -37,10 +44,10 @@ pub fn start_walk(case: &GoodsCase, task: u32, floor: Pair, above: Option<Pair>)
     requires task { task < tasks_of case.now }
     ensures walk { IsTaskWalk case.now result }
     ensures task { result.task ≡ task }
-    ensures floor { result.part.floor ≡ floor }
-    ensures above { result.part.above ≡ above }
-    ensures nodes { result.part.nodes ≡ 0 }
-    ensures best { result.part.best ≡ None }
+    ensures floor { result.floor ≡ floor }
+    ensures above { result.above ≡ above }
+    ensures nodes { result.nodes ≡ 0 }
+    ensures best { result.best ≡ None }
 {
     walk_by(case, &Tables::of(case), task, floor, above)
 }
@@ -58,16 +65,15 @@ pub fn walk_by(
     requires task { task < tasks_of case.now }
     ensures walk { IsTaskWalk case.now result }
     ensures task { result.task ≡ task }
-    ensures floor { result.part.floor ≡ floor }
-    ensures above { result.part.above ≡ above }
-    ensures nodes { result.part.nodes ≡ 0 }
-    ensures best { result.part.best ≡ None }
+    ensures floor { result.floor ≡ floor }
+    ensures above { result.above ≡ above }
+    ensures nodes { result.nodes ≡ 0 }
+    ensures best { result.best ≡ None }
 {
+    bound_law();
     let prefix = task_prefix(case, &tables.points, task);
-    TaskWalk {
-        task,
-        part: walk_part(case, tables, &prefix, floor, above),
-    }
+    let walk = start(case, tables.copied_lanes(), &prefix, rules_of(floor, above));
+    TaskWalk { task, walk }
 }
 
 impl TaskWalk {
@@ -79,34 +85,37 @@ impl TaskWalk {
         requires case { IsValidGoodsCase case.now }
         requires walk { IsTaskWalk case.now self.old }
         requires some { 1 ≤ most }
-        requires fits { self.old.part.nodes + most < 2 ^ 32 }
+        requires fits { self.old.nodes + most < 2 ^ 32 }
         ensures walk { IsTaskWalk case.now self.new }
         ensures task { self.new.task ≡ self.old.task }
-        ensures floor { self.new.part.floor ≡ self.old.part.floor }
-        ensures above { self.new.part.above ≡ self.old.part.above }
-        ensures advanced { Advanced case.now
-            (count_task case.now self.old.task self.old.part.floor self.old.part.above)
-            (counted_leaves case.now self.old.task self.old.part.floor self.old.part.above)
-            self.old.part self.new.part most result }
+        ensures floor { self.new.floor ≡ self.old.floor }
+        ensures above { self.new.above ≡ self.old.above }
+        ensures advanced { Advanced case.now self.old self.new most result }
         ensures all { result ≡ true
-            ↔ self.new.part.nodes
-            ≡ count_task case.now self.old.task self.old.part.floor self.old.part.above }
+            ↔ self.new.nodes
+            ≡ count_task case.now self.old.task self.old.floor self.old.above }
     {
-        part_law();
-        self.part.advance(case, most)
+        best_counted_law();
+        self.walk.run(case, most)
     }
 
     /// How many prefixes are counted so far.
     pub fn nodes(&self) -> u32
-        ensures { result ≡ self.now.part.nodes }
+        ensures { result ≡ self.now.nodes }
     {
-        self.part.nodes()
+        self.walk.nodes
     }
 
     /// The best allocation so far among those that are counted.
     pub fn best(&self) -> Option<Found>
-        ensures { result ≡ self.now.part.best }
+        ensures { result ≡ self.now.best }
     {
-        self.part.best()
+        match &self.walk.best {
+            Some(found) => Some(Found {
+                pair: found.pair,
+                list: copied(found.list.as_slice()),
+            }),
+            None => None,
+        }
     }
 }

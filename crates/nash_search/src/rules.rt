@@ -1,4 +1,4 @@
-// The rule by which walks through tasks and their parts count prefixes, as a goal for the prefixes' bounds.
+// The rule by which walks through tasks count prefixes, as a goal for the prefixes' bounds.
 ghost use Rattle.std.specs.Prelude.{◌≡◌};
 ghost use Rattle.nash_search.specs.Waiting.{AreRules};
 

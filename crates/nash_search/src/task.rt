@@ -9,7 +9,7 @@ ghost use Rattle.nash_search.specs.Tables.{AreTables};
 ghost use Rattle.nash_bounds.specs.Tables.{IsTable};
 
 use crate::found::Found;
-use crate::parts::{part_law, search_part};
+use crate::pieces::walk_by;
 use crate::tables::Tables;
 use bid_rules::GoodsCase;
 use bid_rules::limits::MOST_STEPS;
@@ -62,8 +62,8 @@ pub fn tasks(case: &GoodsCase) -> u32
     split_tasks(case).tasks
 }
 
-/// The prefix that a task begins with.
-pub fn task_prefix(case: &GoodsCase, table: &PointTable, task: u32) -> Prefix
+// The prefix that a task begins with.
+pub(crate) fn task_prefix(case: &GoodsCase, table: &PointTable, task: u32) -> Prefix
     requires case { IsValidGoodsCase case.now }
     requires table { IsTable case.now table.now }
     requires task { task < tasks_of case.now }
@@ -125,7 +125,14 @@ pub fn search_by(
     ensures { EndsTask case.now (count_task case.now task floor above)
         (counted_leaves case.now task floor above) allowance result }
 {
-    part_law();
-    let prefix = task_prefix(case, &tables.points, task);
-    search_part(case, tables, &prefix, floor, above, allowance)
+    let mut walk = walk_by(case, tables, task, floor, above);
+    let _all = walk.advance(case, allowance + 1);
+    let nodes = walk.nodes();
+    if nodes > allowance {
+        return TaskEnd::Stopped { nodes };
+    }
+    TaskEnd::Done {
+        nodes,
+        best: walk.best(),
+    }
 }

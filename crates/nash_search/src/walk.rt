@@ -235,41 +235,6 @@ impl Walk {
         self.settle(case);
     }
 
-    // Drops whatever is still to come. What comes instead is the prefix, if it is counted, and those that begin with it. Nothing is counted yet.
-    pub(crate) fn begin(&mut self, case: &GoodsCase, prefix: &Prefix)
-        requires case { IsValidGoodsCase case.now }
-        requires table { IsLaneTable case.now self.old.table }
-        requires prefix { IsPrefix case.now prefix.now }
-        requires some { 0 < length prefix.now.owners.items }
-        requires rules { AreRules self.old.rules }
-        ensures walk { IsWalk case.now self.new }
-        ensures settled { IsReadyForNext self.new }
-        ensures rules { self.new.rules ≡ self.old.rules }
-        ensures nodes { self.new.nodes ≡ 0 }
-        ensures best { self.new.best ≡ None }
-        ensures come { to_come self.new
-            ≡ cond
-            (is_counted case.now self.old.rules.floor self.old.rules.above prefix.now.owners.items)
-            (prefix.now.owners.items ∷ []) [] }
-    {
-        let mut lanes = lanes_of(case, prefix);
-        let mut path = copied(prefix.owners.as_slice());
-        let reached = reaches(
-            case,
-            prefix.owners.as_slice(),
-            &lanes,
-            prefix.top / MEMBER_ROOM as u32,
-            &self.rules.goal,
-            self.rules.beyond,
-        );
-        let owner = path.pop().unwrap();
-        take(case, &self.table, path.as_slice(), owner, &mut lanes);
-        put_first_levels(&mut self.levels, path.len(), lanes, owner, reached);
-        self.path = path;
-        self.nodes = 0;
-        self.best = None;
-    }
-
     // Counts up to this many further prefixes, and says whether all have been counted.
     pub(crate) fn run(&mut self, case: &GoodsCase, most: u32) -> bool
         requires case { IsValidGoodsCase case.now }
@@ -312,37 +277,47 @@ pub(crate) fn start(case: &GoodsCase, table: LaneTable, prefix: &Prefix, rules: 
         ≡ cond (is_counted case.now rules.floor rules.above prefix.now.owners.items)
         (prefix.now.owners.items ∷ []) [] }
 {
-    let mut walk = Walk {
+    let mut lanes = lanes_of(case, prefix);
+    let mut path = copied(prefix.owners.as_slice());
+    let reached = reaches(
+        case,
+        prefix.owners.as_slice(),
+        &lanes,
+        prefix.top / MEMBER_ROOM as u32,
+        &rules.goal,
+        rules.beyond,
+    );
+    let owner = path.pop().unwrap();
+    take(case, &table, path.as_slice(), owner, &mut lanes);
+    let levels = first_levels(path.len(), lanes, owner, reached);
+    Walk {
         rules,
         table,
-        path: ArrayVec::new(),
-        levels: ArrayVec::new(),
+        path,
+        levels,
         nodes: 0,
         best: None,
-    };
-    walk.begin(case, prefix);
-    walk
+    }
 }
 
-// Replaces the levels by those of a path to this owner: one for each of the owners before, at which nobody is waiting, and one at which
-// this owner is waiting. There are none if the bound doesn't reach what it has to.
-fn put_first_levels(
-    levels: &mut ArrayVec<Level, ITEM_ROOM>,
+// The levels of a path to this owner: one for each of the owners before, at which nobody is waiting, and one at which this owner is
+// waiting. There are none if the bound doesn't reach what it has to.
+fn first_levels(
     owners: usize,
     lanes: Lanes,
     owner: u8,
     reached: Reached,
-)
+) -> ArrayVec<Level, ITEM_ROOM>
     requires { owners < ITEM_ROOM }
-    ensures none { reached.reaches ≡ false → levels.new.items ≡ [] }
+    ensures none { reached.reaches ≡ false → result.items ≡ [] }
     ensures one { reached.reaches ≡ true
-        → (front : List Level) × (last : Level) × (levels.new.items ≡ front ++ last ∷ [])
+        → (front : List Level) × (last : Level) × (result.items ≡ front ++ last ∷ [])
         × (length front ≡ owners) × All (λ (l : Level). l.owners.items ≡ []) front
         × (last.owners.items ≡ owner ∷ []) × (last.lanes ≡ lanes) }
 {
-    levels.clear();
+    let mut levels = ArrayVec::new();
     if !reached.reaches {
-        return;
+        return levels;
     }
     'blanks: for _k in 0..owners {
         levels.push(Level::blank(lanes));
@@ -350,4 +325,5 @@ fn put_first_levels(
     let mut last = Level::blank(lanes);
     last.put(owner, reached);
     levels.push(last);
+    levels
 }

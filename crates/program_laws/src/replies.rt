@@ -14,7 +14,7 @@ ghost use Rattle.program_laws.specs.Certificates.{IsYes, IsYesOnly};
 use certificates::certificate_law;
 use remote_check::fetched_law;
 
-/// The bytes that a host writes for a reply of status 200 with a body of at most 4,000,000 bytes and no `Allow` are a head that a fetch takes, and then that
+/// The bytes that a host writes for a reply of status 200 with a body of at most `MOST_BYTES` bytes and no `Allow` are a head that a fetch takes, and then that
 /// body, whatever its type and date are, whether the connection is closed, and whatever follows. If the body is the canonical certificate of a valid
 /// case, the answer of a fetch is yes, unless a call on its link failed.
 pub fn host_reply_law()

@@ -1,6 +1,6 @@
 // Commands that read their input, over a source and a sink whose calls fail.
 use crate::running;
-use crate::running::{AMPLE, Outside};
+use crate::running::{AMPLE, Outside, port_of};
 use split_base::MemDisk;
 use std::alloc::Global;
 use std::process::Abort;
@@ -22,7 +22,8 @@ fn ends(
 ) {
     let none = Vec::new(alloc);
     let mut disk = MemDisk::new(alloc, none, 0, Vec::new(alloc), None).expect(rt, "no memory");
-    running::ends(rt, alloc, &mut disk, words, outside, due);
+    let mut port = port_of(rt, alloc, &[]);
+    running::ends(rt, alloc, &mut disk, &mut port, words, outside, due);
 }
 
 // Each read fails once, also the one that finds the end.

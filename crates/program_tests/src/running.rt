@@ -1,5 +1,5 @@
 // A run of the program over objects in memory, whose calls fail.
-ghost use Rattle.std.specs.Prelude.{◌≡◌, IsTrue};
+ghost use Rattle.std.specs.Prelude.{◌≡◌};
 
 use split_base::{MemClock, MemDial, MemDisk, MemPort, MemSink, MemSource, Quiet};
 use split_top::run;
@@ -10,7 +10,7 @@ use std::thread::Threads;
 /// How many bytes the sink takes.
 const ROOM: usize = 64;
 
-/// What a command finds beside its disk: a source, a sink, a port without links, and a dialer without links.
+/// What a command finds beside its disk and its port: a source, a sink, and a dialer without links.
 #[derive(Clone, Copy)]
 pub(crate) struct Outside<'a> {
     /// What the source holds.
@@ -21,8 +21,6 @@ pub(crate) struct Outside<'a> {
     pub(crate) bad_reads: &'a [u64],
     /// The numbers of the writes that fail, from 1.
     pub(crate) bad_writes: &'a [u64],
-    /// The numbers of the calls of the port that fail, from 1.
-    pub(crate) bad_ports: &'a [u64],
 }
 
 /// No call fails.
@@ -31,7 +29,6 @@ pub(crate) const AMPLE: Outside<'static> = Outside {
     pieces: &[],
     bad_reads: &[],
     bad_writes: &[],
-    bad_ports: &[],
 };
 
 // A source, in these pieces, whose listed reads fail.
@@ -49,12 +46,11 @@ fn sink_of(rt: &impl Abort, alloc: Global, outside: Outside<'_>) -> MemSink {
     MemSink::new(alloc, ROOM, fails).expect(rt, "no memory")
 }
 
-// A port without links whose listed calls fail.
-fn port_of(rt: &impl Abort, alloc: Global, outside: Outside<'_>) -> MemPort
-    ensures out { result.out ≡ 0 }
-    ensures goes_on { IsTrue result.is_over → ⊥ }
+// A port without links whose listed calls fail, from 1.
+pub(crate) fn port_of(rt: &impl Abort, alloc: Global, bad_calls: &[u64]) -> MemPort
+    ensures { result.out ≡ 0 }
 {
-    let fails = outside.bad_ports.to_vec(alloc).expect(rt, "no memory");
+    let fails = bad_calls.to_vec(alloc).expect(rt, "no memory");
     MemPort::new(alloc, Vec::new(alloc), fails).expect(rt, "no memory")
 }
 
@@ -74,19 +70,23 @@ fn words_of(rt: &impl Abort, alloc: Global, words: &[&str]) -> Vec<String> {
     given
 }
 
-// Stops unless the command of these words, on this disk, ends with this status and text.
+// Stops unless the command of these words, on this disk and this port, ends with this status and text.
 pub(crate) fn ends(
     rt: &(impl Abort + Threads + Sync),
     alloc: Global,
     disk: &mut MemDisk,
+    port: &mut MemPort,
     words: &[&str],
     outside: Outside<'_>,
-    (code, text): (u8, &str),
-) {
+    due: (u8, &str),
+)
+    requires { port.old.out ≡ 0 }
+    ensures { port.new.out ≡ 0 }
+{
+    let (code, text) = due;
     let words = words_of(rt, alloc, words);
     let mut source = source_of(rt, alloc, outside);
     let mut sink = sink_of(rt, alloc, outside);
-    let mut port = port_of(rt, alloc, outside);
     let mut clock = clock_of(rt, alloc);
     let mut dialer = MemDial::new(alloc, Vec::new(alloc), Vec::new(alloc)).expect(rt, "no memory");
     let status = run(
@@ -94,7 +94,7 @@ pub(crate) fn ends(
         rt,
         &words,
         disk,
-        &mut port,
+        port,
         &mut clock,
         &mut source,
         &mut sink,

@@ -37,7 +37,7 @@ use std::thread::Threads;
 ///
 /// It may be asked before the event that closes the instance is applied: that makes no difference. Goods are searched by the workers, unless
 /// the search of the same case is kept, and a certificate of goods that is kept is copied. Neither the workers nor what is kept change the
-/// answer. `NoMemory` is returned only where memory runs out.
+/// answer.
 pub fn publication<R: Threads + Sync, G: Gate + Sync>(
     solver: &mut Solver<'_, R, G>,
     instance: &Instance,

@@ -26,7 +26,7 @@ SaysBody count rest result =
     ((length rest < count) × (result ≡ Err Reply))
     ⊎ ((count ≤ length rest) × SaysJudge (take count rest) result)
 
--- third, whether a length is told, and fourth, whether it is above 4,000,000
+-- third, whether a length is told, and fourth, whether it is above `MOST_BYTES`
 abbrev pub SaysLength : Option ℕ → List ℕ → Result Verdict FetchEnd → Type 0
 SaysLength None rest result = result ≡ Err Reply
 SaysLength (Some count) rest result =

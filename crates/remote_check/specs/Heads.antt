@@ -8,7 +8,7 @@ use Rattle.httparse.specs.declared.spans.ResponseSpans.{ResponseSpans}
 use Rattle.http_heads.specs.declared.limits.TheConstants.{MAX_HEAD, MAX_FIELDS, ROOM}
 use Rattle.http_heads.specs.Fields.{Pair}
 
--- a head by the grammar of `httparse` (RFC 9112), of at most 8,192 bytes and with at most 64 fields
+-- a head by the grammar of `httparse` (RFC 9112), of at most `MAX_HEAD` bytes and with at most `MAX_FIELDS` fields
 pub record IsHead (head : ResponseHead) : Type 0 where
   pub valid : IsResponseHead head
   pub few : length head.fields ≤ MAX_FIELDS

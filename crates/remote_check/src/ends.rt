@@ -3,7 +3,7 @@
 /// Why a fetch has no verdict.
 #[derive(Clone, Copy, Debug, PartialEq, Eq)]
 pub enum FetchEnd {
-    /// What came isn't a reply of a host: no first part of its first 8,192 bytes is the head of a response with at most 64 fields, or the head doesn't
+    /// What came isn't a reply of a host: no first part of its first `MAX_HEAD` bytes is the head of a response with at most `MAX_FIELDS` fields, or the head doesn't
     /// tell the length of a body, or the input ends within the body.
     Reply,
     /// The reply's status isn't 200.
@@ -16,7 +16,7 @@ pub enum FetchEnd {
         /// Its first broken line, counted from 1.
         line: u32,
     },
-    /// The body is told to have more than 4,000,000 bytes.
+    /// The body is told to have more than `MOST_BYTES` bytes.
     TooLong,
     /// A read or a write of the link failed. It wasn't tried again.
     LinkFault,

@@ -25,10 +25,10 @@ use split_base::{Failed, Link, Source, sides_law, write_all};
 ///
 /// What is answered depends only on the bytes of the reply, and not on the pieces in which they come. In this order:
 ///
-/// 1. `Reply`, if no first part of the first 8,192 bytes is the head of a response as `httparse` reads it (RFC 9112), with at most 64 fields.
+/// 1. `Reply`, if no first part of the first `MAX_HEAD` bytes is the head of a response as `httparse` reads it (RFC 9112), with at most `MAX_FIELDS` fields.
 /// 2. `Status`, if its status is not 200.
 /// 3. `Reply`, if it has a Transfer-Encoding, or not exactly one Content-Length of one to ten digits.
-/// 4. `TooLong`, if that length is above 4,000,000.
+/// 4. `TooLong`, if that length is above `MOST_BYTES`.
 /// 5. `Reply`, if the input ends within the body of this length.
 /// 6. The judge's verdict on the body, or `NotText`, if it is no certificate text, with its first broken line. What follows the body is not read as part
 ///    of it.

@@ -206,7 +206,7 @@ fn text_of(alloc: Global, case: &Case, division: &Division) -> Result<Vec<u8>, A
 }
 
 /// The text of the division that the solver gives for the case: fractions and the product of utilities are texts, what each pays follows
-/// the cent plan, and owners, players, riders and the route are numbers of members. `NoMemory`: memory ran out.
+/// the cent plan, and owners, players, riders and the route are numbers of members.
 pub fn division_text(alloc: Global, case: &Case, division: &Division) -> Result<Vec<u8>, NoMemory>
     requires case { IsValidCase case.now }
     requires division { IsDivisionOf case.now division.now }

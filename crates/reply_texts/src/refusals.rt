@@ -277,7 +277,7 @@ fn written_refusal(alloc: Global, refusal: &ServiceRefusal) -> Result<Vec<u8>, A
     written(alloc, &value)
 }
 
-/// The text of a refusal of the service. `NoMemory`: memory ran out.
+/// The text of a refusal of the service.
 pub fn service_refusal_text(alloc: Global, refusal: &ServiceRefusal) -> Result<Vec<u8>, NoMemory>
     ensures { IfOk result (λ text. text.items ≡ service_text refusal.now) }
 {

@@ -283,7 +283,7 @@ pub fn put_reply(page: &mut Page, host: &Host, answered: &Answered)
     }
 }
 
-/// The same text in memory. `NoMemory`: memory ran out.
+/// The same text in memory.
 pub fn reply_text(alloc: Global, host: &Host, answered: &Answered) -> Result<Vec<u8>, NoMemory>
     requires answered { IsAnswered host.now.content (answer_view answered.now) }
     requires reply { is_publication answered.now.reply ≡ false }

@@ -46,7 +46,7 @@ impl Gate for Hold {
 }
 
 // Two workers come to the end of a block of 16 tasks, whose first is held until this many tasks are entered and this many left. Each task has
-// to be entered and left: if the workers drew no parts, the calling thread would walk them all, and never call the gate.
+// to be entered and left once.
 fn block_ends<R: Threads + Abort + Sync>(
     rt: &R,
     alloc: Global,

@@ -111,8 +111,8 @@ fn can_close(now: u64, instance: &Instance) -> bool
 
 /// Whether an event may be applied. Its moment must not be below the greatest kept one, and
 ///
-/// - a creation is checked, there are fewer than 1,000 instances and none of them has its tag;
-/// - a bid is checked and is the next turn, of at most 20, of a member of an instance that is there, open and before its deadline;
+/// - a creation is checked, there are fewer than `MOST_INSTANCES` instances and none of them has its tag;
+/// - a bid is checked and is the next turn, of at most `MOST_TURNS`, of a member of an instance that is there, open and before its deadline;
 /// - a close is that of an instance that is there and open, at or after the deadline or with a bid of every member;
 /// - a withdrawal is such a turn of a member who has a bid.
 pub fn can_apply(host: &Host, event: &Event) -> bool

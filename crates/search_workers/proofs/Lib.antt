@@ -5,6 +5,4 @@ pub mod TicketTasks
 pub mod FromRule
 pub mod DrawnTickets
 pub mod ReportedPieces
-pub mod PartSums
-pub mod KeptEnds
-pub mod LeftEach
+pub mod WorkersEnd

@@ -1,29 +1,38 @@
 -- The workers of a block before and after, and a worker between two draws.
-use Rattle.std.specs.Prelude.{◌≡◌, ℕ, ◌<◌, ◌≤◌, List, [], All, Option, length, slice_index_or}
+use Rattle.std.specs.Prelude.{◌≡◌, ℕ, ◌*◌, ◌<◌, ◌≤◌, List, [], Option, true, false, length, slice_index_or}
+use Rattle.atomic_table.specs.Seated.{TableId}
 use Rattle.bid_rules.specs.declared.goods.GoodsCase.{GoodsCase}
 use Rattle.nash_bounds.specs.Blocks.{tasks_in}
 use Rattle.nash_search.specs.Best.{IsFoundBest}
-use Rattle.nash_search.specs.Parts.{IsPartWalk, PartPieces}
 use Rattle.nash_search.specs.declared.found.Found.{Found}
 use Rattle.search_workers.specs.declared.crew.Worker.{Worker}
-use Rattle.search_workers.specs.declared.parts.Part.{Part}
+use Rattle.search_workers.specs.declared.limits.TheConstants.{MOST_REPORTED}
+use Rattle.search_workers.specs.declared.view.DeskView.{DeskView}
 use Rattle.search_workers.specs.declared.worker.BlockRule.{BlockRule}
-use Rattle.search_workers.specs.Parts.{IsEnded}
-use Rattle.search_workers.specs.Works.{count_of_tickets, counted_of_tickets}
+use Rattle.search_workers.specs.Views.{desk_view}
+use Rattle.search_workers.specs.Works.{HasWhole, count_of_tickets, counted_of_tickets}
 
--- a worker who has drawn nothing yet
-abbrev pub IsReady : Worker → Type 0
-IsReady worker = worker.ended.items ≡ []
+-- a worker who has drawn and counted nothing yet
+abbrev pub IsReady : TableId → ℕ → ℕ → Worker → Type 0
+IsReady desk left workers worker = (worker.seat.table_id ≡ desk) × (worker.seat.me.1 ≡ []) × (worker.seat.me.0 ≡ desk_view [] 0 1 0 left workers)
 
--- a worker who has ended: each part that it brings back was walked as it says
-abbrev pub HasEnded : GoodsCase → BlockRule → List Part → Worker → Type 0
-HasEnded case rule parts worker = All (IsEnded case rule parts) worker.ended.items
+-- what some workers have left together, and the best that they found: unless one stopped, they have walked all tasks of their tickets
+pub record AccountsFor (case : GoodsCase) (rule : BlockRule) (workers allot : ℕ) (view : DeskView) (best : Option Found) : Type 0 where
+  pub allot_is : view.allot ≡ allot
+  pub left_is : view.left ≡ rule.left
+  pub workers_is : view.workers ≡ workers
+  pub whole : view.stops ≡ 0 → HasWhole case rule.floor rule.above rule.block view.tickets view.reported best
+  pub part : view.reported ≤ count_of_tickets case rule.floor rule.above rule.block view.tickets
 
--- a walk of the case, which counts by the rule of the block
-pub record WalksBy (case : GoodsCase) (rule : BlockRule) (pieces : PartPieces) : Type 0 where
-  pub walk : IsPartWalk case pieces
-  pub floor : pieces.floor ≡ rule.floor
-  pub above : pieces.above ≡ rule.above
+-- workers who have ended, with one seat for all of them
+pub record HasEnded (case : GoodsCase) (rule : BlockRule) (desk : TableId) (workers allot : ℕ) (worker : Worker) : Type 0 where
+  pub seat : worker.seat.table_id ≡ desk
+  pub slots : worker.seat.me.1 ≡ []
+  pub stands : AccountsFor case rule workers allot worker.seat.me.0 worker.walked.best
+  pub reported : worker.seat.me.0.reported ≡ worker.walked.nodes
+  pub few : worker.walked.nodes ≤ MOST_REPORTED * allot
+  pub going : worker.walked.stopped ≡ false → worker.seat.me.0.stops ≡ 0
+  pub stopped : worker.walked.stopped ≡ true → 1 ≤ worker.seat.me.0.stops
 
 -- the number at each place is at least the place
 abbrev pub IsSteep : List ℕ → Type 0

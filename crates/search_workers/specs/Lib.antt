@@ -5,5 +5,3 @@ pub mod Plays
 pub mod Works
 pub mod BlockEnds
 pub mod Crews
-pub mod Parts
-pub mod Threads

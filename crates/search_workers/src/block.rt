@@ -5,11 +5,10 @@ ghost use Rattle.nash_bounds.specs.Tasks.{tasks_of};
 ghost use Rattle.nash_search.specs.Tables.{AreTables};
 ghost use Rattle.search_workers.specs.BlockEnds.{EndsBlock, crew_of};
 
-use crate::board::Board;
-use crate::crew::{hire, run_workers};
+use crate::crew::{gather, run_workers, seat_workers};
+use crate::desk::open_desk;
 use crate::limits::{FEW_PREFIXES, MOST_WORKERS};
-use crate::parts::parts_of;
-use crate::settle::{gather, no_ends, settle};
+use crate::view::DeskSize;
 use crate::worker::BlockRule;
 use bid_rules::GoodsCase;
 use bid_rules::limits::MOST_STEPS;
@@ -66,39 +65,32 @@ fn walk_alone<G: Gate>(
     }
 }
 
-// Searches a block by workers who draw its parts. Fails if there is no memory for the parts or the workers.
+// Searches a block by workers who draw its tasks at a desk. Fails if there is no memory for the desk, its seats or the workers, before any of
+// them has begun.
 fn share<R: Threads + Sync, G: Gate + Sync>(
     alloc: Global,
     rt: &R,
     case: &GoodsCase,
-    tables: &Tables,
     rule: &BlockRule,
     workers: u8,
     gate: &G,
 ) -> Result<BlockEnd, AllocError>
     requires case { IsValidGoodsCase case.now }
-    requires tables { AreTables case.now tables.now }
     requires block { BLOCK_TASKS * rule.now.block < tasks_of case.now }
     requires left { rule.now.left ≤ MOST_STEPS }
-    requires workers { 1 ≤ workers }
+    requires workers { (1 ≤ workers) × (workers ≤ MOST_WORKERS) }
     ensures { IfOk result
         (EndsBlock case.now rule.now.floor rule.now.above rule.now.block rule.now.left workers) }
 {
-    let (parts, shorter) = parts_of(alloc, case, tables, rule)?;
-    if shorter > rule.left as usize {
-        return Ok(BlockEnd::Over {
-            nodes: rule.left + 1,
-        });
-    }
-    let shorter = shorter as u32;
-    let parts = parts.as_slice();
-    let mut ends = no_ends(alloc, parts)?;
-    let mut crew = hire(alloc, workers)?;
-    let board = Board::new(alloc, rule, parts, rule.left - shorter)?;
-    let crew_slice = crew.as_mut_slice();
-    run_workers(rt, crew_slice, case, tables, rule, parts, &board, gate);
-    gather(ends.as_mut_slice(), crew, case, rule, parts);
-    Ok(settle(case, tables, rule, parts, ends.as_slice(), shorter))
+    let size = DeskSize {
+        left: rule.left,
+        workers,
+    };
+    let (desk, seat) = open_desk(alloc, &size)?;
+    let mut crew = seat_workers(alloc, &desk, seat, workers, rule.left)?;
+    let seats = crew.as_mut_slice();
+    run_workers(rt, seats, case, rule, workers, &desk, gate);
+    Ok(gather(&desk, crew, case, rule, workers))
 }
 
 // How many workers a block takes: those asked for, but no more than it has tasks.
@@ -138,7 +130,7 @@ pub(crate) fn run_by<R: Threads + Sync, G: Gate + Sync>(
     if crew == 1 {
         return walk_alone(case, tables, rule, crew, gate);
     }
-    match share(alloc, rt, case, tables, rule, crew, gate) {
+    match share(alloc, rt, case, rule, crew, gate) {
         Ok(end) => end,
         Err(AllocError) => walk_alone(case, tables, rule, crew, gate),
     }
@@ -181,16 +173,15 @@ pub(crate) fn run_after_few<R: Threads + Sync, G: Gate + Sync>(
     run_by(alloc, rt, case, tables, rule, workers, gate)
 }
 
-/// Searches a block by several workers, who draw parts of its tasks and share the budget `left`, which is at most `MOST_STEPS`.
+/// Searches a block by several workers, who draw its tasks at a desk and share the budget `left`, which is at most `MOST_STEPS`.
 ///
 /// Those prefixes of the tasks are counted whose bound is at least `floor` and, if there is an `above`, greater than it. `Over` is returned
-/// exactly when there are more than `left` of them. The end is the same for every number of workers, no matter which of them walks which part,
+/// exactly when there are more than `left` of them. The end is the same for every number of workers, no matter which of them walks which task,
 /// except for the number that `Over` gives.
 ///
-/// It takes no more workers than the block has tasks. If it takes several, each has a thread of its own, while the calling thread waits. If it
-/// takes only one, or finds no memory for the parts, the calling thread walks the block's tasks one after another. With several workers, the
-/// gate's `enter` is called for a task when the first of its parts to be drawn is about to be walked, and `leave` when the last of its parts has
-/// ended.
+/// It takes no more workers than the block has tasks, the calling thread among them. Each task is walked by the worker who drew it (`work`), and
+/// in the end their seats are joined into one, which shows what the block came to. If it takes only one worker, or finds no memory for the desk,
+/// its seats or the workers, the calling thread walks the block alone.
 pub fn run_block<R: Threads + Sync, G: Gate + Sync>(
     alloc: Global,
     rt: &R,

@@ -18,8 +18,8 @@ use std::thread::Threads;
 ///
 /// Neither the number of workers nor their order affects the answer. A block takes no more workers than it has tasks. The calling thread walks
 /// a block alone if it has one task or at most `FEW_PREFIXES` counted prefixes, or if no more than so many are left to be counted. Otherwise all
-/// workers begin the block again, and the gate is told of its tasks again. It never fails for lack of memory: if there is none for a block's
-/// parts, the calling thread walks that block alone.
+/// workers begin the block again, and the gate is told once more of the tasks that the calling thread had begun. It never fails for lack of
+/// memory: if there is none for a block's desk, the calling thread walks that block alone.
 pub fn search<R: Threads + Sync, G: Gate + Sync>(
     alloc: Global,
     rt: &R,

@@ -1,33 +1,25 @@
-//! The search for the allocation with the greatest Nash welfare by several workers, each in a thread: how they draw
-//! parts, and that they find what one thread finds.
+//! The search for the allocation with the greatest Nash welfare by several workers, each in a thread: how they share it,
+//! and that they find what one thread finds.
 //!
-//! The workers of a block draw parts of its tasks and share one budget of counted prefixes.
+//! The workers of a block share two words of one table (`Desk`). They draw tasks at one, and report at the other how
+//! many prefixes they counted, so that they share one budget.
 //!
-//! `search` has the four clauses of `search_alone`, which mention neither the number of workers nor their order.
-//! What a worker brings back is proved to be right for the part that it walked (`IsEndOf`), and the end of a block
-//! takes each part once, and walks those that are missing (`settle`). So the result is the same whatever the workers
-//! do. That they share the parts is only tested (`rule_tests`, `.ci/workers`). If there is no memory for the parts,
-//! one thread walks the tasks one after another.
-//!
-//! `run_each` starts the threads of workers, here and wherever else work is shared.
-//!
-//! `work` is a simpler kind of worker, which the search doesn't use. It draws whole tasks at a desk, where each task
-//! is proved to be drawn once and walked whole (`drawn_tickets_law`, `walked_block_law`).
+//! `search` has the four clauses of `search_alone`, which mention neither the number of workers nor their order. Each
+//! worker calls `work` with a seat at the desk, and in the end the seats become one. No task is drawn twice, and unless
+//! all workers together count more prefixes than are left, each task is walked whole by the one who drew it
+//! (`drawn_tickets_law`, `walked_block_law`). If there is no memory for a desk, its seats or the workers, the calling
+//! thread walks the block alone. That two workers work at the same time, and draw tasks one by one, is only tested
+//! (`rule_tests`).
 #![tactic(auto)]
 
 mod block;
 mod blocks;
-mod board;
 mod crew;
 mod desk;
 mod desk_laws;
-mod ended;
 pub mod limits;
-mod parts;
 mod plays;
 mod rule_laws;
-mod settle;
-mod threads;
 mod view;
 mod worker;
 mod workers;
@@ -40,7 +32,6 @@ pub use plays::DeskRule;
 pub use rule_laws::{
     begun_desk_law, drawn_tickets_law, walked_block_law, whole_view_law, word_limits_law,
 };
-pub use threads::run_each;
 pub use view::{DeskSize, DeskView};
 pub use worker::{Walked, work};
 pub use workers::{Means, Workers};

@@ -12,9 +12,5 @@ pub const LONGEST_PIECE: u16 = 256;
 pub const MOST_REPORTED: u32 = MOST_STEPS + LONGEST_PIECE as u32 * MOST_WORKERS as u32;
 /// The most that a desk's ticket word shows: each worker may draw `MOST_TICKETS`.
 pub const MOST_DRAWN: u32 = MOST_TICKETS * MOST_WORKERS as u32;
-/// At most how often the tasks of a block are cut by the owners of one more good.
-pub const MOST_CUTS: usize = 4;
-/// Once a block has this many parts, it is not cut further.
-pub const ENOUGH_PARTS: usize = 96;
 /// The calling thread counts up to this many prefixes of a block alone, since starting threads takes longer.
 pub const FEW_PREFIXES: u32 = 500;

@@ -9,7 +9,7 @@ use Rattle.serving_laws.specs.Answering.{HasAnswer}
 use Rattle.serving_laws.specs.Handling.{AreHandled, IsHandled}
 use Rattle.serving_laws.specs.Heard.{Taken, TakesSteps, WaitsByStep}
 use Rattle.serving_laws.specs.Sealing.{IsSealedReply, TellsNoStep}
-use Rattle.serving_laws.proofs.Answered.{PublishesClosed, settled_has, settled_ready, stepped_has}
+use Rattle.serving_laws.proofs.Answered.{PublishesShut, settled_has, settled_ready, stepped_has}
 use Rattle.serving_laws.proofs.HeardRuns.{GoesAt, goes_nowhere, goes_on}
 use Rattle.serving_laws.proofs.Integral.{HasOrigin, HoldsKeys, sent_by}
 use Rattle.serving_laws.proofs.Moved.{answered_at, answered_before, steps_move}
@@ -19,7 +19,7 @@ use Rattle.serving_laws.proofs.Sealed.{SendsSealed, at_once_sealed, at_once_tell
 -- the laws of the machine
 pub record StepLaws : Type 0 where
   pub publishes : PublishesQuietly
-  pub shut : PublishesClosed
+  pub shut : PublishesShut
   pub sends : SendsSealed
   pub origin : HasOrigin
   pub keys : HoldsKeys

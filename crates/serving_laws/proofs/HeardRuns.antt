@@ -21,7 +21,7 @@ use Rattle.split_http.specs.declared.routes.Route.{Route}
 use Rattle.split_http.specs.Places.{IsRouted}
 use Rattle.serving_laws.specs.Heard.{Finds, HasKept, IsStepAt, IsStep, IsUnrouted, Taken, Takes, TakesSteps, WaitsByStep, asked_of, got_all, is_own, replied_of}
 use Rattle.serving_laws.specs.Sealing.{TellsNoStep}
-use Rattle.serving_laws.proofs.Answered.{PublishesClosed, due_result, not_counted}
+use Rattle.serving_laws.proofs.Answered.{PublishesShut, due_result, not_counted}
 use Rattle.serving_laws.proofs.OwnSteps.{asked, kept_step, plain_step}
 
 -- the host of events and one more is that after it
@@ -177,7 +177,7 @@ finds_at d disk between s settled honest waits (Settles.opened e secret kept a s
 
 module _ {D : Type 0} (d : Ghosts D) (x : Exchange (D × State)) where
   module _ (route : Route) (routed : IsRouted x.head.verb x.head.path (Ok route)) where
-    takes_at : PublishesClosed → (between : D) (settled : State) → settled.waiting ≡ None → Steps d between x.after.0 x.moment (command_of route.place route.id x.head.key x.body) settled x.after.1 x.due.said
+    takes_at : PublishesShut → (between : D) (settled : State) → settled.waiting ≡ None → Steps d between x.after.0 x.moment (command_of route.place route.id x.head.key x.body) settled x.after.1 x.due.said
         → (own : List Taken) × Takes x settled own × WaitsByStep x.after.1
     takes_at shut between settled ready (Steps.no_event content event a r is c) = (
       record { asked = asked x route; said = Some x.due.said } ∷ [],
@@ -211,7 +211,7 @@ module _ {D : Type 0} (d : Ghosts D) (x : Exchange (D × State)) where
   goes_nowhere waits is tells =
       ([], [], Finds.nothing (refl, refl) refl, Takes.nothing tells (has_kept x.after.1 x.before.1 is) refl, subst WaitsByStep (sym is) waits)
 
-  pub goes_on : PublishesClosed → (route : Route) (between : D) (settled : State) → IsRouted x.head.verb x.head.path (Ok route) → d.is_honest x.before.0 → WaitsByStep x.before.1
+  pub goes_on : PublishesShut → (route : Route) (between : D) (settled : State) → IsRouted x.head.verb x.head.path (Ok route) → d.is_honest x.before.0 → WaitsByStep x.before.1
       → Settles d x.before.0 between x.before.1 settled None
       → Steps d between x.after.0 x.moment (command_of route.place route.id x.head.key x.body) settled x.after.1 x.due.said → GoesAt settled
   goes_on shut route between settled routed honest waits settles steps =

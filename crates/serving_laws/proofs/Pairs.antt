@@ -220,7 +220,7 @@ module _ (id : ℕ) (caller : Caller) where
         second : List Taken
         takes : Takes x s first
         also : Takes y t second
-        reply : ReplyAlike x y s t
+        reply : ReplyAlike id caller x y s t
         go : Go (host_in s) (host_in t) (host_in x.after.1) (host_in y.after.1) first second
         waits : WaitAlike x.after.1 y.after.1
 
@@ -295,7 +295,7 @@ module _ (id : ℕ) (caller : Caller) where
           second = record { asked = b; said = Some y.due.said } ∷ [];
           takes = Takes.one a at refl;
           also = Takes.one b goes refl;
-          reply = inr ((a, at), (b, goes));
+          reply = inr (a, b, at, goes, asks_alike x y s t a b pair.ask (asks_step x s a at) (asks_step y t b goes));
           go = one_step (host_in s) (host_in t) (host_in x.after.1) (host_in y.after.1) (record { asked = a; said = Some x.due.said }) (record { asked = b; said = Some y.due.said })
               (asks_alike x y s t a b pair.ask (asks_step x s a at) (asks_step y t b goes)) refl (steps_to x s a at) (steps_to y t b goes);
           waits = WaitAlike.neither_waits after later;
@@ -310,7 +310,7 @@ module _ (id : ℕ) (caller : Caller) where
         pub also : TakesSteps others twins besides
         pub alike : RunAlike g h id caller (asked_of steps) (asked_of besides)
         pub replied : replied_of steps ≡ replied_of besides
-        pub rest : RepliesAlike run others states twins
+        pub rest : RepliesAlike id caller run others states twins
 
       one_pair : (d : Ghosts D) (x y : Exchange (D × State)) (run others : List (Exchange (D × State))) (s t : State) (states twins : List State)
           → d.is_honest x.before.0 → d.is_honest y.before.0 → IsHandled d x s → IsHandled d y t → IsPair id caller x y s t → WaitAlike x.before.1 y.before.1

@@ -17,7 +17,7 @@ use Rattle.sealed_core.specs.Step.{CommandView, Create, To}
 use Rattle.split_http.specs.declared.routes.Route.{Route}
 use Rattle.split_http.specs.Places.{IsRouted}
 use Rattle.serving_laws.specs.Sealing.{IsSealedReply, IsSealedTold, TellsNoStep}
-use Rattle.serving_laws.proofs.Answered.{PublishesClosed, due_result}
+use Rattle.serving_laws.proofs.Answered.{PublishesShut, due_result}
 
 pub same_sent : (said other : ContentView) (a b : ContentView) → said ≡ a → other ≡ b → status_and_text a ≡ status_and_text b → (said.status ≡ other.status) × (said.text ≡ other.text)
 same_sent said other a b is_a is_b same = (
@@ -51,7 +51,7 @@ module _ {D : Type 0} (d : Ghosts D) (x : Exchange (D × State)) where
   at_once_sealed settled (Settles.damaged e p a same first shut is c) = IsSealedReply.damaged (record { event = e; place = p; waits = a; first = first; never = shut; said = cc c })
   at_once_sealed settled (Settles.opened e secret kept a same told can is c) = absurd (cc)
 
-  pub steps_sealed : SendsSealed → PublishesClosed → (route : Route) (between : D) (settled : State) → IsRouted x.head.verb x.head.path (Ok route)
+  pub steps_sealed : SendsSealed → PublishesShut → (route : Route) (between : D) (settled : State) → IsRouted x.head.verb x.head.path (Ok route)
       → Steps d between x.after.0 x.moment (command_of route.place route.id x.head.key x.body) settled x.after.1 x.due.said → IsSealedReply d x settled
   steps_sealed sends shut route between settled routed (Steps.no_event told a b r is c) =
       IsSealedReply.told route routed (sealed_content sends (host_in settled) x.moment (command_of route.place route.id x.head.key x.body) x.due.said told r c)

@@ -1,10 +1,10 @@
 -- Two runs of requests that differ only in what people other than the caller of an instance have bid.
 use Rattle.std.specs.Prelude.{◌≡◌, ◌≢◌, ◌⊎◌, ◌↔◌, ℕ, List, [], ◌∷◌, Some, None}
 use Rattle.bid_rules.specs.declared.bids.Bid.{Bid}
-use Rattle.host_journal.specs.States.{State}
+use Rattle.host_journal.specs.States.{State, host_in}
 use Rattle.serving.specs.Exchanges.{Exchange}
 use Rattle.sealed_core.specs.Host.{BidKept, HostView}
-use Rattle.sealed_core.specs.Sealed.{Asked, Caller, RunAlike}
+use Rattle.sealed_core.specs.Sealed.{AreAlike, Asked, Caller, RunAlike}
 use Rattle.serving_laws.specs.Accepting.{Makes}
 use Rattle.serving_laws.specs.Heard.{IsStepAt, Taken, TakesSteps, asked_of, got_all, replied_of}
 use Rattle.serving_laws.specs.Sealing.{MayLackMemory}
@@ -50,18 +50,18 @@ ArePairs id caller (x ∷ run) (y ∷ others) [] twins = ⊥
 ArePairs id caller (x ∷ run) (y ∷ others) (s ∷ states) [] = ⊥
 ArePairs id caller (x ∷ run) (y ∷ others) (s ∷ states) (t ∷ twins) = IsPair id caller x y s t × ArePairs id caller run others states twins
 
--- both requests have the reply of a step, or both have the same reply
-abbrev pub ReplyAlike : {D : Type 0} → (x y : Exchange (D × State)) → (s t : State) → Type 0
-ReplyAlike x y s t = (x.due.said ≡ y.due.said) ⊎ (((a : Asked) × IsStepAt x s a) × ((b : Asked) × IsStepAt y t b))
+-- both requests have the same reply; or each has the reply of a step, and these steps are alike
+abbrev pub ReplyAlike : {D : Type 0} → ℕ → Caller → (x y : Exchange (D × State)) → (s t : State) → Type 0
+ReplyAlike id caller x y s t = (x.due.said ≡ y.due.said) ⊎ ((a b : Asked) × IsStepAt x s a × IsStepAt y t b × AreAlike (host_in s) (host_in t) id caller a b)
 
 -- this holds of each pair of requests
-abbrev pub RepliesAlike : {D : Type 0} → (run others : List (Exchange (D × State))) → (states twins : List State) → Type 0
-RepliesAlike [] [] states twins = Unit {0}
-RepliesAlike [] (y ∷ others) states twins = ⊥
-RepliesAlike (x ∷ run) [] states twins = ⊥
-RepliesAlike (x ∷ run) (y ∷ others) [] twins = ⊥
-RepliesAlike (x ∷ run) (y ∷ others) (s ∷ states) [] = ⊥
-RepliesAlike (x ∷ run) (y ∷ others) (s ∷ states) (t ∷ twins) = ReplyAlike x y s t × RepliesAlike run others states twins
+abbrev pub RepliesAlike : {D : Type 0} → ℕ → Caller → (run others : List (Exchange (D × State))) → (states twins : List State) → Type 0
+RepliesAlike id caller [] [] states twins = Unit {0}
+RepliesAlike id caller [] (y ∷ others) states twins = ⊥
+RepliesAlike id caller (x ∷ run) [] states twins = ⊥
+RepliesAlike id caller (x ∷ run) (y ∷ others) [] twins = ⊥
+RepliesAlike id caller (x ∷ run) (y ∷ others) (s ∷ states) [] = ⊥
+RepliesAlike id caller (x ∷ run) (y ∷ others) (s ∷ states) (t ∷ twins) = ReplyAlike id caller x y s t × RepliesAlike id caller run others states twins
 
 -- In both runs the machine takes steps, which are alike pair by pair, and the same ones of them have a reply. The caller gets the same status and text in
 -- reply to each of their own commands on the instance, up to the step at which it is closed. A reply that belongs to no step is the same in both runs,
@@ -73,5 +73,5 @@ pub record GetsSame {D : Type 0} (id : ℕ) (caller : Caller) (g h : HostView) (
   pub also : TakesSteps others twins besides
   pub alike : RunAlike g h id caller (asked_of steps) (asked_of besides)
   pub replied : replied_of steps ≡ replied_of besides
-  pub rest : RepliesAlike run others states twins
+  pub rest : RepliesAlike id caller run others states twins
   pub got : got_all g id caller steps ≡ got_all h id caller besides

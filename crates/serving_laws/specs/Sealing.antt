@@ -1,5 +1,5 @@
 -- What stays sealed in a whole run of the host: what a caller is told of an instance that isn't closed.
-use Rattle.std.specs.Prelude.{◌≡◌, ◌⊎◌, ℕ, true, false, List, Option, Some, Ok, Err}
+use Rattle.std.specs.Prelude.{◌≡◌, ◌⊎◌, ℕ, ◌≤◌, max, true, false, List, Option, Some, IsSomeAnd, Ok, Err}
 use Rattle.split_base.specs.declared.disk.Disk.{Ghosts}
 use Rattle.host_journal.specs.Journal.{IsFirstFault}
 use Rattle.host_journal.specs.States.{State, host_in}
@@ -13,7 +13,7 @@ use Rattle.requests.specs.Sent.{status_and_text}
 use Rattle.sealed_core.specs.declared.commands.Ask.{Ask}
 use Rattle.sealed_core.specs.declared.commands.What.{What}
 use Rattle.sealed_core.specs.declared.replies.Reply.TheVariants as reply
-use Rattle.sealed_core.specs.Host.{EventView, HostView}
+use Rattle.sealed_core.specs.Host.{EventView, HostView, InstanceView, instance_at}
 use Rattle.sealed_core.specs.Sealed.{caller_number, host_after, is_closed, view}
 use Rattle.sealed_core.specs.Step.{CommandView, Create, To, step}
 use Rattle.split_http.specs.declared.replies.Allow.{Allow}
@@ -38,21 +38,25 @@ pub record AsksOf {D : Type 0} (x : Exchange (D × State)) (id : ℕ) (key : Opt
 abbrev pub ReadsBody : {W : Type 0} → Exchange W → Type 0
 ReadsBody x = (route : Route) × IsRouted x.head.verb x.head.path (Ok route) × (reads_body route.place ≡ true)
 
--- at this state the request is due what is published of an instance, which is closed after it
+-- the instance is closed, or its deadline has passed by this moment
+abbrev pub IsShutBy : ℕ → InstanceView → Type 0
+IsShutBy now i = (i.closed ≡ true) ⊎ (i.creation.deadline ≤ now)
+
+-- at this state the request is due what is published of an instance, which is closed or past its deadline
 pub record IsDueResult {W : Type 0} (x : Exchange W) (s : State) : Type 0 where
   pub route : Route
   pub id : ℕ
   pub asked : What
   pub routed : IsRouted x.head.verb x.head.path (Ok route)
   pub published : (step (host_in s) x.moment (command_of route.place route.id x.head.key x.body)).reply ≡ reply.Publish id asked
-  pub closed : is_closed (host_after (host_in s) x.moment (command_of route.place route.id x.head.key x.body)) id ≡ true
+  pub shut : IsSomeAnd (instance_at (host_in s) id) (IsShutBy (max x.moment (host_in s).moment))
 
 -- memory may run out for such a request after it was read from its link, and for no other
 abbrev pub MayLackMemory : {W : Type 0} → Exchange W → State → Type 0
 MayLackMemory x s = ReadsBody x ⊎ IsDueResult x s
 
--- The reply isn't that of a step: the path or the method of the request is refused; the store failed; or memory ran out, for a body that is read or for a
--- result of a closed instance.
+-- The reply isn't that of a step: the path or the method of the request is refused; the store failed; or memory ran out, for a body that is read or for the
+-- result of an instance that is closed or past its deadline.
 pub data TellsNoStep {D : Type 0} (x : Exchange (D × State)) (s : State) : Type 0 where
   no_route : IsRouted x.head.verb x.head.path (Err NoRoute) → x.due.said ≡ refusal_told service.NoRoute → TellsNoStep x s
   method : (allow : Allow) → IsRouted x.head.verb x.head.path (Err (Method allow)) → x.due.said ≡ method_told allow → TellsNoStep x s

@@ -92,9 +92,9 @@ pub fn acknowledged_law<D: Disk>()
 /// - The request changes it by at most one event, which its own step makes. The event is kept; or the disk failed in its append, which the reply says, and the
 ///   event waits.
 /// - The request is answered: its path or method is refused; or it has the reply of the machine's step there, whose event, if it makes one, was kept; or memory
-///   ran out, for a body that is read or for what is published of a closed instance, and for nothing else. Or a call of the disk failed in it, and the reply
-///   says so. Or the file of a host that waited isn't a journal: then the place of its first fault is given, wherever the disk reveals its bytes; this never
-///   happens on an honest disk.
+///   ran out, for a body that is read or for what is published of an instance that is closed or past its deadline, and for nothing else. Or a call of the disk
+///   failed in it, and the reply says so. Or the file of a host that waited isn't a journal: then the place of its first fault is given, wherever the disk
+///   reveals its bytes; this never happens on an honest disk.
 /// - If it doesn't succeed, it changes nothing, except by the Close of the instance that it asks about if the deadline of that has passed; or its own event
 ///   waits.
 /// - About an instance that isn't closed after it, its reply says no more than what the caller may know; or it isn't the reply of a step. So the reply to a
@@ -177,8 +177,9 @@ pub fn sealed_law<D: Disk>()
 /// The same is true when requests are compared instead of steps (`same`). Take two such runs on honest disks, from hosts at which no event waits. Let their
 /// requests be equal pair by pair, except that a pair may be two such bids. Let the store do the same in both requests of a pair: the file of a host that waits
 /// is opened in both or in neither, with the event that waited in both or in neither, and an event waits after both or after neither. And if a body is read, or
-/// a result of a closed instance is due, let memory run out in both or in neither. Then the steps are alike, the caller gets the same, and each reply that isn't
-/// that of a step is the same in both, whoever gets it. For any other request nothing is required of memory, since it can't run out there.
+/// the result of an instance that is closed or past its deadline is due, let memory run out in both or in neither. Then the steps are alike, the caller gets the
+/// same, and each reply that isn't that of a step is the same in both, whoever gets it. For any other request nothing is required of memory, since it can't run
+/// out there.
 ///
 /// A request at a host that is ready goes by a step, or its path or method is refused, if no call of the disk failed in it and memory didn't run out.
 pub fn sealed_runs_law<D: Disk>()

@@ -66,11 +66,10 @@ pub fn fares_of(costs: &SetCosts<'_>, count: u8) -> FareList
     fares
 }
 
-/// The best division of a shared fare among 1 to 10 riders: each pays the mean of their marginal costs over all orders of
+/// The best division of a shared fare: each rider pays the mean of their marginal costs over all orders of
 /// the riders (Shapley 1953), and the route is the least of the cheapest ones.
 ///
-/// It takes about `n^2 * 2^n` steps for n riders, and takes memory just once, for the table of costs. `NoMemory` is
-/// returned only if memory runs out.
+/// It takes about `n^2 * 2^n` steps for n riders, and takes memory just once, for the table of costs.
 pub fn solve_fares(alloc: Global, case: &FareCase) -> Result<FareDivision, NoMemory>
     requires { IsValidFareCase case.now }
     ensures { IfOk result (λ division. IsFareDivision case.now division) }

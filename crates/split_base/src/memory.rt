@@ -20,6 +20,6 @@ pub use sink::MemSink;
 pub use source::MemSource;
 pub use text::TextSource;
 
-/// There was no memory for what a call had to make.
+/// There was no memory for what a call had to make. A call answers so only when memory runs out, and only if it takes memory.
 #[derive(Clone, Copy, Debug, PartialEq, Eq)]
 pub struct NoMemory;

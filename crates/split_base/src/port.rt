@@ -1,5 +1,5 @@
 // The trait of ports, which hand out links.
-ghost use Rattle.std.specs.Prelude.{◌≡◌, ◌↔◌, ◌<◌, ◌-◌, ℕ, List, Option, IfOk, IsNone};
+ghost use Rattle.std.specs.Prelude.{◌≡◌, ◌↔◌, ◌<◌, ◌-◌, ℕ, List, Option, IfOk, IsErr, IsNone};
 ghost use Rattle.split_base.specs.Faults.{HasCause, IsCounted};
 ghost use Rattle.split_base.specs.Asked.{asked_again};
 ghost use Rattle.split_base.specs.Ports.{Accepts, AnswersNone, TakesBack, handed_out};
@@ -7,7 +7,8 @@ ghost use Rattle.split_base.specs.Ports.{Accepts, AnswersNone, TakesBack, handed
 use crate::{Failed, Link};
 
 /// Hands out links one after another until it has ended: each one only after the last was given
-/// back, and none after it has answered that there are no more.
+/// back. Once it has answered that there are no more, it isn't asked for another until it has begun
+/// to listen again, and if it had ended, it answers the same then.
 pub trait Port {
     ghost use Rattle.split_base.specs.declared.asked.Asked.{Asked};
 
@@ -33,13 +34,13 @@ pub trait Port {
     /// No more links will come.
     ghost has_ended: { Self → Type 0 };
 
-    /// It has answered that there are no more links.
+    /// It has answered that there are no more links, and hasn't begun to listen again since.
     ghost is_over: { Self → Type 0 };
 
     /// How many of its calls have failed, up to 2^64 - 1.
     ghost faults: { Self → ℕ };
 
-    /// Begins to take connections at the port with this number.
+    /// Begins to take connections at the port with this number. A port that has ended stays so.
     ///
     /// `Failed` is returned only if the count of faults has risen, by one. `Ok` leaves the count
     /// as it is.
@@ -49,14 +50,14 @@ pub trait Port {
         ensures asked { asked self.new ≡ asked_again port (asked self.old) }
         ensures out { out self.new ≡ out self.old }
         ensures stays { has_ended self.old ↔ has_ended self.new }
-        ensures over { is_over self.old ↔ is_over self.new }
+        ensures over { is_over self.new ↔ (IsErr result × is_over self.old) }
         ensures places { places self.new ≡ places self.old }
         ensures come { to_come self.new ≡ to_come self.old }
         ensures back { given_back self.new ≡ given_back self.old };
 
     /// The next link, or `None` exactly when the port has ended. A port that has ended stays so.
-    /// It may be called only while every link that it handed out has been given back, and not
-    /// after `None`.
+    /// It may be called only while every link that it handed out has been given back, and after
+    /// `None` only once it has begun to listen again.
     ///
     /// `Failed` is returned only if the count of faults has risen, by one. In that case no link
     /// is handed out. `Ok` leaves the count as it is.

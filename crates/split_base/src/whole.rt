@@ -27,7 +27,6 @@ pub enum ReadStop {
 ///   has not risen.
 /// - `TooLong` is returned exactly when there are more than `most` bytes. In that case `most + 1` of
 ///   them have been read.
-/// - `NoMemory` is returned only when memory runs out.
 ///
 /// In each of these cases the bytes read so far, at most `most + 1`, are lost, and the source goes
 /// on after them.

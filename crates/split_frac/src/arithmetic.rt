@@ -10,8 +10,8 @@ use std::cmp::Ordering;
 
 /// The fraction of the value `num / den`, in lowest terms.
 ///
-/// Asks for a numerator between -10^24 and 10^24 and a denominator from 1 to 4,000,000, and returns
-/// a fraction in these ranges.
+/// Asks for a numerator at most `MOST_NUMERATOR` from 0 and a denominator from 1 to `MOST_DENOMINATOR`,
+/// and returns a fraction in these ranges.
 pub fn make(num: i128, den: u64) -> Frac
     requires num { unsigned_abs num ≤ MOST_NUMERATOR }
     requires den_low { 0 < den }
@@ -24,8 +24,7 @@ pub fn make(num: i128, den: u64) -> Frac
 
 /// The exact sum of two fractions.
 ///
-/// Asks that both and their sum, in lowest terms, have numerators between -10^24 and 10^24 and
-/// denominators up to 4,000,000.
+/// Asks that both and their sum, in lowest terms, keep the limits of `make`.
 pub fn add(a: Frac, b: Frac) -> Frac
     requires a { IsWithinLimits a }
     requires b { IsWithinLimits b }
@@ -38,8 +37,7 @@ pub fn add(a: Frac, b: Frac) -> Frac
 
 /// The exact difference: the first fraction less the second.
 ///
-/// Asks that both and their difference, in lowest terms, have numerators between -10^24 and 10^24
-/// and denominators up to 4,000,000.
+/// Asks that both and their difference, in lowest terms, keep the limits of `make`.
 pub fn sub(a: Frac, b: Frac) -> Frac
     requires a { IsWithinLimits a }
     requires b { IsWithinLimits b }
@@ -52,7 +50,7 @@ pub fn sub(a: Frac, b: Frac) -> Frac
 
 /// How the values of two fractions compare, by their cross products.
 ///
-/// Asks for numerators between -10^24 and 10^24 and denominators up to 4,000,000.
+/// Asks for fractions within the limits of `make`.
 pub fn compare(a: &Frac, b: &Frac) -> Ordering
     requires a { IsWithinLimits a.now }
     requires b { IsWithinLimits b.now }
@@ -63,7 +61,7 @@ pub fn compare(a: &Frac, b: &Frac) -> Ordering
 
 /// The greatest whole number that is not above the fraction.
 ///
-/// Asks for a numerator between -10^24 and 10^24 and a denominator up to 4,000,000.
+/// Asks for a fraction within the limits of `make`.
 pub fn floor(a: &Frac) -> i128
     requires { IsWithinLimits a.now }
     ensures { IsFloor a.now result }
@@ -73,7 +71,7 @@ pub fn floor(a: &Frac) -> i128
 
 /// The amount less its floor: from 0 to below 1, over the same denominator.
 ///
-/// Asks for a numerator between -10^24 and 10^24 and a denominator up to 4,000,000.
+/// Asks for a fraction within the limits of `make`.
 pub fn rem(a: &Frac) -> Frac
     requires { IsWithinLimits a.now }
     ensures value { (whole : ℤ) → IsFloor a.now whole

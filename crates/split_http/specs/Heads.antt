@@ -15,7 +15,7 @@ use Rattle.split_http.specs.declared.limits.TheConstants.{MAX_BODY, BAD_HOST, FR
 use Rattle.split_http.specs.Fields.{has_value, has_option, stated_of}
 use Rattle.split_http.specs.Paths.{IsPathOf}
 
--- a head by the grammar of `httparse` (RFC 9112), of at most 8,192 bytes and with at most 64 fields
+-- a head by the grammar of `httparse` (RFC 9112), of at most `MAX_HEAD` bytes and with at most `MAX_FIELDS` fields
 pub record IsHead (head : RequestHead) : Type 0 where
   pub valid : IsRequestHead head
   pub few : length head.fields ≤ MAX_FIELDS

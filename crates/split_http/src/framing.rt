@@ -34,7 +34,7 @@ pub enum Framing {
 /// bytes of a client can tell when its request is whole, before a link reads any of them. Nothing is kept, and no memory is taken.
 ///
 /// - `Request` is returned exactly when a head is at the front, as `next_head` finds it.
-/// - `NoHead` comes only if none is there, whatever follows; so as soon as 8,192 bytes hold none.
+/// - `NoHead` comes only if none is there, whatever follows; so as soon as `MAX_HEAD` bytes hold none.
 /// - `Open` comes only for fewer bytes than these, and only while the parser asks for more of them.
 pub fn framing_of(bytes: &[u8]) -> Framing
     ensures { FramingSays bytes.now result }

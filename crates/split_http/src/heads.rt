@@ -35,13 +35,13 @@ pub enum HeadTurn {
 /// pieces in which they come.
 ///
 /// - `BadHead` is returned exactly when bytes are left, and no first part of them is the head of a
-///   request as `httparse` reads it (RFC 9112), of at most 8,192 bytes and with at most 64 fields.
+///   request as `httparse` reads it (RFC 9112), of at most `MAX_HEAD` bytes and with at most `MAX_FIELDS` fields.
 /// - `End` is returned exactly when nothing is left.
 /// - `LinkFault` comes for one failed read, which the link's count of faults tells. Each other answer
 ///   leaves that count as it is. A read is made only while the parser asks for more of what the carry
 ///   holds, or has no room for all its fields: nothing is read while a whole head waits there, and
-///   if the parser tells that no head can come, `BadHead` is answered at once. That a head has 65
-///   to 256 fields is told at its end; of more fields it tells nothing.
+///   if the parser tells that no head can come, `BadHead` is answered at once. That a head has more
+///   fields, but at most `ROOM`, is told at its end; of more fields it tells nothing.
 /// - `NoMemory` is returned only if memory ran out and a head is at the front. That head stays there.
 ///   Its method is told, so that a reply to HEAD can leave its body out (`HttpReply::bodiless`).
 ///

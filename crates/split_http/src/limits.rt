@@ -15,5 +15,5 @@ pub const BAD_LENGTH: u8 = 5;
 /// A POST without Content-Length.
 pub const LENGTH_MISSING: u8 = 6;
 
-/// A body of more than 65,536 bytes.
+/// A body of more than `MAX_BODY` bytes.
 pub const BODY_TOO_LARGE: u8 = 7;

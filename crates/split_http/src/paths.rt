@@ -55,8 +55,7 @@ fn path_of(alloc: Global, uri: &Uri) -> Result<Option<PathText>, NoMemory>
 }
 
 // The path of a target, if `http` takes the target and it has one. An absolute target's path is
-// taken, and a fragment and a query are left out. `NoMemory` is returned only if memory ran
-// out.
+// taken, and a fragment and a query are left out.
 pub(crate) fn target_path(alloc: Global, target: &[u8]) -> Result<Option<PathText>, NoMemory>
     ensures { IfOk result (IsPathOf target.now) }
 {

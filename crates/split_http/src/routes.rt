@@ -41,7 +41,7 @@ pub enum Place {
 pub struct Route {
     /// What it asks for.
     pub place: Place,
-    /// The id of the instance, from 1 to 4,294,967,295; 0 if the path names none in plain
+    /// The id of the instance, which is at least 1; 0 if the path names none in plain
     /// decimal.
     pub id: u32,
 }
@@ -67,8 +67,6 @@ pub struct Routes {
 
 impl Routes {
     /// All routes of the host.
-    ///
-    /// `NoMemory` is returned only if memory ran out.
     pub fn new(alloc: Global) -> Result<Routes, NoMemory> {
         match make_router(alloc) {
             Ok(router) => Ok(Routes { router }),

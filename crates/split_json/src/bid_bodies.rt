@@ -16,7 +16,7 @@ use std::alloc::Global;
 /// reads.
 ///
 /// A field is `None` exactly when it is absent or of another form, so all of them are if the body isn't an object: a turn is a
-/// whole number below 2^32, values are at most 24 of these, and a place is a whole number below 2^8. `NoMemory`: memory ran out.
+/// whole number below 2^32, values are at most 24 of these, and a place is a whole number below 2^8.
 pub fn read_bid(alloc: Global, body: &[u8]) -> Result<Result<BidBody, BodyFault>, NoMemory>
     ensures bid { IfOk result (λ answer. answer ≡ bid_body_in body.now) }
     ensures json { IfOk result (λ answer.

@@ -7,7 +7,7 @@ use serde_json::Value;
 use split_base::NoMemory;
 use std::alloc::Global;
 
-// The JSON value that the bytes spell, or none. `NoMemory`: memory ran out.
+// The JSON value that the bytes spell, or none.
 pub(crate) fn parsed(alloc: Global, body: &[u8]) -> Result<Option<Value>, NoMemory>
     ensures { IfOk result (λ value. option_map view value ≡ json_of body.now) }
 {

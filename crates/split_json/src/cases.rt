@@ -18,7 +18,7 @@ use std::alloc::Global;
 ///
 /// `Json` if the body isn't a JSON text (RFC 8259) that `serde_json` reads: it isn't UTF-8, is nested more than 127 levels deep,
 /// or has a number that no `f64` holds. Otherwise `Field` with the first field whose rule is broken, in the order of `FieldName`.
-/// Fields of other names are ignored, and if a key is repeated, the last one counts. `NoMemory`: memory ran out.
+/// Fields of other names are ignored, and if a key is repeated, the last one counts.
 pub fn read_case(alloc: Global, body: &[u8]) -> Result<Result<CaseInput, BodyFault>, NoMemory>
     ensures case { IfOk result (λ answer.
         result_map_both case_data_of (λ fault. fault) answer ≡ case_in body.now) }

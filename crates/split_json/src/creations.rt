@@ -21,7 +21,7 @@ use std::alloc::Global;
 ///
 /// `Json` if the body is not a JSON text (RFC 8259) that `serde_json` reads. Otherwise `Field` with the first field whose rule is broken:
 /// those of a case before the bids, in the order of `FieldName`, then the deadline, a timestamp that `jiff` reads, which is not before
-/// 1970 and loses any fraction of a second, and the tag. What is read keeps the rules of a creation. `NoMemory`: memory ran out.
+/// 1970 and loses any fraction of a second, and the tag. What is read keeps the rules of a creation.
 pub fn read_creation(alloc: Global, body: &[u8]) -> Result<Result<Creation, BodyFault>, NoMemory>
     ensures creation { IfOk result (λ answer.
         result_map_both creation_view (λ fault. fault) answer ≡ creation_in body.now) }

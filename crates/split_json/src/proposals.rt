@@ -46,7 +46,7 @@ pub fn read_goods(alloc: Global, body: &[u8]) -> Result<Result<CaseInput, BodyFa
 ///
 /// `Json` if the body isn't a JSON text (RFC 8259) that `serde_json` reads. Otherwise `Field` with the first field whose rule is broken:
 /// those of a case, in the order of `FieldName`, in which a kind other than goods breaks `kind`, and then the owners: a list with an entry
-/// per good, each the number of a member who has bid. `NoMemory`: memory ran out.
+/// per good, each the number of a member who has bid.
 pub fn read_proposal(
     alloc: Global,
     body: &[u8],

@@ -11,7 +11,7 @@ use std::alloc::Global;
 /// instance, in order of id.
 ///
 /// A row has the id, the kind, the title, the number of members, the deadline in seconds since 1970, whether the instance is closed, as
-/// `yes` or `no`, and the number of members who have a bid. `NoMemory` is returned only if memory runs out.
+/// `yes` or `no`, and the number of members who have a bid.
 pub fn dump_rows(alloc: Global, host: &Host) -> Result<Vec<u8>, NoMemory>
     ensures { IfOk result (λ text. text.items ≡ dump_text host.now.content) }
 {

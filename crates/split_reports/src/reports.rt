@@ -21,7 +21,7 @@ use std::alloc::Global;
 /// and goods. Lines end with LF.
 ///
 /// The lists of the input have the counts of its facts, the facts and bids have no fault, the case is the one that they make,
-/// and the division is the solver's for that case. `NoMemory` is returned only if memory runs out.
+/// and the division is the solver's for that case.
 pub fn report(
     alloc: Global,
     input: &CaseInput,
@@ -41,8 +41,7 @@ pub fn report(
 
 /// The report that people read, of a case whose names are given apart from its facts and bids.
 ///
-/// There is a name for each member and each item of the case, and the division is the solver's for it. `NoMemory` is returned
-/// only if memory runs out.
+/// There is a name for each member and each item of the case, and the division is the solver's for it.
 pub fn named_report(
     alloc: Global,
     names: &Names<'_>,

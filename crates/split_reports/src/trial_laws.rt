@@ -11,7 +11,7 @@ ghost use Rattle.split_reports.specs.TrialPrefixes.{list_count};
 ghost use Rattle.split_reports.specs.Trials.{trial_fare, trial_goods, trial_rent};
 
 /// The cases of a trial are valid, and its goods are never above their limit: a step count is at most the number of all prefixes from the
-/// tasks' length to that of all goods, and of a trial's goods that is 87,360. The first draws of trial 1 are 48,271 and 182,605,794.
+/// tasks' length to that of all goods, and `within` says how many those of a trial are. `first` and `second` are the first draws of trial 1.
 pub fn trial_law()
     ensures rent { (number : ℕ) → IsValidRentCase (trial_rent number) }
     ensures goods { (number : ℕ) → IsValidGoodsCase (trial_goods number) }

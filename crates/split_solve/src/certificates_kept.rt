@@ -10,7 +10,7 @@ use crate::kept::{KeptSearches, same_case};
 use crate::limits::{MOST_KEPT_BYTES, MOST_KEPT_SEARCHES};
 use crate::solver::Solver;
 use bid_rules::{Case, GoodsCase};
-use certificates::{Division, write_certificate, write_certificate_by};
+use certificates::{Division, write_certificate};
 use split_base::{Gate, NoMemory};
 use std::alloc::Global;
 use std::marker::Model;
@@ -113,11 +113,10 @@ fn copy_of(alloc: Global, bytes: &[u8]) -> Option<Vec<u8>>
     }
 }
 
-/// What `write_certificate` gives. A certificate of goods that was kept is copied; any other of goods is written with the workers'
-/// help, and then kept.
+/// What `write_certificate` gives. A certificate of goods that was kept is copied; any other of goods is written, and then kept.
 ///
 /// A kept certificate never changes the text, since it is the canonical one of its whole case. Memory that is refused for keeping is
-/// not a fault. `NoMemory` is returned only when memory runs out.
+/// not a fault.
 pub fn certificate_once<R: Threads + Sync, G: Gate + Sync>(
     solver: &mut Solver<'_, R, G>,
     case: &Case,
@@ -149,7 +148,7 @@ fn goods_certificate<R: Threads + Sync, G: Gate + Sync>(
     if let Some(text) = solver.searches.certificate(means.alloc, goods) {
         return Ok(text);
     }
-    let text = write_certificate_by(means, solver.workers, case, division)?;
+    let text = write_certificate(means.alloc, case, division)?;
     solver
         .searches
         .keep_certificate(means.alloc, goods, text.as_slice());

@@ -36,6 +36,10 @@ Names words (Audit port asked) =
     (first second third : List ℕ) × (words ≡ codes "audit" ∷ first ∷ second ∷ third ∷ []) × IsPort first port × IsNumber 1 MOST_ID second asked.id × IsKey third asked.key
 Names words (Read reads) = NamesReading words reads
 
+-- the words are a row of `serve`
+abbrev pub AskToServe : List (List ℕ) → Type 0
+AskToServe words = (port workers count : ℕ) × Names words (Serve port workers count)
+
 -- the words aren't a row of the command table
 abbrev pub AreNoRow : List (List ℕ) → Type 0
 AreNoRow words = (command : Command) → Names words command → ⊥

@@ -1,9 +1,10 @@
 // The top call: from words to a status and what is written.
-ghost use Rattle.std.specs.Prelude.{◌≡◌, ◌≤◌, map, string_bytes};
+ghost use Rattle.std.specs.Prelude.{◌≡◌, ◌≤◌, ℕ, map, string_bytes};
 ghost use Rattle.command_results.specs.Endings.{ending_of, owed};
 ghost use Rattle.command_results.specs.ObjectUse.{Ends, ObjectUse, use_of};
 ghost use Rattle.serving.specs.Served.{tells_of};
 ghost use Rattle.split_top.specs.Causes.{Holds};
+ghost use Rattle.split_top.specs.Commands.{AskToServe};
 ghost use Rattle.split_top.specs.Outside.{outside_of};
 ghost use Rattle.split_top.specs.Runs.{Came, Comes, Tries, tells_by};
 
@@ -41,7 +42,7 @@ pub struct Status {
 /// | `check`, `checkwinner` | reads a certificate, or the text of adjusted winner, and writes `yes` or `no` and the first broken rule |
 ///
 /// WORKERS says how many threads may work at the same time, from 1 to `MOST_WORKERS`. It never changes the result. The gate is told when a worker is about to walk
-/// the first part of a task of a search, and when the last part of the task has ended.
+/// a task of a search, and when that walk has ended.
 ///
 /// | status | comes | line |
 /// |---|---|---|
@@ -57,8 +58,9 @@ pub struct Status {
 /// | 9 | only if there was no memory; never for `init`, `check`, `checkwinner` and `audit`, nor for `serve` once it listens | `no memory` |
 ///
 /// The tests come in the order of the work: words, reading, file, port, solving or judging, writing. What a command does not use is untouched: it is not
-/// called. The port comes with no link out, and has not answered yet that none comes. `serve` asks it once to listen, at PORT and at no other, and for one link
-/// after the other. `audit` asks the dialer once for a link, to PORT and to no other. No write of no bytes reaches the output.
+/// called. `serve` asks the port once to listen, at PORT and at no other, and for one link after the other; so the port comes with no link out. After each
+/// command as many are out as before it, so that the same port may serve again. `audit` asks the dialer once for a link, to PORT and to no other. No write of no
+/// bytes reaches the output.
 #[allow(clippy::too_many_arguments)]
 pub fn run<
     R: Threads + Sync,
@@ -81,8 +83,7 @@ pub fn run<
     gate: &G,
     dialer: &mut X,
 ) -> Status
-    requires none_out { P.out port.old ≡ 0 }
-    requires goes_on { P.is_over port.old → ⊥ }
+    requires none_out { AskToServe (map string_bytes words.now) → P.out port.old ≡ 0 }
     ensures holds { Holds
         (tells_by D.Disk P.Port (tells_of P.Link.Source P.Link.Sink) C.Clock X.Dial
         (tells_of X.Link.Source X.Link.Sink))
@@ -90,6 +91,7 @@ pub fn run<
         (use_of I.left I.faults input.old input.new)
         (use_of O.written O.faults output.old output.new)) (map string_bytes words.now)
         result.code }
+    ensures out { P.out port.new ≡ P.out port.old }
     ensures empty { O.empty_writes output.new ≡ O.empty_writes output.old }
     ensures output { O.faults output.old ≤ O.faults output.new }
 {
@@ -140,15 +142,15 @@ fn decide<R: Threads + Sync, D: Disk, P: Port, C: Clock, I: Source, G: Gate + Sy
     input: &mut I,
     dialer: &mut X,
 ) -> Result<Text, Stop>
-    requires none_out { P.out port.old ≡ 0 }
-    requires goes_on { P.is_over port.old → ⊥ }
-    ensures { (output : ObjectUse)
+    requires { AskToServe (map string_bytes words.now) → P.out port.old ≡ 0 }
+    ensures comes { (output : ObjectUse)
         → Comes
         (tells_by D.Disk P.Port (tells_of P.Link.Source P.Link.Sink) C.Clock X.Dial
         (tells_of X.Link.Source X.Link.Sink))
         (outside_of disk.old disk.new port.old port.new clock.old clock.new dialer.old dialer.new
         (use_of I.left I.faults input.old input.new) output) (map string_bytes words.now)
         (ending_of result) }
+    ensures out { P.out port.new ≡ P.out port.old }
 {
     match command_of(words) {
         None => Err(Stop::BadWords),
@@ -166,14 +168,15 @@ fn execute<R: Threads + Sync, D: Disk, P: Port, C: Clock, I: Source, G: Gate + S
     input: &mut I,
     dialer: &mut X,
 ) -> Result<Text, Stop>
-    requires none_out { P.out port.old ≡ 0 }
-    requires goes_on { P.is_over port.old → ⊥ }
-    ensures { (output : ObjectUse)
+    requires { (number workers count : ℕ) → command ≡ Command.Serve number workers count
+        → P.out port.old ≡ 0 }
+    ensures came { (output : ObjectUse)
         → Came
         (tells_by D.Disk P.Port (tells_of P.Link.Source P.Link.Sink) C.Clock X.Dial
         (tells_of X.Link.Source X.Link.Sink))
         (outside_of disk.old disk.new port.old port.new clock.old clock.new dialer.old dialer.new
         (use_of I.left I.faults input.old input.new) output) command (ending_of result) }
+    ensures out { P.out port.new ≡ P.out port.old }
 {
     match command {
         Command::Init { secret } => make(disk, &secret),

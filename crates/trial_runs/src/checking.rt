@@ -13,8 +13,6 @@ use std::alloc::Global;
 
 // Writes the certificate of a division in memory, reads it back and judges it. The verdict is yes: certificate text gets one verdict, and
 // all rules hold for a canonical certificate.
-//
-// `NoMemory` is returned only if memory runs out.
 pub(crate) fn check_division(
     alloc: Global,
     case: &Case,

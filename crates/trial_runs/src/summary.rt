@@ -24,8 +24,7 @@ use std::thread::Threads;
 /// the product of their utilities and the steps of the search; what all riders of the fare cost. The last three end with `check yes`.
 ///
 /// The cases are drawn from the number, each gets its best division, and its certificate is written in memory, read back and judged: the verdict
-/// is yes. The number of workers never changes the text, and the step count of the goods is never above the limit. `NoMemory` is returned only
-/// if memory runs out.
+/// is yes. The number of workers never changes the text, and the step count of the goods is never above the limit.
 pub fn trial_text<R: Threads + Sync, G: Gate + Sync>(
     means: &Means<'_, R, G>,
     workers: Workers,

@@ -15,9 +15,9 @@ use split_base::Source;
 /// Reads the text of adjusted winner, and says whether all its rules hold, or else the first that does not. It takes no memory. Once a read has met the
 /// end, it does not read again.
 ///
-/// - `NotText` is returned exactly when the input has at most 4,000,000 bytes and is not the text of a pair, with its first broken line. It was read to
+/// - `NotText` is returned exactly when the input has at most `MOST_BYTES` bytes and is not the text of a pair, with its first broken line. It was read to
 ///   its end.
-/// - `TooLong` is returned exactly when it has more, whatever its lines. 4,000,001 bytes were read.
+/// - `TooLong` is returned exactly when it has more, whatever its lines. One byte more than `MOST_BYTES` was read.
 /// - `ReadFault` is returned only if the source's count of faults has risen, and at once: the failed read is not tried again.
 pub fn check_pair_text<S: Source>(source: &mut S) -> Result<Verdict, TextEnd>
     ensures judged { (taken : List ℕ) × Consumes (S.left source.old) (S.left source.new) taken

@@ -96,7 +96,7 @@ impl Port for MemPort {
         ensures asked { self.new.links.asked ≡ asked_again port self.old.links.asked }
         ensures out { self.new.out ≡ self.old.out }
         ensures stays { (self.old.links.to_come ≡ []) ↔ (self.new.links.to_come ≡ []) }
-        ensures over { IsTrue self.old.is_over ↔ IsTrue self.new.is_over }
+        ensures over { IsTrue self.new.is_over ↔ (IsErr result × IsTrue self.old.is_over) }
         ensures places { self.new.links.places ≡ self.old.links.places }
         ensures come { Some self.new.links.to_come ≡ Some self.old.links.to_come }
         ensures back { Some self.new.links.given_back ≡ Some self.old.links.given_back }
@@ -111,6 +111,7 @@ impl Port for MemPort {
         if self.links.begin() {
             return Err(self.links.fail());
         }
+        self.is_over = false;
         Ok(())
     }
 

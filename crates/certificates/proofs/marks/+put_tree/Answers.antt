@@ -33,7 +33,7 @@ put_tree-end-requires t c =
     let whole = c.if-len-case.false in
     let long = c.len.ensures.value in
     let short = c.requires.node.short in
-    (omega (arith, a, b, n, whole, long, short), (c.requires.table, (c.requires.answer, (c.requires.made, (c.open_child.ensures.node c.if-open_child.true, open_too)))))
+    (omega (arith, a, b, n, whole, long, short), (c.requires.table, (c.requires.answer, (c.open_child.ensures.node c.if-open_child.true, open_too))))
 
 pub loop-k-preserved : goal.loop-k-preserved
 loop-k-preserved t c =

@@ -12,6 +12,6 @@ pieces-init c =
       above = c.walk_by-walk.ensures.above;
       part = omega (arith, nodes);
       seat = (refl, refl, refl);
-      view = walked_none c.args.seat.now.me.0 c.walk_by-walk.result.part.nodes nodes;
+      view = walked_none c.args.seat.now.me.0 c.walk_by-walk.result.nodes nodes;
       small = c.requires.small;
     }

@@ -1,3 +1,4 @@
+use Rattle.serving_laws.proofs.Answered.{publishes_shut}
 use Rattle.serving_laws.proofs.Handled.{StepLaws, one_handled, run_handled}
 use Rattle.serving_laws.proofs.laws.handled_law.Given.{Over}
 use Rattle.serving_laws.proofs.laws.handled_law.Goals as goal
@@ -5,7 +6,7 @@ use Rattle.serving_laws.proofs.laws.handled_law.Goals as goal
 step_laws : (g : Over) (c : goal.After-sent_sealing_law g) → StepLaws
 step_laws g c = record {
   publishes = c.publication_law.ensures.event;
-  shut = c.publication_law.ensures.closed;
+  shut = publishes_shut (record { under_key = c.publication_law.ensures.asked; event = c.publication_law.ensures.event; closed = c.publication_law.ensures.closed });
   sends = c.sent_sealing_law.ensures.from_view;
   origin = c.machine_law.ensures.origin;
   keys = c.sameness_law.ensures.holder;

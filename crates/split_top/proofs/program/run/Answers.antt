@@ -19,7 +19,7 @@ returns-clause-holds g c =
     (use_of g.I.Source.left g.I.Source.faults c.args.input.now c.decide-ending.new.input) output in
     let words = map string_bytes c.args.words.now in
     let status = c.write_ending.result.code in
-    let ran : Ran tells outside words status = (ending_of c.decide-ending.result, c.decide-ending.ensures output, c.write_ending.ensures.ends) in
+    let ran : Ran tells outside words status = (ending_of c.decide-ending.result, c.decide-ending.ensures.comes output, c.write_ending.ensures.ends) in
     record {
       ran = ran;
       causes = has_causes tells outside words status ran;

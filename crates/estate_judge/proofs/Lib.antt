@@ -1,0 +1,7 @@
+pub mod ClosedLeaves
+pub mod LineSteps
+pub mod NearestWeights
+pub mod NodeKinds
+pub mod NodeSteps
+pub mod Runs
+pub mod UnitsOnce

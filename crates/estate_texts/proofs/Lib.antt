@@ -1,0 +1,11 @@
+pub mod BodyLines
+pub mod Completions
+pub mod CountLines
+pub mod EstateLines
+pub mod GivenLaws
+pub mod GivenLines
+pub mod LateLines
+pub mod LineCuts
+pub mod NextLines
+pub mod PlainLines
+pub mod Refusals

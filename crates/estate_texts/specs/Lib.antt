@@ -1,0 +1,5 @@
+pub mod Forms
+pub mod Given
+pub mod Lines
+pub mod Steps
+pub mod Texts

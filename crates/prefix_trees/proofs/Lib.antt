@@ -1,0 +1,12 @@
+pub mod ClosedFronts
+pub mod LaterPlayers
+pub mod PathSteps
+pub mod PlayerSums
+pub mod RankedNumbers
+pub mod RankedTwins
+pub mod Renamings
+pub mod SameWelfare
+pub mod TreeLeaves
+pub mod Twins
+pub mod WalkForks
+pub mod WalkSteps
