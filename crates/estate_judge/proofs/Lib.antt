@@ -3,5 +3,7 @@ pub mod LineSteps
 pub mod NearestWeights
 pub mod NodeKinds
 pub mod NodeSteps
+pub mod NodesOnce
 pub mod Runs
+pub mod SmallShares
 pub mod UnitsOnce

@@ -11,7 +11,7 @@ mod marks;
 mod node;
 
 pub use ground::Ground;
-pub use laws::estate_tree_law;
+pub use laws::{estate_tree_law, nodes_law};
 pub use leaf::{ANSWER_RULE, CLOSED_RULE, SHAPE_RULE, TWIN_RULE, WHOLE_RULE};
 pub use marks::{TakenNode, next_node};
 pub use node::{Kind, Node};
