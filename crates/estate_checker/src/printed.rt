@@ -1,11 +1,17 @@
 // Reads the case, the owners and the players who are short of goods, as the text of an estate prints them.
-ghost use Rattle.std.specs.Prelude.{◌≡◌, ◌↔◌, ◌≤◌, List, IsTrue, MatchOption, length, map, unsigned_abs};
-ghost use Rattle.estate_checker.specs.Printed.{printed_answer, printed_case, printed_owners};
+ghost use Rattle.std.specs.Prelude.{◌≡◌, ◌↔◌, ℕ, pos, ◌<◌, ◌≤◌, ◌≤ℤ◌, List, [], IsTrue, MatchOption, length, slice_index_or};
+ghost use Rattle.bid_rules.specs.declared.limits.TheConstants.{MOST_MEMBERS};
+ghost use Rattle.cert_reader.specs.declared.limits.TheConstants.{MOST_NUMBERS};
+ghost use Rattle.estate_checker.specs.declared.limits.TheConstants.{MOST_ESTATE_STEPS};
+ghost use Rattle.estate_checker.specs.Printed.{printed_case, printed_owners};
 ghost use Rattle.estate_checker.specs.Rules.{HasCase, HasOwners, HasShort};
-ghost use Rattle.estate_checker.specs.Said.{IsSaid};
-ghost use Rattle.estate_judge.specs.Grounds.{IsGround};
+ghost use Rattle.estate_checker.specs.Said.{IsGroundOf, IsSaid};
+ghost use Rattle.estate_texts.specs.Forms.{rows_numbers};
 ghost use Rattle.estate_texts.specs.Given.{GivenLine};
 ghost use Rattle.estate_texts.specs.Steps.{view_of_text};
+ghost use Rattle.estate_texts.specs.Texts.{short_of};
+ghost use Rattle.rule_verdicts.specs.Ranges.{AreBetween};
+ghost use Rattle.std.specs.Prelude.{map, unsigned_abs};
 
 use crate::limits::MOST_ESTATE_STEPS;
 use arrayvec::ArrayVec;
@@ -15,6 +21,25 @@ use estate_bounds::is_short;
 use estate_judge::Ground;
 use estate_texts::{EstateText, places};
 use rule_verdicts::{members_between, printed_goods};
+
+// The numbers of the line at a place behind the counts.
+fn line_at<'a>(text: &'a EstateText<'_>, at: usize) -> &'a [i128]
+    requires { at < length text.now.body.items }
+    ensures { result.now ≡ slice_index_or (rows_numbers text.now.body.items) at [] }
+{
+    text.body[at].as_slice()
+}
+
+// Whether the first number is a limit of steps.
+fn is_limit(numbers: &[i128]) -> bool
+    requires { length numbers.now ≡ 1 }
+    ensures { IsTrue result
+        ↔ (pos 1 ≤ℤ slice_index_or numbers.now 0 (pos 0))
+        × (slice_index_or numbers.now 0 (pos 0) ≤ℤ pos MOST_ESTATE_STEPS) }
+{
+    let limit = numbers[0];
+    limit >= 1 && limit <= i128::from(MOST_ESTATE_STEPS)
+}
 
 // The printed case, if it is valid and the limit is in range.
 pub(crate) fn case_of(text: &EstateText<'_>) -> Option<GoodsCase>
@@ -26,16 +51,14 @@ pub(crate) fn case_of(text: &EstateText<'_>) -> Option<GoodsCase>
         HasCase (view_of_text text.now given)
         × (case ≡ printed_case (view_of_text text.now given))) }
 {
-    let limit = text.body[places::LIMIT][0];
-    if limit < 1 || limit > i128::from(MOST_ESTATE_STEPS) {
+    if !is_limit(line_at(text, places::LIMIT)) {
         return None;
     }
-    let who = text.body[places::WHO].as_slice();
     let behind = places::VALUES + usize::from(text.players);
     printed_goods(
         text.goods,
         1,
-        who,
+        line_at(text, places::WHO),
         &text.body.as_slice()[places::VALUES..behind],
     )
 }
@@ -51,18 +74,30 @@ pub(crate) fn owners_of(text: &EstateText<'_>) -> Option<ArrayVec<u8, ITEM_ROOM>
         × (owners.items ≡ printed_owners (view_of_text text.now given))) }
 {
     let at = places::VALUES + usize::from(text.players);
-    members_between(text.body[at].as_slice(), 1, text.players)
+    members_between(line_at(text, at), 1, text.players)
 }
 
 // The printed players who are short of goods, if each of them is a player.
 fn short_of(text: &EstateText<'_>) -> Option<ArrayVec<u8, MEMBER_ROOM>>
+    requires { (given : List GivenLine) × IsSaid text.now given }
+    ensures { (given : List GivenLine) → IsSaid text.now given
+        → MatchOption result
+        (AreBetween 1 text.now.players (short_of (view_of_text text.now given)) → ⊥)
+        (λ players.
+        AreBetween 1 text.now.players (short_of (view_of_text text.now given))
+        × (players.items ≡ map unsigned_abs (short_of (view_of_text text.now given)))) }
 {
-    let at = places::VALUES + usize::from(text.players) + 2;
-    members_between(text.body[at].as_slice(), 1, text.players)
+    let at = places::VALUES + usize::from(text.players) + places::BEHIND_VALUES - 1;
+    members_between(line_at(text, at), 1, text.players)
 }
 
 // Whether the printed players who are short of goods show that no more players can have points than in the answer.
 pub(crate) fn has_short(ground: &Ground, text: &EstateText<'_>) -> bool
+    requires { (given : List GivenLine) × IsSaid text.now given
+        × IsGroundOf (view_of_text text.now given) ground.now }
+    ensures { (given : List GivenLine) → IsSaid text.now given
+        → IsGroundOf (view_of_text text.now given) ground.now → IsTrue result
+        ↔ HasShort (view_of_text text.now given) }
 {
     match short_of(text) {
         Some(players) => is_short(

@@ -1,0 +1,4 @@
+pub mod BodyRows
+pub mod BestEstates
+pub mod ReadLines
+pub mod TakenNodes
