@@ -1,23 +1,23 @@
 -- Why an estate's certificate prints the best division.
-use Rattle.std.proofs.Common.{◌≡◌, ℕ, ℤ, pos, ◌+◌, ◌<◌, ◌≤◌, List, [], length, map, take, drop, unsigned_abs, All, arith, refl, sym, ap, subst, ◌∙◌, ◌≤ℤ◌}
-use Rattle.std.proofs.lemmas.List.{length-map, length-take-le, length-drop}
+use Rattle.std.proofs.Common.{◌≡◌, ℕ, ℤ, pos, ◌+◌, ◌-◌, ◌<◌, ◌≤◌, List, [], length, map, take, drop, get_or, unsigned_abs, All, arith, refl, sym, ap, subst, ◌∙◌, ◌≤ℤ◌}
+use Rattle.std.proofs.lemmas.List.{get_or-map, length-drop, length-map, length-take-le}
 use Rattle.bid_rules.specs.declared.goods.GoodsCase.{GoodsCase}
 use Rattle.bid_rules.specs.Goods.{AreOwners, GoodsBest, IsAllocation, IsValidGoodsCase, in_search_order, owners_by_good, player_count, utilities}
 use Rattle.bid_rules.specs.Pairs.{positives}
 use Rattle.estate_bounds.specs.Counts.{IsCountLimit, IsShort}
 use Rattle.estate_checker.specs.Judged.{IsEstateCertificate, PrintsBestEstate}
 use Rattle.estate_checker.specs.Printed.{printed_answer, printed_case, printed_owners}
-use Rattle.estate_checker.specs.Rules.{HasOwners, HasTree}
+use Rattle.estate_checker.specs.Rules.{HasCase, HasOwners, HasShort, HasTree}
 use Rattle.estate_checker.proofs.BodyRows.{owners_all, rows_long}
 use Rattle.estate_judge.specs.declared.node.Node.{Node}
 use Rattle.estate_judge.specs.Leaves.{KeepsRule}
 use Rattle.estate_judge.specs.Nodes.{AreNodes, IsInner}
 use Rattle.estate_texts.specs.Given.{GivenLine}
-use Rattle.estate_texts.specs.Texts.{CanSayEstate, EstateView, owners_of, values_of}
+use Rattle.estate_texts.specs.Texts.{CanSayEstate, EstateView, owners_of, short_of, values_of}
 use Rattle.prefix_trees.specs.Leaves.{AnyLeaf, HasLeaf}
 use Rattle.prefix_trees.specs.Tree.{IsTree}
 use Rattle.prefix_trees.proofs.TreeLeaves.{each_leaf, subtree_any}
-use Rattle.split_lemmas.proofs.PrintedNumbers.{owners_unsigned}
+use Rattle.std.proofs.lemmas.Int.{ints}
 
 -- what is known of trees, of counts and of owners
 pub record EstateLaws : Type 0 where
@@ -35,6 +35,15 @@ players_same view can =
     let long = rows_long view.players view.goods view.body can.body in
     let behind : length (drop 2 view.body) ≡ length view.body - 2 = length-drop 2 view.body in
     length-map (values_of view) _ ∙ length-take-le view.players (drop 2 view.body) (omega (arith, long, behind))
+
+-- owners without a sign
+owners_unsigned : (n : ℕ) (owners : List ℤ) → All (λ owner. (pos 1 ≤ℤ owner) × (owner ≤ℤ pos n)) owners → All (λ owner. (1 ≤ owner) × (owner ≤ n)) (map unsigned_abs owners)
+owners_unsigned n owners h k d l =
+    let count = length-map owners unsigned_abs in
+    let within : k < length owners = omega (arith, count) in
+    let range = h k (pos 0) within in
+    let at : get_or (map unsigned_abs owners) k d ≡ unsigned_abs (get_or owners k (pos 0)) = get_or-map unsigned_abs owners k (pos 0) d within in
+    (omega (arith, ints, range.0, at), omega (arith, ints, range.0, range.1, at))
 
 -- the printed owners, one for each good
 pub owners_long : (view : EstateView) → CanSayEstate view → length (printed_owners view) ≡ view.goods
@@ -70,17 +79,19 @@ best_estate laws bytes h =
     let case = printed_case view in
     let answer = printed_answer view in
     let can = h.is_text.can in
-    let few = (let most = can.players.1 in omega (arith, most)) in
-    let valid = (h.rules 1 (omega arith) (omega arith)).printed.valid in
-    let owned = owners_named view can (h.rules 2 (omega arith) (omega arith)) in
+    let few : view.players ≤ 12 = can.players.1 in
+    let first : HasCase view = h.rules 1 (omega arith) (omega arith) in
+    let valid = first.printed.valid in
+    let second : HasOwners view = h.rules 2 (omega arith) (omega arith) in
+    let owned = owners_named view can second in
     let tree : HasTree view 3 = h.rules 3 (omega arith) (omega arith) in
-    let short = h.rules 5 (omega arith) (omega arith) in
+    let short : HasShort view = h.rules 5 (omega arith) (omega arith) in
     let long = owners_long view can in
     record {
       view = view;
       is_text = h.is_text;
       valid = valid;
-      best = laws.best case answer tree.nodes valid (laws.allocation case (printed_owners view) long owned) (laws.count case (map unsigned_abs _) (positives (utilities case answer)) short.short)
+      best = laws.best case answer tree.nodes valid (laws.allocation case (printed_owners view) long owned) (laws.count case (map unsigned_abs (short_of view)) (positives (utilities case answer)) short.short)
           (subtree_any IsInner (KeepsRule case answer 3) (player_count case) view.goods [] [] [] [] tree.nodes [] tree.tree)
           (λ number owners above node leads.
           keeps_any case answer number owners above node

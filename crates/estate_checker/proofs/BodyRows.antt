@@ -36,7 +36,7 @@ pub who_few : (n g : ℕ) (rows : List (List ℤ)) → AreHeld (body_forms n g) 
 who_few n g rows h = (held_at (body_forms n g) rows 1 (numbers_between word.Limit 1 1) h (omega (arith, body_long n g))).few
 
 -- the lines behind the points
-late_forms : ℕ → ℕ → List NumberForm
+abbrev late_forms : ℕ → ℕ → List NumberForm
 late_forms n g = numbers_between word.Owners g g ∷ numbers_between word.Steps 1 1 ∷ numbers_between word.Short 0 n ∷ []
 
 late_at : (n g i at : ℕ) (rows : List (List ℤ)) (d : NumberForm) → AreHeld (body_forms n g) rows → i < 3 → at ≡ suc (suc (n + i)) → CanHold (get_or (late_forms n g) i d) (get_or rows at [])
