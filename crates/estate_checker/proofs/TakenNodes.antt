@@ -1,6 +1,5 @@
 -- Nodes that were taken from the front of marks and lines, one after another.
 use Rattle.std.proofs.Common.{◌≡◌, ℕ, zero, suc, ◌+◌, ◌<◌, ◌≤◌, List, [], ◌∷◌, ◌++◌, length, map, drop, arith, refl, sym, ap, subst, ◌∙◌}
-use Rattle.split_frac.specs.Texts.{line}
 use Rattle.estate_texts.specs.Given.{GivenLine, given_content}
 use Rattle.estate_texts.specs.Lines.{lines_text}
 use Rattle.estate_texts.proofs.PlainLines.{line_some}
@@ -23,14 +22,15 @@ AreTaken players marks lines (node ∷ nodes) rest more =
 pub taken_more : (players : ℕ) (marks : List ℕ) (lines : List GivenLine) (nodes : List Node) (node : Node) (rest left : List ℕ) (more later : List GivenLine) → AreTaken players marks lines nodes rest more
     → StandsFirst players rest more node left later → AreTaken players marks lines (nodes ++ node ∷ []) left later
 taken_more players marks lines [] node rest left more later (e, f) h =
-    (left, later, subst (λ (ls : List GivenLine). StandsFirst players marks ls node left later) f (subst (λ (ms : List ℕ). StandsFirst players ms more node left later) e h), refl, refl)
+    (left, later, subst (λ (ls : List GivenLine). StandsFirst players marks ls node left later) f (subst (λ (ms : List ℕ). StandsFirst players ms more node left later) e h), (refl, refl))
 taken_more players marks lines (n ∷ nodes) node rest left more later (behind, lines_behind, first, h) next =
     (behind, lines_behind, first, taken_more players behind lines_behind nodes node rest left more later h next)
 
 -- if nothing follows, they are all
-pub taken_all : (players : ℕ) (marks : List ℕ) (lines : List GivenLine) (nodes : List Node) → AreTaken players marks lines nodes [] [] → AreNodes players marks lines nodes
-taken_all players marks lines [] (e, f) = (sym e, sym f)
-taken_all players marks lines (n ∷ nodes) (left, later, first, h) = (left, later, first, taken_all players left later nodes h)
+pub taken_all : (players : ℕ) (marks : List ℕ) (lines : List GivenLine) (nodes : List Node) (rest : List ℕ) (more : List GivenLine) → AreTaken players marks lines nodes rest more → rest ≡ [] → more ≡ []
+    → AreNodes players marks lines nodes
+taken_all players marks lines [] rest more (e, f) none all = (sym e ∙ none, sym f ∙ all)
+taken_all players marks lines (n ∷ nodes) rest more (left, later, first, h) none all = (left, later, first, taken_all players left later nodes rest more h none all)
 
 -- all nodes begin with them, and the others are those of what follows
 pub others_behind : NodesLaw → (players : ℕ) (marks : List ℕ) (lines : List GivenLine) (taken nodes : List Node) (rest : List ℕ) (more : List GivenLine) → players ≤ 12 → AreTaken players marks lines taken rest more
@@ -58,15 +58,25 @@ none_next law players marks lines taken nodes rest more few are some none h =
     no_nodes (o ∷ others) (left, later, first, k) = none o left later first
 
 -- if no mark follows, but some line does, there are none either
-pub none_last : NodesLaw → (players : ℕ) (marks : List ℕ) (lines : List GivenLine) (taken nodes : List Node) (more : List GivenLine) → players ≤ 12 → AreTaken players marks lines taken [] more
-    → 1 ≤ length (lines_text (map given_content more)) → AreNodes players marks lines nodes → ⊥
-none_last law players marks lines taken nodes more few are some h =
-    let behind = others_behind law players marks lines taken nodes [] more few are h in
+pub none_last : NodesLaw → (players : ℕ) (marks : List ℕ) (lines : List GivenLine) (taken nodes : List Node) (rest : List ℕ) (more : List GivenLine) → players ≤ 12 → AreTaken players marks lines taken rest more
+    → rest ≡ [] → 1 ≤ length (lines_text (map given_content more)) → AreNodes players marks lines nodes → ⊥
+none_last law players marks lines taken nodes rest more few are none some h =
+    let behind = others_behind law players marks lines taken nodes rest more few are h in
     no_nodes behind.0 behind.1
   where
-    no_nodes : (others : List Node) → AreNodes players [] more others → ⊥
+    no_nodes : (others : List Node) → AreNodes players rest more others → ⊥
     no_nodes [] (e, f) = let no_line = ap (λ (ls : List GivenLine). length (lines_text (map given_content ls))) f in omega (arith, no_line, some)
-    no_nodes (o ∷ others) (left, later, first, k) = let no_mark = law.some players [] left more later o first in omega (arith, no_mark)
+    no_nodes (o ∷ others) (left, later, first, k) =
+        let mark = law.some players rest left more later o first in
+        let no_mark = ap length none in
+        omega (arith, no_mark, mark)
+
+-- nothing follows the end
+pub no_more : (xs : List ℕ) (k : ℕ) → length xs ≤ k → drop k xs ≡ []
+no_more [] zero low = refl
+no_more [] (suc k) low = refl
+no_more (x ∷ xs) zero low = absurd (omega arith)
+no_more (x ∷ xs) (suc k) low = no_more xs k (omega arith)
 
 -- lines without a byte are none
 pub no_lines : (lines : List GivenLine) → lines_text (map given_content lines) ≡ [] → lines ≡ []

@@ -60,7 +60,11 @@ fn tree_of(ground: &Ground, text: &EstateText<'_>) -> Option<Walk<Node>>
     let Some(walk) = walk_tree(ground, text) else {
         return None;
     };
-    if walk.has_tree(SHAPE_RULE) { Some(walk) } else { None }
+    if walk.has_tree(SHAPE_RULE) {
+        Some(walk)
+    } else {
+        None
+    }
 }
 
 // The verdict of the rules behind the second.

@@ -1,7 +1,5 @@
 // Reads the case, the owners and the players who are short of goods, as the text of an estate prints them.
-ghost use Rattle.std.specs.Prelude.{◌≡◌, ◌↔◌, ℕ, pos, ◌<◌, ◌≤◌, ◌≤ℤ◌, List, [], IsTrue, MatchOption, length, slice_index_or};
-ghost use Rattle.bid_rules.specs.declared.limits.TheConstants.{MOST_MEMBERS};
-ghost use Rattle.cert_reader.specs.declared.limits.TheConstants.{MOST_NUMBERS};
+ghost use Rattle.std.specs.Prelude.{◌≡◌, ◌↔◌, pos, ◌+◌, ◌<◌, ◌≤◌, ◌≤ℤ◌, List, [], IsTrue, MatchOption, drop, length, map, slice_index_or, take, unsigned_abs};
 ghost use Rattle.estate_checker.specs.declared.limits.TheConstants.{MOST_ESTATE_STEPS};
 ghost use Rattle.estate_checker.specs.Printed.{printed_case, printed_owners};
 ghost use Rattle.estate_checker.specs.Rules.{HasCase, HasOwners, HasShort};
@@ -11,7 +9,6 @@ ghost use Rattle.estate_texts.specs.Given.{GivenLine};
 ghost use Rattle.estate_texts.specs.Steps.{view_of_text};
 ghost use Rattle.estate_texts.specs.Texts.{short_of};
 ghost use Rattle.rule_verdicts.specs.Ranges.{AreBetween};
-ghost use Rattle.std.specs.Prelude.{map, unsigned_abs};
 
 use crate::limits::MOST_ESTATE_STEPS;
 use arrayvec::ArrayVec;
@@ -20,7 +17,7 @@ use bid_rules::limits::{ITEM_ROOM, MEMBER_ROOM};
 use estate_bounds::is_short;
 use estate_judge::Ground;
 use estate_texts::{EstateText, places};
-use rule_verdicts::{members_between, printed_goods};
+use rule_verdicts::{PrintedRow, members_between, printed_goods};
 
 // The numbers of the line at a place behind the counts.
 fn line_at<'a>(text: &'a EstateText<'_>, at: usize) -> &'a [i128]
@@ -28,6 +25,15 @@ fn line_at<'a>(text: &'a EstateText<'_>, at: usize) -> &'a [i128]
     ensures { result.now ≡ slice_index_or (rows_numbers text.now.body.items) at [] }
 {
     text.body[at].as_slice()
+}
+
+// The points, by player and good.
+fn values_of<'a>(text: &'a EstateText<'_>) -> &'a [PrintedRow]
+    requires { text.now.players + 2 ≤ length text.now.body.items }
+    ensures { result.now ≡ take text.now.players (drop 2 text.now.body.items) }
+{
+    let behind = places::VALUES + usize::from(text.players);
+    &text.body.as_slice()[places::VALUES..behind]
 }
 
 // Whether the first number is a limit of steps.
@@ -54,13 +60,7 @@ pub(crate) fn case_of(text: &EstateText<'_>) -> Option<GoodsCase>
     if !is_limit(line_at(text, places::LIMIT)) {
         return None;
     }
-    let behind = places::VALUES + usize::from(text.players);
-    printed_goods(
-        text.goods,
-        1,
-        line_at(text, places::WHO),
-        &text.body.as_slice()[places::VALUES..behind],
-    )
+    printed_goods(text.goods, 1, line_at(text, places::WHO), values_of(text))
 }
 
 // The printed owner of each good, if each of them is a player.

@@ -14,8 +14,9 @@ use estate_texts::{Given, given_law, next_given};
 fn are_between(numbers: &[i128], least: u32, most: u32) -> bool
     ensures { IsTrue result ↔ AreBetween least most numbers.now }
 {
-    for number in numbers {
-        if *number < i128::from(least) || *number > i128::from(most) {
+    for k in 0..numbers.len() {
+        let number = numbers[k];
+        if number < i128::from(least) || number > i128::from(most) {
             return false;
         }
     }

@@ -1,0 +1,32 @@
+-- What a walk through the printed tree says of the rules on it.
+use Rattle.std.proofs.Common.{◌≡◌, ◌↔◌, ℕ, ◌<◌, ◌≤◌, List, IsTrue, Bool, arith, sym, subst}
+use Rattle.bid_rules.specs.declared.goods.GoodsCase.{GoodsCase}
+use Rattle.bid_rules.specs.Goods.{player_count}
+use Rattle.estate_checker.specs.Printed.{printed_answer, printed_case}
+use Rattle.estate_checker.specs.Rules.{HasTree, estate_rule}
+use Rattle.estate_checker.specs.Said.{IsGroundOf, KnowsTree}
+use Rattle.estate_judge.specs.declared.ground.Ground.{Ground}
+use Rattle.estate_judge.specs.declared.node.Node.{Node}
+use Rattle.estate_judge.specs.Leaves.{KeepsRule}
+use Rattle.estate_judge.specs.Nodes.{AreNodes, IsInner}
+use Rattle.estate_texts.specs.Given.{GivenLine}
+use Rattle.estate_texts.specs.Texts.{EstateView}
+use Rattle.prefix_trees.specs.declared.walk.Walk.{Walk}
+use Rattle.prefix_trees.specs.Ahead.{has_tree}
+use Rattle.prefix_trees.specs.Tree.{IsTree}
+use Rattle.rule_verdicts.specs.Verdicts.{AreKept}
+
+-- it knows each rule
+pub knows_tree : ((players : ℕ) (marks : List ℕ) (lines : List GivenLine) (nodes others : List Node) → players ≤ 12 → AreNodes players marks lines nodes → AreNodes players marks lines others → nodes ≡ others)
+    → (view : EstateView) (ground : Ground) (walk : Walk Node) (nodes : List Node) → view.players ≤ 12 → IsGroundOf view ground → AreNodes view.players view.marks view.given nodes
+    → ((number : ℕ) → IsTrue (has_tree walk number) ↔ IsTree IsInner (KeepsRule ground.case ground.owners.items number) (player_count ground.case) ground.case.facts.goods nodes)
+    → KnowsTree view walk
+knows_tree once view ground walk nodes few g are test number =
+    let here : IsTrue (has_tree walk number) ↔ IsTree IsInner (KeepsRule (printed_case view) (printed_answer view) number) (player_count (printed_case view)) view.goods nodes =
+    subst (λ (xs : List ℕ). IsTrue (has_tree walk number) ↔ IsTree IsInner (KeepsRule (printed_case view) xs number) (player_count (printed_case view)) view.goods nodes) g.is_answer
+    (subst (λ (case : GoodsCase). IsTrue (has_tree walk number) ↔ IsTree IsInner (KeepsRule case ground.owners.items number) (player_count case) case.facts.goods nodes) g.is_case (test number)) in (
+      (λ yes. record { nodes = nodes; are_nodes = are; tree = here.0 yes }),
+      λ h. here.1
+          (subst (λ (ns : List Node). IsTree IsInner (KeepsRule (printed_case view) (printed_answer view) number) (player_count (printed_case view)) view.goods ns)
+          (once view.players view.marks view.given h.nodes nodes few h.are_nodes are) h.tree),
+    )
