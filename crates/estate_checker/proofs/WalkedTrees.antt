@@ -1,5 +1,5 @@
 -- What a walk through the printed tree says of the rules on it.
-use Rattle.std.proofs.Common.{◌≡◌, ◌↔◌, ℕ, ◌<◌, ◌≤◌, List, IsTrue, Bool, arith, sym, subst}
+use Rattle.std.proofs.Common.{◌≡◌, ◌↔◌, ℕ, zero, suc, ◌<◌, ◌≤◌, List, IsTrue, Bool, arith, sym, subst}
 use Rattle.bid_rules.specs.declared.goods.GoodsCase.{GoodsCase}
 use Rattle.bid_rules.specs.Goods.{player_count}
 use Rattle.estate_checker.specs.Printed.{printed_answer, printed_case}
@@ -30,3 +30,17 @@ knows_tree once view ground walk nodes few g are test number =
           (subst (λ (ns : List Node). IsTree IsInner (KeepsRule (printed_case view) (printed_answer view) number) (player_count (printed_case view)) view.goods ns)
           (once view.players view.marks view.given h.nodes nodes few h.are_nodes are) h.tree),
     )
+
+-- the rules on leaves are the last four
+pub leaf_rules : (view : EstateView) (walk : Walk Node) → KnowsTree view walk → (number : ℕ) → 6 ≤ number → number ≤ 9 → IsTrue (has_tree walk number) ↔ estate_rule view number
+leaf_rules view walk knows zero low high = absurd (omega arith)
+leaf_rules view walk knows (suc zero) low high = absurd (omega arith)
+leaf_rules view walk knows (suc (suc zero)) low high = absurd (omega arith)
+leaf_rules view walk knows (suc (suc (suc zero))) low high = absurd (omega arith)
+leaf_rules view walk knows (suc (suc (suc (suc zero)))) low high = absurd (omega arith)
+leaf_rules view walk knows (suc (suc (suc (suc (suc zero))))) low high = absurd (omega arith)
+leaf_rules view walk knows (suc (suc (suc (suc (suc (suc zero)))))) low high = knows 6
+leaf_rules view walk knows (suc (suc (suc (suc (suc (suc (suc zero))))))) low high = knows 7
+leaf_rules view walk knows (suc (suc (suc (suc (suc (suc (suc (suc zero)))))))) low high = knows 8
+leaf_rules view walk knows (suc (suc (suc (suc (suc (suc (suc (suc (suc zero))))))))) low high = knows 9
+leaf_rules view walk knows (suc (suc (suc (suc (suc (suc (suc (suc (suc (suc number)))))))))) low high = absurd (omega arith)

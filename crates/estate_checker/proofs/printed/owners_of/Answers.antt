@@ -1,4 +1,4 @@
-use Rattle.std.proofs.Common.{◌≡◌, ◌≤◌, ap, arith, length, ◌∙◌}
+use Rattle.std.proofs.Common.{◌≡◌, ◌≤◌, ◌+◌, ap, arith, length, ◌∙◌}
 use Rattle.estate_texts.specs.Forms.{rows_numbers}
 use Rattle.estate_checker.proofs.BodyRows.{owners_all}
 use Rattle.estate_checker.proofs.PrintedParts.{said_long}
@@ -11,7 +11,7 @@ pub members_between-requires : goal.members_between-requires
 members_between-requires c =
     let can = c.requires.1.can in
     let from = c.from-at.ensures in
-    let all = owners_all c.args.text.now.players c.args.text.now.goods _ (rows_numbers c.args.text.now.body.items) can.body (omega (arith, from)) in
+    let all = owners_all c.args.text.now.players c.args.text.now.goods (2 + c.from-at.result) (rows_numbers c.args.text.now.body.items) can.body (omega (arith, from)) in
     let many : length c.line_at.result.now ≡ c.args.text.now.goods = ap length c.line_at.ensures ∙ all in
     let most = can.goods.1 in
     let few : length c.line_at.result.now ≤ 24 = omega (arith, many, most) in
