@@ -1,5 +1,5 @@
 -- What was read of a text is what it prints.
-use Rattle.std.proofs.Common.{◌≡◌, ◌↔◌, ℕ, ℤ, pos, ◌+◌, ◌<◌, ◌≤◌, ◌≤ℤ◌, List, [], IsTrue, MatchOption, None, Some, Bool, length, map, get_or, take, drop, unsigned_abs, arith, sym, ap, ◌∙◌, subst}
+use Rattle.std.proofs.Common.{◌≡◌, ◌↔◌, ℕ, ℤ, pos, ◌+◌, ◌≤ℤ◌, List, IsTrue, MatchOption, None, Some, Bool, length, map, take, drop, unsigned_abs, sym, ap, ◌∙◌, subst}
 use Rattle.std.specs.Prelude.{Option}
 use Rattle.std.proofs.lemmas.List.{drop-map, length-map, take-map}
 use Rattle.bid_rules.specs.declared.goods.GoodsCase.{GoodsCase}

@@ -1,5 +1,5 @@
 -- Nodes that were taken from the front of marks and lines, one after another.
-use Rattle.std.proofs.Common.{◌≡◌, ℕ, zero, suc, ◌+◌, ◌<◌, ◌≤◌, List, [], ◌∷◌, ◌++◌, length, map, drop, arith, refl, sym, ap, subst, ◌∙◌}
+use Rattle.std.proofs.Common.{◌≡◌, ℕ, zero, suc, ◌≤◌, List, [], ◌∷◌, ◌++◌, length, map, drop, arith, refl, sym, ap, subst, ◌∙◌}
 use Rattle.estate_texts.specs.Given.{GivenLine, given_content}
 use Rattle.estate_texts.specs.Lines.{lines_text}
 use Rattle.estate_texts.proofs.PlainLines.{line_some}

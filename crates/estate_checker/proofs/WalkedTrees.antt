@@ -1,9 +1,9 @@
 -- What a walk through the printed tree says of the rules on it.
-use Rattle.std.proofs.Common.{◌≡◌, ◌↔◌, ℕ, zero, suc, ◌<◌, ◌≤◌, List, IsTrue, Bool, arith, sym, subst}
+use Rattle.std.proofs.Common.{◌≡◌, ◌↔◌, ℕ, zero, suc, ◌≤◌, List, IsTrue, arith, subst}
 use Rattle.bid_rules.specs.declared.goods.GoodsCase.{GoodsCase}
 use Rattle.bid_rules.specs.Goods.{player_count}
 use Rattle.estate_checker.specs.Printed.{printed_answer, printed_case}
-use Rattle.estate_checker.specs.Rules.{HasTree, estate_rule}
+use Rattle.estate_checker.specs.Rules.{estate_rule}
 use Rattle.estate_checker.specs.Said.{IsGroundOf, KnowsTree}
 use Rattle.estate_judge.specs.declared.ground.Ground.{Ground}
 use Rattle.estate_judge.specs.declared.node.Node.{Node}
@@ -14,7 +14,6 @@ use Rattle.estate_texts.specs.Texts.{EstateView}
 use Rattle.prefix_trees.specs.declared.walk.Walk.{Walk}
 use Rattle.prefix_trees.specs.Ahead.{has_tree}
 use Rattle.prefix_trees.specs.Tree.{IsTree}
-use Rattle.rule_verdicts.specs.Verdicts.{AreKept}
 
 -- it knows each rule
 pub knows_tree : ((players : ℕ) (marks : List ℕ) (lines : List GivenLine) (nodes others : List Node) → players ≤ 12 → AreNodes players marks lines nodes → AreNodes players marks lines others → nodes ≡ others)

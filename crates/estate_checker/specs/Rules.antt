@@ -1,5 +1,5 @@
 -- The nine rules of an estate's certificate. They show that its owners are the best division.
-use Rattle.std.specs.Prelude.{ℕ, ℤ, pos, ◌≤ℤ◌, List, [], ◌∷◌, All, drop, map, take, unsigned_abs}
+use Rattle.std.specs.Prelude.{ℕ, pos, ◌≤ℤ◌, List, [], ◌∷◌, All, drop, map, take, unsigned_abs}
 use Rattle.bid_rules.specs.Goods.{player_count, utilities}
 use Rattle.bid_rules.specs.Pairs.{positives}
 use Rattle.estate_bounds.specs.Counts.{IsShort}

@@ -1,4 +1,3 @@
-use Rattle.std.proofs.Common.{ap, arith}
 use Rattle.estate_texts.specs.Steps.{view_of_text}
 use Rattle.estate_checker.proofs.WalkedTrees.{knows_tree}
 use Rattle.estate_checker.proofs.judging.tree_of.Goals as goal

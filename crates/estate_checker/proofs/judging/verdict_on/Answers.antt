@@ -1,4 +1,4 @@
-use Rattle.std.proofs.Common.{◌≡◌, ◌≤◌, ℕ, List, All, ap, length, sym, subst, ◌∙◌}
+use Rattle.std.proofs.Common.{ℕ, List, ap, length, sym, subst, ◌∙◌}
 use Rattle.bid_rules.specs.declared.goods.GoodsCase.{GoodsCase}
 use Rattle.bid_rules.specs.Goods.{AreOwners, IsValidGoodsCase}
 use Rattle.estate_checker.specs.Printed.{printed_owners}

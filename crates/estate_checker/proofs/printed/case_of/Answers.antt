@@ -1,4 +1,4 @@
-use Rattle.std.proofs.Common.{◌≡◌, ℤ, pos, List, [], arith, subst, ◌≤ℤ◌, get_or}
+use Rattle.std.proofs.Common.{ℤ, pos, List, arith, subst, ◌≤ℤ◌, get_or}
 use Rattle.estate_texts.specs.Steps.{view_of_text}
 use Rattle.estate_checker.proofs.PrintedParts.{case_read, said_long, values_read}
 use Rattle.estate_checker.proofs.printed.case_of.Goals as goal

@@ -1,10 +1,7 @@
-use Rattle.std.proofs.Common.{◌≡◌, ◌+◌, ◌-◌, ◌<◌, ◌≤◌, ◌++◌, ℕ, List, [], ◌∷◌, All, ap, arith, drop, length, length-drop, map, refl, sym, subst, ◌∙◌}
+use Rattle.std.proofs.Common.{◌≡◌, ◌-◌, ◌++◌, ℕ, List, [], ◌∷◌, ap, arith, drop, length, length-drop, map, refl, sym, ◌∙◌}
 use Rattle.estate_checker.proofs.ReadLines.{all_behind}
 use Rattle.estate_checker.proofs.TakenNodes.{NodesLaw, no_lines, no_more, none_last, none_next, taken_all, taken_more}
-use Rattle.estate_judge.specs.declared.node.Node.{Node}
-use Rattle.estate_judge.specs.Leaves.{KeepsRule}
-use Rattle.estate_judge.specs.Nodes.{IsInner}
-use Rattle.estate_texts.specs.Given.{CanGive, GivenLine, given_content}
+use Rattle.estate_texts.specs.Given.{CanGive, given_content}
 use Rattle.estate_texts.specs.Lines.{lines_text}
 use Rattle.estate_checker.proofs.tree.walk_tree.Goals as goal
 
