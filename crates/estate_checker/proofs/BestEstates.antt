@@ -16,7 +16,6 @@ use Rattle.estate_texts.specs.Given.{GivenLine}
 use Rattle.estate_texts.specs.Texts.{CanSayEstate, EstateView, owners_of, short_of, values_of}
 use Rattle.prefix_trees.specs.Leaves.{AnyLeaf, HasLeaf}
 use Rattle.prefix_trees.specs.Tree.{IsTree}
-use Rattle.prefix_trees.proofs.TreeLeaves.{each_leaf, subtree_any}
 use Rattle.std.proofs.lemmas.Int.{ints}
 
 -- what is known of trees, of counts and of owners
@@ -58,8 +57,7 @@ leaf_keeps : EstateLaws → (view : EstateView) (number : ℕ) → view.players 
     → HasLeaf IsInner (printed_case view) tree.nodes owners above node → KeepsRule (printed_case view) (printed_answer view) number owners above node
 leaf_keeps laws view number few tree h owners above node leads =
     let same : h.nodes ≡ tree.nodes = laws.nodes view.players view.marks view.given h.nodes tree.nodes few h.are_nodes tree.are_nodes in
-    each_leaf IsInner (KeepsRule (printed_case view) (printed_answer view) number) (player_count (printed_case view)) owners view.goods [] [] h.nodes [] above node h.tree
-    (subst (λ (ns : List Node). HasLeaf IsInner (printed_case view) ns owners above node) (sym same) leads)
+    h.leaves owners above node (subst (λ (ns : List Node). HasLeaf IsInner (printed_case view) ns owners above node) (sym same) leads)
 
 -- the rules on leaves are five
 keeps_any : (case : GoodsCase) (answer : List ℕ) (number : ℕ) (owners : List ℕ) (above : List Node) (node : Node) → KeepsRule case answer 3 owners above node → KeepsRule case answer 6 owners above node
@@ -92,7 +90,7 @@ best_estate laws bytes h =
       is_text = h.is_text;
       valid = valid;
       best = laws.best case answer tree.nodes valid (laws.allocation case (printed_owners view) long owned) (laws.count case (map unsigned_abs (short_of view)) (positives (utilities case answer)) short.short)
-          (subtree_any IsInner (KeepsRule case answer 3) (player_count case) view.goods [] [] [] [] tree.nodes [] tree.tree)
+          tree.tree
           (λ number owners above node leads.
           keeps_any case answer number owners above node
           (leaf_keeps laws view 3 few tree tree owners above node leads)

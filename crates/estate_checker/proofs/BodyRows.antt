@@ -1,10 +1,21 @@
 -- The lines of numbers that the text of an estate has behind its counts, and how many numbers each of them has.
-use Rattle.std.proofs.Common.{◌≡◌, ℕ, ℤ, zero, suc, ◌+◌, ◌<◌, ◌≤◌, List, [], ◌∷◌, ◌++◌, length, replicate, get_or, arith, refl, ap, ◌∙◌, subst}
+use Rattle.std.proofs.Common.{◌≡◌, ℕ, ℤ, zero, suc, ◌+◌, ◌<◌, ◌≤◌, List, [], ◌∷◌, ◌++◌, length, replicate, get_or, arith, refl, ap, ◌∙◌, subst, length-append}
 use Rattle.std.proofs.lemmas.List.{get_or-append-add, length-replicate}
 use Rattle.cert_reader.specs.declared.forms.Word.TheVariants as word
 use Rattle.estate_texts.specs.declared.forms.NumberForm.{NumberForm}
 use Rattle.estate_texts.specs.Forms.{AreHeld, CanHold, body_forms, numbers_between}
-use Rattle.estate_texts.proofs.BodyLines.{body_long}
+
+-- the forms of the lines behind the points
+abbrev late_forms : ℕ → ℕ → List NumberForm
+late_forms n g = numbers_between word.Owners g g ∷ numbers_between word.Steps 1 1 ∷ numbers_between word.Short 0 n ∷ []
+
+-- how many lines there are
+body_long : (n g : ℕ) → length (body_forms n g) ≡ n + 5
+body_long n g =
+    let rows : length (replicate n (numbers_between word.Values g g)) ≡ n = length-replicate n (numbers_between word.Values g g) in
+    let sum : length (replicate n (numbers_between word.Values g g) ++ late_forms n g) ≡ length (replicate n (numbers_between word.Values g g)) + 3 =
+    length-append (replicate n (numbers_between word.Values g g)) (late_forms n g) in
+    omega (arith, rows, sum)
 
 -- there is a line for each form, and it can hold its numbers
 held_long : (forms : List NumberForm) (rows : List (List ℤ)) → AreHeld forms rows → length rows ≡ length forms
@@ -19,7 +30,6 @@ held_at (f ∷ forms) [] i d h low = absurd h
 held_at (f ∷ forms) (r ∷ rows) zero d h low = h.0
 held_at (f ∷ forms) (r ∷ rows) (suc i) d h low = held_at forms rows i d h.1 (omega arith)
 
--- how many lines there are
 pub rows_long : (n g : ℕ) (rows : List (List ℤ)) → AreHeld (body_forms n g) rows → length rows ≡ n + 5
 rows_long n g rows h = held_long (body_forms n g) rows h ∙ body_long n g
 
@@ -36,9 +46,6 @@ pub who_few : (n g : ℕ) (rows : List (List ℤ)) → AreHeld (body_forms n g) 
 who_few n g rows h = (held_at (body_forms n g) rows 1 (numbers_between word.Limit 1 1) h (omega (arith, body_long n g))).few
 
 -- the lines behind the points
-abbrev late_forms : ℕ → ℕ → List NumberForm
-late_forms n g = numbers_between word.Owners g g ∷ numbers_between word.Steps 1 1 ∷ numbers_between word.Short 0 n ∷ []
-
 late_at : (n g i at : ℕ) (rows : List (List ℤ)) (d : NumberForm) → AreHeld (body_forms n g) rows → i < 3 → at ≡ suc (suc (n + i)) → CanHold (get_or (late_forms n g) i d) (get_or rows at [])
 late_at n g i at rows d h low is =
     let v = numbers_between word.Values g g in

@@ -1,12 +1,13 @@
 -- What was read of a text is what it prints.
-use Rattle.std.proofs.Common.{◌≡◌, ◌↔◌, ℕ, ℤ, pos, ◌+◌, ◌≤ℤ◌, List, IsTrue, MatchOption, None, Some, Bool, length, map, take, drop, unsigned_abs, sym, ap, ◌∙◌, subst}
-use Rattle.std.specs.Prelude.{Option}
+use Rattle.std.proofs.Common.{◌≡◌, ◌↔◌, ℕ, ℤ, pos, ◌+◌, ◌≤ℤ◌, List, [], ◌∷◌, IsTrue, MatchOption, None, Some, Bool, length, map, take, drop, unsigned_abs, arith, refl, sym, ap, ◌∙◌, subst}
+use Rattle.std.specs.Prelude.{Option, cond, min, nat_lt}
+use Rattle.std.proofs.lemmas.Bool.Decides.{nat_tests}
 use Rattle.std.proofs.lemmas.List.{drop-map, length-map, take-map}
 use Rattle.bid_rules.specs.declared.goods.GoodsCase.{GoodsCase}
 use Rattle.bid_rules.specs.Goods.{utilities}
 use Rattle.bid_rules.specs.Pairs.{positives}
 use Rattle.estate_bounds.specs.Counts.{IsShort}
-use Rattle.estate_bounds.proofs.ShownBounds.{shares_count}
+use Rattle.estate_bounds.specs.Shown.{shares_of}
 use Rattle.estate_checker.specs.Printed.{printed_answer, printed_case}
 use Rattle.estate_checker.specs.Rules.{HasCase, HasShort}
 use Rattle.estate_checker.specs.Said.{IsGroundOf, IsSaid}
@@ -42,6 +43,15 @@ case_read r view who rows who_is rows_is limit h =
     told : (o : Option GoodsCase) → IsCaseOf view (who_of view) (values_of view) o → MatchOption o (HasCase view → ⊥) (λ case. HasCase view × (case ≡ printed_case view))
     told None none = λ has. none has.printed
     told (Some case) some = (record { limit = limit; printed = some.0 }, some.1)
+
+-- a positive number is counted, and 0 is not
+counts_one : (u rest count : ℕ) → rest ≡ count → (us : List ℕ) → length us ≡ rest → length (cond (nat_lt 0 u) (u ∷ us) us) ≡ min u 1 + count
+counts_one u rest count e us long = grind (arith, nat_tests, e, long)
+
+-- there are as many shares as positive utilities
+shares_count : (us : List ℕ) → length (shares_of us) ≡ positives us
+shares_count [] = refl
+shares_count (u ∷ us) = counts_one u (length (shares_of us)) (positives us) (shares_count us) (shares_of us) refl
 
 -- the players who are short of goods
 pub short_read : (view : EstateView) (ground : Ground) (numbers : List ℕ) (count : ℕ) (r : Bool) → IsGroundOf view ground → AreBetween 1 view.players (short_of view) → numbers ≡ map unsigned_abs (short_of view)

@@ -4,7 +4,6 @@ use Rattle.std.proofs.lemmas.List.Elements.{All-head, All-same, All-tail}
 use Rattle.estate_texts.specs.Given.{CanGive, GivenLine, given_content}
 use Rattle.estate_texts.specs.Lines.{lines_text}
 use Rattle.estate_texts.specs.Steps.{BeginsWithGiven}
-use Rattle.estate_judge.proofs.LineSteps.{all_later, no_next}
 
 -- what holds of all lines holds of the later ones
 pub all_behind : (P : GivenLine → Type 0) (xs ys zs : List GivenLine) → zs ≡ xs ++ ys → All P zs → All P ys
@@ -20,4 +19,5 @@ holds_of_last P (x ∷ read) more lines line e h = holds_of_last P read more ((r
 pub all_read : (n : ℕ) (bytes : List ℕ) (read more lines : List GivenLine) → lines ≡ read ++ more → All (CanGive n) lines → bytes ≡ lines_text (map given_content more)
     → ((g : GivenLine) (rest : List ℕ) → BeginsWithGiven n bytes g rest → ⊥) → lines ≡ read
 all_read n bytes read [] lines is can text none = is ∙ append-nil read
-all_read n bytes read (m ∷ more) lines is can text none = absurd (no_next n bytes (m ∷ more) text (omega arith) (all_later n read (m ∷ more) lines is can) none)
+all_read n bytes read (m ∷ more) lines is can text none =
+    absurd (none m (lines_text (map given_content more)) (record { can = All-head (CanGive n) m more (all_behind (CanGive n) read (m ∷ more) lines is can); text = text }))

@@ -1,8 +1,9 @@
 -- Nodes that were taken from the front of marks and lines, one after another.
-use Rattle.std.proofs.Common.{◌≡◌, ℕ, zero, suc, ◌≤◌, List, [], ◌∷◌, ◌++◌, length, map, drop, arith, refl, sym, ap, subst, ◌∙◌}
-use Rattle.estate_texts.specs.Given.{GivenLine, given_content}
+use Rattle.std.proofs.Common.{◌≡◌, ℕ, zero, suc, ◌≤◌, List, [], ◌∷◌, ◌++◌, length, All, map, drop, arith, refl, sym, ap, subst, ◌∙◌}
+use Rattle.std.proofs.lemmas.List.Elements.{All-head, All-nil}
+use Rattle.estate_texts.specs.Given.{CanGive, GivenLine, given_content}
 use Rattle.estate_texts.specs.Lines.{lines_text}
-use Rattle.estate_texts.proofs.PlainLines.{line_some}
+use Rattle.estate_texts.specs.Steps.{BeginsWithGiven}
 use Rattle.estate_judge.specs.declared.node.Node.{Node}
 use Rattle.estate_judge.specs.Nodes.{AreNodes, StandsFirst}
 
@@ -79,6 +80,9 @@ no_more (x ∷ xs) zero low = absurd (omega arith)
 no_more (x ∷ xs) (suc k) low = no_more xs k (omega arith)
 
 -- lines without a byte are none
-pub no_lines : (lines : List GivenLine) → lines_text (map given_content lines) ≡ [] → lines ≡ []
-no_lines [] e = refl
-no_lines (l ∷ lines) e = absurd (line_some (given_content l) (lines_text (map given_content lines)) e)
+pub no_lines : ((players : ℕ) (bytes rest : List ℕ) (given : GivenLine) (others : List GivenLine) → BeginsWithGiven players bytes given rest → All (CanGive players) others
+    → bytes ≡ lines_text (map given_content others) → 1 ≤ length others) → (n : ℕ) (lines : List GivenLine) → All (CanGive n) lines → lines_text (map given_content lines) ≡ [] → lines ≡ []
+no_lines law n [] can e = refl
+no_lines law n (l ∷ lines) can e =
+    let some = law n [] (lines_text (map given_content lines)) l [] (record { can = All-head (CanGive n) l lines can; text = sym e }) (All-nil (CanGive n)) refl in
+    absurd (omega (arith, some))

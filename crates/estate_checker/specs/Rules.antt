@@ -13,6 +13,7 @@ use Rattle.estate_judge.specs.Leaves.{KeepsRule}
 use Rattle.estate_judge.specs.Nodes.{AreNodes, IsInner}
 use Rattle.estate_texts.specs.Given.{GivenLine, Prices, Weights}
 use Rattle.estate_texts.specs.Texts.{EstateView, limit_of, owners_of, short_of, values_of, who_of}
+use Rattle.prefix_trees.specs.Leaves.{AnyLeaf, HasLeaf}
 use Rattle.prefix_trees.specs.Tree.{IsTree}
 use Rattle.rule_verdicts.specs.PrintedGoods.{ArePrintedGoods}
 use Rattle.rule_verdicts.specs.Ranges.{AreBetween}
@@ -31,7 +32,9 @@ HasOwners view = AreBetween 1 view.players (owners_of view)
 pub record HasTree (view : EstateView) (number : ℕ) : Type 0 where
   pub nodes : List Node
   pub are_nodes : AreNodes view.players view.marks view.given nodes
-  pub tree : IsTree IsInner (KeepsRule (printed_case view) (printed_answer view) number) (player_count (printed_case view)) view.goods nodes
+  pub tree : IsTree IsInner AnyLeaf (player_count (printed_case view)) view.goods nodes
+  pub leaves : (owners : List ℕ) (above : List Node) (node : Node) → HasLeaf IsInner (printed_case view) nodes owners above node
+      → KeepsRule (printed_case view) (printed_answer view) number owners above node
 
 -- the numbers of a line are in range: weights from 1 to 65535, rates from 1 to 2^24 - 1, and fees from 0 to 2^24 - 1
 abbrev pub IsInRange : ℕ → GivenLine → Type 0

@@ -16,7 +16,7 @@ use crate::ranges::are_in_range;
 use crate::tree::walk_tree;
 use estate_judge::{CLOSED_RULE, Ground, Node, SHAPE_RULE, TWIN_RULE, nodes_law};
 use estate_texts::{EstateEnd, EstateText, read_estate};
-use prefix_trees::{Walk, walked_law};
+use prefix_trees::{Walk, leaves_law, walked_law};
 use rule_verdicts::Verdict;
 
 /// The rule on the case.
@@ -56,6 +56,7 @@ fn tree_of(ground: &Ground, text: &EstateText<'_>) -> Option<Walk<Node>>
         × KnowsTree (view_of_text text.now given) walk) }
 {
     nodes_law();
+    leaves_law::<Ground>();
     walked_law::<Ground>();
     let Some(walk) = walk_tree(ground, text) else {
         return None;

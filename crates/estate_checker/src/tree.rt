@@ -9,7 +9,7 @@ ghost use Rattle.estate_texts.specs.Given.{GivenLine};
 ghost use Rattle.prefix_trees.specs.Ahead.{IsWalked};
 
 use estate_judge::{Ground, Node, next_node, nodes_law};
-use estate_texts::EstateText;
+use estate_texts::{EstateText, given_law};
 use prefix_trees::{Walk, walked_law};
 
 // The walk through all nodes, if the marks are those of nodes that take all lines.
@@ -24,6 +24,7 @@ pub(crate) fn walk_tree(ground: &Ground, text: &EstateText<'_>) -> Option<Walk<N
         × IsWalked IsInner (KeepsRule ground.now.case ground.now.owners.items)
         ground.now.case nodes walk) }
 {
+    given_law();
     nodes_law();
     walked_law::<Ground>();
     let mut walk = Walk::new();

@@ -55,5 +55,5 @@ returns c given h =
     let (taken, more, so, can, text, walked) = c.nodes.invariant.taken given h in
     let none : drop c.nodes.at c.args.text.now.marks.now ≡ [] = no_more c.args.text.now.marks.now c.nodes.at c.nodes-test.false in
     let past : drop c.nodes.from c.args.text.now.given.now ≡ [] = no_more c.args.text.now.given.now c.nodes.from c.if-from-text.false in
-    let all : more ≡ [] = no_lines more (sym text ∙ past) in
+    let all : more ≡ [] = no_lines c.given_law.ensures.one c.args.text.now.players more can (sym text ∙ past) in
     (taken, taken_all c.args.text.now.players c.args.text.now.marks.now given taken (drop c.nodes.at c.args.text.now.marks.now) more so none all, walked)
