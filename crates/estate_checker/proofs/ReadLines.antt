@@ -1,5 +1,5 @@
 -- Lines of weights and prices that were read, one after another, and what holds of each of them.
-use Rattle.std.proofs.Common.{◌≡◌, ℕ, List, [], ◌∷◌, ◌++◌, map, arith, refl, sym, All, ◌∙◌, append-nil}
+use Rattle.std.proofs.Common.{◌≡◌, ℕ, List, [], ◌∷◌, ◌++◌, map, refl, sym, All, ◌∙◌, append-nil}
 use Rattle.std.proofs.lemmas.List.Elements.{All-head, All-same, All-tail}
 use Rattle.estate_texts.specs.Given.{CanGive, GivenLine, given_content}
 use Rattle.estate_texts.specs.Lines.{lines_text}

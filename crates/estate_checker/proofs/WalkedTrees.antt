@@ -34,11 +34,10 @@ knows_tree once view ground walk nodes few g are tests number =
       λ h.
           let same : h.nodes ≡ nodes = once view.players view.marks view.given h.nodes nodes few h.are_nodes are in
           here.walked.1
-              (here.ruled.1
-              (
-                subst (λ (ns : List Node). IsTree IsInner AnyLeaf (player_count (printed_case view)) view.goods ns) same h.tree,
-                λ owners above node leads. h.leaves owners above node (subst (λ (ns : List Node). HasLeaf IsInner (printed_case view) ns owners above node) (sym same) leads),
-              )),
+          (here.ruled.1 (
+            subst (λ (ns : List Node). IsTree IsInner AnyLeaf (player_count (printed_case view)) view.goods ns) same h.tree,
+            λ owners above node leads. h.leaves owners above node (subst (λ (ns : List Node). HasLeaf IsInner (printed_case view) ns owners above node) (sym same) leads),
+          )),
     )
 
 -- the rules on leaves are the last four
