@@ -2,8 +2,8 @@
 use arrayvec::ArrayVec;
 use bid_rules::GoodsCase;
 use bid_rules::limits::ITEM_ROOM;
-use estate_bounds::Units;
 use estate_bounds::limits::Shares;
+use estate_bounds::{Logs, Units};
 use nash_bounds::LaneTable;
 use prefix_trees::AlikePlayers;
 
@@ -22,4 +22,6 @@ pub struct Ground {
     pub units: Units,
     /// Which players are alike.
     pub alike: AlikePlayers,
+    /// The logarithms of all numbers of points.
+    pub logs: Logs,
 }
