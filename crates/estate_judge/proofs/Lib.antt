@@ -1,6 +1,6 @@
 pub mod ClosedLeaves
 pub mod LineSteps
-pub mod NearestWeights
+pub mod NearestNodes
 pub mod NodeKinds
 pub mod NodeSteps
 pub mod NodesOnce

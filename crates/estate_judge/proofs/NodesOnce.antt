@@ -5,8 +5,9 @@ use Rattle.estate_texts.specs.Given.{GivenLine}
 use Rattle.estate_judge.specs.declared.node.Kind.{Kind}
 use Rattle.estate_judge.specs.declared.node.Kind.TheVariants.{Answer, Closed, Inner, Twin}
 use Rattle.estate_judge.specs.declared.node.Node.{Node}
-use Rattle.estate_judge.specs.Nodes.{AreNodes, StandsFirst, TakesLines, WeightList, kind_marks}
-use Rattle.estate_judge.proofs.LineSteps.{lines_once}
+use Rattle.estate_judge.specs.declared.node.PriceList.{PriceList}
+use Rattle.estate_judge.specs.Nodes.{AreNodes, StandsFirst, TakesLines, TakesPrices, TakesWeights, WeightList, kind_marks}
+use Rattle.estate_judge.proofs.LineSteps.{lines_once, prices_once, weights_once}
 use Rattle.estate_judge.proofs.NodeKinds.{kind_first, kinds_once}
 use Rattle.estate_judge.proofs.Runs.{run_once}
 
@@ -42,8 +43,15 @@ first_once players marks rest left lines more later node other few h k =
     let run = run_once 33 (length h.taken) (length k.taken) (kind_marks node.kind ++ rest) (kind_marks other.kind ++ left) (kind_first node.kind rest) (kind_first other.kind left) (sym h.marks_are ∙ k.marks_are) in
     let taken = fronts_once h.taken k.taken more later run.0 (sym h.lines_are ∙ k.lines_are) in
     let kinds = kinds_once players node.kind other.kind rest left few h.kind k.kind run.1 in
-    let weights : node.weights ≡ other.weights = lines_once h.taken None node.weights other.weights h.weights (subst (λ (ls : List GivenLine). TakesLines None ls other.weights) (sym taken.0) k.weights) in
-    (ap {B = Node} (λ (w : Option WeightList). record { weights = w; kind = node.kind }) weights ∙ ap {B = Node} (λ (kind : Kind). record { weights = other.weights; kind = kind }) kinds.0, kinds.1, taken.1)
+    let weights : node.weights ≡ other.weights =
+    lines_once TakesWeights weights_once h.taken None node.weights other.weights h.weights (subst (λ (ls : List GivenLine). TakesLines TakesWeights None ls other.weights) (sym taken.0) k.weights) in
+    let prices : node.prices ≡ other.prices =
+    lines_once TakesPrices prices_once h.taken None node.prices other.prices h.prices (subst (λ (ls : List GivenLine). TakesLines TakesPrices None ls other.prices) (sym taken.0) k.prices) in
+    let same : node ≡ other =
+    ap {B = Node} (λ (w : Option WeightList). record { weights = w; prices = node.prices; kind = node.kind }) weights
+    ∙ ap {B = Node} (λ (p : Option PriceList). record { weights = other.weights; prices = p; kind = node.kind }) prices
+    ∙ ap {B = Node} (λ (kind : Kind). record { weights = other.weights; prices = other.prices; kind = kind }) kinds.0 in
+    (same, kinds.1, taken.1)
 
 -- one list of nodes comes
 pub nodes_once : (players : ℕ) (marks : List ℕ) (lines : List GivenLine) (nodes others : List Node) → players ≤ 12 → AreNodes players marks lines nodes → AreNodes players marks lines others → nodes ≡ others

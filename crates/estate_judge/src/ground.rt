@@ -8,7 +8,7 @@ use best_laws::players_law;
 use bid_rules::GoodsCase;
 use bid_rules::limits::ITEM_ROOM;
 use estate_bounds::limits::Shares;
-use estate_bounds::{Units, shares_under, unit_of};
+use estate_bounds::{Logs, Units, shares_under, unit_of};
 use nash_bounds::{
     LaneTable, lane_table, owners_by_good_law, owners_in_order, point_table, search_order,
 };
@@ -29,6 +29,8 @@ pub struct Ground {
     pub units: Units,
     /// Which players are alike.
     pub alike: AlikePlayers,
+    /// The logarithms of all numbers of points.
+    pub logs: Logs,
 }
 
 impl Ground {
@@ -58,6 +60,7 @@ impl Ground {
             shares,
             units,
             alike,
+            logs: Logs::new(),
         }
     }
 }

@@ -13,7 +13,7 @@ ghost use Rattle.prefix_trees.specs.Leaves.{AnyLeaf, HasLeaf};
 ghost use Rattle.prefix_trees.specs.Tree.{IsTree};
 
 use crate::ground::Ground;
-use estate_bounds::{units_law, weights_law};
+use estate_bounds::{prices_law, units_law, weights_law};
 use prefix_trees::{closed_law, tree_law};
 
 /// If no allocation gives points to more players than the answer, and each leaf of a tree keeps the five rules on leaves, the answer is the best.
@@ -26,6 +26,7 @@ pub fn estate_tree_law()
         → KeepsRule case answer number owners above node) → GoodsBest case answer }
 {
     closed_law();
+    prices_law();
     units_law();
     weights_law();
     tree_law::<Ground>();

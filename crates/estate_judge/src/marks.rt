@@ -183,6 +183,7 @@ pub fn next_node(
         Some(lines) => Some(TakenNode {
             node: Node {
                 weights: lines.weights,
+                prices: lines.prices,
                 kind: kind.kind,
             },
             next: at + count + kind.len,

@@ -24,4 +24,5 @@ returns-clause-ground c =
       unit = rw c.new-units.ensures.unit c.unit_of.ensures;
       goal = rw c.new-units.ensures.unit (c.new-units.ensures.goal ∙ ap (λ (xs : List ℕ). unit_pair c.args.case c.unit_of.result xs) c.as_slice-6.ensures.value);
       alike = c.of-alike.ensures;
+      logs = c.new.ensures;
     }
