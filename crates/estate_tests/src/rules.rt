@@ -13,7 +13,9 @@ fn text_of(
     weights: &str,
     tree: &str,
 ) -> Result<String, AllocError> {
-    format!(in alloc; "fairsplit 2\nkind goods\nplayers 2\ngoods 2\nlimit {limit}\nwho 1 2\nvalues 700 300\nvalues 400 600\nowners {owners}\nsteps 2\nshort\n{weights}tree {tree}\nend\n")
+    format!(in alloc;
+        "fairsplit 2\nkind goods\nplayers 2\ngoods 2\nlimit {limit}\nwho 1 2\nvalues 700 300\nvalues 400 600\nowners {owners}\nsteps 2\nshort\n{weights}tree {tree}\nend\n"
+    )
 }
 
 // Each heir gets the good they want more, and a tree with weights or without shows that this is the best division.
