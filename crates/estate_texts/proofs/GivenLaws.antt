@@ -1,5 +1,5 @@
 -- Lines of weights and prices have one meaning.
-use Rattle.std.proofs.Common.{◌≡◌, ℕ, ℤ, zero, suc, ◌+◌, ◌<◌, ◌≤◌, List, [], ◌∷◌, ◌++◌, length, map, get_or, arith, refl, sym, ap, ◌∙◌, append_assoc, true, All}
+use Rattle.std.proofs.Common.{◌≡◌, ℕ, ℤ, ◌≤◌, List, [], ◌∷◌, ◌++◌, length, map, get_or, arith, refl, sym, ap, ◌∙◌, append_assoc, true, All}
 use Rattle.std.proofs.lemmas.List.{append_cancel_left}
 use Rattle.std.proofs.lemmas.List.Elements.{All-head, All-tail}
 use Rattle.split_frac.specs.Texts.{line, numbers_text}
@@ -14,12 +14,12 @@ use Rattle.estate_texts.proofs.EstateLines.{given_plain}
 use Rattle.estate_texts.proofs.PlainLines.{NumbersLaw, line_once, line_some, wholes_once, written}
 
 -- the numbers of two equal lines
-numbers_same : NumbersLaw → (w : Word) (xs ys : List ℤ) → AreSmall xs → AreSmall ys → numbers_content w xs ≡ numbers_content w ys → xs ≡ ys
+pub numbers_same : NumbersLaw → (w : Word) (xs ys : List ℤ) → AreSmall xs → AreSmall ys → numbers_content w xs ≡ numbers_content w ys → xs ≡ ys
 numbers_same law w xs ys a b e =
     wholes_once xs ys (law.once true (wholes xs) (wholes ys) (written xs a) (written ys b) (append_cancel_left (word_text w) (numbers_text (wholes xs)) (numbers_text (wholes ys)) e))
 
 -- equal lines say the same
-content_once : NumbersLaw → (n : ℕ) (g h : GivenLine) → CanGive n g → CanGive n h → given_content g ≡ given_content h → g ≡ h
+pub content_once : NumbersLaw → (n : ℕ) (g h : GivenLine) → CanGive n g → CanGive n h → given_content g ≡ given_content h → g ≡ h
 content_once law n (Weights xs) (Weights ys) a b e = ap Weights (numbers_same law word.Weights xs ys a.1 b.1 e)
 content_once law n (Prices xs) (Prices ys) a b e = ap Prices (numbers_same law word.Prices xs ys a.1 b.1 e)
 content_once law n (Weights xs) (Prices ys) a b e = let first : ◌≡◌ {A = ℕ} 119 112 = ap (λ zs. get_or zs 0 0) e in absurd (omega arith)

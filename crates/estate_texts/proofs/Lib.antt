@@ -7,5 +7,6 @@ pub mod GivenLines
 pub mod LateLines
 pub mod LineCuts
 pub mod NextLines
+pub mod OneView
 pub mod PlainLines
 pub mod Refusals

@@ -101,7 +101,7 @@ behind_body (f ∷ forms) (y ∷ ys) [] tail more h long e = absurd (omega arith
 behind_body (f ∷ forms) (y ∷ ys) (x ∷ xs) tail more h long e = behind_body forms ys xs tail more h.1 (omega arith) (ap (drop 1) e)
 
 -- a line of weights or prices isn't that of a tree
-given_apart : (g : GivenLine) (ms : List ℕ) → given_content g ≡ marks_content ms → ⊥
+pub given_apart : (g : GivenLine) (ms : List ℕ) → given_content g ≡ marks_content ms → ⊥
 given_apart (Weights ws) ms e = let first : ◌≡◌ {A = ℕ} 119 116 = ap (λ xs. get_or xs 0 0) e in omega arith
 given_apart (Prices ws) ms e = let first : ◌≡◌ {A = ℕ} 112 116 = ap (λ xs. get_or xs 0 0) e in omega arith
 

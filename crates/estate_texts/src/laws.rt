@@ -1,8 +1,9 @@
-// A law about the lines of weights and prices in the text of an estate.
+// Laws about the text of an estate, and about its lines of weights and prices.
 ghost use Rattle.std.specs.Prelude.{◌≡◌, ◌≤◌, ℕ, List, [], ◌∷◌, ◌++◌, All, length, map};
 ghost use Rattle.estate_texts.specs.Given.{CanGive, GivenLine, given_content};
 ghost use Rattle.estate_texts.specs.Lines.{lines_text};
 ghost use Rattle.estate_texts.specs.Steps.{BeginsWithAllGiven, BeginsWithGiven};
+ghost use Rattle.estate_texts.specs.Texts.{EstateView, IsEstateText};
 
 use cert_reader::numbers_law;
 
@@ -21,6 +22,14 @@ pub fn given_law()
         (others : List GivenLine) → BeginsWithGiven players bytes given rest
         → All (CanGive players) others → bytes ≡ lines_text (map given_content others)
         → 1 ≤ length others }
+{
+    numbers_law();
+}
+
+/// Bytes are the text of at most one estate.
+pub fn estate_text_law()
+    ensures { (bytes : List ℕ) (view other : EstateView) → IsEstateText bytes view
+        → IsEstateText bytes other → view ≡ other }
 {
     numbers_law();
 }

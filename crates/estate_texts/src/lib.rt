@@ -18,7 +18,7 @@ mod tree;
 pub use ends::EstateEnd;
 pub use forms::{NumberForm, places};
 pub use given::{Given, TakenGiven, next_given};
-pub use laws::given_law;
+pub use laws::{estate_text_law, given_law};
 pub use line::{Taken, next_row};
 pub use read::read_estate;
 pub use text::{BODY_ROOM, EstateText, Row};
