@@ -42,7 +42,9 @@ extern "C" {
 
 enum {
     FAIR_LINE_ROOM = 1024,
-    FAIR_CERTIFICATE_ROOM = 4000000
+    FAIR_CERTIFICATE_ROOM = 4000000,
+    FAIR_ESTATE_WORK = 16000000, /* memory for the search of an estate: with less, fewer prefixes are remembered, and long certificates have no room */
+    FAIR_ESTATE_STEPS = 1000000  /* the greatest limit of such a search */
 };
 
 /* The statuses that a function may answer. Every text but that of FAIR_DONE is one line, and says why. */
@@ -50,7 +52,8 @@ enum {
     FAIR_DONE = 0,     /* the text is the answer; of a judge it is "yes" */
     FAIR_NO = 1,       /* "no RULE", "void: MEMBER ...", "step limit LIMIT" or "not two" */
     FAIR_REFUSED = 3,  /* "refused: ...": the bytes are no such input */
-    FAIR_NO_MEMORY = 9 /* "no memory"; no judge answers it */
+    FAIR_NO_MEMORY = 9, /* "no memory"; no judge answers it */
+    FAIR_GOES_ON = 10  /* of fair_estate: the steps were made, and the search isn't over */
 };
 
 /* The version of the library: 10000 for each first number, 100 for each second and 1 for each third, as in FAIR_VERSION_NUMBER. */
@@ -120,6 +123,25 @@ uint8_t fair_fares_route(uint32_t places, uint32_t flag, const uint32_t *legs, s
                          size_t stops, uint8_t *route, size_t route_places, int64_t *numerators, size_t numerator_places, uint64_t *denominators,
                          size_t denominator_places, int64_t *pays, size_t payers, uint8_t *text, size_t room, size_t *size) FAIR_CALL(19);
 
+/* Estates: goods of so many members, or so many goods, that fair_goods doesn't answer. The certificate is of another kind ("fairsplit 2"): fair_estate_check judges
+ * it, and fair_check refuses it.
+ *
+ * A search takes at most limit steps, 1 to FAIR_ESTATE_STEPS, and goes in slices of so many steps, so that you can show how far it is, or end it. Set *reached to 0 and
+ * call; while FAIR_GOES_ON comes back, call again with the same numbers, and with work, *reached and text as they were left. *reached is how many steps were made.
+ * With steps UINT32_MAX one call does all. The same numbers give the same certificate, however it is sliced.
+ *
+ *   work, bytes    memory of yours, FAIR_ESTATE_WORK bytes, in which the search keeps what it knows; it needs nothing of what stands there before
+ *   owners         by good the player who gets it, as in fair_goods_owners: the best division, or the best that was found so far
+ *
+ * With FAIR_DONE the judge has said yes to the certificate, and the owners are those of the best division. FAIR_NO comes with "step limit LIMIT", or with "no room" if the
+ * certificate has no room in text or in work; the owners are the best that were found. (A third line, "not shown", would say that the judge refused what the search
+ * made.) FAIR_REFUSED comes with "refused: field FIELD", and leaves owners and *reached as they were. */
+uint8_t fair_estate(uint32_t goods, uint32_t limit, uint32_t steps, const uint8_t *who, size_t players, const uint32_t *values, size_t count,
+                    uint8_t *work, size_t bytes, uint8_t *owners, size_t places, uint32_t *reached, uint8_t *text, size_t room, size_t *size) FAIR_CALL(15);
+
+/* Judges the certificate of an estate. Only FAIR_DONE shows that it prints a valid case and its best division. */
+uint8_t fair_estate_check(const uint8_t *bytes, size_t count, uint8_t *text, size_t room, size_t *size) FAIR_CALL(5);
+
 /* A pointer may be NULL if its count is 0, as that of an empty vector may be: these macros give the functions another one in its place. The functions
  * themselves are called without them by (fair_check)(...), or if FAIR_NO_MACROS is defined. */
 #if !defined(FAIR_NO_MACROS)
@@ -174,6 +196,10 @@ FAIR_INLINE uint64_t *fair_part_places(uint64_t *at) {
     denominator_places, pays, payers, text, room, size) (fair_fares_route)(places, flag, fair_words(legs), count, fair_bytes(who), riders, \
     fair_bytes(at), stops, fair_byte_places(route), route_places, fair_amount_places(numerators), numerator_places, \
     fair_part_places(denominators), denominator_places, fair_amount_places(pays), payers, fair_byte_places(text), room, size)
+#define fair_estate(goods, limit, steps, who, players, values, count, work, bytes, owners, places, reached, text, room, size) (fair_estate)(goods, limit, \
+    steps, fair_bytes(who), players, fair_words(values), count, fair_byte_places(work), bytes, fair_byte_places(owners), places, reached, \
+    fair_byte_places(text), room, size)
+#define fair_estate_check(bytes, count, text, room, size) (fair_estate_check)(fair_bytes(bytes), count, fair_byte_places(text), room, size)
 #endif
 
 #ifdef __cplusplus

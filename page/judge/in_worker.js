@@ -2,14 +2,15 @@
 //
 //     const worker = startWorker();
 //     await worker.goods(100000, [1, 2], [[600, 400], [500, 500]], { signal: AbortSignal.timeout(1000) });
+//     await worker.estate(20000, who, values, { signal, progress: ({ steps, owners }) => ... });
 //     worker.end();
 //
 // One call runs at a time, and the others wait. If a signal aborts the call that runs, its worker is ended, and the next call gets a new one.
 
-const NAMES = /** @type {const} */ (['check', 'checkWinner', 'rent', 'rentCents', 'goods', 'fares', 'faresCents', 'rentRooms', 'goodsOwners', 'faresRoute']);
+const NAMES = /** @type {const} */ (['check', 'checkWinner', 'rent', 'rentCents', 'goods', 'fares', 'faresCents', 'rentRooms', 'goodsOwners', 'faresRoute', 'estate', 'checkEstate']);
 
 /**
- * A call takes what the function of that name takes, and then perhaps a signal.
+ * A call takes what the function of that name takes, and then perhaps a signal and, of `estate`, what is called with its progress.
  * @typedef {(...words: any[]) => Promise<any>} Call
  */
 
@@ -29,12 +30,16 @@ async function newWorker() {
  * Asks a worker once.
  * @param {any} worker
  * @param {object} asked
- * @param {AbortSignal | undefined} signal
+ * @param {{ signal?: AbortSignal, progress?: (progress: any) => void }} options
  */
-function answerOf(worker, asked, signal) {
+function answerOf(worker, asked, { signal, progress }) {
   return new Promise((done, fail) => {
     signal?.addEventListener('abort', () => fail(signal.reason), { once: true });
-    worker.onmessage = (/** @type {MessageEvent} */ { data }) => ('error' in data ? fail(data.error) : done(data.value));
+    worker.onmessage = (/** @type {MessageEvent} */ { data }) => {
+      if ('progress' in data) progress?.(data.progress);
+      else if ('error' in data) fail(data.error);
+      else done(data.value);
+    };
     worker.onerror = (/** @type {any} */ event) => fail(event.error ?? event);
     worker.postMessage(asked);
   });
@@ -53,11 +58,12 @@ export function startWorker(folder) {
     worker?.terminate();
     worker = undefined;
   };
-  const call = async (/** @type {string} */ name, /** @type {any[]} */ words, /** @type {AbortSignal | undefined} */ signal) => {
+  const call = async (/** @type {string} */ name, /** @type {any[]} */ words, /** @type {{ signal?: AbortSignal, progress?: (progress: any) => void }} */ options) => {
+    const { signal } = options;
     signal?.throwIfAborted();
     worker ??= await newWorker();
     try {
-      return await answerOf(worker, { name, words, folder: folder && String(folder) }, signal);
+      return await answerOf(worker, { name, words, folder: folder && String(folder) }, options);
     } catch (error) {
       if (signal?.aborted) end();
       throw error;
@@ -65,8 +71,8 @@ export function startWorker(folder) {
   };
   const calls = NAMES.map((name) => [name, (/** @type {any[]} */ ...words) => {
     const last = words[words.length - 1];
-    const signal = last && typeof last === 'object' && 'signal' in last ? words.pop().signal : undefined;
-    const answer = before.then(() => call(name, words, signal));
+    const options = last && typeof last === 'object' && ('signal' in last || 'progress' in last) ? words.pop() : {};
+    const answer = before.then(() => call(name, words, options));
     before = answer.then(() => {}, () => {});
     return answer;
   }]);

@@ -4,6 +4,7 @@
 //     const solver = await loadSolver();
 //     const { text } = await solver.rent(900, [[600, 300], [500, 400]]);
 //     const { division } = await read(await loadJudge(), text, { members: ['Ann', 'Ben'] });
+import { loadEstates as estatesFrom } from './estates.js';
 import { loadJudge as judgeFrom } from './judge.js';
 import { loadSolver as solverFrom } from './solver.js';
 
@@ -51,4 +52,12 @@ export function loadJudge(folder = HERE) {
  */
 export function loadSolver(folder = HERE) {
   return solverFrom(filesAt(folder));
+}
+
+/**
+ * The solver of estates and its judge, from such a folder.
+ * @param {string | URL} [folder]
+ */
+export function loadEstates(folder = HERE) {
+  return estatesFrom(filesAt(folder));
 }

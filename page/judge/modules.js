@@ -50,9 +50,48 @@ function aligned(address) {
 }
 
 /**
+ * An instance of a module with lists laid out in its memory, so that its functions can be called on them: lists that are read, lists that are filled, so many bytes of
+ * memory that is lent, whether a number is counted up, and a buffer with this room for a text. Memory from the heap's base on is the caller's, because no module
+ * has an allocator.
+ * @param {WebAssembly.Module} module
+ * @param {{ lists: (Uint8Array | Uint32Array)[], lent?: number, filled?: (Uint8Array | BigInt64Array | BigUint64Array)[], counts?: boolean, room: number }} layout
+ */
+export async function laidOut(module, { lists, lent = 0, filled = [], counts = false, room }) {
+  const exports = /** @type {any} */ ((await WebAssembly.instantiate(module, {})).exports);
+  const sizeAt = aligned(Number(exports.__heap_base.value));
+  const countAt = sizeAt + APART;
+  const textAt = countAt + APART;
+  /** @type {bigint[]} */
+  const words = [];
+  let end = aligned(textAt + room);
+  const put = (/** @type {number} */ length, /** @type {number} */ bytes) => {
+    const at = end;
+    words.push(BigInt(at), BigInt(length));
+    end = aligned(at + bytes);
+    reserve(exports.memory, end);
+    return at;
+  };
+  const bytesAt = (/** @type {number} */ at, /** @type {number} */ length) => new Uint8Array(exports.memory.buffer, at, length);
+  for (const list of lists) {
+    const at = put(list.length, list.byteLength);
+    bytesAt(at, list.byteLength).set(new Uint8Array(list.buffer, list.byteOffset, list.byteLength));
+  }
+  if (lent > 0) put(lent, lent);
+  const places = filled.map((list) => put(list.length, list.byteLength));
+  if (counts) words.push(BigInt(countAt));
+  return (/** @type {string} */ name, /** @type {number[]} */ numbers) => {
+    const status = exports[name](...numbers, ...words, BigInt(textAt), BigInt(room), BigInt(sizeAt));
+    filled.forEach((list, place) => new Uint8Array(list.buffer).set(bytesAt(places[place], list.byteLength)));
+    const cells = new DataView(exports.memory.buffer);
+    const size = Number(cells.getBigUint64(sizeAt, true));
+    const text = new TextDecoder().decode(bytesAt(textAt, Math.min(size, room)));
+    return { status, text, size, count: cells.getUint32(countAt, true) };
+  };
+}
+
+/**
  * Calls a function of a module in an instance of its own, so that nothing of one call can reach another: with these numbers, these lists, lists
- * that it fills, and a buffer with this room. Memory from the heap's base on is the caller's, because no module has an allocator. The answer has
- * the status, the text, and how many amounts or bytes the function says that there are.
+ * that it fills, and a buffer with this room. The answer has the status, the text, and how many amounts or bytes the function says that there are.
  * @param {WebAssembly.Module} module
  * @param {string} name
  * @param {number[]} numbers
@@ -61,25 +100,7 @@ function aligned(address) {
  * @param {(Uint8Array | BigInt64Array | BigUint64Array)[]} [filled]
  */
 export async function called(module, name, numbers, lists, room, filled = []) {
-  const exports = /** @type {any} */ ((await WebAssembly.instantiate(module, {})).exports);
-  const sizeAt = aligned(Number(exports.__heap_base.value));
-  const textAt = sizeAt + APART;
-  /** @type {(number | bigint)[]} */
-  const words = [...numbers];
-  /** @type {number[]} */
-  const places = [];
-  let end = aligned(textAt + room);
-  for (const list of [...lists, ...filled]) {
-    words.push(BigInt(end), BigInt(list.length));
-    places.push(end);
-    reserve(exports.memory, end + list.byteLength);
-    new Uint8Array(exports.memory.buffer, end).set(new Uint8Array(list.buffer, list.byteOffset, list.byteLength));
-    end = aligned(end + list.byteLength);
-  }
-  reserve(exports.memory, end);
-  const status = exports[name](...words, BigInt(textAt), BigInt(room), BigInt(sizeAt));
-  filled.forEach((list, place) => new Uint8Array(list.buffer).set(new Uint8Array(exports.memory.buffer, places[lists.length + place], list.byteLength)));
-  const size = Number(new DataView(exports.memory.buffer).getBigUint64(sizeAt, true));
-  const text = new TextDecoder().decode(new Uint8Array(exports.memory.buffer, textAt, Math.min(size, room)));
+  const call = await laidOut(module, { lists, filled, room });
+  const { status, text, size } = call(name, numbers);
   return { status, text, size };
 }

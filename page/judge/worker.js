@@ -1,8 +1,26 @@
 // What runs in the worker of in_worker.js: it calls a function of the judges or the solvers for each message, and answers with what that gives.
-import { loadJudge, loadSolver } from './index.js';
+import { loadEstates, loadJudge, loadSolver } from './index.js';
 
 /** @type {Promise<any[]> | undefined} */
 let loaded;
+/** @type {Promise<any> | undefined} */
+let estates;
+
+/**
+ * The judges and solvers by the names of their functions. Those of estates are loaded when one of them is called first.
+ * @param {string} name
+ * @param {string} [folder]
+ */
+async function functionOf(name, folder) {
+  if (name === 'estate' || name === 'checkEstate') {
+    estates ??= loadEstates(folder);
+    const { check, divide } = await estates;
+    return name === 'estate' ? divide : check;
+  }
+  loaded ??= Promise.all([loadJudge(folder), loadSolver(folder)]);
+  const [judge, solver] = await loaded;
+  return judge[name] ?? solver[name];
+}
 
 /**
  * The answer to a message: what a function gives, or the error that it ends with.
@@ -10,9 +28,9 @@ let loaded;
  */
 async function answered({ name, words, folder }) {
   try {
-    loaded ??= Promise.all([loadJudge(folder), loadSolver(folder)]);
-    const [judge, solver] = await loaded;
-    return { value: await (judge[name] ?? solver[name])(...words) };
+    const progress = (/** @type {object} */ reached) => port.postMessage({ progress: reached });
+    const given = name === 'estate' ? [...words.slice(0, 3), { progress }] : words;
+    return { value: await (await functionOf(name, folder))(...given) };
   } catch (error) {
     return { error };
   }

@@ -5,7 +5,7 @@ use Rattle.bid_rules.specs.declared.goods.GoodsCase.{GoodsCase}
 use Rattle.bid_rules.specs.Goods.{AreOwners, GoodsBest, IsAllocation, IsValidGoodsCase, in_search_order, owners_by_good, player_count, utilities}
 use Rattle.bid_rules.specs.Pairs.{positives}
 use Rattle.estate_bounds.specs.Counts.{IsCountLimit, IsShort}
-use Rattle.estate_checker.specs.Judged.{IsEstateCertificate, PrintsBestEstate}
+use Rattle.estate_checker.specs.Judged.{AllRulesHold, IsEstateCertificate, PrintsBestEstate}
 use Rattle.estate_checker.specs.Printed.{printed_answer, printed_case, printed_owners}
 use Rattle.estate_checker.specs.Rules.{HasCase, HasOwners, HasShort, HasTree}
 use Rattle.estate_checker.proofs.BodyRows.{owners_all, rows_long}
@@ -71,32 +71,32 @@ keeps_any case answer number owners above node shape closed whole own twin = rec
   twin = λ e. twin.twin refl;
 }
 
-pub best_estate : EstateLaws → (bytes : List ℕ) → IsEstateCertificate bytes → PrintsBestEstate bytes
-best_estate laws bytes h =
-    let view = h.view in
+-- the rules that hold of what a text says show that its division is the best one
+pub best_view : EstateLaws → (view : EstateView) → CanSayEstate view → AllRulesHold view
+    → IsValidGoodsCase (printed_case view) × GoodsBest (printed_case view) (printed_answer view) × (owners_by_good (printed_case view) (printed_answer view) ≡ printed_owners view)
+best_view laws view can rules =
     let case = printed_case view in
     let answer = printed_answer view in
-    let can = h.is_text.can in
     let few : view.players ≤ 12 = can.players.1 in
-    let first : HasCase view = h.rules 1 (omega arith) (omega arith) in
+    let first : HasCase view = rules 1 (omega arith) (omega arith) in
     let valid = first.printed.valid in
-    let second : HasOwners view = h.rules 2 (omega arith) (omega arith) in
+    let second : HasOwners view = rules 2 (omega arith) (omega arith) in
     let owned = owners_named view can second in
-    let tree : HasTree view 3 = h.rules 3 (omega arith) (omega arith) in
-    let short : HasShort view = h.rules 5 (omega arith) (omega arith) in
+    let tree : HasTree view 3 = rules 3 (omega arith) (omega arith) in
+    let short : HasShort view = rules 5 (omega arith) (omega arith) in
     let long = owners_long view can in
-    record {
-      view = view;
-      is_text = h.is_text;
-      valid = valid;
-      best = laws.best case answer tree.nodes valid (laws.allocation case (printed_owners view) long owned) (laws.count case (map unsigned_abs (short_of view)) (positives (utilities case answer)) short.short)
-          tree.tree
-          (λ number owners above node leads.
-          keeps_any case answer number owners above node
-          (leaf_keeps laws view 3 few tree tree owners above node leads)
-          (leaf_keeps laws view 6 few tree (h.rules 6 (omega arith) (omega arith)) owners above node leads)
-          (leaf_keeps laws view 7 few tree (h.rules 7 (omega arith) (omega arith)) owners above node leads)
-          (leaf_keeps laws view 8 few tree (h.rules 8 (omega arith) (omega arith)) owners above node leads)
-          (leaf_keeps laws view 9 few tree (h.rules 9 (omega arith) (omega arith)) owners above node leads));
-      owners = laws.again case (printed_owners view) long;
-    }
+    let best = laws.best case answer tree.nodes valid (laws.allocation case (printed_owners view) long owned) (laws.count case (map unsigned_abs (short_of view)) (positives (utilities case answer)) short.short)
+    tree.tree
+    (λ number owners above node leads.
+    keeps_any case answer number owners above node
+    (leaf_keeps laws view 3 few tree tree owners above node leads)
+    (leaf_keeps laws view 6 few tree (rules 6 (omega arith) (omega arith)) owners above node leads)
+    (leaf_keeps laws view 7 few tree (rules 7 (omega arith) (omega arith)) owners above node leads)
+    (leaf_keeps laws view 8 few tree (rules 8 (omega arith) (omega arith)) owners above node leads)
+    (leaf_keeps laws view 9 few tree (rules 9 (omega arith) (omega arith)) owners above node leads)) in
+    (valid, best, laws.again case (printed_owners view) long)
+
+pub best_estate : EstateLaws → (bytes : List ℕ) → IsEstateCertificate bytes → PrintsBestEstate bytes
+best_estate laws bytes h =
+    let best = best_view laws h.view h.is_text.can h.rules in
+    record { view = h.view; is_text = h.is_text; valid = best.0; best = best.1; owners = best.2 }

@@ -2,5 +2,6 @@ pub mod BestEstates
 pub mod BodyRows
 pub mod PrintedParts
 pub mod ReadLines
+pub mod SomeValues
 pub mod TakenNodes
 pub mod WalkedTrees

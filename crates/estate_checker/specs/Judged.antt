@@ -8,12 +8,16 @@ use Rattle.estate_texts.specs.Texts.{EstateView, IsEstateText}
 use Rattle.rule_verdicts.specs.declared.verdict.Verdict.{Verdict}
 use Rattle.rule_verdicts.specs.Verdicts.{IsVerdictOf}
 
+-- all nine rules hold
+abbrev pub AllRulesHold : EstateView → Type 0
+AllRulesHold view = (number : ℕ) → 1 ≤ number → number ≤ 9 → estate_rule view number
+
 -- the bytes are the text of an estate, no longer than a text may be, and all nine rules hold
 pub record IsEstateCertificate (bytes : List ℕ) : Type 0 where
   pub view : EstateView
   pub is_text : IsEstateText bytes view
   pub short : length bytes ≤ MOST_BYTES
-  pub rules : (number : ℕ) → 1 ≤ number → number ≤ 9 → estate_rule view number
+  pub rules : AllRulesHold view
 
 -- the bytes are the text of an estate, no longer than a text may be, and this is the verdict of the nine rules: yes if all hold, otherwise no with the first that
 -- does not

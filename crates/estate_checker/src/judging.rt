@@ -89,8 +89,8 @@ fn tree_verdict(ground: &Ground, text: &EstateText<'_>) -> Verdict
     leaves_verdict(&walk)
 }
 
-// The verdict of the nine rules.
-fn verdict_on(text: &EstateText<'_>) -> Verdict
+/// The verdict of the nine rules.
+pub(crate) fn verdict_on(text: &EstateText<'_>) -> Verdict
     requires { (given : List GivenLine) × IsSaid text.now given }
     ensures { (given : List GivenLine) → IsSaid text.now given
         → IsVerdictOf (rules_of_estate (view_of_text text.now given)) result }

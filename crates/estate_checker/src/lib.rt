@@ -4,6 +4,7 @@
 //! It takes no allocator. The search that wrote the text need not be trusted.
 #![tactic(auto)]
 
+mod best;
 mod judging;
 mod laws;
 pub mod limits;
@@ -11,5 +12,6 @@ mod printed;
 mod ranges;
 mod tree;
 
+pub use best::{PrintedBest, printed_best};
 pub use judging::judge_estate;
 pub use laws::estate_certificate_law;

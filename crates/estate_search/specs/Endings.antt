@@ -5,7 +5,7 @@ use Rattle.bid_rules.specs.declared.goods.GoodsCase.{GoodsCase}
 use Rattle.bid_rules.specs.declared.limits.TheConstants.{MOST_MEMBERS}
 use Rattle.bid_rules.specs.Goods.{IsAllocation, owners_by_good}
 use Rattle.estate_search.specs.declared.ending.Ending.{Ending}
-use Rattle.estate_search.specs.declared.ending.Ending.TheVariants.{Best, NoMemory, OverLimit, TooLong}
+use Rattle.estate_search.specs.declared.ending.Ending.TheVariants.{Best, OverLimit, TooLong}
 
 -- the case as the text of an estate prints it: it says neither how many members there are nor how many steps the specified search may take
 abbrev pub estate_of : GoodsCase → GoodsCase
@@ -20,4 +20,3 @@ abbrev pub EndsSearch : GoodsCase → Ending → Type 0
 EndsSearch case (Best found) = IsDivision case found.owners.items
 EndsSearch case (OverLimit owners) = IsDivision case owners.items
 EndsSearch case (TooLong owners) = IsDivision case owners.items
-EndsSearch case NoMemory = Unit {0}

@@ -1,43 +1,63 @@
-// Bytes of a certificate, put together piece by piece.
+// Bytes that are put one after another into memory that the caller lends.
+use crate::stops::Stop;
 use itoa::Buffer;
-use split_base::NoMemory;
 
-/// Puts the bytes at the end.
-pub(crate) fn put(text: &mut Vec<u8>, bytes: &[u8]) -> Result<(), NoMemory> {
-    if text.extend_from_slice(bytes).is_ok() {
+/// Bytes in lent memory, from its front on.
+#[derive(Drop)]
+pub(crate) struct Bytes<'a> {
+    room: &'a mut [u8],
+    len: usize,
+}
+
+impl<'a> Bytes<'a> {
+    /// No bytes yet.
+    pub(crate) fn new(room: &'a mut [u8]) -> Bytes<'a> {
+        Bytes { room, len: 0 }
+    }
+
+    /// How many bytes there are.
+    pub(crate) fn len(&self) -> usize {
+        self.len
+    }
+
+    /// Begins with so many of the bytes that stand in the memory already.
+    pub(crate) fn set_len(&mut self, len: usize) {
+        self.len = len.min(self.room.len());
+    }
+
+    /// Puts the bytes at the end.
+    pub(crate) fn put(&mut self, bytes: &[u8]) -> Result<(), Stop> {
+        let end = self.len.saturating_add(bytes.len());
+        if end > self.room.len() || end < self.len {
+            return Err(Stop::TooLong);
+        }
+        self.room[self.len..end].copy_from_slice(bytes);
+        self.len = end;
         Ok(())
-    } else {
-        Err(NoMemory)
     }
-}
 
-/// Puts a number at the end, with a space before it.
-pub(crate) fn put_number(text: &mut Vec<u8>, number: u32) -> Result<(), NoMemory> {
-    let mut buffer = Buffer::new();
-    put(text, b" ")?;
-    put(text, buffer.format(number).as_bytes())
-}
-
-/// Puts numbers at the end, each with a space before it.
-pub(crate) fn put_numbers(text: &mut Vec<u8>, numbers: &[u32]) -> Result<(), NoMemory> {
-    for number in numbers {
-        put_number(text, *number)?;
+    /// Puts a number at the end, with a space before it.
+    pub(crate) fn put_number(&mut self, number: u32) -> Result<(), Stop> {
+        let mut buffer = Buffer::new();
+        self.put(b" ")?;
+        self.put(buffer.format(number).as_bytes())
     }
-    Ok(())
-}
 
-/// Puts a line at the end: a word and some numbers.
-pub(crate) fn put_line(text: &mut Vec<u8>, word: &str, numbers: &[u32]) -> Result<(), NoMemory> {
-    put(text, word.as_bytes())?;
-    put_numbers(text, numbers)?;
-    put(text, b"\n")
-}
-
-/// Puts a line of small numbers at the end.
-pub(crate) fn put_small(text: &mut Vec<u8>, word: &str, numbers: &[u8]) -> Result<(), NoMemory> {
-    put(text, word.as_bytes())?;
-    for number in numbers {
-        put_number(text, u32::from(*number))?;
+    /// Puts a line at the end: a word and some numbers.
+    pub(crate) fn put_line(&mut self, word: &str, numbers: &[u32]) -> Result<(), Stop> {
+        self.put(word.as_bytes())?;
+        for number in numbers {
+            self.put_number(*number)?;
+        }
+        self.put(b"\n")
     }
-    put(text, b"\n")
+
+    /// Puts a line of small numbers at the end.
+    pub(crate) fn put_small(&mut self, word: &str, numbers: &[u8]) -> Result<(), Stop> {
+        self.put(word.as_bytes())?;
+        for number in numbers {
+            self.put_number(u32::from(*number))?;
+        }
+        self.put(b"\n")
+    }
 }

@@ -12,8 +12,8 @@ pub struct Found {
     pub owners: Owners,
     /// How many prefixes the certificate opens.
     pub steps: u32,
-    /// The certificate.
-    pub text: Vec<u8>,
+    /// How many bytes the certificate has. They stand at the front of the memory that was lent for it.
+    pub size: usize,
 }
 
 /// How a search ends.
@@ -23,8 +23,6 @@ pub enum Ending {
     Best(Found),
     /// No certificate within the limit of steps. These are the owners of the best division found.
     OverLimit(Owners),
-    /// No certificate within `MOST_BYTES` bytes. These are the owners of the best division found.
+    /// The certificate has no room in the lent memory, or more than `MOST_BYTES` bytes. These are the owners of the best division found.
     TooLong(Owners),
-    /// There was no memory for a certificate.
-    NoMemory,
 }

@@ -26,7 +26,9 @@ mod pricing;
 mod roundings;
 mod search;
 mod shares;
+mod space;
 mod start;
+mod state;
 mod stated;
 mod stops;
 mod tables;
@@ -35,6 +37,8 @@ mod tree;
 mod tuning;
 mod twins;
 mod walk;
+mod words;
 
 pub use ending::{Ending, Found, Owners};
 pub use search::Search;
+pub use space::Space;

@@ -11,7 +11,7 @@ const MOST_FINE: i64 = MOST_PRICE as i64 * FINE_PARTS;
 const E_LOG: u64 = 6_196_328_018;
 
 /// A rate and a fee for each player, in units of 2^-32. The places behind the players hold 0.
-#[derive(Clone, Copy)]
+#[derive(Clone, Copy, Default)]
 pub(crate) struct FinePrices {
     pub(crate) rates: [i64; MEMBER_ROOM],
     pub(crate) fees: [i64; MEMBER_ROOM],

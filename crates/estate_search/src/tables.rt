@@ -52,15 +52,22 @@ fn all_to_first(case: &GoodsCase) -> OwnerList
     owners
 }
 
-/// The owners of a draft, by place in the search order.
-pub(crate) fn drafted(case: &GoodsCase, draft: &Draft) -> OwnerList
+/// The owners, if they are those of a division in search order, and otherwise others that are.
+pub(crate) fn allocated(case: &GoodsCase, owners: &[u8]) -> OwnerList
     requires { IsValidGoodsCase case.now }
     ensures { IsAllocation case.now result.items }
 {
-    let owners = &draft.owners[..usize::from(case.facts.goods)];
     if is_allocation(case, owners) {
         copied(owners)
     } else {
         all_to_first(case)
     }
+}
+
+/// The owners of a draft, by place in the search order.
+pub(crate) fn drafted(case: &GoodsCase, draft: &Draft) -> OwnerList
+    requires { IsValidGoodsCase case.now }
+    ensures { IsAllocation case.now result.items }
+{
+    allocated(case, &draft.owners[..usize::from(case.facts.goods)])
 }

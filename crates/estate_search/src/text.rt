@@ -1,9 +1,8 @@
 // The text of a certificate.
-use crate::bytes::{put, put_line, put_small};
+use crate::bytes::Bytes;
+use crate::stops::Stop;
 use crate::tree::Tree;
 use bid_rules::GoodsCase;
-use split_base::NoMemory;
-use std::alloc::Global;
 
 /// What a certificate says of a case: the limit, the owners by good, the steps, and the players who show how many can have points.
 #[derive(Clone, Copy)]
@@ -16,28 +15,35 @@ pub(crate) struct Said<'a> {
 }
 
 // The lines before the tree's own.
-fn put_head(text: &mut Vec<u8>, said: &Said<'_>) -> Result<(), NoMemory> {
+fn put_head(text: &mut Bytes<'_>, said: &Said<'_>) -> Result<(), Stop> {
     let case = said.case;
-    put(text, b"fairsplit 2\nkind goods\n")?;
-    put_small(text, "players", &[case.values.len() as u8])?;
-    put_small(text, "goods", &[case.facts.goods])?;
-    put_line(text, "limit", &[said.limit])?;
-    put_small(text, "who", case.who.as_slice())?;
+    text.put(b"fairsplit 2\nkind goods\n")?;
+    text.put_small("players", &[case.values.len() as u8])?;
+    text.put_small("goods", &[case.facts.goods])?;
+    text.put_line("limit", &[said.limit])?;
+    text.put_small("who", case.who.as_slice())?;
     for row in case.values.iter() {
-        put_line(text, "values", row.as_slice())?;
+        text.put_line("values", row.as_slice())?;
     }
-    put_small(text, "owners", said.owners)?;
-    put_line(text, "steps", &[said.steps])?;
-    put_small(text, "short", said.short)
+    text.put_small("owners", said.owners)?;
+    text.put_line("steps", &[said.steps])?;
+    text.put_small("short", said.short)
 }
 
-/// The whole text.
-pub(crate) fn text_of(alloc: Global, said: &Said<'_>, tree: &Tree) -> Result<Vec<u8>, NoMemory> {
-    let mut text = Vec::new(alloc);
-    put_head(&mut text, said)?;
-    put(&mut text, tree.lines.as_slice())?;
-    put(&mut text, b"tree ")?;
-    put(&mut text, tree.marks.as_slice())?;
-    put(&mut text, b"\nend\n")?;
-    Ok(text)
+// The line of the tree.
+fn put_marks(text: &mut Bytes<'_>, tree: &Tree<'_>) -> Result<(), Stop> {
+    text.put(b"tree ")?;
+    for before in 0..tree.marks() {
+        text.put(&[tree.mark(before.saturating_add(1))])?;
+    }
+    text.put(b"\n")
+}
+
+/// Writes the whole text from the front of the memory on.
+pub(crate) fn put_text(text: &mut Bytes<'_>, said: &Said<'_>, tree: &Tree<'_>) -> Result<(), Stop> {
+    text.set_len(0);
+    put_head(text, said)?;
+    text.put(tree.lines())?;
+    put_marks(text, tree)?;
+    text.put(b"end\n")
 }

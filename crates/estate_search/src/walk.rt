@@ -17,61 +17,65 @@ use crate::stated::{narrowest, stated, states_prices};
 use crate::stops::Stop;
 use crate::tree::Tree;
 use crate::tuning::{even, tune};
-use crate::twins::{Key, Twins, twin_of};
+use crate::twins::{Key, Twins, key_of, twin_of};
 use arrayvec::ArrayVec;
 use bid_rules::limits::ITEM_ROOM;
 use estate_bounds::{Prices, Weights};
-use std::alloc::Global;
 use std::cmp::Ordering;
 use std::slice;
 
 // A prefix that was opened: which player gets the next good next, the weights and prices to tune on from, and those that are stated there.
 #[derive(Clone, Copy, Default)]
-struct Level {
-    next: u8,
-    fine: Fine,
-    // The greatest of the weights that are stated there, if any are.
-    greatest: Option<u16>,
-    // The prices, if any were sought.
-    prices: Option<FinePrices>,
-    // Whether they are stated there.
-    states_prices: bool,
+pub(crate) struct Level {
+    pub(crate) next: u8,
+    pub(crate) fine: Fine,
+    /// The greatest of the weights that are stated there, if any are.
+    pub(crate) greatest: Option<u16>,
+    /// The prices, if any were sought.
+    pub(crate) prices: Option<FinePrices>,
+    /// Whether they are stated there.
+    pub(crate) states_prices: bool,
 }
 
 /// A walk through the prefixes.
 #[derive(Drop)]
-pub(crate) struct Walk {
-    pub(crate) tree: Tree,
+pub(crate) struct Walk<'a> {
+    pub(crate) tree: Tree<'a>,
+    pub(crate) twins: Twins<'a>,
+    pub(crate) path: Path,
+    limit: u32,
+}
+
+/// How far a walk has come.
+#[derive(Default, Drop)]
+pub(crate) struct Path {
     pub(crate) steps: u32,
     /// Whether a better division than the answer was found on the way.
     pub(crate) improved: bool,
-    limit: u32,
-    owners: OwnerList,
-    levels: ArrayVec<Level, ITEM_ROOM>,
-    twins: Twins,
-    // How often prices could have been sought, and how often they closed a prefix.
-    asked: u32,
-    priced: u32,
+    /// How often prices could have been sought.
+    pub(crate) asked: u32,
+    /// How often they closed a prefix.
+    pub(crate) priced: u32,
+    pub(crate) owners: OwnerList,
+    pub(crate) levels: ArrayVec<Level, ITEM_ROOM>,
 }
 
-impl Walk {
-    /// A walk of so many steps at most.
-    pub(crate) fn new(alloc: Global, limit: u32) -> Walk {
+impl<'a> Walk<'a> {
+    /// A walk of so many steps at most, which has come so far.
+    pub(crate) fn new(tree: Tree<'a>, twins: Twins<'a>, path: Path, limit: u32) -> Walk<'a> {
         Walk {
-            tree: Tree::new(alloc),
-            steps: 0,
-            improved: false,
+            tree,
+            twins,
+            path,
             limit,
-            owners: ArrayVec::new(),
-            levels: ArrayVec::new(),
-            twins: Twins::new(alloc),
-            asked: 0,
-            priced: 0,
         }
     }
 
     /// Begins with the prefix of no goods.
     pub(crate) fn begin(&mut self, estate: &Estate, logs: &RoughLogs) -> Result<(), Stop> {
+        self.tree.clear();
+        self.twins.clear();
+        self.path = Path::default();
         let Some(front) = estate.front_of(&[]) else {
             return Err(Stop::Steps);
         };
@@ -85,14 +89,14 @@ impl Walk {
 
     /// Whether all was walked.
     pub(crate) fn is_over(&self) -> bool {
-        self.levels.is_empty()
+        self.path.levels.is_empty()
     }
 
     // The nearest weights on the way to the prefixes below the last level.
     fn nearest_weights(&self, estate: &Estate) -> Option<Weights>
         ensures { IfSome result (IsWeighted estate.now) }
     {
-        for level in self.levels.iter().rev() {
+        for level in self.path.levels.iter().rev() {
             if let Some(greatest) = level.greatest {
                 return Some(estate.weights(&level.fine, greatest));
             }
@@ -104,7 +108,7 @@ impl Walk {
     fn nearest_prices(&self, estate: &Estate) -> Option<Prices>
         ensures { IfSome result (IsPriced estate.now) }
     {
-        for level in self.levels.iter().rev() {
+        for level in self.path.levels.iter().rev() {
             if let Some(prices) = &level.prices {
                 if level.states_prices {
                     return Some(estate.prices(prices));
@@ -129,8 +133,8 @@ impl Walk {
         if !estate.gives_to_all() {
             return false;
         }
-        self.asked = self.asked.saturating_add(1);
-        self.asked <= 64 || self.priced.saturating_mul(16) >= self.asked || self.asked % 8 == 0
+        self.path.asked = self.path.asked.saturating_add(1);
+        self.path.asked <= 64 || self.path.priced.saturating_mul(16) >= self.path.asked || self.path.asked % 8 == 0
     }
 
     // The prices sought where weights fail.
@@ -153,7 +157,7 @@ impl Walk {
             None => from_weights(&aim, weights),
         };
         let tuned = tune_prices(estate, &aim, front, &start);
-        self.priced = self.priced.saturating_add(u32::from(tuned.close));
+        self.path.priced = self.path.priced.saturating_add(u32::from(tuned.close));
         Some(tuned)
     }
 
@@ -201,10 +205,10 @@ impl Walk {
             self.tree.put(b'-')?;
             return Ok(false);
         };
-        if self.steps >= self.limit {
+        if self.path.steps >= self.limit {
             return Err(Stop::Steps);
         }
-        self.steps += 1;
+        self.path.steps += 1;
         self.put_children(estate, level, front)?;
         Ok(true)
     }
@@ -245,8 +249,8 @@ impl Walk {
 
     // Goes down to the children of a prefix.
     fn descend(&mut self, level: Level) {
-        if !self.levels.is_full() {
-            self.levels.push(level);
+        if !self.path.levels.is_full() {
+            self.path.levels.push(level);
         }
     }
 
@@ -257,7 +261,7 @@ impl Walk {
         let Some(level) = self.next_child(estate.players()) else {
             return Ok(());
         };
-        let mut owners = copied(self.owners.as_slice());
+        let mut owners = copied(self.path.owners.as_slice());
         if owners.is_full() {
             return Err(Stop::Steps);
         }
@@ -270,15 +274,15 @@ impl Walk {
 
     // The last level with the player who gets the next good; or none, and back up, if all its children were walked.
     fn next_child(&mut self, players: u8) -> Option<Level> {
-        let level = self.levels.pop()?;
+        let level = self.path.levels.pop()?;
         if level.next > players {
-            let _ = self.owners.pop();
+            let _ = self.path.owners.pop();
             return None;
         }
         let mut rest = level;
         rest.next = rest.next.saturating_add(1);
-        if !self.levels.is_full() {
-            self.levels.push(rest);
+        if !self.path.levels.is_full() {
+            self.path.levels.push(rest);
         }
         Some(level)
     }
@@ -300,13 +304,13 @@ impl Walk {
         if estate.is_closed(&self.above(estate), &front) {
             return self.tree.put(b'-');
         }
-        let key = Key::new(front.owners.len(), &estate.ranked(&front));
+        let key = key_of(front.owners.len(), &estate.ranked(&front));
         if let Some(twin) = self.twin(estate, &front, &key) {
             return self.tree.put_twin(&twin);
         }
-        self.twins.keep(key, front.owners.as_slice());
+        self.twins.keep(&key, front.owners.as_slice());
         if self.open(estate, logs, &front, start)? {
-            self.owners = front.owners;
+            self.path.owners = front.owners;
         }
         Ok(())
     }
@@ -333,7 +337,7 @@ impl Walk {
         if pair < best || (pair == best && order == Ordering::Greater) {
             return self.tree.put(b'-');
         }
-        self.improved |= order != Ordering::Equal;
+        self.path.improved |= order != Ordering::Equal;
         estate.set_answer(front);
         self.tree.put_answer()
     }

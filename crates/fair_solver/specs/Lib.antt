@@ -1,5 +1,3 @@
-pub mod Cases
-pub mod Fields
 pub mod Numbers
 pub mod Plans
 pub mod Replies

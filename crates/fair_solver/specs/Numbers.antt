@@ -1,5 +1,5 @@
 -- How the C functions that solve cases of numbers hand out divisions as numbers: rooms, owners or a route, exact amounts, and whole cents beside them.
-use Rattle.std.specs.Prelude.{◌≡◌, ◌≤◌, ◌<◌, ◌⊎◌, ◌^◌, ℕ, ℤ, pos, unsigned_abs, Err, List, length, map, take}
+use Rattle.std.specs.Prelude.{◌≡◌, ◌<◌, ◌⊎◌, ◌^◌, ℕ, ℤ, pos, unsigned_abs, Err, List, length, map}
 use Rattle.bid_rules.specs.Cents.{IsCentPlan, prices_by_member}
 use Rattle.bid_rules.specs.Fares.{FareBest, coalition_cost, riders_of}
 use Rattle.bid_rules.specs.Fractions.{Fraction}
@@ -11,9 +11,9 @@ use Rattle.command_results.specs.declared.stop.Stop.TheVariants.{OverLimit}
 use Rattle.envy_check.specs.Fairness.{AreBestOwners}
 use Rattle.nash_search.specs.Division.{IsOverLimit}
 use Rattle.split_frac.specs.declared.frac.Frac.{Frac}
-use Rattle.fair_solver.specs.Cases.{AreFare, AreGoods, AreRent, fare_in, goods_in, rent_in}
-use Rattle.fair_solver.specs.Fields.{IsFareField, IsGoodsField, IsRentField}
-use Rattle.fair_solver.specs.Replies.{Refuses}
+use Rattle.number_cases.specs.Cases.{AreFare, AreGoods, AreRent, fare_in, goods_in, rent_in}
+use Rattle.number_cases.specs.Fields.{IsFareField, IsGoodsField, IsRentField}
+use Rattle.number_cases.specs.Handing.{IsGiven, Refuses}
 
 -- the lists are the numerators and the denominators of the fractions
 abbrev pub AreParts : List Fraction → List ℤ → List ℕ → Type 0
@@ -34,10 +34,6 @@ abbrev pub IsFareInNumbers : FareCase → List ℕ → List ℤ → List ℕ →
 IsFareInNumbers case route numerators denominators plan =
     (fares : List Fraction) × FareBest case fares route × AreParts fares numerators denominators
     × IsCentPlan fares (pos (coalition_cost case (riders_of case))) plan
-
--- a list with room for the numbers begins with them, and one without is as it was
-abbrev pub IsGiven : {A : Type 0} → List A → List A → List A → Type 0
-IsGiven numbers before after = (length numbers ≤ length before → take (length numbers) after ≡ numbers) × (length before < length numbers → after ≡ before)
 
 -- the numbers are a valid rent, and its division is handed out, whose size is the number of members; or they are not, and the field is named
 abbrev pub IsRentNumbersReply : ℕ → ℕ → List ℕ → ℕ → ℕ → List ℕ → List ℕ → List ℤ → List ℤ → List ℕ → List ℕ → List ℤ → List ℤ → List ℕ → List ℕ → Type 0

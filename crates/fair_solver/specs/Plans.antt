@@ -6,9 +6,9 @@ use Rattle.bid_rules.specs.Fractions.{Fraction}
 use Rattle.bid_rules.specs.Rent.{RentBest}
 use Rattle.bid_rules.specs.declared.cases.FareCase.{FareCase}
 use Rattle.bid_rules.specs.declared.rents.RentCase.{RentCase}
-use Rattle.fair_solver.specs.Cases.{AreFare, AreRent, fare_in, rent_in}
-use Rattle.fair_solver.specs.Fields.{IsFareField, IsRentField}
-use Rattle.fair_solver.specs.Replies.{Refuses}
+use Rattle.number_cases.specs.Cases.{AreFare, AreRent, fare_in, rent_in}
+use Rattle.number_cases.specs.Fields.{IsFareField, IsRentField}
+use Rattle.number_cases.specs.Handing.{Refuses}
 
 -- what each member pays: the cent plan of the prices of the members' rooms in the best division, which sums to the rent
 abbrev pub IsRentPlan : RentCase → List ℤ → Type 0

@@ -2,22 +2,17 @@
 use Rattle.std.specs.Prelude.{◌≡◌, ◌≤◌, ◌⊎◌, ℕ, List, Err, length, take}
 use Rattle.bid_rules.specs.declared.cases.Case.{Case}
 use Rattle.bid_rules.specs.declared.cases.Case.TheVariants.{Rent, Goods, Fares}
-use Rattle.body_fields.specs.declared.fields.BodyFault.TheVariants.{Field}
-use Rattle.body_fields.specs.declared.fields.FieldName.{FieldName}
 use Rattle.certificates.specs.Canonical.{IsCanonical}
 use Rattle.command_results.specs.Handing.{HandsOut}
-use Rattle.command_results.specs.declared.stop.Stop.TheVariants.{BadCase, OverLimit}
+use Rattle.command_results.specs.declared.stop.Stop.TheVariants.{OverLimit}
 use Rattle.nash_search.specs.Division.{IsOverLimit}
-use Rattle.fair_solver.specs.Cases.{AreFare, AreGoods, AreRent, fare_in, goods_in, rent_in}
-use Rattle.fair_solver.specs.Fields.{IsFareField, IsGoodsField, IsRentField}
+use Rattle.number_cases.specs.Cases.{AreFare, AreGoods, AreRent, fare_in, goods_in, rent_in}
+use Rattle.number_cases.specs.Fields.{IsFareField, IsGoodsField, IsRentField}
+use Rattle.number_cases.specs.Handing.{Refuses}
 
 -- the size is that of the case's canonical certificate, and a buffer with room for it begins with it
 abbrev pub HandsCertificate : Case → ℕ → List ℕ → List ℕ → Type 0
 HandsCertificate case size before after = (text : List ℕ) × IsCanonical case text × (size ≡ length text) × (length text ≤ length before → take size after ≡ text)
-
--- a field that breaks its rule is named
-abbrev pub Refuses : (FieldName → Type 0) → ℕ → ℕ → List ℕ → List ℕ → Type 0
-Refuses is_field status size before after = (field : FieldName) × is_field field × HandsOut (Err (BadCase (Field field))) status size before after
 
 -- the numbers are a valid rent, and its certificate is handed out; or they are not, and the field is named
 abbrev pub IsRentReply : ℕ → ℕ → List ℕ → ℕ → ℕ → List ℕ → List ℕ → Type 0

@@ -18,20 +18,16 @@ ghost use Rattle.fair_solver.specs.Numbers.{IsFareNumbersReply, IsOwnersReply, I
 ghost use Rattle.fair_solver.specs.Plans.{IsFarePlanReply, IsRentPlanReply};
 ghost use Rattle.fair_solver.specs.Replies.{IsFareReply, IsGoodsReply, IsRentReply};
 
-mod cases;
 mod dividing;
 mod numbers;
 mod plans;
-mod refusing;
-mod rows;
 
-use crate::cases::{fare_case, goods_case, rent_case};
 use crate::dividing::divide_fare;
-use crate::numbers::{fare_numbers, give, rent_numbers};
+use crate::numbers::{fare_numbers, rent_numbers};
 use crate::plans::{copy_amounts, fare_plan, rent_plan};
-use crate::refusing::{refuse, refuse_limit};
 use certificates::{certificate_law, put_goods, put_rent};
 use nash_search::search_alone;
+use number_cases::{fare_case, give, goods_case, refuse, refuse_limit, rent_case};
 use rent_maximin::solve_rent;
 
 /// The version of the library: 10000 for each first number, 100 for each second and 1 for each third.

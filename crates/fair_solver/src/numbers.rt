@@ -3,15 +3,15 @@ ghost use Rattle.std.specs.Prelude.{◌≤◌, All, length, map};
 ghost use Rattle.bid_rules.specs.Facts.{IsValidFareCase};
 ghost use Rattle.bid_rules.specs.Rent.{IsValidRentCase};
 ghost use Rattle.bid_rules.specs.declared.limits.TheConstants.{MEMBER_ROOM};
-ghost use Rattle.fair_solver.specs.Numbers.{AreParts, HasSmallNumerator, IsFareInNumbers, IsGiven, IsRentInNumbers};
+ghost use Rattle.fair_solver.specs.Numbers.{AreParts, HasSmallNumerator, IsFareInNumbers, IsRentInNumbers};
 ghost use Rattle.split_frac.specs.Frac.{fraction_of};
 
 use crate::plans::{Cents, Planned, planned_fare};
-use crate::rows::list_of;
 use arrayvec::ArrayVec;
 use bid_rules::limits::MEMBER_ROOM;
 use bid_rules::{FareCase, RentCase};
 use certificates::rent_pays;
+use number_cases::list_of;
 use rent_maximin::{division_range_law, solve_rent};
 use split_frac::Frac;
 
@@ -80,15 +80,5 @@ pub(crate) fn fare_numbers(case: &FareCase) -> InNumbers
         own: list_of(shares.route.as_slice()),
         exact: parts_of(shares.fares.as_slice()),
         pays,
-    }
-}
-
-// Copies numbers to the front of a list if there is room for all of them, and otherwise leaves the list as it is.
-pub(crate) fn give<T: Copy>(numbers: &[T], list: &mut [T])
-    ensures { IsGiven numbers.now list.old list.new }
-{
-    let size = numbers.len();
-    if size <= list.len() {
-        list[..size].copy_from_slice(numbers);
     }
 }

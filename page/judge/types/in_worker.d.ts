@@ -3,12 +3,12 @@
  * @param {string | URL} [folder]
  * @returns {Record<typeof NAMES[number], Call> & { end: () => void }}
  */
-export function startWorker(folder?: string | URL | undefined): Record<"check" | "checkWinner" | "rent" | "rentCents" | "goods" | "fares" | "faresCents" | "rentRooms" | "goodsOwners" | "faresRoute", Call> & {
+export function startWorker(folder?: string | URL | undefined): Record<"estate" | "check" | "checkWinner" | "rent" | "rentCents" | "goods" | "fares" | "faresCents" | "rentRooms" | "goodsOwners" | "faresRoute" | "checkEstate", Call> & {
     end: () => void;
 };
 /**
- * A call takes what the function of that name takes, and then perhaps a signal.
+ * A call takes what the function of that name takes, and then perhaps a signal and, of `estate`, what is called with its progress.
  */
 export type Call = (...words: any[]) => Promise<any>;
-declare const NAMES: readonly ["check", "checkWinner", "rent", "rentCents", "goods", "fares", "faresCents", "rentRooms", "goodsOwners", "faresRoute"];
+declare const NAMES: readonly ["check", "checkWinner", "rent", "rentCents", "goods", "fares", "faresCents", "rentRooms", "goodsOwners", "faresRoute", "estate", "checkEstate"];
 export {};

@@ -14,5 +14,10 @@ export function loadJudge(folder?: string | URL | undefined): Promise<import("./
  * @param {string | URL} [folder]
  */
 export function loadSolver(folder?: string | URL | undefined): Promise<import("./solver.js").Solver>;
+/**
+ * The solver of estates and its judge, from such a folder.
+ * @param {string | URL} [folder]
+ */
+export function loadEstates(folder?: string | URL | undefined): Promise<import("./estates.js").Estates>;
 export { startWorker } from "./in_worker.js";
 export { divisionIn, read } from "./read.js";

@@ -1,20 +1,19 @@
+/** @typedef {import('./verdicts.js').Text} Text */
+/** @typedef {import('./verdicts.js').Verdict} Verdict */
+/**
+ * @typedef {object} Judge
+ * @property {boolean} isLowered whether the module for a 32-bit memory answers, which was lowered by a tool that nobody proved
+ * @property {(text: Text) => Promise<Verdict>} check judges a certificate
+ * @property {(text: Text) => Promise<Verdict>} checkWinner judges the text of adjusted winner
+ */
 /**
  * The judges. `fileOf` gives the bytes of `judge64.wasm` or of `judge32.wasm`, whichever runs here.
  * @param {import('./modules.js').FileOf} fileOf
  * @returns {Promise<Judge>}
  */
 export function loadJudge(fileOf: import('./modules.js').FileOf): Promise<Judge>;
-/**
- * A text to judge.
- */
-export type Text = string | Uint8Array | ArrayBuffer;
-/**
- * Status and line of the command: 0 and `yes`, 1 and `no RULE`, or 3 and `refused: ...`.
- */
-export type Verdict = {
-    status: number;
-    line: string;
-};
+export type Text = import('./verdicts.js').Text;
+export type Verdict = import('./verdicts.js').Verdict;
 export type Judge = {
     /**
      * whether the module for a 32-bit memory answers, which was lowered by a tool that nobody proved

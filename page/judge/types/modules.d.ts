@@ -11,9 +11,27 @@ export function has64Bits(): boolean;
  */
 export function compiled(name: string, fileOf: FileOf): Promise<WebAssembly.Module>;
 /**
+ * An instance of a module with lists laid out in its memory, so that its functions can be called on them: lists that are read, lists that are filled, so many bytes of
+ * memory that is lent, whether a number is counted up, and a buffer with this room for a text. Memory from the heap's base on is the caller's, because no module
+ * has an allocator.
+ * @param {WebAssembly.Module} module
+ * @param {{ lists: (Uint8Array | Uint32Array)[], lent?: number, filled?: (Uint8Array | BigInt64Array | BigUint64Array)[], counts?: boolean, room: number }} layout
+ */
+export function laidOut(module: WebAssembly.Module, { lists, lent, filled, counts, room }: {
+    lists: (Uint8Array | Uint32Array)[];
+    lent?: number;
+    filled?: (Uint8Array | BigInt64Array | BigUint64Array)[];
+    counts?: boolean;
+    room: number;
+}): Promise<(name: string, numbers: number[]) => {
+    status: any;
+    text: string;
+    size: number;
+    count: number;
+}>;
+/**
  * Calls a function of a module in an instance of its own, so that nothing of one call can reach another: with these numbers, these lists, lists
- * that it fills, and a buffer with this room. Memory from the heap's base on is the caller's, because no module has an allocator. The answer has
- * the status, the text, and how many amounts or bytes the function says that there are.
+ * that it fills, and a buffer with this room. The answer has the status, the text, and how many amounts or bytes the function says that there are.
  * @param {WebAssembly.Module} module
  * @param {string} name
  * @param {number[]} numbers

@@ -4,10 +4,7 @@
  * @returns {Promise<Solver>}
  */
 export function loadSolver(fileOf: import('./modules.js').FileOf): Promise<Solver>;
-/**
- * A row of whole numbers.
- */
-export type Row = ArrayLike<number>;
+export type Row = import('./numbers.js').Row;
 /**
  * A certificate with status 0, and otherwise a line: 3 and the field that is refused, or 1 and the step limit.
  */
@@ -66,33 +63,33 @@ export type Solver = {
     /**
      * what the members would pay for the rooms, member by member
      */
-    rent: (rent: number, values: ArrayLike<Row>) => Promise<Solved>;
+    rent: (rent: number, values: ArrayLike<import("./numbers.js").Row>) => Promise<Solved>;
     /**
      * what each member pays
      */
-    rentCents: (rent: number, values: ArrayLike<Row>) => Promise<Paid>;
+    rentCents: (rent: number, values: ArrayLike<import("./numbers.js").Row>) => Promise<Paid>;
     /**
      * the step limit, the members who have bid, and their points
      */
-    goods: (limit: number, who: Row, values: ArrayLike<Row>) => Promise<Solved>;
+    goods: (limit: number, who: import("./numbers.js").Row, values: ArrayLike<import("./numbers.js").Row>) => Promise<Solved>;
     /**
      * the members who ride, and where they get off
      */
-    fares: (flag: number, legs: ArrayLike<Row>, who: Row, at: Row) => Promise<Solved>;
+    fares: (flag: number, legs: ArrayLike<import("./numbers.js").Row>, who: import("./numbers.js").Row, at: import("./numbers.js").Row) => Promise<Solved>;
     /**
      * what each rider pays
      */
-    faresCents: (flag: number, legs: ArrayLike<Row>, who: Row, at: Row) => Promise<Paid>;
+    faresCents: (flag: number, legs: ArrayLike<import("./numbers.js").Row>, who: import("./numbers.js").Row, at: import("./numbers.js").Row) => Promise<Paid>;
     /**
      * the whole division
      */
-    rentRooms: (rent: number, values: ArrayLike<Row>) => Promise<RentInNumbers>;
+    rentRooms: (rent: number, values: ArrayLike<import("./numbers.js").Row>) => Promise<RentInNumbers>;
     /**
      * for each good its player
      */
-    goodsOwners: (limit: number, who: Row, values: ArrayLike<Row>) => Promise<GoodsInNumbers>;
+    goodsOwners: (limit: number, who: import("./numbers.js").Row, values: ArrayLike<import("./numbers.js").Row>) => Promise<GoodsInNumbers>;
     /**
      * the whole division
      */
-    faresRoute: (flag: number, legs: ArrayLike<Row>, who: Row, at: Row) => Promise<FareInNumbers>;
+    faresRoute: (flag: number, legs: ArrayLike<import("./numbers.js").Row>, who: import("./numbers.js").Row, at: import("./numbers.js").Row) => Promise<FareInNumbers>;
 };

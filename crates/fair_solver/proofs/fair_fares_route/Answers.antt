@@ -1,6 +1,7 @@
 use Rattle.std.proofs.Common.{ℕ, ℤ, List, refl, subst, inl}
 use Rattle.bid_rules.specs.declared.cases.FareCase.{FareCase}
-use Rattle.fair_solver.specs.Numbers.{IsFareInNumbers, IsGiven}
+use Rattle.fair_solver.specs.Numbers.{IsFareInNumbers}
+use Rattle.number_cases.specs.Handing.{IsGiven}
 use Rattle.fair_solver.proofs.fair_fares_route.Goals as goal
 
 pub returns-in-Ok : goal.returns-in-Ok

@@ -1,6 +1,7 @@
 use Rattle.std.proofs.Common.{ℕ, ℤ, List, refl, subst, inl}
 use Rattle.bid_rules.specs.declared.rents.RentCase.{RentCase}
-use Rattle.fair_solver.specs.Numbers.{IsRentInNumbers, IsGiven}
+use Rattle.fair_solver.specs.Numbers.{IsRentInNumbers}
+use Rattle.number_cases.specs.Handing.{IsGiven}
 use Rattle.fair_solver.proofs.fair_rent_rooms.Goals as goal
 
 pub returns-in-Ok : goal.returns-in-Ok

@@ -1,12 +1,25 @@
 use Rattle.std.proofs.Common.{◌≡◌, arith, ap, refl, sym, subst}
 use Rattle.estate_checker.specs.Rules.{estate_rule, rules_of_estate}
-use Rattle.estate_checker.proofs.BestEstates.{best_estate}
+use Rattle.estate_checker.proofs.BestEstates.{best_estate, best_view}
 use Rattle.estate_texts.specs.Texts.{EstateView}
 use Rattle.rule_verdicts.specs.declared.verdict.Verdict.{Verdict}
 use Rattle.rule_verdicts.specs.declared.verdict.Verdict.TheVariants.{No, Yes}
 use Rattle.rule_verdicts.specs.Verdicts.{IsVerdictOf}
 use Rattle.split_lemmas.proofs.AskedInOrder.{none_broken, one_broken}
 use Rattle.estate_checker.proofs.laws.estate_certificate_law.Goals as goal
+
+pub returns-clause-view : goal.returns-clause-view
+returns-clause-view c view can rules =
+    let best = best_view
+    (record {
+      count = c.count_law.ensures;
+      best = c.estate_tree_law.ensures;
+      nodes = c.nodes_law.ensures.nodes;
+      allocation = c.owners_by_good_law.ensures.allocation;
+      again = c.owners_by_good_law.ensures.by_good_again;
+    })
+    view can rules in
+    (best.1, best.2)
 
 pub returns-clause-best : goal.returns-clause-best
 returns-clause-best c bytes h =

@@ -1,7 +1,7 @@
 -- The rows so far.
 use Rattle.std.proofs.Common.{◌≡◌, ◌*◌, length, map, take, drop}
 use Rattle.std.specs.List.{range_with_len}
-use Rattle.fair_solver.proofs.rows.value_rows.Given as goal
+use Rattle.number_cases.proofs.rows.value_rows.Given as goal
 
 abbrev pub invariant-loop-k : goal.invariant-loop-k
 invariant-loop-k l = record {

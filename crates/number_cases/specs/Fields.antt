@@ -3,7 +3,7 @@ use Rattle.std.specs.Prelude.{◌≤◌, ℕ, List}
 use Rattle.bid_rules.specs.declared.limits.TheConstants.{FEWEST_MEMBERS, MOST_FARE_CENTS, MOST_GOODS, MOST_MEMBERS, MOST_PLACES, MOST_RENT, MOST_STEPS}
 use Rattle.body_fields.specs.declared.fields.FieldName.{FieldName}
 use Rattle.body_fields.specs.declared.fields.FieldName.TheVariants.{Members, Rent, Goods, Limit, Places, Flag, Legs, Bids}
-use Rattle.fair_solver.specs.Cases.{HasLegs}
+use Rattle.number_cases.specs.Cases.{HasLegs}
 
 -- the number is at least the first of these and at most the second
 abbrev pub IsFromTo : ℕ → ℕ → ℕ → Type 0

@@ -1,8 +1,8 @@
 // Turns the caller's numbers into a case, or names the field that is refused.
 ghost use Rattle.std.specs.Prelude.{◌≡◌, ◌≤◌, MatchOption, MatchResult};
 ghost use Rattle.bid_rules.specs.declared.limits.TheConstants.{MOST_GOODS, MOST_MEMBERS, MOST_PLACES};
-ghost use Rattle.fair_solver.specs.Cases.{AreFare, AreGoods, AreRent, HasLegs, HasRiders, facts_in, fare_in, goods_in, rent_in, with_riders};
-ghost use Rattle.fair_solver.specs.Fields.{IsFareField, IsGoodsField, IsRentField};
+ghost use Rattle.number_cases.specs.Cases.{AreFare, AreGoods, AreRent, HasLegs, HasRiders, facts_in, fare_in, goods_in, rent_in, with_riders};
+ghost use Rattle.number_cases.specs.Fields.{IsFareField, IsGoodsField, IsRentField};
 
 use crate::rows::{leg_rows, list_of, value_rows};
 use bid_rules::limits::{
@@ -12,8 +12,8 @@ use bid_rules::limits::{
 use bid_rules::{FareCase, Fares, Goods, GoodsCase, Rent, RentCase, check_fares};
 use body_fields::FieldName;
 
-// The valid case of a rent that the numbers are, or the first field that breaks its rule.
-pub(crate) fn rent_case(members: u32, rent: u32, values: &[u32]) -> Result<RentCase, FieldName>
+/// The valid case of a rent that the numbers are, or the first field that breaks its rule.
+pub fn rent_case(members: u32, rent: u32, values: &[u32]) -> Result<RentCase, FieldName>
     ensures { MatchResult result
         (λ case. AreRent members rent values.now × (case ≡ rent_in members rent values.now))
         (λ field. (AreRent members rent values.now → ⊥) × IsRentField members rent field) }
@@ -47,8 +47,8 @@ fn rent_with(members: u8, rent: u32, values: &[u32]) -> Option<RentCase>
     if case.is_valid() { Some(case) } else { None }
 }
 
-// The valid case of goods that the numbers are, or the first field that breaks its rule.
-pub(crate) fn goods_case(
+/// The valid case of goods that the numbers are, or the first field that breaks its rule.
+pub fn goods_case(
     goods: u32,
     limit: u32,
     who: &[u8],
@@ -71,8 +71,8 @@ pub(crate) fn goods_case(
     }
 }
 
-// The valid case with these players and values.
-fn goods_with(goods: u8, limit: u32, who: &[u8], values: &[u32]) -> Option<GoodsCase>
+/// The valid case of goods with these players and values, if it is one.
+pub fn goods_with(goods: u8, limit: u32, who: &[u8], values: &[u32]) -> Option<GoodsCase>
     requires { goods ≤ MOST_GOODS }
     ensures { MatchOption result (AreGoods goods limit who.now values.now → ⊥)
         (λ case.
@@ -94,8 +94,8 @@ fn goods_with(goods: u8, limit: u32, who: &[u8], values: &[u32]) -> Option<Goods
     if case.is_valid() { Some(case) } else { None }
 }
 
-// The valid case of a fare that the numbers are, or the first field that breaks its rule.
-pub(crate) fn fare_case(
+/// The valid case of a fare that the numbers are, or the first field that breaks its rule.
+pub fn fare_case(
     places: u32,
     flag: u32,
     legs: &[u32],

@@ -2,8 +2,8 @@ use Rattle.std.proofs.Common.{◌≡◌, ◌*◌, ◌∷◌, [], ◌++◌, ℕ, 
 use Rattle.arrayvec.specs.declared.array_vec.ArrayVec.{ArrayVec}
 use Rattle.bid_rules.specs.declared.limits.TheConstants.{ITEM_ROOM}
 use Rattle.std.specs.List.{range_with_len}
-use Rattle.fair_solver.proofs.NextRows.{rows_next}
-use Rattle.fair_solver.proofs.rows.value_rows.Goals as goal
+use Rattle.number_cases.proofs.NextRows.{rows_next}
+use Rattle.number_cases.proofs.rows.value_rows.Goals as goal
 
 pub loop-k-preserved : goal.loop-k-preserved
 loop-k-preserved c =

@@ -6,8 +6,8 @@ ghost use Rattle.bid_rules.specs.declared.limits.TheConstants.{ITEM_ROOM, LEG_RO
 use arrayvec::ArrayVec;
 use bid_rules::limits::{Legs, ValueTable};
 
-// Numbers as a list, for which there is room.
-pub(crate) fn list_of<T: Copy + Default, const N: usize>(numbers: &[T]) -> ArrayVec<T, N>
+/// Numbers as a list, for which there is room.
+pub fn list_of<T: Copy + Default, const N: usize>(numbers: &[T]) -> ArrayVec<T, N>
     requires { length numbers.now ≤ N }
     ensures { result.items ≡ numbers.now }
 {
