@@ -69,9 +69,18 @@ impl Means {
         let square = squares / 20;
         self.slopes[place] = mean;
         self.squares[place] = square;
-        let root = square.isqrt().saturating_add(LEAST_ROOT);
+        let root = root_of(square).saturating_add(LEAST_ROOT);
         step.saturating_mul(mean) / root.min(i64::MAX as u64) as i64
     }
+}
+
+// About the square root, by Newton's steps from above it.
+fn root_of(square: u64) -> u64 {
+    let mut root: u64 = 1 << (square.max(1).ilog2() / 2 + 1);
+    for _ in 0..3 {
+        root = root.saturating_add(square / root.max(1)) / 2;
+    }
+    root
 }
 
 // The product of two numbers in units of 2^-32, in such units.

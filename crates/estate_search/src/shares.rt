@@ -196,6 +196,9 @@ pub(crate) fn greatest(numbers: &[u64; MEMBER_ROOM]) -> u64 {
 fn steep(ratio: u64, squarings: u8) -> u32 {
     let mut share = ratio.min(u64::from(WHOLE_SHARE)) as u32;
     for _ in 0..squarings {
+        if share == 0 {
+            break;
+        }
         share = squared(share);
     }
     share

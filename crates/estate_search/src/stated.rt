@@ -121,7 +121,7 @@ fn closes_more(estate: &Estate, prices: &Prices, front: &Front, above: &Above, p
     requires above { IsAbove estate.now above.now }
 {
     match child_of(estate, front, player) {
-        Some(child) => estate.prices_close(prices, &child) && !estate.is_closed(above, &child),
+        Some(child) => !estate.is_closed(above, &child) && estate.prices_close(prices, &child),
         None => false,
     }
 }
