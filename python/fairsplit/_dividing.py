@@ -6,6 +6,7 @@ from typing import Any, Iterable, List, Mapping, Optional, Sequence, Tuple, over
 from ._amounts import Money, is_missing, whole
 from ._commands import goods_case, text_of, title_of
 from ._divisions import FareDivision, GoodsDivision, PairDivision, RentDivision, fare_division, goods_division, pair_division, rent_division
+from ._limits import MOST_ESTATE_STEPS, USUAL_ESTATE_STEPS
 from ._names import Given, Names, labelled, listed, ordered, place_of
 from ._reasons import explained, why_fares, why_goods, why_rent
 from ._solving import solve_fares, solve_goods, solve_rent
@@ -83,26 +84,28 @@ def rent(total: Any, bids: Any, *, members: Given = None, rooms: Given = None, t
 
 @overload
 def goods(bids: NamedBids[Member, Item, Whole], *, members: Order[Member] = ..., goods: Order[Item] = ...,
-          limit: Optional[Whole] = ..., title: str = ...) -> GoodsDivision[Member, Item]: ...
+          limit: Optional[Whole] = ..., steps: Optional[Whole] = ..., title: str = ...) -> GoodsDivision[Member, Item]: ...
 @overload
-def goods(bids: NamedRows[Member, Whole], *, members: Order[Member] = ..., goods: Iterable[Item], limit: Optional[Whole] = ...,
+def goods(bids: NamedRows[Member, Whole], *, members: Order[Member] = ..., goods: Iterable[Item], limit: Optional[Whole] = ..., steps: Optional[Whole] = ...,
           title: str = ...) -> GoodsDivision[Member, Item]: ...
 @overload
-def goods(bids: NamedRows[Member, Whole], *, members: Order[Member] = ..., limit: Optional[Whole] = ...,
+def goods(bids: NamedRows[Member, Whole], *, members: Order[Member] = ..., limit: Optional[Whole] = ..., steps: Optional[Whole] = ...,
           title: str = ...) -> GoodsDivision[Member, int]: ...
 @overload
-def goods(bids: Rows[Whole], *, members: Iterable[Member], goods: Iterable[Item], limit: Optional[Whole] = ...,
+def goods(bids: Rows[Whole], *, members: Iterable[Member], goods: Iterable[Item], limit: Optional[Whole] = ..., steps: Optional[Whole] = ...,
           title: str = ...) -> GoodsDivision[Member, Item]: ...
 @overload
-def goods(bids: Rows[Whole], *, members: Iterable[Member], limit: Optional[Whole] = ..., title: str = ...) -> GoodsDivision[Member, int]: ...
+def goods(bids: Rows[Whole], *, members: Iterable[Member], limit: Optional[Whole] = ..., steps: Optional[Whole] = ...,
+          title: str = ...) -> GoodsDivision[Member, int]: ...
 @overload
-def goods(bids: Rows[Whole], *, goods: Iterable[Item], limit: Optional[Whole] = ..., title: str = ...) -> GoodsDivision[int, Item]: ...
+def goods(bids: Rows[Whole], *, goods: Iterable[Item], limit: Optional[Whole] = ..., steps: Optional[Whole] = ...,
+          title: str = ...) -> GoodsDivision[int, Item]: ...
 @overload
-def goods(bids: Rows[Whole], *, limit: Optional[Whole] = ..., title: str = ...) -> GoodsDivision[int, int]: ...
+def goods(bids: Rows[Whole], *, limit: Optional[Whole] = ..., steps: Optional[Whole] = ..., title: str = ...) -> GoodsDivision[int, int]: ...
 @overload
-def goods(bids: Frame, *, members: Order[Any] = ..., goods: Order[Any] = ..., limit: Optional[Whole] = ...,
+def goods(bids: Frame, *, members: Order[Any] = ..., goods: Order[Any] = ..., limit: Optional[Whole] = ..., steps: Optional[Whole] = ...,
           title: str = ...) -> GoodsDivision[Any, Any]: ...
-def goods(bids: Any, *, members: Given = None, goods: Given = None, limit: Optional[Whole] = None,
+def goods(bids: Any, *, members: Given = None, goods: Given = None, limit: Optional[Whole] = None, steps: Optional[Whole] = None,
           title: Optional[str] = None) -> GoodsDivision[Any, Any]:
     """Divide goods.
 
@@ -115,7 +118,10 @@ def goods(bids: Any, *, members: Given = None, goods: Given = None, limit: Optio
     members, goods : iterable, optional
         Names for what has none, and the order of what has.
     limit : int, optional
-        The most steps that the search may take, up to 200,000; without it 100,000.
+        The most steps that the specified search may take, up to 200,000. With it only that search decides. Without it the specified search takes
+        up to 10,000 steps, and if it needs more, the search of estates answers, whose certificate is of a kind of its own.
+    steps : int, optional
+        The most steps that the search of estates may take, up to 1,000,000; without it 20,000. Ctrl-C ends it.
     title : str, optional
         As for `rent`.
 
@@ -129,8 +135,10 @@ def goods(bids: Any, *, members: Given = None, goods: Given = None, limit: Optio
     Void
         If nobody has bid.
     OverLimit
-        If the search takes more steps than the limit.
-    Refused, ValueError, TypeError
+        If the search takes more steps than it may. `best` is the best division that the search of estates found.
+    ValueError
+        If both `limit` and `steps` are given, or `steps` is out of range.
+    Refused, TypeError
         As for `rent`.
 
     Examples
@@ -142,9 +150,22 @@ def goods(bids: Any, *, members: Given = None, goods: Given = None, limit: Optio
     """
     table = table_of(bids, members, goods, 'goods', whole)
     most = None if limit is None else whole(limit)
+    further = _estate_steps(limit, steps)
     with explained(lambda field: why_goods(field, table, most)):
-        text = solve_goods(most, table)
+        text = solve_goods(most, further, table)
     return goods_division(table, text, title_of(title, 'goods'))
+
+
+def _estate_steps(limit: Optional[Whole], steps: Optional[Whole]) -> int:
+    """How many steps the search of estates may take."""
+    if steps is None:
+        return USUAL_ESTATE_STEPS
+    if limit is not None:
+        raise ValueError('limit is for the specified search, and steps for that of estates: give one of them')
+    found = whole(steps)
+    if not 1 <= found <= MOST_ESTATE_STEPS:
+        raise ValueError(f'steps is {found}; it may be from 1 to {MOST_ESTATE_STEPS}')
+    return found
 
 
 def _stops(bids: Any, members: Given, places: Names) -> Tuple[Names, List[Optional[int]]]:

@@ -11,7 +11,8 @@ from math import lcm, prod
 from typing import Any, Generic, Hashable, List, Optional, Sequence, Tuple, TypeVar
 
 from ._amounts import Amount, Money
-from ._commands import case_of, text_of
+from ._commands import case_of, said_names, text_of
+from ._estates import estate_report, is_estate
 from ._results import Division
 from ._tables import Table, bids_of
 from ._texts import fractions_of, number_of, numbers_of, places_in
@@ -119,6 +120,46 @@ class GoodsShare(Generic[Member, Good]):
     points: int
 
 
+def _positive(shares: Sequence[GoodsShare[Any, Any]]) -> int:
+    """How many members get something that they want."""
+    return sum(share.points > 0 for share in shares)
+
+
+def _product(shares: Sequence[GoodsShare[Any, Any]]) -> int:
+    """The product of the points of these members."""
+    return prod(share.points for share in shares if share.points)
+
+
+@dataclass(frozen=True)
+class GoodsFound(Generic[Member, Good]):
+    """A division of goods without a certificate: the best that a search found within its limit.
+
+    Attributes
+    ----------
+    shares : tuple of GoodsShare
+        By member who has bid.
+    members, goods : tuple
+        The names of all members, and of the goods.
+    owners : tuple
+        For each good the member who gets it.
+    """
+
+    shares: Tuple[GoodsShare[Member, Good], ...]
+    members: Tuple[Member, ...] = field(repr=False)
+    goods: Tuple[Good, ...] = field(repr=False)
+    owners: Tuple[Member, ...] = field(repr=False)
+
+    @property
+    def positive(self) -> int:
+        """How many members get something that they want."""
+        return _positive(self.shares)
+
+    @property
+    def product(self) -> int:
+        """The product of the points of these members."""
+        return _product(self.shares)
+
+
 @dataclass(frozen=True)
 class GoodsDivision(Division[GoodsShare[Member, Good]], Generic[Member, Good]):
     """Goods, divided with the greatest Nash welfare. Only members who have bid have a share.
@@ -128,7 +169,7 @@ class GoodsDivision(Division[GoodsShare[Member, Good]], Generic[Member, Good]):
     shares : tuple of GoodsShare
         By member who has bid.
     text : str
-        The certificate.
+        The certificate. It begins with `fairsplit 1` if the specified search answered, and with `fairsplit 2` if that of estates did.
     members, goods : tuple
         The names of all members, and of the goods in the order of the certificate.
     owners : tuple
@@ -152,12 +193,12 @@ class GoodsDivision(Division[GoodsShare[Member, Good]], Generic[Member, Good]):
     @property
     def positive(self) -> int:
         """How many members get something that they want."""
-        return sum(share.points > 0 for share in self.shares)
+        return _positive(self.shares)
 
     @property
     def product(self) -> int:
         """The product of the points of these members."""
-        return prod(share.points for share in self.shares if share.points)
+        return _product(self.shares)
 
     @property
     def steps(self) -> int:
@@ -174,7 +215,9 @@ class GoodsDivision(Division[GoodsShare[Member, Good]], Generic[Member, Good]):
 
     @cached_property
     def report(self) -> str:
-        """What the program's `report` writes of this division. A name that a case can't have is m1, g1 and so on there."""
+        """What the program's `report` writes of this division, or would write of an estate. A name that a case can't have is m1, g1 and so on there."""
+        if is_estate(self.text):
+            return estate_report(self.title, said_names(self.members, 'm'), self.text, [share.points for share in self.shares], self.envy)
         bids: List[Optional[List[int]]] = [None] * len(self.members)
         for member, row in zip(places_in(self.text, 'who'), numbers_of(self.text, 'values')):
             bids[member] = row
@@ -332,8 +375,18 @@ def rent_division(table: Table[Any, Any], certificate: str, pays: Sequence[int],
 def goods_division(table: Table[Any, Any], certificate: str, title: str) -> GoodsDivision[Any, Any]:
     """The division of goods from its certificate."""
     owners = places_in(certificate, 'owners')
+    return GoodsDivision(goods_shares(table, owners), certificate, table.members, table.columns, _players(table, owners), title)
+
+
+def goods_found(table: Table[Any, Any], owners: Sequence[int]) -> GoodsFound[Any, Any]:
+    """A division of goods without a certificate, if `owners` has for each good its player, from 0."""
+    return GoodsFound(goods_shares(table, owners), table.members, table.columns, _players(table, owners))
+
+
+def _players(table: Table[Any, Any], owners: Sequence[int]) -> Tuple[Any, ...]:
+    """The names of players by number, from 0."""
     players = [member for member, row in zip(table.members, table.rows) if row is not None]
-    return GoodsDivision(goods_shares(table, owners), certificate, table.members, table.columns, tuple(players[owner] for owner in owners), title)
+    return tuple(players[owner] for owner in owners)
 
 
 def goods_shares(table: Table[Any, Any], owners: Sequence[int]) -> Tuple[GoodsShare[Any, Any], ...]:

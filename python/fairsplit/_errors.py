@@ -1,7 +1,7 @@
 """Why there is no division, and no verdict."""
 from __future__ import annotations
 
-from typing import Hashable, Optional, Tuple
+from typing import Any, Hashable, Optional, Tuple
 
 
 class FairsplitError(Exception):
@@ -38,19 +38,22 @@ class Void(FairsplitError):
 
 
 class OverLimit(FairsplitError):
-    """The search takes more steps than its limit. Try a greater limit, up to 200,000, or put small goods together.
+    """The search found no certificate within its limit. Allow more steps, or put small goods together.
 
     Attributes
     ----------
     limit : int
         The most steps that the search was allowed.
+    best : GoodsFound or None
+        The best division that the search of estates found, which may be the best of all and isn't shown to be. The specified search, which goes
+        by `limit=`, gives none.
     """
 
     status = 1
 
-    def __init__(self, limit: int):
-        super().__init__(limit)
-        self.limit = limit
+    def __init__(self, limit: int, best: Optional[Any] = None):
+        super().__init__(limit, best)
+        self.limit, self.best = limit, best
 
     def __str__(self) -> str:
         return f'the search takes more than {self.limit} steps'

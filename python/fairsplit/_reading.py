@@ -9,7 +9,8 @@ from ._commands import title_of
 from ._divisions import (FareDivision, GoodsDivision, PairDivision, RentDivision, Verdict, fare_division, goods_division, pair_division,
                          rent_division)
 from ._errors import BrokenRule, error_of
-from ._library import ROOM, run
+from ._estates import ESTATE
+from ._library import ROOM, run_judge
 from ._names import Given, Names, named
 from ._solving import fare_cents, rent_cents
 from ._tables import Table
@@ -32,9 +33,14 @@ def bytes_of(text: Text) -> bytes:
     raise TypeError(f'{type(text).__name__} is no text: give a str, bytes, or the path of a file')
 
 
-def judged(command: str, text: bytes) -> Verdict:
+def judge_of(text: bytes) -> str:
+    """The judge of a certificate, by its head."""
+    return 'estate_check' if text.startswith(ESTATE.encode()) else 'check'
+
+
+def judged(judge: str, text: bytes) -> Verdict:
     """The verdict of a judge on a text."""
-    status, line = run(command, text)
+    status, line = run_judge(judge, text)
     said = line.decode().strip()
     if status == 0:
         return Verdict(True)
@@ -127,7 +133,7 @@ def read(text: Text, *, members: Given = None, rooms: Given = None, goods: Given
     """
     data = bytes_of(text)
     is_pair = data.startswith(PAIR)
-    verdict = judged('checkwinner' if is_pair else 'check', data)
+    verdict = judged('checkwinner' if is_pair else judge_of(data), data)
     if verdict.rule is not None:
         raise BrokenRule(verdict.rule)
     said = data.decode()
