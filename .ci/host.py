@@ -101,7 +101,7 @@ def asked(port, method, path, body=None, key=None, timeout=60, headers=(), sourc
 
 
 def journal_events(journal):
-    """The bodies of the events in the bytes of a journal, as far as its gates are open (docs/FORMATS.md)."""
+    """The bodies of the events in the bytes of a journal, as far as its gates are open (docs/JOURNAL.md)."""
     at = JOURNAL_FRONT
     while journal[at]:
         size = int.from_bytes(journal[at + 1:at + 5], 'little')
