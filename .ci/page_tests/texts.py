@@ -229,10 +229,10 @@ def compare_limits(texts, words):
     for what, value in theirs.items():
         check(f'the limit of {what} is {limits[what]} here and {value} in the schema', limits[what] == value)
     check('the members of goods', span('goods', 'members') == limits['members'])
-    listed = dict((name, int(number.replace(',', ''))) for number, name in re.findall(r'\| ([\d,]+)[^|]*\| `\w+`: `(\w+)` \|', text_of('docs/LIMITS.md')))
+    listed = dict((name, int(number.replace(',', ''))) for number, name in re.findall(r'\| ([\d,]+)[^|]*\| `\w+`: `(\w+)` \|', text_of('docs/REFERENCE.md')))
     for what, name in LISTED.items():
         most = limits[what][1] if isinstance(limits[what], list) else limits[what]
-        check(f'the limit of {what} is {most} here and {listed[name]} in docs/LIMITS.md', most == listed[name])
+        check(f'the limit of {what} is {most} here and {listed[name]} in docs/REFERENCE.md', most == listed[name])
     check('a limit of the page is compared with nothing', set(limits) == set(LISTED))
     http = text_of('docs/HTTP.md')
     turns = re.search(r'from 1 to (\d+)', http.split('## Bids')[1])
