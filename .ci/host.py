@@ -1,5 +1,5 @@
 #!/usr/bin/env python3
-"""A host to try: a free port, the program that serves there, the wait until it listens, what it replies, the keys of its rounds, and its journal.
+"""A host to try: a free port, the program that serves there, the wait until it listens, its rounds and their keys, what it replies, and its journal.
 
 Scripts in Python import this. A script of the shell calls it:
 
@@ -28,6 +28,10 @@ TRIES = 8
 
 class Silent(OSError):
     """Nobody listens, where somebody should."""
+
+
+class Refused(Exception):
+    """A host refuses what it should accept."""
 
 
 def free_port(count=1):
@@ -84,20 +88,75 @@ JOURNAL_FRONT = 49
 
 def creation(kind, tag, deadline=DEADLINE, **facts):
     """The body of a creation: a round for two of this kind, but for the facts that are said."""
-    return dict(FACTS[kind], deadline=deadline, tag=tag, **facts)
+    return of_case(FACTS[kind], tag, deadline=deadline, **facts)
+
+
+def of_case(case, tag, deadline=DEADLINE, **facts):
+    """The body of a creation: a round for what a case divides, but for the facts that are said."""
+    return dict({name: fact for name, fact in case.items() if name != 'bids'}, deadline=deadline, tag=tag, **facts)
+
+
+def bid_of(values, turn=1):
+    """The body of a bid: values, or the place of a rider."""
+    return {'turn': turn, 'place': values} if isinstance(values, int) else {'turn': turn, 'values': values}
+
+
+def body_of(body):
+    """A body as bytes: JSON, unless it is text or bytes already, or there is none."""
+    if isinstance(body, (bytes, type(None))):
+        return body
+    return (body if isinstance(body, str) else json.dumps(body)).encode()
+
+
+def request(method, path, body=None, key=None, closes=False):
+    """A request, as it is sent."""
+    text = body_of(body)
+    lines = [f'{method} {path} HTTP/1.1', 'Host: a', *(['Connection: close'] if closes else []), *([f'x-key: {key}'] if key else []),
+             *([] if text is None else [f'Content-Length: {len(text)}'])]
+    return '\r\n'.join([*lines, '', '']).encode() + (text or b'')
+
+
+def talked(port, sent, piece=None, is_all=False, timeout=60):
+    """Everything that comes back on a connection on which this is sent, at once or in pieces of so many bytes; and if it is all, the end of sending too."""
+    got = b''
+    with socket.create_connection(('127.0.0.1', port), timeout) as link:
+        link.setsockopt(socket.IPPROTO_TCP, socket.TCP_NODELAY, 1)
+        try:
+            for at in range(0, len(sent), piece or len(sent) or 1):
+                link.sendall(sent[at:at + (piece or len(sent))])
+            if is_all:
+                link.shutdown(socket.SHUT_WR)
+            while more := link.recv(65536):
+                got += more
+        except OSError:
+            pass
+    return got
 
 
 def asked(port, method, path, body=None, key=None, timeout=60, headers=(), source='127.0.0.1'):
     """Status, headers and text of a reply, on a connection of its own. A body that isn't text or bytes goes as JSON."""
     link = http.client.HTTPConnection('127.0.0.1', port, timeout=timeout, source_address=(source, 0))
-    if not isinstance(body, (str, bytes, type(None))):
-        body = json.dumps(body)
     try:
-        link.request(method, path, body, dict({'x-key': key} if key else {}, **dict(headers)))
+        link.request(method, path, body_of(body), dict({'x-key': key} if key else {}, **dict(headers)))
         reply = link.getresponse()
         return reply.status, {name.lower(): value for name, value in reply.getheaders()}, reply.read()
     finally:
         link.close()
+
+
+def played(port, facts, bids):
+    """Creates a round, sends everyone's bid, and closes it. Gives what the creation answered. Raises Refused if any of this is refused."""
+    def sends(path, body, key=None):
+        status, _, text = asked(port, 'POST', f'/instances{path}', body, key, timeout=PATIENCE)
+        if status not in (200, 201):
+            raise Refused(f'{path or "a creation"}: {status} {text[:200]!r}')
+        return json.loads(text)
+
+    made = sends('', facts)
+    for key, values in zip(made['keys'], bids):
+        sends(f'/{made["id"]}/bids', bid_of(values), key)
+    sends(f'/{made["id"]}/close', b'', made['organiser'])
+    return made
 
 
 def journal_events(journal):

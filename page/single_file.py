@@ -1,5 +1,5 @@
 """Makes the pages that are one file each: the modules of page/js in line, with the proved modules of page/judge, under a policy that allows these bytes
-alone. make_check and make_divide use it."""
+alone. page/make uses it."""
 import base64
 import hashlib
 import json
@@ -100,17 +100,3 @@ def whole(begin, title, why, workers, files):
 </body>
 </html>
 '''
-
-
-def main(name, doc, text):
-    """Writes page/NAME, or tells whether it is as it would be written."""
-    path = os.path.join(PAGE, name)
-    if sys.argv[1:] == ['--check']:
-        stands = os.path.exists(path) and text_of(name) == text
-        if not stands:
-            print(f'page/{name} is not as {os.path.relpath(sys.argv[0], os.path.dirname(PAGE))} writes it')
-        sys.exit(not stands)
-    if sys.argv[1:]:
-        sys.exit(doc)
-    with open(path, 'w', encoding='utf-8') as file:
-        file.write(text)

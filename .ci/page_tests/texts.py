@@ -11,7 +11,7 @@ PAGE = os.path.join(TOP, 'page')
 # The limits of page/js/rules.js, by the names of their constants.
 LISTED = {'name': 'LONGEST_NAME', 'members': 'MOST_MEMBERS', 'riders': 'MOST_RIDERS', 'goods': 'MOST_GOODS', 'places': 'MOST_PLACES', 'rent': 'MOST_RENT', 'cost': 'MOST_FARE_CENTS',
           'steps': 'MOST_STEPS', 'points': 'WHOLE_POINTS', 'turns': 'MOST_TURNS', 'certificate': 'MOST_BYTES', 'digits': 'MOST_DIGITS', 'denominator': 'MOST_PRINTED_DENOMINATOR'}
-UNLOADED = ('try', 'make_check', 'make_divide', 'single_file.py', 'policy.txt')  # no browser loads these
+UNLOADED = ('try', 'make', 'help_pages.py', 'single_file.py', 'policy.txt')  # no browser loads these
 OF_FILES = ('check.html', 'divide.html', 'js/alone.js', 'js/divide_alone.js', 'js/carried_alone.js', 'js/more_style_alone.js')  # the files that people can save, and what is only in them
 # Loaded only if something is checked, or divided without a server. Counted apart, like judge/ and the languages.
 OF_CHECKS = [f'js/{name}.js' for name in ('carried', 'check', 'judges', 'judge_task', 'judge_worker', 'module_of', 'verdict')]
@@ -348,8 +348,7 @@ def main():
     compare_sizes()
     measure_people()
     outside_of_proof()
-    for make in ('make_check', 'make_divide'):
-        check(f'{make} would write another file', subprocess.run([sys.executable, os.path.join(PAGE, make), '--check'], check=False).returncode == 0)
+    check('page/make would write other files', subprocess.run([sys.executable, os.path.join(PAGE, 'make'), '--check', 'check.html', 'divide.html'], check=False).returncode == 0)
     print(f'texts: {right} right, {wrong} wrong; {weight}; {policies}')
     sys.exit(wrong > 0)
 

@@ -1,30 +1,24 @@
-#!/usr/bin/env python3
-"""Makes the help pages from the Markdown of docs/: the same text as HTML, with next and previous, without scripts, in the style of the page.
-
-make            writes docs/site/*.html
-make --check    tells whether they are as they would be written
+"""Makes the help pages from the Markdown of docs/: the same text as HTML, with next and previous, without scripts, in the style of the page. page/make
+uses it.
 
 The pages lie beside the page under help/, so their style is ../style.css, and their pictures are ../pictures/. Whoever reads them has a server and no copy
 of this repository. So what stands between the two comments of HIDDEN is left out, a link to a document that is no help page becomes its words, and a page
-that still names a file of the repository is refused. It needs python3-markdown, as Debian has it; where that is missing, --check says so and passes.
+that still names a file of the repository is refused. It needs python3-markdown, as Debian has it.
 """
 import html
 import os
 import re
 import sys
 
-SYSTEM_PYTHON = '/usr/bin/python3'
 try:
     import markdown
     from markdown.extensions.toc import slugify_unicode
 except ImportError:
-    if os.access(SYSTEM_PYTHON, os.X_OK) and os.path.realpath(sys.executable) != os.path.realpath(SYSTEM_PYTHON):
-        os.execv(SYSTEM_PYTHON, [SYSTEM_PYTHON, *sys.argv])
-    print('site: not compared: there is no python3-markdown')
-    sys.exit(sys.argv[1:] != ['--check'])
+    markdown = None
 
-HERE = os.path.dirname(os.path.abspath(__file__))
-DOCS = os.path.join(HERE, '..')
+SYSTEM_PYTHON = '/usr/bin/python3'
+DOCS = os.path.normpath(os.path.join(os.path.dirname(os.path.abspath(__file__)), '../docs'))
+SITE = os.path.join(DOCS, 'site')
 # The pages of each language in their order: their source, with the section if it isn't the whole document, and their file.
 PAGES = {
     'en': [('MEMBERS.md', 'members.html'), ('ORGANISERS.md', 'organisers.html'), ('CERTIFICATES.md', 'certificates.html'), ('REFERENCE.md#Limits', 'limits.html')],
@@ -36,6 +30,12 @@ HIDDEN = re.compile(r'[ \n]*<!-- only in the repository -->.*?<!-- everywhere --
 NAMED = re.compile(r'\b[\w-]+\.(?:md|antt|rt|py|yaml)\b|\b(?:docs|crates|page|hosting|examples|python|include)/[\w.*-]+|\.ci/')
 SAID = {'en': {'back': 'Previous: ', 'on': 'Next: ', 'start': 'To the start page', 'other': 'Deutsch'},
         'de': {'back': 'Zurück: ', 'on': 'Weiter: ', 'start': 'Zur Startseite', 'other': 'English'}}
+
+
+def other_python():
+    """Another Python of this machine, which may have what this one lacks; or None."""
+    is_other = markdown is None and os.access(SYSTEM_PYTHON, os.X_OK) and os.path.realpath(sys.executable) != os.path.realpath(SYSTEM_PYTHON)
+    return SYSTEM_PYTHON if is_other else None
 
 
 def section_of(text, heading):
@@ -114,19 +114,15 @@ def page(pages, at, language):
 '''
 
 
-wrong = 0
-for tongue, pages in PAGES.items():
-    for place, (_, target) in enumerate(pages):
-        made = page(pages, place, tongue)
-        for named in sorted(set(NAMED.findall(re.sub(r'<[^>]*>', ' ', made)))):
-            print(f'site: {target} names {named}, which its reader does not have')
-            wrong += 1
-        path = os.path.join(HERE, target)
-        if sys.argv[1:] != ['--check']:
-            with open(path, 'w', encoding='utf-8') as written:
-                written.write(made)
-        elif not os.path.isfile(path) or open(path, encoding='utf-8').read() != made:
-            print(f'site: {target} is not what its source says: docs/site/make')
-            wrong += 1
-print(f'site: {sum(map(len, PAGES.values()))} help pages, {wrong} faults')
-sys.exit(wrong > 0)
+def named(text):
+    """The files of the repository that a help page names."""
+    return sorted(set(NAMED.findall(re.sub(r'<[^>]*>', ' ', text))))
+
+
+def made():
+    """All help pages: their texts, by their paths. A page that names a file of the repository ends all with an error."""
+    pages_made = {os.path.join(SITE, target): page(pages, place, tongue) for tongue, pages in PAGES.items() for place, (_, target) in enumerate(pages)}
+    strange = [f'{path} names {name}, which its reader does not have' for path, text in pages_made.items() for name in named(text)]
+    if strange:
+        sys.exit('\n'.join(strange))
+    return pages_made
