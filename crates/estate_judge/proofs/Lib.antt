@@ -1,7 +1,9 @@
 pub mod ClosedLeaves
 pub mod LineSteps
-pub mod NearestWeights
+pub mod NearestNodes
 pub mod NodeKinds
 pub mod NodeSteps
+pub mod NodesOnce
 pub mod Runs
+pub mod SmallShares
 pub mod UnitsOnce

@@ -2,7 +2,7 @@
 use Rattle.std.proofs.Common.{◌≡◌, ◌≢◌, ℕ, ◌+◌, ◌<◌, ◌≤◌, List, ◌++◌, length, replicate, get_or, drop, sym, ap, ◌∙◌, subst, None, drop-drop}
 use Rattle.estate_texts.specs.Given.{GivenLine}
 use Rattle.estate_judge.specs.declared.node.Node.{Node}
-use Rattle.estate_judge.specs.Nodes.{IsKind, StandsFirst, TakesLines, kind_marks}
+use Rattle.estate_judge.specs.Nodes.{IsKind, StandsFirst, TakesLines, TakesPrices, TakesWeights, kind_marks}
 use Rattle.estate_judge.proofs.NodeKinds.{kind_first}
 use Rattle.estate_judge.proofs.Runs.{not_first, run_is, run_once}
 
@@ -20,10 +20,10 @@ first_kind_is n count marks lines more node rest run h =
     (sym (run_is marks 33 count run.within run.before) ∙ h.marks_are)
 
 -- a node stands first
-pub stands_first : (n at count len : ℕ) (marks : List ℕ) (lines taken more : List GivenLine) (node : Node) → IsRun (drop at marks) count → length taken ≡ count → lines ≡ taken ++ more → TakesLines None taken node.weights
+pub stands_first : (n at count len : ℕ) (marks : List ℕ) (lines taken more : List GivenLine) (node : Node) → IsRun (drop at marks) count → length taken ≡ count → lines ≡ taken ++ more → TakesLines TakesWeights None taken node.weights → TakesLines TakesPrices None taken node.prices
     → drop count (drop at marks) ≡ kind_marks node.kind ++ drop len (drop count (drop at marks)) → IsKind n node.kind (drop len (drop count (drop at marks)))
     → StandsFirst n (drop at marks) lines node (drop (at + count + len) marks) more
-stands_first n at count len marks lines taken more node run long are weights mark kind =
+stands_first n at count len marks lines taken more node run long are weights prices mark kind =
     let past : drop len (drop count (drop at marks)) ≡ drop (at + count + len) marks = ap (drop len) (drop-drop count at marks) ∙ drop-drop len (at + count) marks in
     record {
       taken = taken;
@@ -31,5 +31,6 @@ stands_first n at count len marks lines taken more node run long are weights mar
       marks_are = run_is (drop at marks) 33 count run.within run.before ∙ ap (λ k. replicate k 33 ++ drop count (drop at marks)) (sym long)
           ∙ ap (λ xs. replicate (length taken) 33 ++ xs) (mark ∙ ap (λ xs. kind_marks node.kind ++ xs) past);
       weights = weights;
+      prices = prices;
       kind = subst (IsKind n node.kind) past kind;
     }

@@ -1,11 +1,14 @@
 -- The nodes of the tree of an estate, and how they are written: each takes lines of weights and prices by `!`, and then says by its mark what it is.
-use Rattle.std.specs.Prelude.{◌≡◌, ℕ, ◌+◌, ◌<◌, ◌≤◌, ◌⊎◌, List, [], ◌∷◌, ◌++◌, length, map, replicate, All, Option, None, Some, unsigned_abs}
+use Rattle.std.specs.Prelude.{◌≡◌, ℕ, ℤ, ◌+◌, ◌/◌, ◌<◌, ◌≤◌, ◌⊎◌, List, [], ◌∷◌, ◌++◌, drop, length, map, replicate, take, All, Option, None, Some, unsigned_abs}
+use Rattle.std.specs.Option.{option_or}
 use Rattle.arrayvec.specs.declared.array_vec.ArrayVec.{ArrayVec}
 use Rattle.bid_rules.specs.declared.limits.TheConstants.{MEMBER_ROOM, MOST_GOODS}
+use Rattle.estate_bounds.specs.declared.limits.TheConstants.{MOST_PRICE}
 use Rattle.estate_judge.specs.declared.limits.TheConstants.{MOST_WEIGHT}
 use Rattle.estate_judge.specs.declared.node.Kind.{Kind}
 use Rattle.estate_judge.specs.declared.node.Kind.TheVariants.{Answer, Closed, Inner, Twin}
 use Rattle.estate_judge.specs.declared.node.Node.{Node}
+use Rattle.estate_judge.specs.declared.node.PriceList.{PriceList}
 use Rattle.estate_texts.specs.declared.marks.TheConstants.{ANSWER_LEAF, CLOSED_LEAF, FIRST_PLAYER, INNER_NODE, NEXT_GIVEN, TWIN_LEAF}
 use Rattle.estate_texts.specs.Given.{GivenLine}
 use Rattle.estate_texts.specs.Given as given
@@ -44,23 +47,47 @@ abbrev pub IsKind : ℕ → Kind → List ℕ → Type 0
 IsKind players (Twin owners) rest = (1 ≤ length owners.items) × (length owners.items ≤ MOST_GOODS) × All (λ owner. (1 ≤ owner) × (owner ≤ players)) owners.items × HasNoLetter rest
 IsKind players kind rest = Unit {0}
 
--- what a line leaves of the weights that held before it: its own, if it has weights in range; otherwise those before
-abbrev pub TakesLine : Option WeightList → GivenLine → Option WeightList → Type 0
-TakesLine before (given.Weights numbers) after =
-    (AreBetween 1 MOST_WEIGHT numbers × (after ≡ Some (record { items = map unsigned_abs numbers }))) ⊎ ((AreBetween 1 MOST_WEIGHT numbers → ⊥) × (after ≡ before))
-TakesLine before (given.Prices numbers) after = after ≡ before
+-- these numbers take the place of those that held before, if they may be taken; otherwise those before hold on
+abbrev pub TakesIf : {A : Type 0} → Type 0 → A → Option A → Option A → Type 0
+TakesIf may own before after = (may × (after ≡ Some own)) ⊎ ((may → ⊥) × (after ≡ before))
 
--- what lines leave, one after another
-abbrev pub TakesLines : Option WeightList → List GivenLine → Option WeightList → Type 0
-TakesLines before [] after = after ≡ before
-TakesLines before (line ∷ lines) after = (between : Option WeightList) × TakesLine before line between × TakesLines between lines after
+-- what a line leaves of the weights that held before it: its own, if it has weights in range; otherwise those before
+abbrev pub TakesWeights : Option WeightList → GivenLine → Option WeightList → Type 0
+TakesWeights before (given.Weights numbers) after = TakesIf (AreBetween 1 MOST_WEIGHT numbers) (record { items = map unsigned_abs numbers }) before after
+TakesWeights before (given.Prices numbers) after = after ≡ before
+
+-- the first half of some numbers, and the second
+abbrev pub first_half : List ℤ → List ℤ
+first_half numbers = take (length numbers / 2) numbers
+
+abbrev pub second_half : List ℤ → List ℤ
+second_half numbers = drop (length numbers / 2) numbers
+
+-- the numbers can be prices: the first half of them rates, none of them 0, and the second half fees
+abbrev pub ArePriceNumbers : List ℤ → Type 0
+ArePriceNumbers numbers = AreBetween 1 MOST_PRICE (first_half numbers) × AreBetween 0 MOST_PRICE (second_half numbers)
+
+-- the prices that they are
+abbrev pub price_list : List ℤ → PriceList
+price_list numbers = record { rates = record { items = map unsigned_abs (first_half numbers) }; fees = record { items = map unsigned_abs (second_half numbers) } }
+
+-- what a line leaves of the prices that held before it
+abbrev pub TakesPrices : Option PriceList → GivenLine → Option PriceList → Type 0
+TakesPrices before (given.Weights numbers) after = after ≡ before
+TakesPrices before (given.Prices numbers) after = TakesIf (ArePriceNumbers numbers) (price_list numbers) before after
+
+-- what lines leave, one after another, if each leaves this
+abbrev pub TakesLines : {A : Type 0} → (Option A → GivenLine → Option A → Type 0) → Option A → List GivenLine → Option A → Type 0
+TakesLines Takes before [] after = after ≡ before
+TakesLines {A = A} Takes before (line ∷ lines) after = (between : Option A) × Takes before line between × TakesLines Takes between lines after
 
 -- the node comes first in these marks, and takes the first of these lines: a `!` for each line, and then its own mark. The other marks and lines follow
 pub record StandsFirst (players : ℕ) (marks : List ℕ) (lines : List GivenLine) (node : Node) (rest : List ℕ) (more : List GivenLine) : Type 0 where
   pub taken : List GivenLine
   pub lines_are : lines ≡ taken ++ more
   pub marks_are : marks ≡ replicate (length taken) NEXT_GIVEN ++ (kind_marks node.kind ++ rest)
-  pub weights : TakesLines None taken node.weights
+  pub weights : TakesLines TakesWeights None taken node.weights
+  pub prices : TakesLines TakesPrices None taken node.prices
   pub kind : IsKind players node.kind rest
 
 -- the marks and the lines are those of these nodes, in order
@@ -68,16 +95,18 @@ abbrev pub AreNodes : ℕ → List ℕ → List GivenLine → List Node → Type
 AreNodes players marks lines [] = (marks ≡ []) × (lines ≡ [])
 AreNodes players marks lines (node ∷ nodes) = (rest : List ℕ) × (more : List GivenLine) × StandsFirst players marks lines node rest more × AreNodes players rest more nodes
 
--- a node's own weights, or else those above
-abbrev pub nearer : Option WeightList → Option WeightList → Option WeightList
-nearer (Some weights) above = Some weights
-nearer None above = above
+-- the weights that a node takes, and the prices
+abbrev pub weights_of : Node → Option WeightList
+weights_of node = node.weights
 
--- of nodes that lead down from the root, the last weights that one of them takes
-abbrev pub nearest_of : List Node → Option WeightList → Option WeightList
-nearest_of [] last = last
-nearest_of (node ∷ nodes) last = nearest_of nodes (nearer node.weights last)
+abbrev pub prices_of : Node → Option PriceList
+prices_of node = node.prices
 
--- the weights nearest to a node below these: its own, or else those of the nearest node above that takes some
-abbrev pub nearest : List Node → Node → Option WeightList
-nearest above node = nearer node.weights (nearest_of above None)
+-- of nodes that lead down from the root, the last numbers that one of them takes
+abbrev pub nearest_of : {A : Type 0} → (Node → Option A) → List Node → Option A → Option A
+nearest_of taken [] last = last
+nearest_of taken (node ∷ nodes) last = nearest_of taken nodes (option_or (taken node) last)
+
+-- the numbers nearest to a node below these: its own, or else those of the nearest node above that takes some
+abbrev pub nearest : {A : Type 0} → (Node → Option A) → List Node → Node → Option A
+nearest taken above node = option_or (taken node) (nearest_of taken above None)

@@ -1,14 +1,11 @@
 // Judges the leaves of the tree of an estate.
-ghost use Rattle.std.specs.Prelude.{◌≡◌, ◌≢◌, ◌↔◌, ℕ, ◌<◌, ◌≤◌, ◌⊎◌, All, IsTrue, MatchOption, None, Some, length, true, false};
-ghost use Rattle.bid_rules.specs.Goods.{IsValidGoodsCase, player_count, utilities};
+ghost use Rattle.std.specs.Prelude.{◌≡◌, ◌≢◌, ◌↔◌, ℕ, ◌<◌, ◌≤◌, IsTrue, MatchOption, Some, length, true, false};
+ghost use Rattle.bid_rules.specs.Goods.{IsValidGoodsCase, player_count};
 ghost use Rattle.bid_rules.specs.declared.limits.TheConstants.{ITEM_ROOM};
-ghost use Rattle.estate_bounds.specs.Shown.{shares_of, weights_close};
-ghost use Rattle.estate_bounds.specs.Weighted.{AreWeights};
 ghost use Rattle.estate_judge.specs.Grounds.{IsGround};
-ghost use Rattle.estate_judge.specs.Leaves.{IsClosedByUnits, IsClosedByWeights, KeepsRule, with_last};
-ghost use Rattle.estate_judge.specs.Nodes.{IsInner, nearest};
+ghost use Rattle.estate_judge.specs.Leaves.{KeepsRule, with_last};
+ghost use Rattle.estate_judge.specs.Nodes.{IsInner};
 ghost use Rattle.nash_bounds.specs.Lanes.{IsLanes};
-ghost use Rattle.nash_bounds.specs.LeftOut.{is_after};
 ghost use Rattle.prefix_trees.specs.declared.limits.TheConstants.{RULE_ROOM};
 ghost use Rattle.prefix_trees.specs.Fronts.{IsFront};
 ghost use Rattle.prefix_trees.specs.Twins.{IsTwin};
@@ -19,11 +16,8 @@ use arrayvec::ArrayVec;
 use best_laws::players_law;
 use bid_rules::GoodsCase;
 use bid_rules::limits::ITEM_ROOM;
-use estate_bounds::Weights;
-use estate_bounds::limits::WeightList;
-use nash_bounds::{Lanes, players};
+use nash_bounds::Lanes;
 use prefix_trees::{Closing, is_twin};
-use std::cmp::Ordering;
 
 /// The rule that the nodes are one tree.
 pub const SHAPE_RULE: u8 = 3;
@@ -35,28 +29,6 @@ pub const WHOLE_RULE: u8 = 7;
 pub const ANSWER_RULE: u8 = 8;
 /// The rule on twins.
 pub const TWIN_RULE: u8 = 9;
-
-// The weights nearest to a node.
-fn nearest<'a>(above: &'a [Node], node: &'a Node) -> Option<&'a WeightList>
-    ensures { MatchOption result (nearest above.now node.now ≡ None)
-        (λ weights. nearest above.now node.now ≡ Some weights.now) }
-{
-    if let Some(weights) = &node.weights {
-        return Some(weights);
-    }
-    match above.split_last() {
-        Some((last, rest)) => nearest(rest, last),
-        None => None,
-    }
-}
-
-// Whether the owners come after the answer's first ones.
-fn comes_after(owners: &[u8], answer: &[u8]) -> bool
-    requires { length owners.now ≤ length answer.now }
-    ensures { result ≡ is_after answer.now owners.now }
-{
-    owners.cmp(&answer[..owners.len()]) == Ordering::Greater
-}
 
 // The owners with other last ones.
 fn with_last(owners: &[u8], last: &[u8]) -> ArrayVec<u8, ITEM_ROOM>
@@ -75,13 +47,6 @@ fn with_last(owners: &[u8], last: &[u8]) -> ArrayVec<u8, ITEM_ROOM>
     list
 }
 
-// Whether there is a weight for each player, and none of them is 0.
-fn are_weights(case: &GoodsCase, weights: &[u16]) -> bool
-    ensures { IsTrue result ↔ AreWeights case.now weights.now }
-{
-    weights.len() == usize::from(players(case)) && weights.iter().all(|weight| *weight >= 1)
-}
-
 // The rule, unless it holds.
 fn unless(holds: bool, rule: u8) -> Option<u8>
     ensures { MatchOption result (holds ≡ true) (λ broken. (holds ≡ false) × (broken ≡ rule)) }
@@ -90,74 +55,6 @@ fn unless(holds: bool, rule: u8) -> Option<u8>
 }
 
 impl Ground {
-    // Whether the weights close the owners.
-    fn weights_close(&self, owners: &[u8], lanes: &Lanes, weights: &WeightList, after: bool) -> bool
-        requires ground { IsGround self.now }
-        requires front { IsFront self.now.case owners.now }
-        requires lanes { IsLanes self.now.case owners.now lanes.now }
-        ensures { IsTrue result
-            ↔ AreWeights self.now.case weights.now.items
-            × (weights_close self.now.case owners.now weights.now.items
-            (shares_of (utilities self.now.case self.now.owners.items)) after ≡ true) }
-    {
-        if !are_weights(&self.case, weights) {
-            return false;
-        }
-        let weights = Weights::new(&self.case, &self.table, weights.as_slice());
-        weights.close(
-            &self.case,
-            &self.table,
-            owners,
-            lanes,
-            self.shares.as_slice(),
-            after,
-        )
-    }
-
-    // Whether their bound closes the owners, counted in units.
-    fn units_close(&self, owners: &[u8], lanes: &Lanes) -> bool
-        requires ground { IsGround self.now }
-        requires front { IsFront self.now.case owners.now }
-        requires lanes { IsLanes self.now.case owners.now lanes.now }
-        ensures { IsTrue result ↔ IsClosedByUnits self.now.case self.now.owners.items owners.now }
-    {
-        let after = comes_after(owners, self.owners.as_slice());
-        self.units
-            .close(&self.case, self.owners.as_slice(), owners, lanes, after)
-    }
-
-    // Whether the nearest weights close the owners.
-    fn nearest_close(&self, owners: &[u8], lanes: &Lanes, above: &[Node], node: &Node) -> bool
-        requires ground { IsGround self.now }
-        requires front { IsFront self.now.case owners.now }
-        requires lanes { IsLanes self.now.case owners.now lanes.now }
-        ensures { IsTrue result
-            ↔ IsClosedByWeights self.now.case self.now.owners.items (nearest above.now node.now)
-            owners.now }
-    {
-        let after = comes_after(owners, self.owners.as_slice());
-        match nearest(above, node) {
-            Some(weights) => self.weights_close(owners, lanes, weights, after),
-            None => false,
-        }
-    }
-
-    // Whether the nearest weights or their bound close the owners.
-    fn closes(&self, owners: &[u8], lanes: &Lanes, above: &[Node], node: &Node) -> bool
-        requires ground { IsGround self.now }
-        requires front { IsFront self.now.case owners.now }
-        requires lanes { IsLanes self.now.case owners.now lanes.now }
-        ensures { IsTrue result
-            ↔ IsClosedByWeights self.now.case self.now.owners.items (nearest above.now node.now)
-            owners.now
-            ⊎ IsClosedByUnits self.now.case self.now.owners.items owners.now }
-    {
-        if self.nearest_close(owners, lanes, above, node) {
-            return true;
-        }
-        self.units_close(owners, lanes)
-    }
-
     // The rule that a closed leaf breaks.
     fn closed_breaks(&self, owners: &[u8], lanes: &Lanes, above: &[Node], node: &Node) -> Option<u8>
         requires ground { IsGround self.now }

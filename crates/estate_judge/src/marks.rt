@@ -17,15 +17,15 @@ use estate_texts::marks::{
     ANSWER_LEAF, CLOSED_LEAF, FIRST_PLAYER, INNER_NODE, NEXT_GIVEN, TWIN_LEAF,
 };
 
-// A node, and what comes behind it.
+/// A node, and what comes behind it.
 #[derive(Drop)]
-pub(crate) struct TakenNode {
-    // The node.
-    pub(crate) node: Node,
-    // The place of the next mark.
-    pub(crate) next: usize,
-    // The place of the next line of weights or prices.
-    pub(crate) next_given: usize,
+pub struct TakenNode {
+    /// The node.
+    pub node: Node,
+    /// The place of the next mark.
+    pub next: usize,
+    /// The place of the next line of weights or prices.
+    pub next_given: usize,
 }
 
 // A kind of node, and how many marks it has.
@@ -146,8 +146,8 @@ fn first_kind(marks: &[u8], players: u8) -> Option<TakenKind>
     }
 }
 
-// The node that comes first from a place on, with the lines that it takes.
-pub(crate) fn next_node(
+/// The node that comes first from a place on, with the lines that it takes.
+pub fn next_node(
     marks: &[u8],
     at: usize,
     given: &[u8],
@@ -183,6 +183,7 @@ pub(crate) fn next_node(
         Some(lines) => Some(TakenNode {
             node: Node {
                 weights: lines.weights,
+                prices: lines.prices,
                 kind: kind.kind,
             },
             next: at + count + kind.len,

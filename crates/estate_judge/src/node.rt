@@ -1,8 +1,17 @@
 // The nodes of the tree of an estate.
 
 use arrayvec::ArrayVec;
-use bid_rules::limits::ITEM_ROOM;
+use bid_rules::limits::{ITEM_ROOM, MEMBER_ROOM};
 use estate_bounds::limits::WeightList;
+
+/// A rate and a fee for each player.
+#[derive(Drop)]
+pub struct PriceList {
+    /// What each player pays for a point.
+    pub rates: ArrayVec<u32, MEMBER_ROOM>,
+    /// What each player pays for a free good.
+    pub fees: ArrayVec<u32, MEMBER_ROOM>,
+}
 
 /// What a node is.
 #[derive(Drop)]
@@ -22,6 +31,8 @@ pub enum Kind {
 pub struct Node {
     /// The weights that it takes, which hold for it and for all that is below it.
     pub weights: Option<WeightList>,
+    /// The prices that it takes, which hold as long.
+    pub prices: Option<PriceList>,
     /// What it is.
     pub kind: Kind,
 }
@@ -30,6 +41,7 @@ impl Default for Node {
     fn default() -> Node {
         Node {
             weights: None,
+            prices: None,
             kind: Kind::Inner,
         }
     }

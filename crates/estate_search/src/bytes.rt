@@ -18,12 +18,18 @@ pub(crate) fn put_number(text: &mut Vec<u8>, number: u32) -> Result<(), NoMemory
     put(text, buffer.format(number).as_bytes())
 }
 
-/// Puts a line at the end: a word and some numbers.
-pub(crate) fn put_line(text: &mut Vec<u8>, word: &str, numbers: &[u32]) -> Result<(), NoMemory> {
-    put(text, word.as_bytes())?;
+/// Puts numbers at the end, each with a space before it.
+pub(crate) fn put_numbers(text: &mut Vec<u8>, numbers: &[u32]) -> Result<(), NoMemory> {
     for number in numbers {
         put_number(text, *number)?;
     }
+    Ok(())
+}
+
+/// Puts a line at the end: a word and some numbers.
+pub(crate) fn put_line(text: &mut Vec<u8>, word: &str, numbers: &[u32]) -> Result<(), NoMemory> {
+    put(text, word.as_bytes())?;
+    put_numbers(text, numbers)?;
     put(text, b"\n")
 }
 

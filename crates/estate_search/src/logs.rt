@@ -16,7 +16,7 @@ const TWO: u64 = 1 << 61;
 
 /// The logarithms of 1 to 2, in steps of 1 in 1024.
 #[derive(Drop)]
-pub(crate) struct Logs {
+pub(crate) struct RoughLogs {
     cells: [u32; CELL_ROOM],
 }
 
@@ -43,13 +43,13 @@ fn square(number: u64) -> u64 {
     ((wide * wide) / u128::from(ONE)).min(u128::from(u64::MAX)) as u64
 }
 
-impl Logs {
-    pub(crate) fn new() -> Logs {
+impl RoughLogs {
+    pub(crate) fn new() -> RoughLogs {
         let mut cells = [0; CELL_ROOM];
         for cell in 0..CELL_ROOM {
             cells[cell] = log_of_cell(cell);
         }
-        Logs { cells }
+        RoughLogs { cells }
     }
 
     /// The logarithm of a number, in units of 2^-24. That of 0 counts as that of 1.

@@ -1,10 +1,11 @@
-// Weights as a certificate states them, from those of the search.
+// Weights and prices as a certificate states them, from those of the search.
 ghost use Rattle.std.specs.Prelude.{◌≡◌, ◌≤◌, All, length};
 
+use crate::pricing::FINE_PARTS;
 use crate::shares::Fine;
 use arrayvec::ArrayVec;
 use bid_rules::limits::MEMBER_ROOM;
-use estate_bounds::limits::WeightList;
+use estate_bounds::limits::{MOST_PRICE, WeightList};
 
 // Weights for the players from those of the search, with this as the greatest.
 pub(crate) fn rounded(fine: &Fine, players: u8, greatest: u16) -> WeightList
@@ -41,4 +42,25 @@ fn rounded_weight(weight: u64, most: u64, greatest: u16) -> u16
         .wrapping_add(most / 2)
         / most;
     scaled.clamp(1, u64::from(u16::MAX)) as u16
+}
+
+// Rates or fees for the players from those of the search.
+pub(crate) fn rounded_prices(fine: &[i64; MEMBER_ROOM], players: u8) -> ArrayVec<u32, MEMBER_ROOM>
+    requires { players ≤ MEMBER_ROOM }
+    ensures each { length result.items ≡ players }
+    ensures small { All (λ price. price ≤ MOST_PRICE) result.items }
+{
+    let mut prices = ArrayVec::new();
+    for k in 0..usize::from(players) {
+        prices.push(rounded_price(fine[k]));
+    }
+    prices
+}
+
+// The nearest rate or fee that can be stated.
+fn rounded_price(fine: i64) -> u32
+    ensures { result ≤ MOST_PRICE }
+{
+    let parts = fine.saturating_add(FINE_PARTS / 2) / FINE_PARTS;
+    parts.clamp(0, i64::from(MOST_PRICE)) as u32
 }

@@ -3,7 +3,7 @@ ghost use Rattle.std.specs.Prelude.{◌≡◌};
 
 use crate::ending::{Ending, Found, Owners};
 use crate::estate::Estate;
-use crate::logs::Logs;
+use crate::logs::RoughLogs;
 use crate::matching::{greatest_matching, short_players};
 use crate::start::start_draft;
 use crate::stops::Stop;
@@ -30,7 +30,7 @@ struct Shown {
 #[derive(Drop)]
 pub struct Search {
     estate: Estate,
-    logs: Logs,
+    logs: RoughLogs,
     limit: u32,
     // The players who show how many can have points.
     short: ArrayVec<u8, MEMBER_ROOM>,
@@ -70,7 +70,7 @@ impl Search {
         let owners = drafted(&case, &draft);
         let mut search = Search {
             estate: Estate::new(case, table, owners),
-            logs: Logs::new(),
+            logs: RoughLogs::new(),
             limit,
             short,
             walk: Walk::new(alloc, limit),

@@ -2,7 +2,7 @@
 ghost use Rattle.std.specs.Prelude.{◌<◌, ◌≤◌};
 ghost use Rattle.bid_rules.specs.declared.limits.TheConstants.{MEMBER_ROOM};
 
-use crate::logs::Logs;
+use crate::logs::RoughLogs;
 use bid_rules::limits::MEMBER_ROOM;
 use nash_bounds::LaneRow;
 use nash_bounds::limits::LANES;
@@ -47,7 +47,7 @@ impl<'a> Aim<'a> {
         rows: &'a [LaneRow],
         low: &'a [u16; LANES],
         players: usize,
-        logs: &Logs,
+        logs: &RoughLogs,
         shares: &[u64],
     ) -> Aim<'a>
         requires { players ≤ MEMBER_ROOM }
@@ -73,7 +73,7 @@ impl<'a> Aim<'a> {
     }
 
     // What the players have before any free good is shared.
-    fn held(&self, logs: &Logs, fine: &Fine) -> Look {
+    fn held(&self, logs: &RoughLogs, fine: &Fine) -> Look {
         let mut look = Look {
             parts: [0; MEMBER_ROOM],
             whole: 0,
@@ -91,8 +91,8 @@ impl<'a> Aim<'a> {
         look
     }
 
-    // What the good is worth to each player who may get it.
-    fn worth(&self, fine: &Fine, row: &LaneRow) -> [u64; MEMBER_ROOM] {
+    /// What the good is worth to each player who may get it.
+    pub(crate) fn worth(&self, fine: &Fine, row: &LaneRow) -> [u64; MEMBER_ROOM] {
         let points = row.points.as_array();
         let mut worth = [0; MEMBER_ROOM];
         for k in 0..self.players {
@@ -104,7 +104,7 @@ impl<'a> Aim<'a> {
     }
 
     // Shares one free good.
-    fn share(&self, logs: &Logs, fine: &Fine, squarings: u8, row: &LaneRow, look: &mut Look) {
+    fn share(&self, logs: &RoughLogs, fine: &Fine, squarings: u8, row: &LaneRow, look: &mut Look) {
         let worth = self.worth(fine, row);
         let most = greatest(&worth);
         if most == 0 {
@@ -132,8 +132,13 @@ impl<'a> Aim<'a> {
         }
     }
 
-    // The shares of a good: those to whom it is worth nearly most get nearly all.
-    fn shares_of(&self, worth: &[u64; MEMBER_ROOM], most: u64, squarings: u8) -> [u32; MEMBER_ROOM]
+    /// The shares of a good: those to whom it is worth nearly most get nearly all.
+    pub(crate) fn shares_of(
+        &self,
+        worth: &[u64; MEMBER_ROOM],
+        most: u64,
+        squarings: u8,
+    ) -> [u32; MEMBER_ROOM]
         requires { 0 < most }
     {
         let inverse = (1 << 48) / most;
@@ -151,7 +156,7 @@ impl<'a> Aim<'a> {
     }
 
     /// What the weights come to, before the weights themselves are taken off the value.
-    pub(crate) fn look(&self, logs: &Logs, fine: &Fine, squarings: u8) -> Look {
+    pub(crate) fn look(&self, logs: &RoughLogs, fine: &Fine, squarings: u8) -> Look {
         let mut look = self.held(logs, fine);
         for row in self.rows {
             self.share(logs, fine, squarings, row, &mut look);
@@ -170,7 +175,7 @@ fn having(low: &[u16; LANES]) -> u8 {
 }
 
 // The logarithm of the product of the shares.
-fn product_log(logs: &Logs, shares: &[u64]) -> i64 {
+fn product_log(logs: &RoughLogs, shares: &[u64]) -> i64 {
     let mut sum: i64 = 0;
     for share in shares {
         sum = sum.saturating_add(logs.of(*share));

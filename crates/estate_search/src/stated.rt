@@ -1,15 +1,18 @@
-// Which weights a certificate states, and in how few digits.
+// Which weights and prices a certificate states, and the weights in how few digits.
 ghost use Rattle.std.specs.Prelude.{◌≡◌, ◌≤◌, All, IfSome};
+ghost use Rattle.estate_bounds.specs.Prices.{IsPriced};
 ghost use Rattle.estate_bounds.specs.Sums.{IsWeighted};
+ghost use Rattle.estate_search.specs.Estates.{IsAbove};
 ghost use Rattle.estate_search.specs.Fronts.{IsLanedFront};
 
+use crate::above::Above;
 use crate::estate::Estate;
 use crate::fronts::Front;
 use crate::players::copied;
 use crate::shares::Fine;
 use arrayvec::ArrayVec;
 use bid_rules::limits::MEMBER_ROOM;
-use estate_bounds::Weights;
+use estate_bounds::{Prices, Weights};
 
 /// The greatest weight that a certificate can state.
 pub(crate) const MOST_WEIGHT: u16 = u16::MAX;
@@ -73,8 +76,8 @@ fn close_all(estate: &Estate, weights: &Weights, fronts: &[Front]) -> bool
 }
 
 // Whether each of the prefixes is closed without further weights.
-fn are_closed(estate: &Estate, above: Option<&Weights>, fronts: &[Front]) -> bool
-    requires above { IfSome above (λ weights. IsWeighted estate.now weights.now) }
+fn are_closed(estate: &Estate, above: &Above, fronts: &[Front]) -> bool
+    requires above { IsAbove estate.now above.now }
     requires fronts { All (IsLanedFront estate.now) fronts.now }
 {
     for front in fronts {
@@ -98,13 +101,8 @@ pub(crate) fn narrowest(estate: &Estate, fine: &Fine, fronts: &[Front]) -> u16
 }
 
 /// The greatest of the weights to state at a prefix that is opened, if they close something that isn't closed without them.
-pub(crate) fn stated(
-    estate: &Estate,
-    fine: &Fine,
-    front: &Front,
-    above: Option<&Weights>,
-) -> Option<u16>
-    requires above { IfSome above (λ weights. IsWeighted estate.now weights.now) }
+pub(crate) fn stated(estate: &Estate, fine: &Fine, front: &Front, above: &Above) -> Option<u16>
+    requires above { IsAbove estate.now above.now }
 {
     if front.owners.len() + 1 >= estate.goods() {
         return None;
@@ -115,4 +113,31 @@ pub(crate) fn stated(
         return None;
     }
     Some(narrowest(estate, fine, closed.as_slice()))
+}
+
+// Whether the prices close the prefix with the next good given to the player, and nothing above does.
+fn closes_more(estate: &Estate, prices: &Prices, front: &Front, above: &Above, player: u8) -> bool
+    requires prices { IsPriced estate.now prices.now }
+    requires above { IsAbove estate.now above.now }
+{
+    match child_of(estate, front, player) {
+        Some(child) => estate.prices_close(prices, &child) && !estate.is_closed(above, &child),
+        None => false,
+    }
+}
+
+/// Whether to state the prices at a prefix that is opened: whether they close something that isn't closed without them.
+pub(crate) fn states_prices(estate: &Estate, prices: &Prices, front: &Front, above: &Above) -> bool
+    requires prices { IsPriced estate.now prices.now }
+    requires above { IsAbove estate.now above.now }
+{
+    if front.owners.len() + 1 >= estate.goods() {
+        return false;
+    }
+    for player in 1..estate.players() + 1 {
+        if closes_more(estate, prices, front, above, player) {
+            return true;
+        }
+    }
+    false
 }

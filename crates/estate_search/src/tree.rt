@@ -1,16 +1,15 @@
 // The tree of a certificate as it grows: its marks, and the lines that they take.
 ghost use Rattle.std.specs.Prelude.{◌≡◌};
 
-use crate::bytes::{put, put_number};
+use crate::bytes::{put, put_number, put_numbers};
 use crate::players::OwnerList;
 use crate::stops::Stop;
-use split_base::NoMemory;
 use std::alloc::Global;
 
 /// The longest text, in bytes.
 pub(crate) const MOST_BYTES: usize = 4_000_000;
 
-/// The marks in the order of the tree, and the lines of weights that the marks `!` take.
+/// The marks in the order of the tree, and the lines of weights and prices that the marks `!` take.
 #[derive(Drop)]
 pub(crate) struct Tree {
     pub(crate) lines: Vec<u8>,
@@ -47,19 +46,24 @@ impl Tree {
         Ok(())
     }
 
-    // Puts a line of weights.
-    fn put_line(&mut self, weights: &[u16]) -> Result<(), NoMemory> {
+    /// Puts the mark that takes a line of weights, and the line.
+    pub(crate) fn put_weights(&mut self, weights: &[u16]) -> Result<(), Stop> {
+        self.put(b'!')?;
         put(&mut self.lines, b"weights")?;
         for weight in weights {
             put_number(&mut self.lines, u32::from(*weight))?;
         }
-        put(&mut self.lines, b"\n")
+        put(&mut self.lines, b"\n")?;
+        Ok(())
     }
 
-    /// Puts the mark that takes a line of weights, and the line.
-    pub(crate) fn put_weights(&mut self, weights: &[u16]) -> Result<(), Stop> {
+    /// Puts the mark that takes a line of prices, and the line: the rates, and then the fees.
+    pub(crate) fn put_prices(&mut self, rates: &[u32], fees: &[u32]) -> Result<(), Stop> {
         self.put(b'!')?;
-        self.put_line(weights)?;
+        put(&mut self.lines, b"prices")?;
+        put_numbers(&mut self.lines, rates)?;
+        put_numbers(&mut self.lines, fees)?;
+        put(&mut self.lines, b"\n")?;
         Ok(())
     }
 

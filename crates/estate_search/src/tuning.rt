@@ -8,7 +8,7 @@ ghost use Rattle.estate_search.specs.Fronts.{IsLanedFront};
 
 use crate::estate::Estate;
 use crate::fronts::Front;
-use crate::logs::{Logs, NEAR};
+use crate::logs::{NEAR, RoughLogs};
 use crate::shares::{Aim, Fine, Look, greatest};
 use crate::stated::MOST_WEIGHT;
 use bid_rules::limits::MEMBER_ROOM;
@@ -86,7 +86,7 @@ fn rank(aim: &Aim<'_>, fine: &Fine, player: usize) -> u8
 // The logarithm of the bound that the weights give.
 fn value_of(
     aim: &Aim<'_>,
-    logs: &Logs,
+    logs: &RoughLogs,
     fine: &Fine,
     look: &Look,
     counted: &[bool; MEMBER_ROOM],
@@ -107,7 +107,7 @@ fn value_of(
 }
 
 // The logarithm of the product that the shares of the goods reach.
-fn reached(aim: &Aim<'_>, logs: &Logs, look: &Look) -> i64 {
+fn reached(aim: &Aim<'_>, logs: &RoughLogs, look: &Look) -> i64 {
     let mut reached: i64 = 0;
     for k in 0..aim.players {
         if look.parts[k] == 0 {
@@ -119,7 +119,7 @@ fn reached(aim: &Aim<'_>, logs: &Logs, look: &Look) -> i64 {
 }
 
 // Whether the shares of the goods reach the goal, so that no weights can close the prefix.
-fn is_hopeless(aim: &Aim<'_>, logs: &Logs, look: &Look) -> bool {
+fn is_hopeless(aim: &Aim<'_>, logs: &RoughLogs, look: &Look) -> bool {
     usize::from(aim.count) == aim.players
         && !aim.one_each
         && reached(aim, logs, look) > aim.goal.saturating_add(NEAR)
@@ -193,7 +193,7 @@ fn closes(estate: &Estate, front: &Front, goal: i64, value: i64, fine: &Fine) ->
 }
 
 /// Looks for weights that close the prefix, from those at which to start.
-pub(crate) fn tune(estate: &Estate, logs: &Logs, front: &Front, start: &Fine) -> Tuned
+pub(crate) fn tune(estate: &Estate, logs: &RoughLogs, front: &Front, start: &Fine) -> Tuned
     requires { IsLanedFront estate.now front.now }
 {
     let aim = estate.aim(logs, front);

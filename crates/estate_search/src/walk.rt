@@ -1,32 +1,41 @@
 // The walk through the prefixes, depth first in search order. It writes the tree of the certificate as it goes.
 ghost use Rattle.std.specs.Prelude.{◌≡◌, IfSome, length};
+ghost use Rattle.estate_bounds.specs.Prices.{IsPriced};
 ghost use Rattle.estate_bounds.specs.Sums.{IsWeighted};
+ghost use Rattle.estate_search.specs.Estates.{IsAbove};
 ghost use Rattle.estate_search.specs.Fronts.{IsLanedFront};
 
+use crate::above::Above;
 use crate::estate::Estate;
 use crate::fronts::Front;
-use crate::logs::Logs;
+use crate::logs::RoughLogs;
 use crate::players::{OwnerList, copied};
+use crate::price_tuning::{TunedPrices, tune_prices};
+use crate::pricing::{FinePrices, from_weights};
 use crate::shares::Fine;
-use crate::stated::{narrowest, stated};
+use crate::stated::{narrowest, stated, states_prices};
 use crate::stops::Stop;
 use crate::tree::Tree;
 use crate::tuning::{even, tune};
 use crate::twins::{Key, Twins, twin_of};
 use arrayvec::ArrayVec;
 use bid_rules::limits::ITEM_ROOM;
-use estate_bounds::Weights;
+use estate_bounds::{Prices, Weights};
 use std::alloc::Global;
 use std::cmp::Ordering;
 use std::slice;
 
-// A prefix that was opened: which player gets the next good next, the weights to tune on from, and those that are stated there.
+// A prefix that was opened: which player gets the next good next, the weights and prices to tune on from, and those that are stated there.
 #[derive(Clone, Copy, Default)]
 struct Level {
     next: u8,
     fine: Fine,
     // The greatest of the weights that are stated there, if any are.
     greatest: Option<u16>,
+    // The prices, if any were sought.
+    prices: Option<FinePrices>,
+    // Whether they are stated there.
+    states_prices: bool,
 }
 
 /// A walk through the prefixes.
@@ -40,6 +49,9 @@ pub(crate) struct Walk {
     owners: OwnerList,
     levels: ArrayVec<Level, ITEM_ROOM>,
     twins: Twins,
+    // How often prices could have been sought, and how often they closed a prefix.
+    asked: u32,
+    priced: u32,
 }
 
 impl Walk {
@@ -53,15 +65,20 @@ impl Walk {
             owners: ArrayVec::new(),
             levels: ArrayVec::new(),
             twins: Twins::new(alloc),
+            asked: 0,
+            priced: 0,
         }
     }
 
     /// Begins with the prefix of no goods.
-    pub(crate) fn begin(&mut self, estate: &Estate, logs: &Logs) -> Result<(), Stop> {
+    pub(crate) fn begin(&mut self, estate: &Estate, logs: &RoughLogs) -> Result<(), Stop> {
         let Some(front) = estate.front_of(&[]) else {
             return Err(Stop::Steps);
         };
-        let start = even(usize::from(estate.players()));
+        let start = Level {
+            fine: even(usize::from(estate.players())),
+            ..Level::default()
+        };
         self.open(estate, logs, &front, &start)?;
         Ok(())
     }
@@ -72,7 +89,7 @@ impl Walk {
     }
 
     // The nearest weights on the way to the prefixes below the last level.
-    fn nearest(&self, estate: &Estate) -> Option<Weights>
+    fn nearest_weights(&self, estate: &Estate) -> Option<Weights>
         ensures { IfSome result (IsWeighted estate.now) }
     {
         for level in self.levels.iter().rev() {
@@ -83,40 +100,134 @@ impl Walk {
         None
     }
 
-    // Opens a prefix that isn't closed yet, unless weights of its own close it. Whether it was opened.
-    fn open(
+    // The nearest prices on the way to them.
+    fn nearest_prices(&self, estate: &Estate) -> Option<Prices>
+        ensures { IfSome result (IsPriced estate.now) }
+    {
+        for level in self.levels.iter().rev() {
+            if let Some(prices) = &level.prices {
+                if level.states_prices {
+                    return Some(estate.prices(prices));
+                }
+            }
+        }
+        None
+    }
+
+    // The nearest of both.
+    fn above(&self, estate: &Estate) -> Above
+        ensures { IsAbove estate.now result }
+    {
+        Above {
+            weights: self.nearest_weights(estate),
+            prices: self.nearest_prices(estate),
+        }
+    }
+
+    // Whether prices are sought. That takes long, so where they seldom close anything, they are sought only at one of eight prefixes.
+    fn seeks_prices(&mut self, estate: &Estate) -> bool {
+        if !estate.gives_to_all() {
+            return false;
+        }
+        self.asked = self.asked.saturating_add(1);
+        self.asked <= 64 || self.priced.saturating_mul(16) >= self.asked || self.asked % 8 == 0
+    }
+
+    // The prices sought where weights fail.
+    fn seek_prices(
         &mut self,
         estate: &Estate,
-        logs: &Logs,
+        logs: &RoughLogs,
         front: &Front,
-        start: &Fine,
-    ) -> Result<bool, Stop>
+        start: &Level,
+        weights: &Fine,
+    ) -> Option<TunedPrices>
         requires { IsLanedFront estate.now front.now }
     {
-        let tuned = tune(estate, logs, front, start);
+        if !self.seeks_prices(estate) {
+            return None;
+        }
+        let aim = estate.aim(logs, front);
+        let start = match &start.prices {
+            Some(prices) => *prices,
+            None => from_weights(&aim, weights),
+        };
+        let tuned = tune_prices(estate, &aim, front, &start);
+        self.priced = self.priced.saturating_add(u32::from(tuned.close));
+        Some(tuned)
+    }
+
+    // Closes a prefix that isn't closed yet, if weights or prices of its own do. Otherwise the level to open it with.
+    fn close(
+        &mut self,
+        estate: &Estate,
+        logs: &RoughLogs,
+        front: &Front,
+        start: &Level,
+    ) -> Result<Option<Level>, Stop>
+        requires { IsLanedFront estate.now front.now }
+    {
+        let tuned = tune(estate, logs, front, &start.fine);
         if tuned.closes {
             let greatest = narrowest(estate, &tuned.fine, slice::from_ref(front));
             self.put_weights(estate, &tuned.fine, greatest)?;
+            return Ok(None);
+        }
+        let mut level = Level {
+            fine: tuned.fine,
+            ..Level::default()
+        };
+        if let Some(priced) = self.seek_prices(estate, logs, front, start, &tuned.fine) {
+            if priced.close {
+                self.put_prices(&estate.prices(&priced.fine))?;
+                return Ok(None);
+            }
+            level.prices = Some(priced.fine);
+        }
+        Ok(Some(level))
+    }
+
+    // Opens a prefix that isn't closed yet, unless weights or prices of its own close it. Whether it was opened.
+    fn open(
+        &mut self,
+        estate: &Estate,
+        logs: &RoughLogs,
+        front: &Front,
+        start: &Level,
+    ) -> Result<bool, Stop>
+        requires { IsLanedFront estate.now front.now }
+    {
+        let Some(level) = self.close(estate, logs, front, start)? else {
             self.tree.put(b'-')?;
             return Ok(false);
-        }
+        };
         if self.steps >= self.limit {
             return Err(Stop::Steps);
         }
         self.steps += 1;
-        self.put_children(estate, &tuned.fine, front)?;
+        self.put_children(estate, level, front)?;
         Ok(true)
     }
 
-    // Opens a prefix, with weights of its own if they close something more.
-    fn put_children(&mut self, estate: &Estate, fine: &Fine, front: &Front) -> Result<(), Stop> {
-        let above = self.nearest(estate);
-        let greatest = stated(estate, fine, front, above.as_ref());
-        if let Some(greatest) = greatest {
-            self.put_weights(estate, fine, greatest)?;
+    // Opens a prefix, with weights and prices of its own if they close something more.
+    fn put_children(&mut self, estate: &Estate, level: Level, front: &Front) -> Result<(), Stop> {
+        let mut level = level;
+        level.next = 1;
+        let mut above = self.above(estate);
+        level.greatest = stated(estate, &level.fine, front, &above);
+        if let Some(greatest) = level.greatest {
+            self.put_weights(estate, &level.fine, greatest)?;
+            above.weights = Some(estate.weights(&level.fine, greatest));
+        }
+        if let Some(fine) = &level.prices {
+            let prices = estate.prices(fine);
+            level.states_prices = states_prices(estate, &prices, front, &above);
+            if level.states_prices {
+                self.put_prices(&prices)?;
+            }
         }
         self.tree.put(b'+')?;
-        self.descend(*fine, greatest);
+        self.descend(level);
         Ok(())
     }
 
@@ -126,19 +237,21 @@ impl Walk {
         self.tree.put_weights(weights.each.as_slice())
     }
 
+    // Puts a line of prices.
+    fn put_prices(&mut self, prices: &Prices) -> Result<(), Stop> {
+        let (rates, fees) = (prices.rates.as_slice(), prices.fees.as_slice());
+        self.tree.put_prices(rates, fees)
+    }
+
     // Goes down to the children of a prefix.
-    fn descend(&mut self, fine: Fine, greatest: Option<u16>) {
+    fn descend(&mut self, level: Level) {
         if !self.levels.is_full() {
-            self.levels.push(Level {
-                next: 1,
-                fine,
-                greatest,
-            });
+            self.levels.push(level);
         }
     }
 
     /// Walks to the next prefix, or back up.
-    pub(crate) fn turn(&mut self, estate: &mut Estate, logs: &Logs) -> Result<(), Stop>
+    pub(crate) fn turn(&mut self, estate: &mut Estate, logs: &RoughLogs) -> Result<(), Stop>
         ensures { estate.new ≡ estate.old }
     {
         let Some(level) = self.next_child(estate.players()) else {
@@ -150,7 +263,7 @@ impl Walk {
         }
         owners.push(level.next);
         match estate.front_of(owners.as_slice()) {
-            Some(front) => self.visit(estate, logs, front, &level.fine),
+            Some(front) => self.visit(estate, logs, front, &level),
             None => Err(Stop::Steps),
         }
     }
@@ -174,9 +287,9 @@ impl Walk {
     fn visit(
         &mut self,
         estate: &mut Estate,
-        logs: &Logs,
+        logs: &RoughLogs,
         front: Front,
-        start: &Fine,
+        start: &Level,
     ) -> Result<(), Stop>
         requires { IsLanedFront estate.old front }
         ensures { estate.new ≡ estate.old }
@@ -184,8 +297,7 @@ impl Walk {
         if front.owners.len() == estate.goods() {
             return self.finish(estate, front);
         }
-        let above = self.nearest(estate);
-        if estate.is_closed(above.as_ref(), &front) {
+        if estate.is_closed(&self.above(estate), &front) {
             return self.tree.put(b'-');
         }
         let key = Key::new(front.owners.len(), &estate.ranked(&front));

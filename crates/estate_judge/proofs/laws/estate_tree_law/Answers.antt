@@ -15,6 +15,7 @@ returns c case answer nodes valid allocation limit tree keeps =
       own = c.closed_law.ensures.own;
       weights = c.weights_law.ensures.behind;
       units = c.units_law.ensures.behind;
+      prices = c.prices_law.ensures;
     })
     case answer owners above node valid allocation limit
     (record {

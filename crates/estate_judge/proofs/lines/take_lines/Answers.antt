@@ -1,6 +1,7 @@
 use Rattle.std.proofs.Common.{◌∙◌, ◌+◌, ◌++◌, [], ◌∷◌, ap, arith, drop, length, length-append}
 use Rattle.std.proofs.lemmas.List.{length_push}
 use Rattle.estate_texts.specs.Given.{line_of_given}
+use Rattle.estate_judge.specs.Nodes.{TakesPrices, TakesWeights}
 use Rattle.estate_judge.proofs.LineSteps.{all_later, no_next, takes_more}
 use Rattle.estate_judge.proofs.lines.take_lines.Goals as goal
 
@@ -22,6 +23,7 @@ loop-line-preserved c =
         length_push h.0 (line_of_given c.in-Some.taken.given) ∙ ap (λ k. k + 1) h.1,
         c.given_law.ensures.more c.args.players (drop c.args.from c.args.given.now) (drop c.loop-line.next c.args.given.now) (drop c.in-Some.taken.next c.args.given.now) h.0 (line_of_given c.in-Some.taken.given) h.2
             c.in-Some.ensures.given,
-        takes_more h.0 (line_of_given c.in-Some.taken.given) _ _ _ h.3 c.after_line-weights.ensures,
+        takes_more TakesWeights h.0 (line_of_given c.in-Some.taken.given) _ _ _ h.3 c.weights_after-weights.ensures,
+        takes_more TakesPrices h.0 (line_of_given c.in-Some.taken.given) _ _ _ h.4 c.prices_after-prices.ensures,
       );
     }

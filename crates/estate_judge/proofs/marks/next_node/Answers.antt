@@ -38,7 +38,7 @@ returns-in-Some-take_lines-clause-node c lines can text =
     let on = c.given_law.ensures.front c.args.players (drop c.args.from c.args.given.now) (drop c.in-Some-take_lines.lines.next c.args.given.now) taken.0 lines taken.2 can text in
     let kind = c.in-Some.ensures.kind in (
       on.0,
-      stands_first c.args.players c.args.at count c.in-Some.kind.len marks lines taken.0 on.0 (record { weights = c.in-Some-take_lines.lines.weights; kind = c.in-Some.kind.kind }) run taken.1 on.1 taken.3
+      stands_first c.args.players c.args.at count c.in-Some.kind.len marks lines taken.0 on.0 (record { weights = c.in-Some-take_lines.lines.weights; prices = c.in-Some-take_lines.lines.prices; kind = c.in-Some.kind.kind }) run taken.1 on.1 taken.3 taken.4
           (subst (λ (ms : List ℕ). ms ≡ kind_marks c.in-Some.kind.kind ++ drop c.in-Some.kind.len ms) there kind.1)
           (subst (λ (ms : List ℕ). IsKind c.args.players c.in-Some.kind.kind (drop c.in-Some.kind.len ms)) there kind.0),
       on.2,
