@@ -160,7 +160,7 @@ def played(port, facts, bids):
 
 
 def journal_events(journal):
-    """The bodies of the events in the bytes of a journal, as far as its gates are open (docs/FORMATS.md)."""
+    """The bodies of the events in the bytes of a journal, as far as its gates are open (docs/JOURNAL.md)."""
     at = JOURNAL_FRONT
     while journal[at]:
         size = int.from_bytes(journal[at + 1:at + 5], 'little')

@@ -229,10 +229,10 @@ def compare_limits(texts, words):
     for what, value in theirs.items():
         check(f'the limit of {what} is {limits[what]} here and {value} in the schema', limits[what] == value)
     check('the members of goods', span('goods', 'members') == limits['members'])
-    listed = dict((name, int(number.replace(',', ''))) for number, name in re.findall(r'\| ([\d,]+)[^|]*\| `\w+`: `(\w+)` \|', text_of('docs/LIMITS.md')))
+    listed = dict((name, int(number.replace(',', ''))) for number, name in re.findall(r'\| ([\d,]+)[^|]*\| `\w+`: `(\w+)` \|', text_of('docs/REFERENCE.md')))
     for what, name in LISTED.items():
         most = limits[what][1] if isinstance(limits[what], list) else limits[what]
-        check(f'the limit of {what} is {most} here and {listed[name]} in docs/LIMITS.md', most == listed[name])
+        check(f'the limit of {what} is {most} here and {listed[name]} in docs/REFERENCE.md', most == listed[name])
     check('a limit of the page is compared with nothing', set(limits) == set(LISTED))
     http = text_of('docs/HTTP.md')
     turns = re.search(r'from 1 to (\d+)', http.split('## Bids')[1])
@@ -256,15 +256,6 @@ def compare_hosts(texts):
         check(f'{name} does not serve /hosts.json', re.search(r'^[^#]*/hosts\.json', text_of(name), re.M))
 
 
-def compare_answers():
-    """The table of how likely goods have an answer is the same in the page and in the documents."""
-    table = texts_of_table(text_of('page/js/odds.js').split('ANSWERED = {')[1].split('};')[0])
-    rows = ['| ' + ' | '.join([str(people)] + [f'{a}, {b}' for a, b in zip(some, coarse)]) + ' |' for people, some, coarse in zip(table['people'], table['any'], table['stepped'])]
-    for name in ('docs/SEARCH.md',):
-        for row in rows:
-            check(f'{name} lacks the row {row}', row in text_of(name))
-
-
 # What ORGANISERS.md says about sizes: for so many people and items, the least and the most that had an answer, first with any points.
 SIZES = [
     ('2 to 6 people, up to 10 items', range(2, 7), range(4, 11)), ('2 to 6 people, 12 items', range(2, 7), [12]), ('2 to 6 people, 14 items', range(2, 7), [14]),
@@ -283,6 +274,8 @@ def compare_sizes():
         check(f'ORGANISERS lacks the row {row}', row in told)
     none = [cells(key, [people], things) for key in ('any', 'stepped') for people, things in ((10, [8]), (12, [6, 8, 10]))]
     check('ORGANISERS has another row of sizes without an answer', '| 10 people, 8 items; 12 people, 6 to 10 items | 0 | 0 |' in told and not any(map(sum, none)))
+    numbers = [re.findall(r'\d+', re.search(opening + r'.*?\n\n', text_of(name), re.S)[0]) for name, opening in (('docs/ORGANISERS.md', r'\| of 20 '), ('docs/ORGANISERS.de.md', r'\| von 20 '))]
+    check('the table of sizes has other numbers in German', numbers[0] == numbers[1])
 
 
 def texts_of_table(text):
@@ -352,7 +345,6 @@ def main():
     words = compare_words(texts)
     compare_limits(texts, words)
     compare_hosts(texts)
-    compare_answers()
     compare_sizes()
     measure_people()
     outside_of_proof()

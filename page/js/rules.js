@@ -1,7 +1,7 @@
 // The limits of a round. Pure.
 
 /** The limits of a round, which are those of examples/creation.schema.json, and of a certificate, which are those of
-    docs/LIMITS.md. */
+    docs/REFERENCE.md. */
 export const LIMITS = {
   name: 40, members: [2, 12], riders: [2, 10], goods: [1, 24], places: [1, 12],
   rent: 10_000_000, cost: 1_000_000, steps: 200_000, points: 1000, turns: 20,
