@@ -134,7 +134,9 @@ impl<'a> Walk<'a> {
             return false;
         }
         self.path.asked = self.path.asked.saturating_add(1);
-        self.path.asked <= 64 || self.path.priced.saturating_mul(16) >= self.path.asked || self.path.asked % 8 == 0
+        self.path.asked <= 64
+            || self.path.priced.saturating_mul(16) >= self.path.asked
+            || self.path.asked % 8 == 0
     }
 
     // The prices sought where weights fail.
