@@ -11,7 +11,7 @@ from math import lcm, prod
 from typing import Any, Generic, Hashable, List, Optional, Sequence, Tuple, TypeVar
 
 from ._amounts import Amount, Money
-from ._commands import case_of, text_of
+from ._commands import case_of, said, text_of
 from ._results import Division
 from ._tables import Table, bids_of
 from ._texts import fractions_of, number_of, numbers_of, places_in
@@ -20,6 +20,9 @@ Member = TypeVar('Member', bound=Hashable)
 Room = TypeVar('Room', bound=Hashable)
 Good = TypeVar('Good', bound=Hashable)
 Place = TypeVar('Place', bound=Hashable)
+# How a certificate of the specified search begins.
+SPECIFIED = 'fairsplit 1\n'
+UNPROVED = 'not proved to be the best'
 
 
 @dataclass(frozen=True)
@@ -160,26 +163,76 @@ class GoodsDivision(Division[GoodsShare[Member, Good]], Generic[Member, Good]):
         return prod(share.points for share in self.shares if share.points)
 
     @property
+    def _lines(self) -> str:
+        """Where the case, the owners and the steps stand, in lines as a certificate has them."""
+        return self.text
+
+    @property
     def steps(self) -> int:
         """How many steps the search took."""
-        return number_of(self.text, 'steps')
+        return number_of(self._lines, 'steps')
 
     @cached_property
     def envy(self) -> Tuple[Tuple[int, ...], ...]:
         """How many points share i would gain by having the goods of share j."""
-        return envy_between(numbers_of(self.text, 'values'), places_in(self.text, 'owners'))
+        return envy_between(numbers_of(self._lines, 'values'), places_in(self._lines, 'owners'))
 
     def _envy(self) -> Sequence[Sequence[int]]:
         return self.envy
 
     @cached_property
     def report(self) -> str:
-        """What the program's `report` writes of this division. A name that a case can't have is m1, g1 and so on there."""
+        """What the program's `report` writes of this division; of an estate, which the program doesn't divide, the same lines. A name that a case can't
+        have is m1, g1 and so on there.
+        """
+        if not self.text.startswith(SPECIFIED):
+            return self._own_report()
         bids: List[Optional[List[int]]] = [None] * len(self.members)
         for member, row in zip(places_in(self.text, 'who'), numbers_of(self.text, 'values')):
             bids[member] = row
         case = case_of(self.title, 'goods', self.members, 'goods', self.goods, bids, limit=number_of(self.text, 'limit'))
         return text_of('report', case, self.members)
+
+    def _own_report(self) -> str:
+        """The lines of the report, without the program."""
+        who, owners, names = places_in(self._lines, 'who'), places_in(self._lines, 'owners'), said(self.members, 'm')
+        lines = [f'goods {self.title}', f'players {len(who)} of {len(self.members)}']
+        for player, (member, share) in enumerate(zip(who, self.shares)):
+            goods = ' '.join(str(good) for good, owner in enumerate(owners, 1) if owner == player) or 'none'
+            lines.append(f'{member + 1} {names[member]}: goods {goods}, points {share.points}')
+        lines.append(f'positive {self.positive}, product {self.product}, steps {self.steps}')
+        lines += [f'envy {member + 1}: {" ".join(map(str, row))}' for member, row in zip(who, self.envy)]
+        return ''.join(f'{line}\n' for line in lines)
+
+
+@dataclass(frozen=True, repr=False)
+class FoundDivision(GoodsDivision[Member, Good]):
+    """The best division that a search has found before it came to its limit. It has no certificate: nothing proves that it is the best one.
+
+    Attributes
+    ----------
+    shares, members, goods, owners, title
+        As for `GoodsDivision`.
+    text : str
+        Nothing: there is no certificate.
+    lines : str
+        The case, the owners and the steps, in lines as a certificate has them.
+    """
+
+    lines: str
+
+    @property
+    def _lines(self) -> str:
+        return self.lines
+
+    def __repr__(self) -> str:
+        return f'FoundDivision({UNPROVED}, shares={self.shares!r})'
+
+    def _repr_html_(self) -> str:
+        return f'<p>{UNPROVED.capitalize()}.</p>{super()._repr_html_()}'
+
+    def _own_report(self) -> str:
+        return f'{super()._own_report()}{UNPROVED}\n'
 
 
 @dataclass(frozen=True)
@@ -334,6 +387,15 @@ def goods_division(table: Table[Any, Any], certificate: str, title: str) -> Good
     owners = places_in(certificate, 'owners')
     players = [member for member, row in zip(table.members, table.rows) if row is not None]
     return GoodsDivision(goods_shares(table, owners), certificate, table.members, table.columns, tuple(players[owner] for owner in owners), title)
+
+
+def found_division(table: Table[Any, Any], owners: Sequence[int], steps: int, title: str) -> FoundDivision[Any, Any]:
+    """The division with these owners, players from 0, which a search of so many steps has found."""
+    players = [number for number, row in enumerate(table.rows, 1) if row is not None]
+    rows = [('who', players), *(('values', row) for row in bids_of(table)), ('owners', [owner + 1 for owner in owners]), ('steps', [steps])]
+    lines = ''.join(f'{word} {" ".join(map(str, numbers))}\n' for word, numbers in rows)
+    names = tuple(table.members[players[owner] - 1] for owner in owners)
+    return FoundDivision(goods_shares(table, owners), '', table.members, table.columns, names, title, lines)
 
 
 def goods_shares(table: Table[Any, Any], owners: Sequence[int]) -> Tuple[GoodsShare[Any, Any], ...]:

@@ -8,14 +8,14 @@ from ._audits import FareAudit, GoodsAudit, RentAudit, fare_audit, goods_audit, 
 from ._dividing import fares, rent
 from ._divisions import Verdict
 from ._names import Given, chosen
-from ._reading import Text, bytes_of, judged
+from ._reading import Text, bytes_of, judge_of, judged
 from ._reasons import explained, why_goods
 from ._tables import table_of
 from ._types import AnyAmount, Item, Member, NamedBids, Order, Whole
 
 
 def check(text: Text) -> Verdict:
-    """Judge a certificate.
+    """Judge a certificate, also that of an estate.
 
     Parameters
     ----------
@@ -41,7 +41,8 @@ def check(text: Text) -> Verdict:
     >>> fairsplit.check(division.text)
     Verdict(holds=True, rule=None)
     """
-    return judged('check', bytes_of(text))
+    data = bytes_of(text)
+    return judged(judge_of(data), data)
 
 
 def check_winner(text: Text) -> Verdict:

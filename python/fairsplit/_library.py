@@ -15,7 +15,8 @@ from ._stack import with_stack
 
 OBJECT = 'libfairsplit.so.1'
 COMMANDS = ('check', 'checkwinner', 'solve', 'report', 'weigh', 'winner')
-SOLVERS = ('rent', 'goods', 'fares', 'rent_cents', 'fares_cents')
+JUDGES_OF_ESTATES = ('estate_check',)
+SOLVERS = ('rent', 'goods', 'fares', 'rent_cents', 'fares_cents', 'estate')
 # No certificate has more bytes, and the system gives a page of the buffer only when it is written to.
 ROOM = 4_000_000
 
@@ -35,30 +36,35 @@ def _path() -> str:
 
 def _load() -> ctypes.CDLL:
     """The shared object, and what its functions take and answer."""
-    library = ctypes.CDLL(_path())
-    for name in COMMANDS:
-        function = getattr(library, f'fair_{name}')
+    loaded = ctypes.CDLL(_path())
+    for name in COMMANDS + JUDGES_OF_ESTATES:
+        function = getattr(loaded, f'fair_{name}')
         function.restype = ctypes.c_uint8
         function.argtypes = [ctypes.c_char_p, ctypes.c_size_t, ctypes.c_void_p, ctypes.c_size_t, ctypes.POINTER(ctypes.c_size_t)]
     for name in SOLVERS:
-        getattr(library, f'fair_{name}').restype = ctypes.c_uint8
-    return library
+        getattr(loaded, f'fair_{name}').restype = ctypes.c_uint8
+    return loaded
 
 
-_library = _load()
+library = _load()
+
+
+def fresh_memory(count: int) -> mmap.mmap:
+    """So many bytes from the system. A process that is forked gets a copy of them, and not the same memory."""
+    return mmap.mmap(-1, count, flags=mmap.MAP_PRIVATE | mmap.MAP_ANONYMOUS)
 
 
 def _buffer() -> Any:
-    """This thread's buffer for answers. A process that is forked gets a copy of it, and not the same memory."""
+    """This thread's buffer for answers."""
     if not hasattr(_here, 'buffer'):
-        _here.memory = mmap.mmap(-1, ROOM, flags=mmap.MAP_PRIVATE | mmap.MAP_ANONYMOUS)
+        _here.memory = fresh_memory(ROOM)
         _here.buffer = (ctypes.c_char * ROOM).from_buffer(_here.memory)
     return _here.buffer
 
 
 def _call(name: str, data: bytes) -> Tuple[int, bytes]:
     """The answer of a function of the library, in this thread."""
-    function, text, size = getattr(_library, f'fair_{name}'), _buffer(), ctypes.c_size_t()
+    function, text, size = getattr(library, f'fair_{name}'), _buffer(), ctypes.c_size_t()
     status = function(data, len(data), text, ROOM, ctypes.byref(size))
     if size.value <= ROOM:
         return status, ctypes.string_at(text, size.value)
@@ -73,7 +79,7 @@ def _call_on_numbers(name: str, numbers: List[int], lists: Lists) -> Tuple[int, 
     words: List[Any] = [ctypes.c_uint32(number) for number in numbers]
     for numbered in lists:
         words += [numbered, ctypes.c_size_t(len(numbered))]
-    status = getattr(_library, f'fair_{name}')(*words, text, ctypes.c_size_t(ROOM), ctypes.byref(size))
+    status = getattr(library, f'fair_{name}')(*words, text, ctypes.c_size_t(ROOM), ctypes.byref(size))
     return status, ctypes.string_at(text, min(size.value, ROOM)), size.value
 
 
@@ -108,8 +114,12 @@ def run(name: str, data: Union[bytes, bytearray, memoryview]) -> Tuple[int, byte
         raise ValueError(f'{name!r} is none of {", ".join(COMMANDS)}')
     if not isinstance(data, (bytes, bytearray, memoryview)):
         raise TypeError(f'a command reads bytes, and not {type(data).__name__}')
-    given = bytes(data)
-    return with_stack(lambda: _call(name, given))
+    return run_on_bytes(name, bytes(data))
+
+
+def run_on_bytes(name: str, data: bytes) -> Tuple[int, bytes]:
+    """What a function that reads bytes answers: its status, and its text."""
+    return with_stack(lambda: _call(name, data))
 
 
 def run_on_numbers(name: str, numbers: List[int], lists: Lists) -> Tuple[int, bytes, int]:

@@ -9,7 +9,7 @@ from ._commands import title_of
 from ._divisions import (FareDivision, GoodsDivision, PairDivision, RentDivision, Verdict, fare_division, goods_division, pair_division,
                          rent_division)
 from ._errors import BrokenRule, error_of
-from ._library import ROOM, run
+from ._library import ROOM, run_on_bytes
 from ._names import Given, Names, named
 from ._solving import fare_cents, rent_cents
 from ._tables import Table
@@ -18,6 +18,7 @@ from ._texts import number_of, numbers_of, words_of
 Text = Union[str, bytes, bytearray, memoryview, 'os.PathLike[str]']
 AnyDivision = Union[RentDivision[Any, Any], GoodsDivision[Any, Any], FareDivision[Any, Any], PairDivision[Any, Any]]
 PAIR = b'fairsplit pair '
+ESTATE = b'fairsplit 2\n'
 
 
 def bytes_of(text: Text) -> bytes:
@@ -34,13 +35,18 @@ def bytes_of(text: Text) -> bytes:
 
 def judged(command: str, text: bytes) -> Verdict:
     """The verdict of a judge on a text."""
-    status, line = run(command, text)
+    status, line = run_on_bytes(command, text)
     said = line.decode().strip()
     if status == 0:
         return Verdict(True)
     if status == 1:
         return Verdict(False, int(said.split()[1]))
     raise error_of(status, said)
+
+
+def judge_of(text: bytes) -> str:
+    """The judge of a certificate: those of estates have one of their own."""
+    return 'estate_check' if text.startswith(ESTATE) else 'check'
 
 
 def _members(given: Given, who: Iterable[int]) -> Names:
@@ -127,7 +133,7 @@ def read(text: Text, *, members: Given = None, rooms: Given = None, goods: Given
     """
     data = bytes_of(text)
     is_pair = data.startswith(PAIR)
-    verdict = judged('checkwinner' if is_pair else 'check', data)
+    verdict = judged('checkwinner' if is_pair else judge_of(data), data)
     if verdict.rule is not None:
         raise BrokenRule(verdict.rule)
     said = data.decode()

@@ -8,13 +8,16 @@ from __future__ import annotations
 import ctypes
 from typing import Any, Hashable, Iterable, List, Optional, Sequence, Tuple
 
-from ._errors import Refused, Void, error_of
+from ._errors import OverLimit, Refused, Void, error_of
+from ._estates import Ended, run_estate
 from ._library import Lists, Numbers, run_on_numbers
 from ._limits import FEWEST_MEMBERS, MOST_MEMBERS, MOST_RIDERS, USUAL_STEPS
 from ._tables import Table, bids_of
 
 _MOST_WORD = (1 << 32) - 1
 _MOST_BYTE = (1 << 8) - 1
+# How far the specified search goes before that for estates takes over: at most a few milliseconds.
+FIRST_STEPS = 10_000
 
 
 def _test_members(count: int, most: int) -> None:
@@ -103,6 +106,22 @@ def solve_goods(limit: Optional[int], table: Table[Any, Any]) -> str:
     width = len(table.columns)
     numbers = [width, _word(USUAL_STEPS if limit is None else limit)]
     return _certificate_of_some('goods', numbers, [_bytes(who), _words(bids_of(table), len(who), width)], table.members, not who)
+
+
+def is_soon_solved(table: Table[Any, Any]) -> bool:
+    """Whether the specified search answers within a few milliseconds. What it refuses is an error here already."""
+    try:
+        solve_goods(FIRST_STEPS, table)
+    except OverLimit:
+        return False
+    return True
+
+
+def solve_estate(steps: int, table: Table[Any, Any]) -> Ended:
+    """The end of the search for estates, for goods that the specified search doesn't refuse."""
+    who = [number for number, row in enumerate(table.rows, 1) if row is not None]
+    width = len(table.columns)
+    return run_estate(width, steps, _bytes(who), _words(bids_of(table), len(who), width))
 
 
 def solve_fares(flag: int, legs: Table[Any, Any], members: Tuple[Hashable, ...], stops: Sequence[Optional[int]]) -> Tuple[str, Tuple[int, ...]]:
