@@ -11,6 +11,7 @@ import sys
 import fairsplit
 
 OF_BYTES = (b'refused: too long\n', b'refused: json\n')
+USUAL_LIMIT = 100_000
 ITEMS = {'rent': 'rooms', 'goods': 'goods', 'fares': 'places'}
 
 
@@ -52,7 +53,7 @@ def divided(body):
     if body['kind'] == 'rent':
         return fairsplit.rent(body['rent'], body['bids'])
     if body['kind'] == 'goods':
-        return fairsplit.goods(body['bids'], limit=body.get('limit'))
+        return fairsplit.goods(body['bids'], limit=body.get('limit', USUAL_LIMIT))
     return fairsplit.fares(body['flag'], body['legs'], body['bids'], members=range(1, len(body['members']) + 1))
 
 

@@ -1,7 +1,7 @@
 """Fair divisions by proved code.
 
     rent(total, bids)                    envy-free rents with the greatest least utility (Gal, Mash, Procaccia and Zick 2016)
-    goods(bids)                          the division with the greatest Nash welfare (Caragiannis and others 2016)
+    goods(bids)                          the division with the greatest Nash welfare (Caragiannis and others 2016), of up to 24 goods
     fares(flag, legs, bids)              the Shapley shares of the cheapest route (Shapley 1953)
     winner(bids)                         adjusted winner between two members (Brams and Taylor 1996)
     audit_rent, audit_goods, audit_fares what is said of a division that somebody else proposes
@@ -26,7 +26,7 @@ from . import draw, numbers
 from ._amounts import Amount
 from ._audits import FareAudit, GoodsAudit, RentAudit
 from ._dividing import fares, goods, rent, winner
-from ._divisions import FareDivision, FareShare, GoodsDivision, GoodsFound, GoodsShare, PairDivision, PairShare, RentDivision, RentShare, Verdict
+from ._divisions import FareDivision, FareShare, FoundDivision, GoodsDivision, GoodsShare, PairDivision, PairShare, RentDivision, RentShare, Verdict
 from ._errors import BrokenRule, FairsplitError, NotTwo, OutOfMemory, OverLimit, Refused, Void
 from ._files import read_table
 from ._judging import audit_fares, audit_goods, audit_rent, check, check_winner, weigh
@@ -37,7 +37,7 @@ from ._scaling import Scaled, scaled
 from ._tables import Table
 from ._version import __version__
 
-__all__ = ['Amount', 'AnyDivision', 'BrokenRule', 'Division', 'FairsplitError', 'FareAudit', 'FareDivision', 'FareShare', 'GoodsAudit',
-           'GoodsDivision', 'GoodsFound', 'GoodsShare', 'NotTwo', 'OutOfMemory', 'OverLimit', 'PairDivision', 'PairShare', 'Refused', 'RentAudit',
-           'RentDivision', 'RentShare', 'Scaled', 'Table', 'Verdict', 'Void', '__version__', 'audit_fares', 'audit_goods', 'audit_rent', 'check',
-           'check_winner', 'draw', 'fares', 'goods', 'numbers', 'read', 'read_table', 'rent', 'run', 'scaled', 'weigh', 'winner']
+__all__ = ['Amount', 'AnyDivision', 'BrokenRule', 'Division', 'FairsplitError', 'FareAudit', 'FareDivision', 'FareShare', 'FoundDivision', 'GoodsAudit',
+           'GoodsDivision', 'GoodsShare', 'NotTwo', 'OutOfMemory', 'OverLimit', 'PairDivision', 'PairShare', 'Refused', 'RentAudit', 'RentDivision',
+           'RentShare', 'Scaled', 'Table', 'Verdict', 'Void', '__version__', 'audit_fares', 'audit_goods', 'audit_rent', 'check', 'check_winner', 'draw',
+           'fares', 'goods', 'numbers', 'read', 'read_table', 'rent', 'run', 'scaled', 'weigh', 'winner']

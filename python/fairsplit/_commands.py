@@ -21,7 +21,7 @@ def _is_name(name: Hashable) -> bool:
         return False
 
 
-def said_names(names: Names, letter: str) -> List[str]:
+def said(names: Names, letter: str) -> List[str]:
     """Names for the library, which never change a division: yours may be anything, and those that a case can't have become m1, m2 and so on."""
     return [str(name) if _is_name(name) else f'{letter}{number}' for number, name in enumerate(names, 1)]
 
@@ -35,7 +35,7 @@ def title_of(title: Optional[str], kind: str) -> str:
 
 def case_of(title: str, kind: str, members: Names, items: str, names: Names, bids: Sequence[Any], **facts: Any) -> Case:
     """A case as the commands read it. `items` are its rooms, goods or places, which have these names."""
-    return {'kind': kind, 'title': title, 'members': said_names(members, 'm'), items: said_names(names, items[0]), **facts, 'bids': bids}
+    return {'kind': kind, 'title': title, 'members': said(members, 'm'), items: said(names, items[0]), **facts, 'bids': bids}
 
 
 def goods_case(table: Table[Any, Any], limit: Optional[int] = None) -> Case:

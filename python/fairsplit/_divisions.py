@@ -11,8 +11,7 @@ from math import lcm, prod
 from typing import Any, Generic, Hashable, List, Optional, Sequence, Tuple, TypeVar
 
 from ._amounts import Amount, Money
-from ._commands import case_of, said_names, text_of
-from ._estates import estate_report, is_estate
+from ._commands import case_of, said, text_of
 from ._results import Division
 from ._tables import Table, bids_of
 from ._texts import fractions_of, number_of, numbers_of, places_in
@@ -21,6 +20,9 @@ Member = TypeVar('Member', bound=Hashable)
 Room = TypeVar('Room', bound=Hashable)
 Good = TypeVar('Good', bound=Hashable)
 Place = TypeVar('Place', bound=Hashable)
+# How a certificate of the specified search begins.
+SPECIFIED = 'fairsplit 1\n'
+UNPROVED = 'not proved to be the best'
 
 
 @dataclass(frozen=True)
@@ -120,46 +122,6 @@ class GoodsShare(Generic[Member, Good]):
     points: int
 
 
-def _positive(shares: Sequence[GoodsShare[Any, Any]]) -> int:
-    """How many members get something that they want."""
-    return sum(share.points > 0 for share in shares)
-
-
-def _product(shares: Sequence[GoodsShare[Any, Any]]) -> int:
-    """The product of the points of these members."""
-    return prod(share.points for share in shares if share.points)
-
-
-@dataclass(frozen=True)
-class GoodsFound(Generic[Member, Good]):
-    """A division of goods without a certificate: the best that a search found within its limit.
-
-    Attributes
-    ----------
-    shares : tuple of GoodsShare
-        By member who has bid.
-    members, goods : tuple
-        The names of all members, and of the goods.
-    owners : tuple
-        For each good the member who gets it.
-    """
-
-    shares: Tuple[GoodsShare[Member, Good], ...]
-    members: Tuple[Member, ...] = field(repr=False)
-    goods: Tuple[Good, ...] = field(repr=False)
-    owners: Tuple[Member, ...] = field(repr=False)
-
-    @property
-    def positive(self) -> int:
-        """How many members get something that they want."""
-        return _positive(self.shares)
-
-    @property
-    def product(self) -> int:
-        """The product of the points of these members."""
-        return _product(self.shares)
-
-
 @dataclass(frozen=True)
 class GoodsDivision(Division[GoodsShare[Member, Good]], Generic[Member, Good]):
     """Goods, divided with the greatest Nash welfare. Only members who have bid have a share.
@@ -169,7 +131,7 @@ class GoodsDivision(Division[GoodsShare[Member, Good]], Generic[Member, Good]):
     shares : tuple of GoodsShare
         By member who has bid.
     text : str
-        The certificate. It begins with `fairsplit 1` if the specified search answered, and with `fairsplit 2` if that of estates did.
+        The certificate.
     members, goods : tuple
         The names of all members, and of the goods in the order of the certificate.
     owners : tuple
@@ -193,36 +155,84 @@ class GoodsDivision(Division[GoodsShare[Member, Good]], Generic[Member, Good]):
     @property
     def positive(self) -> int:
         """How many members get something that they want."""
-        return _positive(self.shares)
+        return sum(share.points > 0 for share in self.shares)
 
     @property
     def product(self) -> int:
         """The product of the points of these members."""
-        return _product(self.shares)
+        return prod(share.points for share in self.shares if share.points)
+
+    @property
+    def _lines(self) -> str:
+        """Where the case, the owners and the steps stand, in lines as a certificate has them."""
+        return self.text
 
     @property
     def steps(self) -> int:
         """How many steps the search took."""
-        return number_of(self.text, 'steps')
+        return number_of(self._lines, 'steps')
 
     @cached_property
     def envy(self) -> Tuple[Tuple[int, ...], ...]:
         """How many points share i would gain by having the goods of share j."""
-        return envy_between(numbers_of(self.text, 'values'), places_in(self.text, 'owners'))
+        return envy_between(numbers_of(self._lines, 'values'), places_in(self._lines, 'owners'))
 
     def _envy(self) -> Sequence[Sequence[int]]:
         return self.envy
 
     @cached_property
     def report(self) -> str:
-        """What the program's `report` writes of this division, or would write of an estate. A name that a case can't have is m1, g1 and so on there."""
-        if is_estate(self.text):
-            return estate_report(self.title, said_names(self.members, 'm'), self.text, [share.points for share in self.shares], self.envy)
+        """What the program's `report` writes of this division; of an estate, which the program doesn't divide, the same lines. A name that a case can't
+        have is m1, g1 and so on there.
+        """
+        if not self.text.startswith(SPECIFIED):
+            return self._own_report()
         bids: List[Optional[List[int]]] = [None] * len(self.members)
         for member, row in zip(places_in(self.text, 'who'), numbers_of(self.text, 'values')):
             bids[member] = row
         case = case_of(self.title, 'goods', self.members, 'goods', self.goods, bids, limit=number_of(self.text, 'limit'))
         return text_of('report', case, self.members)
+
+    def _own_report(self) -> str:
+        """The lines of the report, without the program."""
+        who, owners, names = places_in(self._lines, 'who'), places_in(self._lines, 'owners'), said(self.members, 'm')
+        lines = [f'goods {self.title}', f'players {len(who)} of {len(self.members)}']
+        for player, (member, share) in enumerate(zip(who, self.shares)):
+            goods = ' '.join(str(good) for good, owner in enumerate(owners, 1) if owner == player) or 'none'
+            lines.append(f'{member + 1} {names[member]}: goods {goods}, points {share.points}')
+        lines.append(f'positive {self.positive}, product {self.product}, steps {self.steps}')
+        lines += [f'envy {member + 1}: {" ".join(map(str, row))}' for member, row in zip(who, self.envy)]
+        return ''.join(f'{line}\n' for line in lines)
+
+
+@dataclass(frozen=True, repr=False)
+class FoundDivision(GoodsDivision[Member, Good]):
+    """The best division that a search has found before it came to its limit. It has no certificate: nothing proves that it is the best one.
+
+    Attributes
+    ----------
+    shares, members, goods, owners, title
+        As for `GoodsDivision`.
+    text : str
+        Nothing: there is no certificate.
+    lines : str
+        The case, the owners and the steps, in lines as a certificate has them.
+    """
+
+    lines: str
+
+    @property
+    def _lines(self) -> str:
+        return self.lines
+
+    def __repr__(self) -> str:
+        return f'FoundDivision({UNPROVED}, shares={self.shares!r})'
+
+    def _repr_html_(self) -> str:
+        return f'<p>{UNPROVED.capitalize()}.</p>{super()._repr_html_()}'
+
+    def _own_report(self) -> str:
+        return f'{super()._own_report()}{UNPROVED}\n'
 
 
 @dataclass(frozen=True)
@@ -375,18 +385,17 @@ def rent_division(table: Table[Any, Any], certificate: str, pays: Sequence[int],
 def goods_division(table: Table[Any, Any], certificate: str, title: str) -> GoodsDivision[Any, Any]:
     """The division of goods from its certificate."""
     owners = places_in(certificate, 'owners')
-    return GoodsDivision(goods_shares(table, owners), certificate, table.members, table.columns, _players(table, owners), title)
-
-
-def goods_found(table: Table[Any, Any], owners: Sequence[int]) -> GoodsFound[Any, Any]:
-    """A division of goods without a certificate, if `owners` has for each good its player, from 0."""
-    return GoodsFound(goods_shares(table, owners), table.members, table.columns, _players(table, owners))
-
-
-def _players(table: Table[Any, Any], owners: Sequence[int]) -> Tuple[Any, ...]:
-    """The names of players by number, from 0."""
     players = [member for member, row in zip(table.members, table.rows) if row is not None]
-    return tuple(players[owner] for owner in owners)
+    return GoodsDivision(goods_shares(table, owners), certificate, table.members, table.columns, tuple(players[owner] for owner in owners), title)
+
+
+def found_division(table: Table[Any, Any], owners: Sequence[int], steps: int, title: str) -> FoundDivision[Any, Any]:
+    """The division with these owners, players from 0, which a search of so many steps has found."""
+    players = [number for number, row in enumerate(table.rows, 1) if row is not None]
+    rows = [('who', players), *(('values', row) for row in bids_of(table)), ('owners', [owner + 1 for owner in owners]), ('steps', [steps])]
+    lines = ''.join(f'{word} {" ".join(map(str, numbers))}\n' for word, numbers in rows)
+    names = tuple(table.members[players[owner] - 1] for owner in owners)
+    return FoundDivision(goods_shares(table, owners), '', table.members, table.columns, names, title, lines)
 
 
 def goods_shares(table: Table[Any, Any], owners: Sequence[int]) -> Tuple[GoodsShare[Any, Any], ...]:

@@ -1,7 +1,10 @@
 """Why there is no division, and no verdict."""
 from __future__ import annotations
 
-from typing import Any, Hashable, Optional, Tuple
+from typing import TYPE_CHECKING, Any, Hashable, Optional, Tuple
+
+if TYPE_CHECKING:
+    from ._divisions import FoundDivision
 
 
 class FairsplitError(Exception):
@@ -38,25 +41,29 @@ class Void(FairsplitError):
 
 
 class OverLimit(FairsplitError):
-    """The search found no certificate within its limit. Allow more steps, or put small goods together.
+    """The search ends without a certificate: it takes more steps than its limit, or there is no room for the text. Try a greater `steps=`, up to
+    1,000,000 (a greater `limit=`, up to 200,000), or put small goods together.
 
     Attributes
     ----------
     limit : int
         The most steps that the search was allowed.
-    best : GoodsFound or None
-        The best division that the search of estates found, which may be the best of all and isn't shown to be. The specified search, which goes
-        by `limit=`, gives none.
+    best : FoundDivision or None
+        The best division that the search has found, which nothing proves to be the best one. None if you gave `limit=`, and of an audit.
+    said : str
+        The line of the library, such as 'step limit 20000'.
     """
 
     status = 1
 
-    def __init__(self, limit: int, best: Optional[Any] = None):
-        super().__init__(limit, best)
-        self.limit, self.best = limit, best
+    def __init__(self, limit: int, best: Optional[FoundDivision[Any, Any]] = None, said: Optional[str] = None):
+        self.limit, self.best, self.said = limit, best, f'step limit {limit}' if said is None else said
+        super().__init__(limit, best, self.said)
 
     def __str__(self) -> str:
-        return f'the search takes more than {self.limit} steps'
+        is_over = self.said.startswith('step limit')
+        why = f'the search takes more than {self.limit} steps' if is_over else f'the search shows no division to be the best one ({self.said})'
+        return why if self.best is None else f'{why}; `best` is the best division that it found'
 
 
 class NotTwo(FairsplitError):

@@ -15,7 +15,7 @@ from ._types import AnyAmount, Item, Member, NamedBids, Order, Whole
 
 
 def check(text: Text) -> Verdict:
-    """Judge a certificate, also that of an estate: its head says which judge reads it.
+    """Judge a certificate, also that of an estate.
 
     Parameters
     ----------

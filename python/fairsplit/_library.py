@@ -8,21 +8,17 @@ import ctypes
 import mmap
 import os
 import threading
-import time
 from pathlib import Path
-from typing import Any, Callable, List, Tuple, Union
+from typing import Any, List, Tuple, Union
 
 from ._stack import with_stack
 
 OBJECT = 'libfairsplit.so.1'
 COMMANDS = ('check', 'checkwinner', 'solve', 'report', 'weigh', 'winner')
-JUDGES = ('estate_check',)
+JUDGES_OF_ESTATES = ('estate_check',)
 SOLVERS = ('rent', 'goods', 'fares', 'rent_cents', 'fares_cents', 'estate')
 # No certificate has more bytes, and the system gives a page of the buffer only when it is written to.
 ROOM = 4_000_000
-# The memory in which a search of estates keeps what it knows, and the status of a slice after which it isn't over.
-WORK_ROOM = 16_000_000
-GOES_ON = 10
 
 _here = threading.local()
 
@@ -40,30 +36,35 @@ def _path() -> str:
 
 def _load() -> ctypes.CDLL:
     """The shared object, and what its functions take and answer."""
-    library = ctypes.CDLL(_path())
-    for name in COMMANDS + JUDGES:
-        function = getattr(library, f'fair_{name}')
+    loaded = ctypes.CDLL(_path())
+    for name in COMMANDS + JUDGES_OF_ESTATES:
+        function = getattr(loaded, f'fair_{name}')
         function.restype = ctypes.c_uint8
         function.argtypes = [ctypes.c_char_p, ctypes.c_size_t, ctypes.c_void_p, ctypes.c_size_t, ctypes.POINTER(ctypes.c_size_t)]
     for name in SOLVERS:
-        getattr(library, f'fair_{name}').restype = ctypes.c_uint8
-    return library
+        getattr(loaded, f'fair_{name}').restype = ctypes.c_uint8
+    return loaded
 
 
-_library = _load()
+library = _load()
+
+
+def fresh_memory(count: int) -> mmap.mmap:
+    """So many bytes from the system. A process that is forked gets a copy of them, and not the same memory."""
+    return mmap.mmap(-1, count, flags=mmap.MAP_PRIVATE | mmap.MAP_ANONYMOUS)
 
 
 def _buffer() -> Any:
-    """This thread's buffer for answers. A process that is forked gets a copy of it, and not the same memory."""
+    """This thread's buffer for answers."""
     if not hasattr(_here, 'buffer'):
-        _here.memory = mmap.mmap(-1, ROOM, flags=mmap.MAP_PRIVATE | mmap.MAP_ANONYMOUS)
+        _here.memory = fresh_memory(ROOM)
         _here.buffer = (ctypes.c_char * ROOM).from_buffer(_here.memory)
     return _here.buffer
 
 
 def _call(name: str, data: bytes) -> Tuple[int, bytes]:
     """The answer of a function of the library, in this thread."""
-    function, text, size = getattr(_library, f'fair_{name}'), _buffer(), ctypes.c_size_t()
+    function, text, size = getattr(library, f'fair_{name}'), _buffer(), ctypes.c_size_t()
     status = function(data, len(data), text, ROOM, ctypes.byref(size))
     if size.value <= ROOM:
         return status, ctypes.string_at(text, size.value)
@@ -78,7 +79,7 @@ def _call_on_numbers(name: str, numbers: List[int], lists: Lists) -> Tuple[int, 
     words: List[Any] = [ctypes.c_uint32(number) for number in numbers]
     for numbered in lists:
         words += [numbered, ctypes.c_size_t(len(numbered))]
-    status = getattr(_library, f'fair_{name}')(*words, text, ctypes.c_size_t(ROOM), ctypes.byref(size))
+    status = getattr(library, f'fair_{name}')(*words, text, ctypes.c_size_t(ROOM), ctypes.byref(size))
     return status, ctypes.string_at(text, min(size.value, ROOM)), size.value
 
 
@@ -113,43 +114,12 @@ def run(name: str, data: Union[bytes, bytearray, memoryview]) -> Tuple[int, byte
         raise ValueError(f'{name!r} is none of {", ".join(COMMANDS)}')
     if not isinstance(data, (bytes, bytearray, memoryview)):
         raise TypeError(f'a command reads bytes, and not {type(data).__name__}')
-    given = bytes(data)
-    return with_stack(lambda: _call(name, given))
+    return run_on_bytes(name, bytes(data))
 
 
-def run_judge(name: str, data: bytes) -> Tuple[int, bytes]:
-    """What a judge answers to a text: its status and its line."""
+def run_on_bytes(name: str, data: bytes) -> Tuple[int, bytes]:
+    """What a function that reads bytes answers: its status, and its text."""
     return with_stack(lambda: _call(name, data))
-
-
-def _slices(goods: int, limit: int, who: Numbers, values: Numbers, owners: Numbers) -> Callable[[int], Tuple[int, bytes, int]]:
-    """What makes so many steps of the search of an estate: it answers the status, the text, and how many steps were made since the beginning.
-    The search has memory of its own, which is given back with it."""
-    memory = mmap.mmap(-1, WORK_ROOM + ROOM, flags=mmap.MAP_PRIVATE | mmap.MAP_ANONYMOUS)
-    work, text = (ctypes.c_char * WORK_ROOM).from_buffer(memory), (ctypes.c_char * ROOM).from_buffer(memory, WORK_ROOM)
-    reached, size = ctypes.c_uint32(), ctypes.c_size_t()
-
-    def slice_of(steps: int) -> Tuple[int, bytes, int]:
-        lists: List[Any] = [part for numbers in (who, values, work, owners) for part in (numbers, ctypes.c_size_t(len(numbers)))]
-        status = _library.fair_estate(ctypes.c_uint32(goods), ctypes.c_uint32(limit), ctypes.c_uint32(steps), *lists, ctypes.byref(reached), text,
-                                      ctypes.c_size_t(ROOM), ctypes.byref(size))
-        return status, ctypes.string_at(text, min(size.value, ROOM)), reached.value
-
-    return slice_of
-
-
-def run_estate(goods: int, limit: int, who: Numbers, values: Numbers) -> Tuple[int, bytes, List[int]]:
-    """What the search of an estate comes to: its status, its text, and for each good its player, from 1. It goes in slices of about 50 ms,
-    between which Python handles signals, so that Ctrl-C ends it."""
-    owners = (ctypes.c_uint8 * goods)()
-    call = _slices(goods, limit, who, values, owners)
-    steps, status, text = 16, GOES_ON, b''
-    while status == GOES_ON:
-        began = time.perf_counter()
-        status, text, _ = with_stack(lambda: call(steps))
-        took = time.perf_counter() - began
-        steps = max(1, min(4 * steps, int(steps * 0.05 / max(took, 0.001))))
-    return status, text, list(owners)
 
 
 def run_on_numbers(name: str, numbers: List[int], lists: Lists) -> Tuple[int, bytes, int]:

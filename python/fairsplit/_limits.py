@@ -11,6 +11,4 @@ MOST_STEPS = 200_000
 USUAL_STEPS = 100_000
 MOST_ESTATE_STEPS = 1_000_000
 USUAL_ESTATE_STEPS = 20_000
-# How far the specified search goes before that of estates begins.
-FIRST_STEPS = 10_000
 LONGEST_NAME = 40

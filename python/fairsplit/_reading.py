@@ -9,8 +9,7 @@ from ._commands import title_of
 from ._divisions import (FareDivision, GoodsDivision, PairDivision, RentDivision, Verdict, fare_division, goods_division, pair_division,
                          rent_division)
 from ._errors import BrokenRule, error_of
-from ._estates import ESTATE
-from ._library import ROOM, run_judge
+from ._library import ROOM, run_on_bytes
 from ._names import Given, Names, named
 from ._solving import fare_cents, rent_cents
 from ._tables import Table
@@ -19,6 +18,7 @@ from ._texts import number_of, numbers_of, words_of
 Text = Union[str, bytes, bytearray, memoryview, 'os.PathLike[str]']
 AnyDivision = Union[RentDivision[Any, Any], GoodsDivision[Any, Any], FareDivision[Any, Any], PairDivision[Any, Any]]
 PAIR = b'fairsplit pair '
+ESTATE = b'fairsplit 2\n'
 
 
 def bytes_of(text: Text) -> bytes:
@@ -33,20 +33,20 @@ def bytes_of(text: Text) -> bytes:
     raise TypeError(f'{type(text).__name__} is no text: give a str, bytes, or the path of a file')
 
 
-def judge_of(text: bytes) -> str:
-    """The judge of a certificate, by its head."""
-    return 'estate_check' if text.startswith(ESTATE.encode()) else 'check'
-
-
-def judged(judge: str, text: bytes) -> Verdict:
+def judged(command: str, text: bytes) -> Verdict:
     """The verdict of a judge on a text."""
-    status, line = run_judge(judge, text)
+    status, line = run_on_bytes(command, text)
     said = line.decode().strip()
     if status == 0:
         return Verdict(True)
     if status == 1:
         return Verdict(False, int(said.split()[1]))
     raise error_of(status, said)
+
+
+def judge_of(text: bytes) -> str:
+    """The judge of a certificate: those of estates have one of their own."""
+    return 'estate_check' if text.startswith(ESTATE) else 'check'
 
 
 def _members(given: Given, who: Iterable[int]) -> Names:

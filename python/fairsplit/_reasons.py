@@ -71,7 +71,7 @@ def why_goods(field: str, table: Table[Any, Any], limit: Optional[int]) -> Reaso
     if field == 'members':
         return f'{_so_many(len(table.members), "member")}; goods are divided between {FEWEST_MEMBERS} to {MOST_MEMBERS}'
     if field == 'goods':
-        return f'{_so_many(len(table.columns), "good")}; there may be 1 to {MOST_GOODS}'
+        return f'{_so_many(len(table.columns), "good")}; there may be 1 to {MOST_GOODS}{": put small ones together" if len(table.columns) > MOST_GOODS else ""}'
     if field == 'limit':
         return f'the limit is {limit}; it may be from 1 to {MOST_STEPS}'
     reason = _of_rows(table, WHOLE_POINTS, 'good', Money())

@@ -8,14 +8,16 @@ from __future__ import annotations
 import ctypes
 from typing import Any, Hashable, Iterable, List, Optional, Sequence, Tuple
 
-from ._divisions import goods_found
 from ._errors import OverLimit, Refused, Void, error_of
-from ._library import Lists, Numbers, run_estate, run_on_numbers
-from ._limits import FEWEST_MEMBERS, FIRST_STEPS, MOST_MEMBERS, MOST_RIDERS, USUAL_STEPS
+from ._estates import Ended, run_estate
+from ._library import Lists, Numbers, run_on_numbers
+from ._limits import FEWEST_MEMBERS, MOST_MEMBERS, MOST_RIDERS, USUAL_STEPS
 from ._tables import Table, bids_of
 
 _MOST_WORD = (1 << 32) - 1
 _MOST_BYTE = (1 << 8) - 1
+# How far the specified search goes before that for estates takes over: at most a few milliseconds.
+FIRST_STEPS = 10_000
 
 
 def _test_members(count: int, most: int) -> None:
@@ -97,39 +99,29 @@ def solve_rent(total: int, table: Table[Any, Any]) -> Tuple[str, Tuple[int, ...]
     return certificate, rent_cents(total, rows)
 
 
-def _specified(limit: int, table: Table[Any, Any]) -> str:
-    """The certificate of goods that the specified search finds within a limit."""
+def solve_goods(limit: Optional[int], table: Table[Any, Any]) -> str:
+    """The certificate of goods."""
     _test_members(len(table.members), MOST_MEMBERS)
-    who, width = _players(table), len(table.columns)
-    return _certificate_of_some('goods', [width, _word(limit)], [_bytes(who), _words(bids_of(table), len(who), width)], table.members, not who)
+    who = [number for number, row in enumerate(table.rows, 1) if row is not None]
+    width = len(table.columns)
+    numbers = [width, _word(USUAL_STEPS if limit is None else limit)]
+    return _certificate_of_some('goods', numbers, [_bytes(who), _words(bids_of(table), len(who), width)], table.members, not who)
 
 
-def _players(table: Table[Any, Any]) -> List[int]:
-    """The numbers of the members who have bid, from 1."""
-    return [number for number, row in enumerate(table.rows, 1) if row is not None]
-
-
-def _estate(steps: int, table: Table[Any, Any]) -> str:
-    """The certificate of goods that the search of estates finds within so many steps."""
-    who, width = _players(table), len(table.columns)
-    status, text, owners = run_estate(width, steps, _bytes(who), _words(bids_of(table), len(who), width))
-    if status == 1:
-        raise OverLimit(steps, goods_found(table, [owner - 1 for owner in owners]))
-    if status:
-        raise error_of(status, text.decode().strip())
-    return text.decode()
-
-
-def solve_goods(limit: Optional[int], steps: int, table: Table[Any, Any]) -> str:
-    """The certificate of goods: that of the specified search if a limit is given. Otherwise the specified search goes as far as FIRST_STEPS, and if
-    it hasn't ended then, that of estates begins. A certificate of the first prints the usual limit, as the command does."""
-    if limit is not None:
-        return _specified(limit, table)
+def is_soon_solved(table: Table[Any, Any]) -> bool:
+    """Whether the specified search answers within a few milliseconds. What it refuses is an error here already."""
     try:
-        _specified(FIRST_STEPS, table)
+        solve_goods(FIRST_STEPS, table)
     except OverLimit:
-        return _estate(steps, table)
-    return _specified(USUAL_STEPS, table)
+        return False
+    return True
+
+
+def solve_estate(steps: int, table: Table[Any, Any]) -> Ended:
+    """The end of the search for estates, for goods that the specified search doesn't refuse."""
+    who = [number for number, row in enumerate(table.rows, 1) if row is not None]
+    width = len(table.columns)
+    return run_estate(width, steps, _bytes(who), _words(bids_of(table), len(who), width))
 
 
 def solve_fares(flag: int, legs: Table[Any, Any], members: Tuple[Hashable, ...], stops: Sequence[Optional[int]]) -> Tuple[str, Tuple[int, ...]]:

@@ -2,6 +2,7 @@
 
     rent(900, [[800, 100, 0], [700, 200, 0], [300, 300, 300]])         (0, 'fairsplit 1\\nkind rent\\n...')
     goods(100_000, [1, 2], [[600, 400], [500, 500]])                   limit, the members who have bid, and their points
+    estate(20_000, [1, 2], [[600, 400], [500, 500]])                   the same by the search for estates, and the owner of each good
     fares(300, [[1000, 1500], [0, 700], [900, 0]], [1, 2], [1, 2])     flag, legs, the members who ride, and their places
     rent_cents(900, values)                                            (0, [700, 100, 100]): what each member pays
     fares_cents(300, legs, who, at)                                    what each rider pays
@@ -16,10 +17,12 @@ import ctypes
 from typing import Iterable, List, Sequence, Tuple, Union
 
 from ._amounts import whole
+from ._estates import run_estate
 from ._library import Lists, Numbers, run_on_numbers
 from ._names import listed
 
 Rows = Sequence[Sequence[int]]
+REFUSED = 3
 
 
 def _held(bits: int, numbers: Iterable[int]) -> List[int]:
@@ -135,6 +138,39 @@ def goods(limit: int, who: Sequence[int], values: Rows) -> Tuple[int, str]:
     """
     _, width, numbers = _table(values)
     return _solved('goods', [width, _word(limit)], [_bytes(who), numbers])
+
+
+def estate(limit: int, who: Sequence[int], values: Rows) -> Tuple[int, str, List[int]]:
+    """Divide goods by the search for estates.
+
+    Parameters
+    ----------
+    limit : int
+        The most steps that the search may take, from 1 to 1,000,000.
+    who, values
+        As for `goods`.
+
+    Returns
+    -------
+    tuple of int, str and list
+        The status, the certificate or a line, and for each good the player who gets it, from 1 in the order of `who`. With status 0 that is the best
+        division, with 1 the best that was found; with 3 there is none.
+
+    Raises
+    ------
+    ValueError, TypeError
+        As for `rent`.
+
+    Examples
+    --------
+    >>> from fairsplit import numbers
+    >>> status, text, owners = numbers.estate(20_000, [1, 3], [[600, 400], [500, 500]])
+    >>> status, text.splitlines()[0], owners
+    (0, 'fairsplit 2', [1, 2])
+    """
+    _, width, numbers = _table(values)
+    ended = run_estate(width, _word(limit), _bytes(who), numbers)
+    return ended.status, ended.text, [] if ended.status == REFUSED else list(ended.owners)
 
 
 def _fare(flag: int, legs: Rows, who: Sequence[int], at: Sequence[int]) -> Tuple[List[int], Lists]:

@@ -1,192 +1,222 @@
-"""Estates: goods that the specified search doesn't answer, over the real library."""
-import itertools
-import math
+"""Estates: what the specified search gives up is divided by the search for estates, with a certificate of its own, over the real library."""
 import os
 import pickle
 import random
+import re
 import signal
 import threading
+import time
 import unittest
+import xml.etree.ElementTree
+from concurrent.futures import ThreadPoolExecutor
 
 import fairsplit
-from common import example, refusal, text
-from fairsplit import BrokenRule, GoodsFound, OverLimit, Refused, Verdict
-from fairsplit._library import run_estate
-from fairsplit._solving import _bytes, _words
+from common import EXAMPLES, example, heirs, in_little_stack, names, refusal, text
+from fairsplit import BrokenRule, FoundDivision, GoodsDivision, OverLimit, Refused, Verdict, draw, numbers
+from test_names import containers
+from test_threads import forked
+
+FAMILY = draw.goods(4, 18, seed='four people, eighteen goods')
+# Of 12 people and 24 goods, all in hundreds and half shared: the search needs more than 20,000 steps.
+HARD = draw.estate(12, 24, 5, alike=True, step=100)
 
 
-def family():
-    """What the family's things are worth to each of them."""
-    case = example('family-of-eighteen')
-    return {member: dict(zip(case['goods'], bid)) for member, bid in zip(case['members'], case['bids'])}
+def is_of_estates(division):
+    """Whether the search for estates has found a division, with a certificate to which its judge says yes."""
+    return division.text.startswith('fairsplit 2\n') and fairsplit.check(division.text) == Verdict(True)
 
 
-def estate(bids, limit=20_000):
-    """What the search of estates comes to, without the specified one before it."""
-    rows = [row for row in bids if row is not None]
-    who = [number for number, row in enumerate(bids, 1) if row is not None]
-    return run_estate(len(rows[0]), limit, _bytes(who), _words(rows, len(rows), len(rows[0])))
+def hard():
+    """What a search says that ends too soon."""
+    try:
+        fairsplit.goods(HARD, members=names('m', 12), goods=names('g', 24), steps=300)
+    except OverLimit as error:
+        return error
+    return None
 
 
-def drawn(draw, members, goods, step):
-    """Points that add up to 1000 each, in multiples of a step, some of them 0."""
-    cuts = [sorted(draw.randint(0, 1000 // step) for _ in range(goods - 1)) for _ in range(members)]
-    return [[step * (high - low) for low, high in zip([0, *row], [*row, 1000 // step])] for row in cuts]
+class Divisions(unittest.TestCase):
+    def test_many_people_and_goods(self):
+        for people, items in ((4, 18), (3, 20), (10, 8), (12, 24)):
+            division = fairsplit.goods(draw.estate(people, items, 3))
+            self.assertTrue(is_of_estates(division), (people, items))
+            self.assertEqual((division.positive, len(division.owners)), (min(people, items), items))
+            self.assertEqual([share.points for share in division], [sum(row[good - 1] for good in share.goods)
+                                                                    for share, row in zip(division, draw.estate(people, items, 3))])
 
+    def test_the_family_of_the_examples(self):
+        case = example('estate-for-four')
+        division = fairsplit.goods(case['bids'], members=case['members'], goods=case['goods'])
+        self.assertEqual(division.text, text('estate-for-four.estate'))
+        self.assertEqual(fairsplit.read(EXAMPLES / 'estate-for-four.estate.txt', members=case['members'], goods=case['goods']), division)
+        self.assertEqual(sorted(good for share in division for good in share.goods), sorted(case['goods']))
 
-def by_listing(bids):
-    """The owners of the best division, from 1, by the definition: of all divisions those with most people who have points, of these those with the greatest
-    product, and of these the first in the order of the search."""
-    goods = range(len(bids[0]))
-    order = sorted(goods, key=lambda good: (-max(row[good] for row in bids), good))
+    def test_both_searches_find_the_same_division(self):
+        for seed in range(20):
+            rows = draw.goods(2 + seed % 4, 3 + seed % 6, seed=seed, step=random.Random(seed).choice([1, 50, 100, 250]))
+            division = fairsplit.goods(rows)
+            status, said, owners = numbers.estate(20_000, range(1, len(rows) + 1), rows)
+            self.assertEqual((status, [*owners]), (0, [*division.owners]), seed)
+            self.assertEqual(fairsplit.read(said).shares, division.shares)
+            self.assertTrue(division.text.startswith('fairsplit 1\n'))
 
-    def welfare(owners):
-        points = [sum(row[good] for good, owner in zip(order, owners) if owner == player) for player, row in enumerate(bids, 1)]
-        return sum(map(bool, points)), math.prod(filter(None, points))
-
-    best = max(itertools.product(range(1, len(bids) + 1), repeat=len(bids[0])), key=welfare)
-    return [best[order.index(good)] for good in goods]
-
-
-class Dividing(unittest.TestCase):
-    def test_a_family_of_four_with_eighteen_things(self):
-        division = fairsplit.goods(family())
-        self.assertEqual(division.text, text('family-of-eighteen.estate'))
-        self.assertEqual((division.owners[0], division['Bo'].points, division.steps), ('Di', 350, 18))
-        self.assertEqual(fairsplit.check(division.text), Verdict(True))
-        case = example('family-of-eighteen')
-        self.assertEqual(fairsplit.read(division.text, members=case['members'], goods=case['goods']), division)
-        self.assertEqual(division.report.splitlines()[:2], ['goods goods', 'players 4 of 4'])
-
-    def test_the_specified_search_answers_what_it_can(self):
-        case = example('three-heirs')
-        self.assertEqual(fairsplit.goods(case['bids']).text, text('three-heirs'))
-        self.assertEqual(fairsplit.goods(case['bids'], steps=1).text, text('three-heirs'))
-        self.assertEqual(estate(case['bids'])[2], [1, 3, 2, 3, 2])
-
-    def test_with_a_limit_the_specified_search_alone_decides(self):
-        for limit in (1, 200_000):
-            with self.assertRaises(OverLimit) as caught:
-                fairsplit.goods(family(), limit=limit)
-            self.assertEqual((caught.exception.limit, caught.exception.best), (limit, None))
-
-    def test_the_best_division_found_comes_with_the_error(self):
-        with self.assertRaises(OverLimit) as caught:
-            fairsplit.goods(family(), steps=1)
-        best = caught.exception.best
-        self.assertIsInstance(best, GoodsFound)
-        self.assertEqual((best.members, best.positive, len(best.owners)), (('Ada', 'Bo', 'Cleo', 'Di'), 4, 18))
-        self.assertLessEqual(best.product, fairsplit.goods(family()).product)
-        again = pickle.loads(pickle.dumps(caught.exception))
-        self.assertEqual((again.limit, again.best), (1, best))
+    def test_a_limit_asks_for_the_specified_search_alone(self):
+        self.assertEqual(refusal(lambda: fairsplit.goods(FAMILY, limit=200_000)),
+                         ('OverLimit', {'limit': 200_000, 'best': None, 'said': 'step limit 200000'}))
+        self.assertEqual(fairsplit.goods(heirs(), limit=100_000), fairsplit.goods(heirs()))
+        with self.assertRaisesRegex(ValueError, 'give one of them'):
+            fairsplit.goods(FAMILY, limit=200_000, steps=20_000)
 
     def test_how_far_it_may_go(self):
         for steps in (0, -1, 1_000_001):
-            with self.assertRaisesRegex(ValueError, 'from 1 to 1000000'):
-                fairsplit.goods(family(), steps=steps)
-        with self.assertRaisesRegex(ValueError, 'one of them'):
-            fairsplit.goods(family(), steps=10, limit=10)
+            with self.assertRaisesRegex(ValueError, f'steps is {steps}; it may be from 1 to 1000000'):
+                fairsplit.goods(heirs(), steps=steps)
         with self.assertRaises(TypeError):
-            fairsplit.goods(family(), steps=10.5)
-        self.assertEqual(fairsplit.goods(family(), steps=1_000_000).steps, 18)
+            fairsplit.goods(FAMILY, steps=20_000.0)
+        self.assertEqual(fairsplit.goods(FAMILY, steps=1_000_000).shares, fairsplit.goods(FAMILY).shares)
+
+    def test_more_goods_than_a_case_can_have(self):
+        with self.assertRaises(Refused) as caught:
+            fairsplit.goods([[40] * 25] * 2)
+        self.assertEqual((caught.exception.field, str(caught.exception)), ('goods', '25 goods; there may be 1 to 24: put small ones together'))
 
     def test_who_has_not_bid_has_no_share(self):
-        bids = [*example('family-of-eighteen')['bids'][:2], None, *example('family-of-eighteen')['bids'][2:]]
-        division = fairsplit.goods(bids, members='ABCDE')
-        self.assertEqual([share.member for share in division.shares], list('ABDE'))
-        self.assertIn('\nwho 1 2 4 5\n', division.text)
+        bids = dict(zip('ABCDE', [FAMILY[0], None, *FAMILY[1:]]))
+        division = fairsplit.goods(bids)
+        self.assertEqual([share.member for share in division], ['A', 'C', 'D', 'E'])
+        self.assertIn('\nwho 1 3 4 5\n', division.text)
+        self.assertEqual(fairsplit.read(division.text, members='ABCDE'), division)
 
-    def test_the_report_has_the_form_of_the_commands(self):
-        case = example('three-heirs')
-        division = fairsplit.goods(case['bids'], members=case['members'])
-        _, said, _ = estate(case['bids'])
-        again = fairsplit.read(said, members=case['members'])
-        self.assertEqual(again.report.replace(f'steps {again.steps}', f'steps {division.steps}'), division.report)
-        nothing = [[1000, 0], [500, 500], [600, 400]]
-        self.assertEqual(fairsplit.read(estate(nothing)[1]).report.splitlines()[2:5], fairsplit.goods(nothing).report.splitlines()[2:5])
+    def test_what_every_division_can_do(self):
+        division = fairsplit.goods(FAMILY, members=['Ann', 'Ben', 'Cy', 'Di'], title='House')
+        self.assertEqual(pickle.loads(pickle.dumps(division)), division)
+        self.assertEqual(len(division.envy), 4)
+        xml.etree.ElementTree.fromstring(f'<div>{division._repr_html_()}</div>')
+        self.assertEqual(division.report.splitlines()[:2], ['goods House', 'players 4 of 4'])
+        audit = fairsplit.audit_goods(FAMILY, fairsplit.goods(FAMILY).owners)
+        self.assertEqual((audit.pareto, audit.envy, audit.product), (True, division.envy, division.product))
 
-
-class Searching(unittest.TestCase):
-    def test_small_cases_by_listing(self):
-        draw = random.Random('estates by listing')
-        for number in range(150):
-            players, goods = draw.randint(1, 4), draw.randint(1, 6)
-            bids = drawn(draw, players, goods, draw.choice((1, 10, 100, 250, 500)))
-            if number % 3 == 0:
-                bids[-1] = bids[0]
-            status, said, owners = estate(bids)
-            self.assertEqual((status, owners), (0, by_listing(bids)), bids)
-            self.assertTrue(fairsplit.check(said), bids)
-
-    def test_the_specified_search_finds_the_same(self):
-        draw = random.Random('estates beside the specified search')
-        for _ in range(150):
-            bids = drawn(draw, draw.randint(2, 12), draw.randint(2, 9), draw.choice((1, 10, 50, 100)))
-            try:
-                due = fairsplit.goods(bids, limit=20_000)
-            except OverLimit:
-                continue
-            status, said, owners = estate(bids)
-            self.assertEqual((status, owners), (0, list(due.owners)), bids)
-            self.assertEqual(fairsplit.read(said).shares, due.shares)
+    def test_the_report_is_that_of_the_program(self):
+        division = fairsplit.goods({'A': {'x': 400, 'y': 600}, 'B': None, 'C\n': {'y': 300, 'x': 700}, 'D': {'x': 500, 'y': 500}}, title='House')
+        self.assertEqual(division._own_report(), division.report)
+        division = fairsplit.goods(heirs())
+        self.assertEqual(division._own_report(), division.report)
 
 
-class Judging(unittest.TestCase):
-    def test_each_judge_reads_its_own_kind(self):
-        said = text('family-of-eighteen.estate')
-        self.assertEqual(fairsplit.run('check', said.encode()), (3, b'refused: line 1\n'))
-        self.assertTrue(fairsplit.check(said) and fairsplit.check(text('three-heirs')))
-        for wrong in (said[:-4], said + '\n', said.replace('players 4', 'players x')):
-            with self.assertRaises(Refused):
+class Found(unittest.TestCase):
+    def test_the_best_that_was_found(self):
+        error = hard()
+        best = error.best
+        self.assertIsInstance(best, (FoundDivision, GoodsDivision))
+        self.assertEqual((error.limit, str(error)), (300, 'the search takes more than 300 steps; `best` is the best division that it found'))
+        self.assertEqual((best.text, best.positive, len(best.owners), best['m3'].member), ('', 12, 24, 'm3'))
+        self.assertEqual([share.points for share in best], [sum(row[int(good[1:]) - 1] for good in share.goods) for share, row in zip(best, HARD)])
+        self.assertEqual(best.product, GoodsDivision.product.fget(best))
+
+    def test_it_says_that_nothing_proves_it(self):
+        best = hard().best
+        self.assertTrue(repr(best).startswith('FoundDivision(not proved to be the best, shares='))
+        self.assertTrue(best.report.endswith('not proved to be the best\n'))
+        page = xml.etree.ElementTree.fromstring(f'<div>{best._repr_html_()}</div>')
+        self.assertEqual(page.find('p').text, 'Not proved to be the best.')
+
+    def test_it_comes_from_another_process(self):
+        error = hard()
+        again = pickle.loads(pickle.dumps(error))
+        self.assertEqual((str(again), again.best, again.best.envy, again.limit), (str(error), error.best, error.best.envy, 300))
+
+
+class Certificates(unittest.TestCase):
+    def test_what_was_divided_is_read(self):
+        division = fairsplit.goods(FAMILY, members=['Ann', 'Ben', 'Cy', 'Di'], goods=names('g', 18))
+        again = fairsplit.read(division.text, members=['Ann', 'Ben', 'Cy', 'Di'], goods=names('g', 18))
+        self.assertEqual((again, again.envy, again.report), (division, division.envy, division.report))
+
+    def test_a_changed_certificate_is_refused(self):
+        said = fairsplit.goods(FAMILY).text
+        owners = re.search('^owners (.*)$', said, re.MULTILINE)[1].split()
+        for good, owner in enumerate(owners):
+            other = ' '.join([*owners[:good], str(int(owner) % 4 + 1), *owners[good + 1:]])
+            forged = re.sub('^owners .*$', f'owners {other}', said, flags=re.MULTILINE)
+            self.assertFalse(fairsplit.check(forged), other)
+            with self.assertRaises(BrokenRule):
+                fairsplit.read(forged)
+        self.assertEqual(fairsplit.check(said.replace('tree +', 'tree -', 1)), Verdict(False, 3))
+
+    def test_what_is_no_text_of_either_kind(self):
+        said = fairsplit.goods(FAMILY).text
+        for line, wrong in ((1, said.replace('fairsplit 2', 'fairsplit 1', 1)), (1, said.replace('fairsplit 2', 'fairsplit 3', 1)), (1, 'fairsplit 2'),
+                            (2, 'fairsplit 2\n'), (3, said.replace('players 4', 'players 13', 1)), (1, text('three-heirs').replace('fairsplit 1', 'fairsplit 2', 1))):
+            with self.assertRaises(Refused) as caught:
                 fairsplit.check(wrong)
+            self.assertIsInstance(caught.exception.line, int, wrong[:20])
 
-    def test_no_changed_certificate_shows_another_division(self):
-        said, draw = text('family-of-eighteen.estate'), random.Random('changed certificates')
-        lines = said.splitlines()
-        due = lines[10]
-        for _ in range(500):
-            changed = list(lines)
-            for _ in range(draw.randint(1, 3)):
-                place = draw.choice((4, 6, 7, 8, 9, 10, 12, 13, 14, 15, 16))
-                words = changed[place].split(' ')
-                where = draw.randrange(1, len(words)) if len(words) > 1 else 0
-                if place == 16:
-                    marks = words[1]
-                    at = draw.randrange(len(marks))
-                    words[1] = marks[:at] + draw.choice(('-', '+', '=', '!', '~A', '')) + marks[at + 1:]
-                elif words[where].isdigit():
-                    words[where] = str(max(1, int(words[where]) + draw.choice((-1, 1, 10, -10))))
-                changed[place] = ' '.join(words)
-            try:
-                verdict = fairsplit.check('\n'.join(changed) + '\n')
-            except Refused:
-                continue
-            if changed[5:10] == lines[5:10] and changed[10] != due:
-                self.assertFalse(verdict.holds, changed)
-
-    def test_a_text_that_shows_nothing_is_not_read(self):
-        with self.assertRaises(BrokenRule):
-            fairsplit.read(text('family-of-eighteen.estate').replace('weights 8 9 8 9', 'weights 9 1 1 1'))
+    def test_the_program_knows_no_estates(self):
+        self.assertEqual(fairsplit.run('check', fairsplit.goods(FAMILY).text.encode()), (3, b'refused: line 1\n'))
 
 
-class Interrupting(unittest.TestCase):
-    def test_a_signal_ends_a_long_search(self):
-        # Each of twelve people bids evenly for half of the things, which takes far longer than the second after which the signal comes.
-        draw = random.Random('two values')
-        bids = []
-        for _ in range(12):
-            wanted = draw.sample(range(21), 10)
-            bids.append([100 if good in wanted else 0 for good in range(21)])
-        if threading.current_thread() is not threading.main_thread():
-            self.skipTest('signals come to the main thread')
-        timer = threading.Timer(1, lambda: os.kill(os.getpid(), signal.SIGINT))
+class Names(unittest.TestCase):
+    def test_the_division_by_name_is_the_same_in_every_container(self):
+        for seed in range(6):
+            rng, people = random.Random(seed), 4 + seed % 3
+            rows = draw.goods(people, 16, seed=seed, step=10)
+            members, goods = names('m', people), names('g', 16)
+            due = fairsplit.goods(rows, members=members, goods=goods)
+            self.assertTrue(is_of_estates(due), seed)
+            for bids, _ in containers(rng, members, goods, rows):
+                self.assertEqual(fairsplit.goods(bids, members=members, goods=goods), due, (seed, type(bids)))
+
+
+class Threads(unittest.TestCase):
+    def test_control_c_ends_a_search(self):
+        timer = threading.Timer(0.3, os.kill, (os.getpid(), signal.SIGINT))
+        begun = time.monotonic()
         timer.start()
+        with self.assertRaises(KeyboardInterrupt):
+            fairsplit.goods(HARD, steps=1_000_000)
+        self.assertLess(time.monotonic() - begun, 3)
+        self.assertTrue(is_of_estates(fairsplit.goods(FAMILY)))
+
+    def test_the_room_for_a_search_is_given_back(self):
+        def mapped():
+            with open('/proc/self/statm') as file:
+                return int(file.read().split()[0]) * 4096
+
+        fairsplit.goods(FAMILY)
+        before = mapped()
+        errors = [hard() for _ in range(10)]
+        self.assertLess(mapped() - before, 20_000_000)
+        self.assertEqual(len({error.best for error in errors}), 1)
+
+    def test_many_at_once_and_with_little_stack(self):
+        due = fairsplit.goods(FAMILY)
+        with ThreadPoolExecutor(4) as pool:
+            self.assertEqual(set(pool.map(lambda _: fairsplit.goods(FAMILY).text, range(12))), {due.text})
+        self.assertEqual(in_little_stack(lambda: fairsplit.goods(FAMILY)), due)
+
+    def test_what_a_signal_does_meanwhile_leaves_the_search_alone(self):
+        others = []
+        before = signal.signal(signal.SIGALRM, lambda *_: others.append(fairsplit.goods(FAMILY).text))
+        signal.setitimer(signal.ITIMER_REAL, 0.02, 0.02)
         try:
-            with self.assertRaises(KeyboardInterrupt):
-                for _ in range(1000):
-                    self.assertIsNotNone(refusal(lambda: fairsplit.goods(bids, steps=1_000_000)) or ())
+            found = hard()
         finally:
-            timer.cancel()
+            signal.setitimer(signal.ITIMER_REAL, 0)
+            signal.signal(signal.SIGALRM, before)
+        self.assertEqual((found.best, len(set(others))), (hard().best, 1))
+
+    def test_a_forked_process_searches_too(self):
+        due = fairsplit.goods(FAMILY).text
+        self.assertEqual(forked(lambda: fairsplit.goods(FAMILY).text == due), 0)
+
+
+class Bare(unittest.TestCase):
+    def test_numbers(self):
+        self.assertEqual(numbers.estate(20_000, [1, 3], [[600, 400], [500, 500]])[::2], (0, [1, 2]))
+        status, line, owners = numbers.estate(300, range(1, 13), HARD)
+        self.assertEqual((status, line, len(owners)), (1, 'step limit 300\n', 24))
+        self.assertEqual(numbers.estate(20_000, [1, 2], [[600, 401], [500, 500]]), (3, 'refused: field bids\n', []))
+        self.assertEqual(numbers.estate(0, [1, 2], [[600, 400], [500, 500]]), (3, 'refused: field limit\n', []))
 
 
 if __name__ == '__main__':

@@ -77,6 +77,19 @@ class Command(unittest.TestCase):
         status, certificate = printed(EXAMPLES / 'estate.csv', '--scale', '--certificate')
         self.assertTrue(fairsplit.check(certificate))
 
+    def test_an_estate(self):
+        with tempfile.TemporaryDirectory() as folder:
+            path = Path(folder) / 'bids.csv'
+            rows = fairsplit.draw.estate(12, 24, 5, alike=True, step=100)
+            path.write_text('\n'.join([','.join(['', *map(str, range(24))]), *(','.join(map(str, ['m', *row])) for row in rows[:6])]))
+            status, certificate = printed(path, '--certificate')
+            self.assertEqual((status, certificate[:12]), (0, 'fairsplit 2\n'))
+            path.write_text('\n'.join([','.join(['', *map(str, range(24))]), *(','.join(map(str, ['m', *row])) for row in rows)]))
+            status, said = printed(path, '--steps', '50')
+            self.assertEqual((status, said.splitlines()[-1]), (1, 'not proved to be the best'))
+            self.assertEqual(printed(path, '--steps', '50', '--certificate'),
+                             (1, 'fairsplit: the search takes more than 50 steps; `best` is the best division that it found\n'))
+
     def test_a_rent(self):
         with tempfile.TemporaryDirectory() as folder:
             path = Path(folder) / 'bids.csv'

@@ -84,7 +84,7 @@ class Verdicts(unittest.TestCase):
 
     def test_each_example(self):
         for path in EXAMPLES.glob('*.txt'):
-            if path.read_text().startswith('fairsplit 1\n'):
+            if path.read_text().startswith(('fairsplit 1\n', 'fairsplit 2\n')):
                 self.assertTrue(fairsplit.check(path.read_text()), path)
 
 

@@ -37,7 +37,7 @@ class Messages(unittest.TestCase):
         for said, bids, limit in (
                 ("Ann's points add up to 100, not 1000; fairsplit.scaled makes points add up", {'Ann': [60, 40], 'Ben': [500, 500]}, None),
                 ("Ben's row has 3 numbers for 2 goods", {'Ann': [600, 400], 'Ben': [500, 500, 0]}, None),
-                ('25 goods; there may be 1 to 24', [[40] * 25] * 2, None),
+                ('25 goods; there may be 1 to 24: put small ones together', [[40] * 25] * 2, None),
                 ('13 members; goods are divided between 2 to 12', [[1000]] * 13, None),
                 ('the limit is 200001; it may be from 1 to 200000', [[1000], [1000]], 200_001)):
             self.assert_says(said, fairsplit.goods, bids, limit=limit)

@@ -29,7 +29,7 @@ class Reading(unittest.TestCase):
 
     def test_each_example(self):
         for path in EXAMPLES.glob('*.txt'):
-            if path.read_text().startswith(('fairsplit 1\n', 'fairsplit pair')):
+            if path.read_text().startswith(('fairsplit 1\n', 'fairsplit 2\n', 'fairsplit pair')):
                 self.assertEqual(fairsplit.read(path).text, path.read_text())
 
     def test_names_are_the_numbers_of_the_text(self):

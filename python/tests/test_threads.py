@@ -42,7 +42,7 @@ class Threads(unittest.TestCase):
         division = in_little_stack(lambda: fairsplit.fares(case['flag'], case['legs'], case['bids']))
         self.assertEqual(division.text, solved.decode())
         self.assertEqual(in_little_stack(lambda: fairsplit.rent(900, FLAT)), fairsplit.rent(900, FLAT))
-        self.assertEqual(in_little_stack(lambda: refusal(lambda: fairsplit.goods(heirs(), limit=10))), ('OverLimit', {'limit': 10, 'best': None}))
+        self.assertEqual(in_little_stack(lambda: refusal(lambda: fairsplit.goods(heirs(), limit=10))), ('OverLimit', {'limit': 10, 'best': None, 'said': 'step limit 10'}))
 
     def test_an_error_in_the_thread_with_more_stack_is_that_of_the_call(self):
         def fails():

@@ -3,7 +3,7 @@ from __future__ import annotations
 
 from decimal import Decimal
 from fractions import Fraction
-from typing import Dict, List, Optional, Tuple
+from typing import Any, Dict, List, Optional, Tuple
 
 import fairsplit
 
@@ -24,6 +24,8 @@ half: fairsplit.RentDivision[str, int] = fairsplit.rent(900, {'Ann': [600, 300],
 
 goods: fairsplit.GoodsDivision[str, int] = fairsplit.goods(SOME, limit=1000)
 owners: Tuple[str, ...] = goods.owners
+further: fairsplit.GoodsDivision[str, str] = fairsplit.goods(BIDS, steps=1_000_000)
+found: Optional[fairsplit.FoundDivision[Any, Any]] = fairsplit.OverLimit(20_000).best
 table: fairsplit.Table[str, str] = fairsplit.read_table([',x', 'Ann,1000', 'Ben,1000'])
 of_table: fairsplit.GoodsDivision[str, str] = fairsplit.goods(table)
 scaled: fairsplit.Scaled[str, str] = fairsplit.scaled(BIDS)
