@@ -65,7 +65,7 @@ pub(crate) fn read(room: &[u8]) -> State {
     let mut words = Words::new(room);
     let progress = read_progress(&mut words);
     let reach = read_reach(&mut words);
-    let kept = words.next();
+    let kept = words.next_word();
     let path = read_path(&mut words);
     let answer = words.next_owners();
     State {
@@ -90,10 +90,10 @@ fn write_progress(bytes: &mut Bytes<'_>, progress: &Progress) -> Result<(), Stop
 }
 
 fn read_progress(words: &mut Words<'_>) -> Progress {
-    let before = words.next();
-    let steps = words.next();
+    let before = words.next_word();
+    let steps = words.next_word();
     let size = words.next_size();
-    let stop = stop_of(words.next());
+    let stop = stop_of(words.next_word());
     let goes_on = words.next_bool();
     let shown = if size > 0 {
         Some(Shown { steps, size })
@@ -155,10 +155,10 @@ fn write_path(bytes: &mut Bytes<'_>, path: &Path) -> Result<(), Stop> {
 }
 
 fn read_path(words: &mut Words<'_>) -> Path {
-    let steps = words.next();
+    let steps = words.next_word();
     let improved = words.next_bool();
-    let asked = words.next();
-    let priced = words.next();
+    let asked = words.next_word();
+    let priced = words.next_word();
     let owners = words.next_owners();
     let levels = read_levels(words);
     Path {
@@ -206,7 +206,7 @@ fn write_prices(bytes: &mut Bytes<'_>, prices: &FinePrices) -> Result<(), Stop> 
 
 fn read_level(words: &mut Words<'_>) -> Level {
     let next = words.next_byte();
-    let greatest = (words.next() % 65_536) as u16;
+    let greatest = (words.next_word() % 65_536) as u16;
     let fine = read_weights(words);
     let has_prices = words.next_bool();
     let states_prices = words.next_bool();
@@ -223,7 +223,7 @@ fn read_level(words: &mut Words<'_>) -> Level {
 fn read_weights(words: &mut Words<'_>) -> Fine {
     let mut fine = Fine::default();
     for weight in fine.iter_mut() {
-        *weight = words.next();
+        *weight = words.next_word();
     }
     fine
 }

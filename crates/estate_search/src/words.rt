@@ -19,14 +19,14 @@ impl<'a> Words<'a> {
         Words { bytes, at: 0 }
     }
 
-    pub(crate) fn next(&mut self) -> u32 {
+    pub(crate) fn next_word(&mut self) -> u32 {
         let at = self.at;
         self.at = at.saturating_add(WORD);
         word_at(self.bytes, at).unwrap_or(0)
     }
 
     pub(crate) fn next_size(&mut self) -> usize {
-        self.next() as usize
+        self.next_word() as usize
     }
 
     /// A number of 64 binary digits.
@@ -41,11 +41,11 @@ impl<'a> Words<'a> {
 
     /// The last eight binary digits of the next number.
     pub(crate) fn next_byte(&mut self) -> u8 {
-        (self.next() % 256) as u8
+        (self.next_word() % 256) as u8
     }
 
     pub(crate) fn next_bool(&mut self) -> bool {
-        self.next() == 1
+        self.next_word() == 1
     }
 
     pub(crate) fn next_owners(&mut self) -> OwnerList {

@@ -1,0 +1,53 @@
+// by_estates.mjs FOLDER ROWS.json: what the module of estates of a folder writes for the estates of .ci/estates, which has to be what the package wrote, byte for byte; and
+// what it does with progress, with signals and with what is refused.
+// Node 20 and 22 run the module with a 64-bit memory only with --experimental-wasm-memory64.
+import assert from 'node:assert/strict';
+import { readFileSync } from 'node:fs';
+import { join } from 'node:path';
+import { pathToFileURL } from 'node:url';
+
+const [folder, rowsName] = process.argv.slice(2);
+const from = (name) => import(pathToFileURL(join(folder, name)));
+const [{ loadEstates }, { loadJudge }] = await Promise.all([from('estates.js'), from('judge.js')]);
+const fileOf = async (name) => readFileSync(join(folder, name));
+const [estates, judge] = await Promise.all([loadEstates(fileOf), loadJudge(fileOf)]);
+const LIMIT = 20_000;
+const rows = JSON.parse(readFileSync(rowsName, 'utf8'));
+
+/** The members of a case in which everybody has bid. */
+function everyone(bids) {
+  return bids.map((_, place) => place + 1);
+}
+
+for (const { name, bids, text } of rows) {
+  const found = await estates.divide(LIMIT, everyone(bids), bids);
+  assert.equal(found.status === 0 ? found.text : '', text, name);
+  if (found.status !== 0) continue;
+  assert.deepEqual(found.owners, text.match(/^owners (.*)$/m)[1].split(' ').map(Number), name);
+  assert.deepEqual(await estates.check(found.text), { status: 0, line: 'yes' }, name);
+}
+
+// Each judge refuses what the other reads.
+const [{ text }] = rows;
+assert.deepEqual(await judge.check(text), { status: 3, line: 'refused: line 1' });
+assert.deepEqual(await estates.check(text.replace('fairsplit 2', 'fairsplit 1')), { status: 3, line: 'refused: line 1' });
+
+// A long search tells how far it is, and ends by its limit or by a signal.
+const long = rows.reduce((most, row) => (row.text.length > most.text.length ? row : most));
+const steps = [];
+const found = await estates.divide(LIMIT, everyone(long.bids), long.bids, { progress: (reached) => steps.push(reached.steps) });
+assert.ok(steps.length > 0 && steps.every((count, place) => count > (steps[place - 1] ?? 0)), `${steps}`);
+assert.equal(found.text, long.text);
+const stopped = await estates.divide(1, everyone(long.bids), long.bids);
+assert.deepEqual([stopped.status, stopped.text, stopped.owners.length], [1, 'step limit 1\n', long.bids[0].length]);
+await assert.rejects(estates.divide(LIMIT, everyone(long.bids), long.bids, { signal: AbortSignal.abort() }), { name: 'AbortError' });
+const controller = new AbortController();
+await assert.rejects(estates.divide(LIMIT, everyone(long.bids), long.bids, { signal: controller.signal, progress: () => controller.abort() }), { name: 'AbortError' });
+
+for (const [field, call] of [
+  ['goods', () => estates.divide(LIMIT, [1], [[]])], ['limit', () => estates.divide(0, [1], [[1000]])], ['limit', () => estates.divide(1_000_001, [1], [[1000]])],
+  ['bids', () => estates.divide(LIMIT, [2, 1], [[1000], [1000]])], ['bids', () => estates.divide(LIMIT, [1], [[999]])]]) {
+  assert.deepEqual(await call(), { status: 3, text: `refused: field ${field}\n` });
+}
+await assert.rejects(estates.divide(-1, [1], [[1000]]), RangeError);
+console.log(`by_estates: ${rows.length} estates, with ${estates.isLowered ? 'the lowered' : 'the proved'} module`);
