@@ -1,4 +1,4 @@
-// by_estates.mjs FOLDER ROWS.json: what the module of estates of a folder writes for the named estates, which has to be what the package wrote, byte for byte; and
+// by_estates.mjs FOLDER ROWS.json: what the module of estates of a folder writes for the estates of .ci/estates, which has to be what the package wrote, byte for byte; and
 // what it does with progress, with signals and with what is refused.
 // Node 20 and 22 run the module with a 64-bit memory only with --experimental-wasm-memory64.
 import assert from 'node:assert/strict';
@@ -50,4 +50,4 @@ for (const [field, call] of [
   assert.deepEqual(await call(), { status: 3, text: `refused: field ${field}\n` });
 }
 await assert.rejects(estates.divide(-1, [1], [[1000]]), RangeError);
-console.log(`by_estates: ${rows.length} named estates, with ${estates.isLowered ? 'the lowered' : 'the proved'} module`);
+console.log(`by_estates: ${rows.length} estates, with ${estates.isLowered ? 'the lowered' : 'the proved'} module`);

@@ -196,8 +196,13 @@ class Threads(unittest.TestCase):
 
     def test_what_a_signal_does_meanwhile_leaves_the_search_alone(self):
         others = []
-        before = signal.signal(signal.SIGALRM, lambda *_: others.append(fairsplit.goods(FAMILY).text))
-        signal.setitimer(signal.ITIMER_REAL, 0.02, 0.02)
+
+        def divides_too(*_):
+            others.append(fairsplit.goods(FAMILY).text)
+            signal.setitimer(signal.ITIMER_REAL, 0.02)
+
+        before = signal.signal(signal.SIGALRM, divides_too)
+        signal.setitimer(signal.ITIMER_REAL, 0.02)
         try:
             found = hard()
         finally:
