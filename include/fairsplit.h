@@ -1,7 +1,8 @@
 /* fairsplit.h: fair divisions, and the judges of their certificates, for C and for whatever calls C.
  *
  * Each of the first six functions does what the command of its name does, on bytes in memory: its status is the command's, and its text is
- * what the command writes, byte for byte. The others divide what numbers say. docs/LIBRARY.md says what is proved of that.
+ * what the command writes, byte for byte. fair_estate_check has the same form, and no command. The others divide what numbers say. docs/LIBRARY.md says
+ * what is proved of that.
  *
  *     uint8_t fair_check(const uint8_t *bytes, size_t count, uint8_t *text, size_t room, size_t *size);
  *
@@ -17,7 +18,8 @@
  *   - what the pointers lead to does not overlap;
  *   - the stack of the calling thread has 512 kB left.
  *
- * The functions are thread-safe. They keep nothing between calls, start no thread, and write nothing but text and size.
+ * The functions are thread-safe. They keep nothing between calls, start no thread, and write only to what your pointers lead to: text, size, and the lists and the
+ * memory of those functions that have some.
  */
 #ifndef FAIRSPLIT_H
 #define FAIRSPLIT_H
@@ -123,15 +125,19 @@ uint8_t fair_fares_route(uint32_t places, uint32_t flag, const uint32_t *legs, s
                          size_t stops, uint8_t *route, size_t route_places, int64_t *numerators, size_t numerator_places, uint64_t *denominators,
                          size_t denominator_places, int64_t *pays, size_t payers, uint8_t *text, size_t room, size_t *size) FAIR_CALL(19);
 
-/* Estates: goods of so many members, or so many goods, that fair_goods doesn't answer. The certificate is of another kind ("fairsplit 2"): fair_estate_check judges
- * it, and fair_check refuses it.
+/* Estates: goods of so many members, or so many goods, that fair_goods doesn't answer; 1 to 24 goods and 1 to 12 members, given as for fair_goods. The certificate is
+ * of another kind ("fairsplit 2"): fair_estate_check judges it, and fair_check refuses it.
  *
  * A search takes at most limit steps, 1 to FAIR_ESTATE_STEPS, and goes in slices of so many steps, so that you can show how far it is, or end it. Set *reached to 0 and
  * call; while FAIR_GOES_ON comes back, call again with the same numbers, and with work, *reached and text as they were left. *reached is how many steps were made.
- * With steps UINT32_MAX one call does all. The same numbers give the same certificate, however it is sliced.
+ * With steps UINT32_MAX one call does all. The same numbers give the same certificate, however it is sliced. To end a search, don't call again: nothing has to
+ * be released. If work, *reached or text were changed in between, the search may find less, but what FAIR_DONE says still holds.
  *
  *   work, bytes    memory of yours, FAIR_ESTATE_WORK bytes, in which the search keeps what it knows; it needs nothing of what stands there before
- *   owners         by good the player who gets it, as in fair_goods_owners: the best division, or the best that was found so far
+ *   owners         by good the player who gets it, as in fair_goods_owners: the best division, or the best that was found so far. A list with fewer places than
+ *                  goods is left as it was
+ *   text, room     a buffer for the certificate, FAIR_CERTIFICATE_ROOM bytes for the longest
+ *   size           is set to the size of the certificate or the line, and to 0 with FAIR_GOES_ON
  *
  * With FAIR_DONE the judge has said yes to the certificate, and the owners are those of the best division. FAIR_NO comes with "step limit LIMIT", or with "no room" if the
  * certificate has no room in text or in work; the owners are the best that were found. (A third line, "not shown", would say that the judge refused what the search

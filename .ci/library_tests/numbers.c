@@ -1,4 +1,5 @@
-/* Divides the cases of examples/ in numbers: with lists that fit, that are too short, and that are not there. It ends with 0 if all is as it should be. */
+/* Divides the cases of examples/ in numbers: with lists that fit, that are too short, and that are not there; and an estate in slices and at once. It ends with 0 if
+ * all is as it should be. */
 #include <fairsplit.h>
 #include <stdio.h>
 #include <string.h>
@@ -64,12 +65,47 @@ static void fares(void) {
     holds(status == FAIR_REFUSED && !memcmp(line, "refused: field legs\n", 20), "a leg too few is refused");
 }
 
+static uint8_t work[FAIR_ESTATE_WORK], certificate[FAIR_CERTIFICATE_ROOM], again[FAIR_CERTIFICATE_ROOM];
+static const uint32_t points[] = {400, 100, 250, 150, 100, 100, 150, 450, 100, 200, 250, 100, 300, 300, 50};
+
+/* One slice of a search among three of four members. */
+static uint8_t slice(uint32_t limit, uint32_t steps, size_t lent, uint8_t *owners, size_t places, uint32_t *reached, uint8_t *text, size_t room) {
+    const uint8_t who[] = {1, 2, 4};
+    return fair_estate(5, limit, steps, who, 3, points, 15, work, lent, owners, places, reached, text, room, &size);
+}
+
+static void estates(void) {
+    uint8_t owners[6] = {9, 9, 9, 9, 9, 9}, others[5] = {9, 9, 9, 9, 9};
+    uint32_t reached = 0, at_once = 0;
+    uint8_t status;
+    size_t length;
+    while ((status = slice(1000, 1, sizeof work, owners, 6, &reached, certificate, sizeof certificate)) == FAIR_GOES_ON)
+        holds(size == 0 && reached > 0 && owners[0] != 9, "a slice counts its steps, and hands out the best so far");
+    length = size;
+    holds(status == FAIR_DONE && owners[5] == 9, "an estate is divided in slices");
+    holds(slice(1000, UINT32_MAX, sizeof work, others, 5, &at_once, again, sizeof again) == FAIR_DONE && at_once == reached && size == length
+        && !memcmp(again, certificate, length) && !memcmp(others, owners, 5), "one call gives the same certificate");
+    holds(fair_estate_check(certificate, length, line, sizeof line, &size) == FAIR_DONE && !memcmp(line, "yes\n", 4), "the judge says yes");
+    holds(fair_check(certificate, length, line, sizeof line, &size) == FAIR_REFUSED && !memcmp(line, "refused: line 1\n", 16), "the other judge refuses it");
+    others[0] = 9;
+    at_once = 0;
+    holds(slice(1000, UINT32_MAX, sizeof work, others, 4, &at_once, again, sizeof again) == FAIR_DONE && others[0] == 9, "owners that are too short stay as they were");
+    at_once = 0;
+    holds(slice(1000, UINT32_MAX, sizeof work, NULL, 0, &at_once, again, length - 1) == FAIR_NO && !memcmp(again, "no room\n", 8), "a text that is too short has no room");
+    at_once = 0;
+    holds(slice(1000, UINT32_MAX, 0, NULL, 0, &at_once, again, sizeof again) == FAIR_NO && !memcmp(again, "no room\n", 8), "no work is no room");
+    at_once = 7;
+    holds(slice(0, 1, sizeof work, others, 5, &at_once, again, sizeof again) == FAIR_REFUSED && !memcmp(again, "refused: field limit\n", 21) && others[0] == 9
+        && at_once == 7, "a refusal leaves owners and steps as they were");
+}
+
 int main(void) {
     holds(fair_version() == FAIR_VERSION_NUMBER, "the library has the version of the header");
     rents();
     goods();
     fares();
+    estates();
     if (!wrong)
-        puts("library: rooms, owners, routes and exact amounts are handed out as numbers");
+        puts("library: rooms, owners, routes and exact amounts are handed out as numbers, and estates are divided in slices");
     return wrong != 0;
 }

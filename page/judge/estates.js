@@ -5,6 +5,7 @@
 //     await estates.divide(20000, [1, 2], [[600, 400], [500, 500]])   // { status: 0, text: 'fairsplit 2\nkind goods\n...', owners: [1, 2], steps: 2 }
 //     await estates.divide(1000000, who, values, { signal, progress: ({ steps, owners }) => ... })
 //     await estates.check(text)   // { status: 0, line: 'yes' }
+//     await read(estates, text, { members: ['Ann', 'Ben'] })   // the same, and with a yes the division: read.js
 //     estates.isLowered           // whether the module for a 32-bit memory answers, which was lowered by a tool that nobody proved
 //
 // The first argument is the most steps that the search may make, 1 to 1,000,000. With status 0 the owners are those of the best division, and the judge has said yes

@@ -2,7 +2,8 @@
 //
 //     const worker = startWorker();
 //     await worker.goods(100000, [1, 2], [[600, 400], [500, 500]], { signal: AbortSignal.timeout(1000) });
-//     await worker.estate(20000, who, values, { signal, progress: ({ steps, owners }) => ... });
+//     const { text } = await worker.estate(20000, who, values, { signal, progress: ({ steps, owners }) => ... });
+//     const { line, division } = await read(worker, text);   // judged in the worker, and read here
 //     worker.end();
 //
 // One call runs at a time, and the others wait. If a signal aborts the call that runs, its worker is ended, and the next call gets a new one.

@@ -3,6 +3,7 @@
 //     const { status, line, division } = await read(judge, text, { members: ['Ann', 'Ben'], rooms: ['Attic', 'Back'] });
 //     division.shares   // [{ member: 'Ann', room: 'Attic', price: { numerator: 550, denominator: 1 }, utility: ... }, ...]
 //
+// The text is a certificate, that of an estate, or the text of adjusted winner: its first line says which judge to ask. A worker of in_worker.js judges too.
 // Without names, members, rooms, goods and places are their numbers, from 1. Amounts are in cents; exact ones are fractions in lowest terms.
 
 /**
@@ -60,6 +61,13 @@
 
 /** @typedef {RentDivision | GoodsDivision | FareDivision | PairDivision} Division */
 /** @typedef {Record<string, string[][]>} Lines */
+
+/** @typedef {(text: import('./judge.js').Text) => Promise<import('./judge.js').Verdict>} Judging */
+
+/**
+ * What judges texts: that of `loadJudge`, a worker, or for estates only that of `loadEstates`.
+ * @typedef {{ check: Judging, checkWinner?: Judging, checkEstate?: Judging }} Judges
+ */
 
 /**
  * A whole number of a text, which no double changes.
@@ -224,14 +232,25 @@ export function divisionIn(text, names = {}) {
 }
 
 /**
+ * The function that judges a text which begins so. Without the one for its kind, `check` refuses it by its first line.
+ * @param {Judges} judges
+ * @param {string} said
+ */
+function judgeOf(judges, said) {
+  if (said.startsWith('fairsplit pair ')) return judges.checkWinner ?? judges.check;
+  if (said.startsWith('fairsplit 2\n')) return judges.checkEstate ?? judges.check;
+  return judges.check;
+}
+
+/**
  * What the proved judge says of a text, and the division if it says yes.
- * @param {import('./judge.js').Judge} judge
+ * @param {Judges} judges
  * @param {import('./judge.js').Text} text
  * @param {Names} [names]
  * @returns {Promise<{ status: number, line: string, division?: Division }>}
  */
-export async function read(judge, text, names = {}) {
+export async function read(judges, text, names = {}) {
   const said = typeof text === 'string' ? text : new TextDecoder().decode(text);
-  const { status, line } = await (said.startsWith('fairsplit pair ') ? judge.checkWinner : judge.check)(text);
+  const { status, line } = await judgeOf(judges, said)(text);
   return status === 0 ? { status, line, division: divisionIn(said, names) } : { status, line };
 }

@@ -3,7 +3,7 @@
  * @param {string | URL} [folder]
  * @returns {Record<typeof NAMES[number], Call> & { end: () => void }}
  */
-export function startWorker(folder?: string | URL | undefined): Record<"estate" | "check" | "checkWinner" | "rent" | "rentCents" | "goods" | "fares" | "faresCents" | "rentRooms" | "goodsOwners" | "faresRoute" | "checkEstate", Call> & {
+export function startWorker(folder?: string | URL | undefined): Record<"estate" | "check" | "checkWinner" | "checkEstate" | "rent" | "rentCents" | "goods" | "fares" | "faresCents" | "rentRooms" | "goodsOwners" | "faresRoute", Call> & {
     end: () => void;
 };
 /**

@@ -7,12 +7,12 @@
 export function divisionIn(text: string, names?: Names | undefined): Division;
 /**
  * What the proved judge says of a text, and the division if it says yes.
- * @param {import('./judge.js').Judge} judge
+ * @param {Judges} judges
  * @param {import('./judge.js').Text} text
  * @param {Names} [names]
  * @returns {Promise<{ status: number, line: string, division?: Division }>}
  */
-export function read(judge: import('./judge.js').Judge, text: import('./judge.js').Text, names?: Names | undefined): Promise<{
+export function read(judges: Judges, text: import('./judge.js').Text, names?: Names | undefined): Promise<{
     status: number;
     line: string;
     division?: Division | undefined;
@@ -118,3 +118,12 @@ export type PairDivision = {
 };
 export type Division = RentDivision | GoodsDivision | FareDivision | PairDivision;
 export type Lines = Record<string, string[][]>;
+export type Judging = (text: import('./judge.js').Text) => Promise<import('./judge.js').Verdict>;
+/**
+ * What judges texts: that of `loadJudge`, a worker, or for estates only that of `loadEstates`.
+ */
+export type Judges = {
+    check: Judging;
+    checkWinner?: Judging;
+    checkEstate?: Judging;
+};
