@@ -36,7 +36,8 @@ def main(arguments: Optional[List[str]] = None) -> int:
         division = _divided(read_table(words.file), words)
         print(division.text if words.certificate else division.report, end='')
     except FairsplitError as error:
-        print(f'fairsplit: {error}', file=sys.stderr)
+        said = str(error).replace('fairsplit.scaled makes', '--scale makes')  # what helps at the command line
+        print(f'fairsplit: {said}', file=sys.stderr)
         return error.status
     except (OSError, ArithmeticError, TypeError, ValueError) as error:
         print(f'fairsplit: {error}', file=sys.stderr)
