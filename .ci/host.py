@@ -108,10 +108,10 @@ def body_of(body):
     return (body if isinstance(body, str) else json.dumps(body)).encode()
 
 
-def request(method, path, body=None, key=None, closes=False):
+def request(method, path, body=None, key=None, closes=False, host='a'):
     """A request, as it is sent."""
     text = body_of(body)
-    lines = [f'{method} {path} HTTP/1.1', 'Host: a', *(['Connection: close'] if closes else []), *([f'x-key: {key}'] if key else []),
+    lines = [f'{method} {path} HTTP/1.1', f'Host: {host}', *(['Connection: close'] if closes else []), *([f'x-key: {key}'] if key else []),
              *([] if text is None else [f'Content-Length: {len(text)}'])]
     return '\r\n'.join([*lines, '', '']).encode() + (text or b'')
 

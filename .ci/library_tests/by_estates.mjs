@@ -72,4 +72,4 @@ for (const [field, call] of [
   assert.deepEqual(await call(), { status: 3, text: `refused: field ${field}\n` });
 }
 await assert.rejects(estates.divide(-1, [1], [[1000]]), RangeError);
-console.log(`by_estates: ${rows.length} named estates, with ${estates.isLowered ? 'the lowered' : 'the proved'} module`);
+console.log(`by_estates: ${rows.length} estates, with ${estates.isLowered ? 'the lowered' : 'the proved'} module`);

@@ -125,7 +125,7 @@ def goods(bids: Any, *, members: Given = None, goods: Given = None, steps: Optio
     members, goods : iterable, optional
         Names for what has none, and the order of what has.
     steps : int, optional
-        How far the search for estates may go, from 1 to 1,000,000 steps; without it 20,000, which solves what people bring. A step takes less than a
+        How far the search for estates may go, from 1 to 1,000,000 steps; without it 20,000, which was enough for all but a few of the drawn cases. A step takes less than a
         millisecond. Ctrl-C ends the search.
     limit : int, optional
         With it the first search decides alone, as in the program: the most steps that it may take, up to 200,000. Then `steps` can't be given.
