@@ -131,7 +131,7 @@ class GoodsDivision(Division[GoodsShare[Member, Good]], Generic[Member, Good]):
     shares : tuple of GoodsShare
         By member who has bid.
     text : str
-        The certificate.
+        The certificate. It begins with `fairsplit 2` if the search for estates has found the division, and otherwise with `fairsplit 1`.
     members, goods : tuple
         The names of all members, and of the goods in the order of the certificate.
     owners : tuple
