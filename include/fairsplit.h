@@ -129,7 +129,8 @@ uint8_t fair_fares_route(uint32_t places, uint32_t flag, const uint32_t *legs, s
  * of another kind ("fairsplit 2"): fair_estate_check judges it, and fair_check refuses it.
  *
  * A search takes at most limit steps, 1 to FAIR_ESTATE_STEPS, and goes in slices of so many steps, so that you can show how far it is, or end it. Set *reached to 0 and
- * call; while FAIR_GOES_ON comes back, call again with the same numbers, and with work, *reached and text as they were left. *reached is how many steps were made.
+ * call; while FAIR_GOES_ON comes back, call again with the same numbers, and with work, *reached and text as they were left. *reached is how many steps were made; the
+ * certificate may say fewer, those of the tree that it prints.
  * With steps UINT32_MAX one call does all. The same numbers give the same certificate, however it is sliced. To end a search, don't call again: nothing has to
  * be released. If work, *reached or text were changed in between, the search may find less, but what FAIR_DONE says still holds.
  *
