@@ -1,5 +1,5 @@
 // What a single file carries along, in the place of carried.js: the scripts of its workers as texts, and the files of
-// the proved modules in base64. make_check and make_divide put both into CARRIED.
+// the proved modules in base64. page/make puts both into CARRIED.
 const { workers, files } = CARRIED;
 
 const addressOf = (name) => URL.createObjectURL(new Blob([workers[name]], { type: 'text/javascript' }));

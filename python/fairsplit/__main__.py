@@ -39,7 +39,8 @@ def main(arguments: Optional[List[str]] = None) -> int:
     except FairsplitError as error:
         if isinstance(error, OverLimit) and error.best and not words.certificate:
             print(error.best.report, end='')
-        print(f'fairsplit: {error}', file=sys.stderr)
+        said = str(error).replace('fairsplit.scaled makes', '--scale makes')  # what helps at the command line
+        print(f'fairsplit: {said}', file=sys.stderr)
         return error.status
     except (OSError, ArithmeticError, TypeError, ValueError) as error:
         print(f'fairsplit: {error}', file=sys.stderr)

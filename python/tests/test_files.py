@@ -120,6 +120,13 @@ class Scaling(unittest.TestCase):
             with self.assertRaises(TypeError):
                 fairsplit.scaled(bids)
 
+    def test_the_command_says_how_it_scales(self):
+        with tempfile.TemporaryDirectory() as folder:
+            table = Path(folder, 'points.csv')
+            table.write_text('name,Piano,Car\nAda,40,60\nBo,50,50\n', encoding='utf-8')
+            self.assertEqual(printed(table), (3, "fairsplit: Ada's points add up to 100, not 1000; --scale makes points add up\n"))
+            self.assertEqual(printed(table, '--scale')[0], 0)
+
 
 if __name__ == '__main__':
     unittest.main()
